@@ -1,11 +1,13 @@
--- What is printed of the positions that were taken (ITU-R M.476 and M.625; `*` for a lost position
--- is this profile's, as is that 32 and the figures of D, F, G, H and J print nothing).
+-- What is printed of the positions that were taken (ITU-R M.476 and M.625). That a lost position
+-- prints `*` is this profile's, as is that combination 32 and the figures of D, F, G, H and J print
+-- nothing.
 use Rattle.std.specs.Prelude.{◌≡◌, ◌⊎◌, ℕ, ◌==◌, if◌then◌else◌, List, [], ◌∷◌, ◌++◌, Option, Some, None, unwrap_or, Bool, codes, false, true, ◌≤◌}
 use Rattle.std.specs.Option.{option_and_then, option_to_list}
 use Rattle.std.specs.List.{fold, list_any}
 use Rattle.nx_code.specs.declared.shifts.Shift.{Shift}
 use Rattle.nx_code.specs.declared.shifts.Shift.TheVariants.{Letters, Figures}
 use Rattle.nx_code.specs.Table.{cell, row_of}
+use Rattle.nx_code.specs.Table.{figure_shift, letter_shift, line_feed, space_combination}
 use Rattle.nx_code.specs.declared.shifts.Case.{Case}
 use Rattle.nx_code.specs.declared.shifts.Case.TheVariants as cases
 
@@ -21,12 +23,20 @@ abbrev pub character_of_cell : List ℕ → Option ℕ
 character_of_cell (c ∷ []) = Some c
 character_of_cell cell = None
 
--- what a combination prints in a shift: a newline for 28, a space for 31, else the character of its
--- row
+-- the newline, which a line feed prints and which ends each line of a text
+abbrev pub newline : ℕ
+newline = 10
+
+-- the space
+abbrev pub space : ℕ
+space = 32
+
+-- what a combination prints in a shift: the line feed a newline, the space combination a space,
+-- else the character of its row
 unfoldable pub character_of : ℕ → Shift → Option ℕ
 character_of number shift =
-    if number == 28 then Some 10
-    else (if number == 31 then Some 32
+    if number == line_feed then Some newline
+    else (if number == space_combination then Some space
     else option_and_then (λ row. character_of_cell (cell shift row)) (row_of number))
 
 -- the asterisk, which a lost position prints
@@ -39,10 +49,11 @@ byte_of (combination number) shift = character_of number shift
 byte_of idle shift = None
 byte_of lost shift = Some asterisk
 
--- the shift that a position sets: letters for combination 29, figures for 30
+-- the shift that a position sets, if it is one of the two shifts
 abbrev pub shift_set : Reception → Option Shift
 shift_set (combination number) =
-    if number == 29 then Some Letters else (if number == 30 then Some Figures else None)
+    if number == letter_shift then Some Letters
+    else (if number == figure_shift then Some Figures else None)
 shift_set position = None
 
 -- the shift in force after a position
@@ -81,15 +92,26 @@ IsShiftAfter positions first shift =
 
 -- the characters that a text may have: A to Z, 0 to 9, space, eleven marks, and newline
 unfoldable pub characters : List ℕ
-characters = codes "ABCDEFGHIJKLMNOPQRSTUVWXYZ0123456789 -?:().,'=+/" ++ 10 ∷ []
+characters = codes "ABCDEFGHIJKLMNOPQRSTUVWXYZ0123456789 -?:().,'=+/" ++ newline ∷ []
 
 -- whether a byte is one of them
 unfoldable pub is_in_code : ℕ → Bool
 is_in_code byte = list_any (λ character. character == byte) characters
 
--- one of the capitals, A to Z
+-- the first and the last of the capitals, A to Z
+abbrev pub capital_a : ℕ
+capital_a = 65
+
+abbrev pub capital_z : ℕ
+capital_z = 90
+
+-- how many they are
+abbrev pub capitals : ℕ
+capitals = 26
+
+-- one of the capitals
 abbrev pub IsCapital : ℕ → Type 0
-IsCapital byte = (65 ≤ byte) × (byte ≤ 90)
+IsCapital byte = (capital_a ≤ byte) × (byte ≤ capital_z)
 
 -- whether a character of this case stands in a shift
 abbrev pub holds_in : Case → Shift → Bool

@@ -2,6 +2,8 @@
 -- where it is needed, and carriage return only before a line feed, is this profile's).
 use Rattle.std.specs.Prelude.{◌≡◌, ◌≢◌, ◌≤◌, ◌↔◌, ℕ, List, [], ◌∷◌, None, Some, map, slice_get, IsSome, MatchOption}
 use Rattle.nx_code.specs.declared.shifts.Shift.{Shift}
+use Rattle.nx_code.specs.Table.{line_feed}
+use Rattle.nx_code.specs.Table as combinations
 use Rattle.nx_code.specs.Reading.{combination, character_of, shift_set, shift_after, text}
 use Rattle.nx_code.specs.declared.shifts.Shift.TheVariants.{Figures, Letters}
 
@@ -21,7 +23,7 @@ IsOnlyIn shift number =
 pub record IsSilent (shift : Shift) (number : ℕ) : Type 0 where
   pub prints_nothing : character_of number shift ≡ None
   pub sets_no_shift : shift_set (combination number) ≡ None
-  pub no_return : number ≢ 27
+  pub no_return : number ≢ combinations.carriage_return
 
 -- A combination fits where it stands: this shift is in force before it, and these follow it.
 pub record Fits (shift : Shift) (number : ℕ) (rest : List ℕ) : Type 0 where
@@ -30,7 +32,8 @@ pub record Fits (shift : Shift) (number : ℕ) (rest : List ℕ) : Type 0 where
   -- it prints, or sets a shift, or is a carriage return
   pub not_silent : ¬ IsSilent shift number
   -- a carriage return stands directly before each line feed, and nowhere else
-  pub carriage_return : (number ≡ 27) ↔ (slice_get rest 0 ≡ Some 28)
+  pub carriage_return : (number ≡ combinations.carriage_return)
+      ↔ (slice_get rest 0 ≡ Some line_feed)
   -- a shift is not the one in force, and stands directly before a character that has only that
   -- shift
   pub needed : (s : Shift) → shift_set (combination number) ≡ Some s
@@ -46,5 +49,5 @@ EachFits shift (number ∷ numbers) =
 pub record Spells (bytes : List ℕ) (shift : Shift) (numbers : List ℕ) : Type 0 where
   pub reads : text (map combination numbers) shift ≡ bytes
   -- no line feed comes before the first carriage return
-  pub begins : slice_get numbers 0 ≢ Some 28
+  pub begins : slice_get numbers 0 ≢ Some line_feed
   pub fits : EachFits shift numbers

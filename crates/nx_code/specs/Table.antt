@@ -1,6 +1,6 @@
 -- The table of the signals (ITU-R M.476 and M.625; the numbering of the words is this project's
--- own). Phasing signal 1 is idle signal alpha, and phasing signal 2 is signal repetition: that their
--- words stand so in the table is the law `phasing_signals_are_in_the_table`.
+-- own). Phasing signal 1 is idle signal alpha, and phasing signal 2 is signal repetition: that
+-- their words stand so in the table is the law `phasing_signals_are_in_the_table`.
 use Rattle.std.specs.Prelude.{ℕ, zero, suc, ◌==◌, List, [], ◌∷◌, Option, None, codes, map, position, slice_get, take, Bool, false, true}
 use Rattle.std.specs.Option.{option_map_or}
 use Rattle.nx_code.specs.declared.shifts.Shift.{Shift}
@@ -74,6 +74,23 @@ place_of word = position (λ row. row.word == word) table
 unfoldable pub row_of : ℕ → Option Row
 row_of zero = None
 row_of (suc place) = slice_get (take 32 table) place
+
+-- the combinations that print what stands in no cell: the carriage return and the line feed, the
+-- two shifts, and the space (M.476)
+abbrev pub carriage_return : ℕ
+carriage_return = 27
+
+abbrev pub line_feed : ℕ
+line_feed = 28
+
+abbrev pub letter_shift : ℕ
+letter_shift = 29
+
+abbrev pub figure_shift : ℕ
+figure_shift = 30
+
+abbrev pub space_combination : ℕ
+space_combination = 31
 
 -- the number of the word of a combination, by its number from 1 to 32; for any other number 128,
 -- which is no word's

@@ -5,10 +5,10 @@ ghost use Rattle.nx_code.specs.Reading.{character_of, holds_in, is_in_code};
 ghost use Rattle.nx_code.specs.private.Rows.{case_kept};
 ghost use Rattle.nx_code.specs.declared.shifts.Shift.{Shift};
 
-use crate::places::place_of_character;
 use crate::shifts::{Case, Shift};
 use crate::signals::Comb;
 use crate::table::row_at;
+use crate::table_indexes::place_of_character;
 
 /// The byte that a combination prints in a shift: a letter or a figure, a newline for combination
 /// 28, a space for 31; None where nothing is printed (M.476 and M.625, conversion tables; that 32

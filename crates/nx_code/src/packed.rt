@@ -12,8 +12,8 @@ use crate::words::{ELEMENTS, Word};
 /// How many elements a packed number has.
 const PACKED: usize = 64;
 
-/// How many words `words_of` answers (this project's own: as many whole words as a packed number has
-/// room for, less one).
+/// How many words `words_of` answers (this project's own: as many whole words as a packed number
+/// has room for, less one).
 pub const WORDS_AT_ONCE: usize = 8;
 
 /// The elements from a place on, at most 56 of them, as a number with the first one in the least

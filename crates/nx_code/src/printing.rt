@@ -11,9 +11,9 @@ ghost use Rattle.nx_code.specs.declared.shifts.Shift.TheVariants.{Letters};
 
 use crate::characters::code_to_char;
 use crate::classes::byte_given;
+use crate::printer_steps::{FourPrinted, after, printed};
 use crate::shifts::Shift;
 use crate::signals::{Comb, FIGURE_SHIFT, LETTER_SHIFT};
-use crate::steps::{FourPrinted, after, printed};
 use std::marker::Model;
 
 /// What was taken of a position from its two words.

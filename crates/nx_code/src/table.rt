@@ -10,9 +10,9 @@ ghost use Rattle.nx_code.specs.declared.signals.Signal.{Signal};
 ghost use Rattle.nx_code.specs.declared.shifts.Shift.{Shift};
 
 use crate::names::Name;
-use crate::places::place_of_word;
 use crate::shifts::Shift;
 use crate::signals::{Comb, Signal};
+use crate::table_indexes::place_of_word;
 use crate::words::Word;
 use std::slice;
 
@@ -96,11 +96,11 @@ static TABLE: [Row; SIGNALS] = [
 ];
 
 /// The places of the service signals in the table; a combination stands one place below its number.
-const ALPHA: usize = 32;
+pub(crate) const ALPHA: usize = 32;
 
-const BETA: usize = 33;
+pub(crate) const BETA: usize = 33;
 
-const REPEAT: usize = 34;
+pub(crate) const REPEAT: usize = 34;
 
 /// How many signals there are, each with a row of the table.
 pub const SIGNALS: usize = 35;

@@ -2,7 +2,7 @@ use Rattle.std.proofs.Common.{◌≡◌, ◌-◌, ◌+◌, Some, None, refl, sym
 use Rattle.std.specs.Option.{is_some}
 use Rattle.std.proofs.lemmas.Bool.{both_ways}
 use Rattle.nx_code.specs.Reading.{character_of}
-use Rattle.nx_code.proofs.CharacterLemmas.{case_kept-right, in_code-printed, in_code-prints}
+use Rattle.nx_code.proofs.lemmas.Character.{case_kept-right, in_code-printed, in_code-prints}
 use Rattle.nx_code.proofs.characters.char_to_code.Goals as goal
 
 pub returns-in_err-place-clause-in_code : goal.returns-in_err-place-clause-in_code

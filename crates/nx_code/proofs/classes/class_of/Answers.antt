@@ -1,6 +1,6 @@
 use Rattle.std.proofs.Common.{◌<◌, ap, sym, subst, ◌∙◌}
 use Rattle.nx_code.specs.Classes.{class_of}
-use Rattle.nx_code.proofs.ClassLemmas.{class_of-BY_WORD, class_of-low}
+use Rattle.nx_code.proofs.lemmas.Class.{class_of-BY_WORD, class_of-low}
 use Rattle.nx_code.proofs.classes.class_of.Goals as goal
 
 pub returns-clause-class : goal.returns-clause-class

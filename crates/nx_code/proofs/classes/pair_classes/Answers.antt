@@ -1,6 +1,6 @@
 use Rattle.std.proofs.Common.{◌<◌, ap₂, sym, subst, ◌∙◌, get_or, []}
 use Rattle.nx_code.specs.declared.classes.TheConstants.{PAIRED}
-use Rattle.nx_code.proofs.ClassLemmas.{paired-PAIRED, paired-low}
+use Rattle.nx_code.proofs.lemmas.Class.{paired-PAIRED, paired-low}
 use Rattle.nx_code.proofs.classes.pair_classes.Goals as goal
 
 pub returns-clause-class : goal.returns-clause-class

@@ -1,4 +1,4 @@
-use Rattle.nx_code.proofs.SpellingLemmas.{Spells-append, shift_after_all-map_append}
+use Rattle.nx_code.proofs.lemmas.Spelling.{Spells-append, shift_after_all-map_append}
 use Rattle.nx_code.proofs.laws.a_spelling_goes_on.Goals as goal
 
 pub returns-clause-whole : goal.returns-clause-whole

@@ -1,4 +1,4 @@
-use Rattle.nx_code.proofs.OneSpelling.{spelling-exists, spelled-in_code, spelling-one}
+use Rattle.nx_code.proofs.lemmas.OneSpelling.{spelling-exists, spelled-in_code, spelling-one}
 use Rattle.nx_code.proofs.laws.a_text_has_one_spelling.Goals as goal
 
 pub returns-clause-some : goal.returns-clause-some

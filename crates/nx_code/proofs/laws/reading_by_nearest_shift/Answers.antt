@@ -1,5 +1,5 @@
 use Rattle.std.proofs.Common.{sym, ◌∙◌}
-use Rattle.nx_code.proofs.ReadingLemmas.{text-nearest, nearest, shift_after_all-nearest}
+use Rattle.nx_code.proofs.lemmas.Reading.{text-nearest, nearest, shift_after_all-nearest}
 use Rattle.nx_code.proofs.laws.reading_by_nearest_shift.Goals as goal
 
 pub returns-clause-one_more : goal.returns-clause-one_more

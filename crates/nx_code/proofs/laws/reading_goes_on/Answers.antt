@@ -1,4 +1,4 @@
-use Rattle.nx_code.proofs.ReadingLemmas.{text-append, shift_after_all-append}
+use Rattle.nx_code.proofs.lemmas.Reading.{text-append, shift_after_all-append}
 use Rattle.nx_code.proofs.laws.reading_goes_on.Goals as goal
 
 pub returns-clause-text : goal.returns-clause-text

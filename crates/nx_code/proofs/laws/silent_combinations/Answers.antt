@@ -1,4 +1,4 @@
-use Rattle.nx_code.proofs.SilentCombinations.{silent_named}
+use Rattle.nx_code.proofs.lemmas.SilentCombinations.{silent_named}
 use Rattle.nx_code.proofs.laws.silent_combinations.Goals as goal
 
 pub returns : goal.returns

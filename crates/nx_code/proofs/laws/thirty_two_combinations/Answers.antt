@@ -5,7 +5,7 @@ use Rattle.std.proofs.lemmas.Bool.{cases_lt, false≢true, ne_eqb}
 use Rattle.std.proofs.lemmas.Option.{slice_get-get_or, slice_get_past}
 use Rattle.nx_code.specs.Table.{row, table, row_of, traffic_word}
 use Rattle.nx_code.specs.Reading.{character_of}
-use Rattle.nx_code.proofs.TableLemmas.{traffic_word-is}
+use Rattle.nx_code.proofs.lemmas.Table.{traffic_word-is}
 use Rattle.nx_code.proofs.laws.thirty_two_combinations.Goals as goal
 
 length-combinations : length (take 32 table) ≡ 32

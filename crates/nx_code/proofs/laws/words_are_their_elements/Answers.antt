@@ -1,4 +1,4 @@
-use Rattle.nx_code.proofs.WordLemmas.{number_of-elements, elements-number_of}
+use Rattle.nx_code.proofs.lemmas.Word.{number_of-elements, elements-number_of}
 use Rattle.nx_code.proofs.laws.words_are_their_elements.Goals as goal
 
 pub returns-clause-number : goal.returns-clause-number

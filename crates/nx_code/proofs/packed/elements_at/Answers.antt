@@ -1,5 +1,5 @@
 use Rattle.std.proofs.Common.{◌/◌, arith}
-use Rattle.nx_code.proofs.PackedLemmas.{read_here, read_across}
+use Rattle.nx_code.proofs.lemmas.Packed.{read_here, read_across}
 use Rattle.nx_code.proofs.packed.elements_at.Goals as goal
 
 pub returns-then-count-here-clause-elements : goal.returns-then-count-here-clause-elements

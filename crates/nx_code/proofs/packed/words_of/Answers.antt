@@ -1,4 +1,4 @@
-use Rattle.nx_code.proofs.PackedLemmas.{elements_of-words}
+use Rattle.nx_code.proofs.lemmas.Packed.{elements_of-words}
 use Rattle.nx_code.proofs.packed.words_of.Goals as goal
 
 pub returns : goal.returns

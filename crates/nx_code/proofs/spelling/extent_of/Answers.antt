@@ -11,8 +11,8 @@ use Rattle.nx_code.specs.Reading.{is_in_code, combination, shift_after_all}
 use Rattle.nx_code.specs.private.Pieces.{numbers_of, numbers_of_piece}
 use Rattle.nx_code.specs.declared.shifts.Shift.{Shift}
 use Rattle.nx_code.specs.declared.signals.Comb.{Comb}
-use Rattle.nx_code.proofs.OneSpelling.{spelled-in_code, spelling-one}
-use Rattle.nx_code.proofs.SpellingLemmas.{Extends, Extends-push, position-None}
+use Rattle.nx_code.proofs.lemmas.OneSpelling.{spelled-in_code, spelling-one}
+use Rattle.nx_code.proofs.lemmas.Spelling.{Extends, Extends-push, position-None}
 use Rattle.nx_code.proofs.spelling.extent_of.Goals as goal
 
 -- where a byte is found that is not in the code, not all are

@@ -1,5 +1,5 @@
 use Rattle.std.proofs.Common.{◌*◌, ◌≤◌, take}
-use Rattle.nx_code.proofs.SpellingLemmas.{Extends}
+use Rattle.nx_code.proofs.lemmas.Spelling.{Extends}
 use Rattle.nx_code.proofs.spelling.extent_of.Given as goal
 
 -- the extent of the characters so far, with at most two combinations for each

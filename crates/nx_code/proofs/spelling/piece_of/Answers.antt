@@ -2,8 +2,8 @@ use Rattle.std.proofs.Common.{◌≡◌, ◌≢◌, [], ◌∷◌, Some, sym, su
 use Rattle.std.proofs.lemmas.Bool.{false≢true}
 use Rattle.nx_code.specs.Reading.{character_of, holds_in}
 use Rattle.nx_code.specs.Spelling.{Spells}
-use Rattle.nx_code.proofs.SpellingLemmas.{spells_newline, spells_here, spells_there}
-use Rattle.nx_code.proofs.SpellingLemmas.{after_character, after_there, holds_in-other}
+use Rattle.nx_code.proofs.lemmas.Spelling.{spells_newline, spells_here, spells_there}
+use Rattle.nx_code.proofs.lemmas.Spelling.{after_character, after_there, holds_in-other}
 use Rattle.nx_code.proofs.spelling.piece_of.Goals as goal
 
 pub returns-then-character-eq-NEWLINE-clause-spells :

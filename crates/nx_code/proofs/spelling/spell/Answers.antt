@@ -5,7 +5,7 @@ use Rattle.nx_code.specs.Reading.{is_in_code}
 use Rattle.nx_code.specs.Spelling.{Spells}
 use Rattle.nx_code.specs.private.Pieces.{numbers_of_piece}
 use Rattle.nx_code.specs.declared.signals.Comb.{Comb}
-use Rattle.nx_code.proofs.SpellingLemmas.{position-None, Spells-push, shift-push}
+use Rattle.nx_code.proofs.lemmas.Spelling.{position-None, Spells-push, shift-push}
 use Rattle.nx_code.proofs.spelling.spell.Goals as goal
 
 pub piece_of-piece-requires : goal.piece_of-piece-requires

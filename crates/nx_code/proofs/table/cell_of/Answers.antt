@@ -1,6 +1,6 @@
 use Rattle.std.proofs.Common.{[], get_or, ap, ◌∙◌}
 use Rattle.nx_code.specs.Table.{row, table, cell}
-use Rattle.nx_code.proofs.TableLemmas.{cell-TABLE}
+use Rattle.nx_code.proofs.lemmas.Table.{cell-TABLE}
 use Rattle.nx_code.proofs.table.cell_of.Goals as goal
 
 pub returns : goal.returns

@@ -1,5 +1,5 @@
 use Rattle.std.proofs.Common.{◌<◌, sym, subst}
-use Rattle.nx_code.proofs.TableLemmas.{word-TABLE, words-lt, character-TABLE}
+use Rattle.nx_code.proofs.lemmas.Table.{word-TABLE, words-lt, character-TABLE}
 use Rattle.nx_code.proofs.table.row_at.Goals as goal
 
 pub returns-clause-word : goal.returns-clause-word

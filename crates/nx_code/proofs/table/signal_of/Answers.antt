@@ -3,8 +3,8 @@ use Rattle.std.specs.Option.{is_some}
 use Rattle.std.proofs.lemmas.Bool.{eqb-true, both_ways}
 use Rattle.nx_code.specs.Word.{weight}
 use Rattle.nx_code.specs.Table.{place_of}
-use Rattle.nx_code.proofs.TableLemmas.{weight-place_of, place_of-Some, same_place, place-of_word}
-use Rattle.nx_code.proofs.TableLemmas.{not_nowhere, number_of_place}
+use Rattle.nx_code.proofs.lemmas.Table.{weight-place_of, place_of-Some, same_place, place-of_word}
+use Rattle.nx_code.proofs.lemmas.Table.{not_nowhere, number_of_place}
 use Rattle.nx_code.proofs.table.signal_of.Goals as goal
 
 pub returns-in_err-place_of_word-clause-signals : goal.returns-in_err-place_of_word-clause-signals

@@ -1,6 +1,6 @@
 use Rattle.std.proofs.Common.{◌<◌, eqb, not, sym, subst, ap, ◌∙◌, eq-eqb}
 use Rattle.std.proofs.lemmas.Bool.{eqb-true}
-use Rattle.nx_code.proofs.ClassLemmas.{weight-class_of}
+use Rattle.nx_code.proofs.lemmas.Class.{weight-class_of}
 use Rattle.nx_code.proofs.words.check_bits.Goals as goal
 
 pub returns : goal.returns

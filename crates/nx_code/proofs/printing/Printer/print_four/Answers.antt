@@ -2,7 +2,7 @@ use Rattle.std.proofs.Common.{◌++◌, ap, ap₂, sym, ◌∙◌, arith, get_or
 use Rattle.std.specs.Option.{option_to_list}
 use Rattle.nx_code.specs.Classes.{reception_of_class}
 use Rattle.nx_code.specs.Reading.{byte_of, shift_after}
-use Rattle.nx_code.proofs.ReadingLemmas.{text_of_classes-more, shift_after_classes-more}
+use Rattle.nx_code.proofs.lemmas.Reading.{text_of_classes-more, shift_after_classes-more}
 use Rattle.nx_code.proofs.printing.Printer.print_four.Goals as goal
 
 pub loop-place-preserved : goal.loop-place-preserved

@@ -1,6 +1,6 @@
 use Rattle.std.proofs.Common.{Some, None}
 use Rattle.nx_code.specs.Taken.{reception_of}
-use Rattle.nx_code.proofs.ReadingLemmas.{reading_push}
+use Rattle.nx_code.proofs.lemmas.Reading.{reading_push}
 use Rattle.nx_code.proofs.printing.Printer.step.Goals as goal
 
 pub returns-in-Char-clause-reading : goal.returns-in-Char-clause-reading

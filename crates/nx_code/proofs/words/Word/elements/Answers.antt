@@ -1,6 +1,6 @@
 use Rattle.std.proofs.Common.{refl, sym, ap, ◌∙◌, arith, length-set}
 use Rattle.nx_code.specs.Word.{elements, elements_from}
-use Rattle.nx_code.proofs.WordLemmas.{elements_from-more, elements_from-all}
+use Rattle.nx_code.proofs.lemmas.Word.{elements_from-more, elements_from-all}
 use Rattle.nx_code.proofs.words.Word.elements.Goals as goal
 
 pub loop-place-init : goal.loop-place-init

@@ -1,6 +1,6 @@
 use Rattle.std.proofs.Common.{◌≡◌, ◌≤◌, ◌-◌, false, get_or, length, rules, arith}
-use Rattle.nx_code.proofs.WordLemmas.{byte-fits, byte-more, gathers, gathers-lt, spread_of-drop}
-use Rattle.nx_code.proofs.WordLemmas.{spread_of-drop_all, value_of-bool_byte, value_of-le}
+use Rattle.nx_code.proofs.lemmas.Word.{byte-fits, byte-more, gathers, gathers-lt, spread_of-drop}
+use Rattle.nx_code.proofs.lemmas.Word.{spread_of-drop_all, value_of-bool_byte, value_of-le}
 use Rattle.nx_code.proofs.words.Word.from_elements.Goals as goal
 
 pub loop-place-preserved : goal.loop-place-preserved

@@ -1,5 +1,5 @@
 use Rattle.std.proofs.Common.{◌≡◌, ◌<◌, ◌^◌, ◌-◌, drop}
-use Rattle.nx_code.proofs.WordLemmas.{spread_of}
+use Rattle.nx_code.proofs.lemmas.Word.{spread_of}
 use Rattle.nx_code.proofs.words.Word.from_elements.Given as goal
 
 -- the elements from here on stand in the bytes so far

@@ -2,9 +2,9 @@ use Rattle.std.proofs.Common.{◌≡◌, ◌+◌, ◌<◌, ℕ, Option, Some, No
 use Rattle.std.specs.Prelude.{IfSome}
 use Rattle.nx_code.specs.Reading.{character_of}
 use Rattle.nx_code.specs.declared.shifts.Shift.{Shift}
-use Rattle.nx_code.proofs.PlaceLemmas.{place_in_either, place_for-BY_CHARACTER}
-use Rattle.nx_code.proofs.PlaceLemmas.{place_in_either-printed, place_in_either-Some}
-use Rattle.nx_code.proofs.places.place_of_character.Goals as goal
+use Rattle.nx_code.proofs.lemmas.Place.{place_in_either, place_for-BY_CHARACTER}
+use Rattle.nx_code.proofs.lemmas.Place.{place_in_either-printed, place_in_either-Some}
+use Rattle.nx_code.proofs.table_indexes.place_of_character.Goals as goal
 
 -- where the place is that of the index, it is of a combination that prints the character
 printed_there : (c : ℕ) (result : Option ℕ) → result ≡ place_in_either c

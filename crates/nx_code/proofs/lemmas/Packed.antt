@@ -13,7 +13,7 @@ use Rattle.std.proofs.lemmas.Nat.{shr-shr, shl-shr, mod-pow-add, pow_pos}
 use Rattle.std.proofs.lemmas.List.{drop-append-le, take-append-le, take-append-drop}
 use Rattle.nx_code.specs.Word.{elements, elements_from, number_of, value_of}
 use Rattle.nx_code.specs.Packed.{elements_of_words, packed_part}
-use Rattle.nx_code.proofs.WordLemmas.{number_of-lt}
+use Rattle.nx_code.proofs.lemmas.Word.{number_of-lt}
 
 -- bits of which others come after
 pub number_of-append : (xs ys : List Bool)

@@ -1,7 +1,7 @@
 use Rattle.std.proofs.Common.{ap, ◌∙◌, get_or}
-use Rattle.nx_code.specs.declared.steps.TheConstants.{AFTER}
-use Rattle.nx_code.proofs.ClassLemmas.{shift_after-AFTER}
-use Rattle.nx_code.proofs.steps.after.Goals as goal
+use Rattle.nx_code.specs.declared.printer_steps.TheConstants.{AFTER}
+use Rattle.nx_code.proofs.lemmas.Class.{shift_after-AFTER}
+use Rattle.nx_code.proofs.printer_steps.after.Goals as goal
 
 pub returns : goal.returns
 returns c =

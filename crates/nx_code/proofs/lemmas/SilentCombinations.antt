@@ -10,7 +10,7 @@ use Rattle.nx_code.specs.declared.shifts.Shift.TheVariants.{Letters, Figures}
 use Rattle.nx_code.specs.Table.{table, row_of}
 use Rattle.nx_code.specs.Reading.{combination, character_of, shift_set}
 use Rattle.nx_code.specs.Spelling.{IsSilent}
-use Rattle.nx_code.proofs.SpellingLemmas.{shift_set-None}
+use Rattle.nx_code.proofs.lemmas.Spelling.{shift_set-None}
 
 -- a combination is silent, as a test
 abbrev is_silent : Shift → ℕ → Bool

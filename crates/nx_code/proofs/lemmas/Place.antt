@@ -1,28 +1,52 @@
 -- The indexes answer as a search of the table does, by one computation each.
 use Rattle.std.proofs.Common.{◌≡◌, ℕ, ◌+◌, ◌-◌, ◌<◌, ◌≤◌, refl, sym, ap, ◌∙◌, Option, Some, None}
-use Rattle.std.proofs.Common.{map, get_or, arith}
+use Rattle.std.proofs.Common.{map, get_or, arith, if◌then◌else◌}
+use Rattle.std.specs.Prelude.{◌==◌}
+use Rattle.std.proofs.lemmas.Bool.{ne_eqb}
 use Rattle.std.specs.List.{range_with_len}
 use Rattle.std.proofs.lemmas.List.{get_or-map}
 use Rattle.std.proofs.lemmas.List.FromFn.{get_or-map-range_with_len}
-use Rattle.nx_code.specs.declared.places.TheConstants.{BY_WORD, BY_CHARACTER}
+use Rattle.nx_code.specs.declared.table_indexes.TheConstants.{BY_CHARACTER}
 use Rattle.nx_code.specs.declared.shifts.Shift.{Shift}
 use Rattle.nx_code.specs.declared.shifts.Shift.TheVariants.{Letters, Figures}
+use Rattle.nx_code.specs.Classes.{class_of}
 use Rattle.nx_code.specs.Table.{table, words, place_of}
-use Rattle.nx_code.specs.private.Rows.{place_given}
+use Rattle.nx_code.specs.private.Rows.{place_below, place_given}
 use Rattle.nx_code.specs.Reading.{character_of}
-use Rattle.nx_code.proofs.CharacterLemmas.{place_for, place_for-Some, place_for-printed}
-use Rattle.nx_code.proofs.CharacterLemmas.{same_place_for}
+use Rattle.nx_code.proofs.lemmas.Character.{place_for, place_for-Some, place_for-printed}
+use Rattle.nx_code.proofs.lemmas.Character.{same_place_for}
 
-all_words : map place_given BY_WORD ≡ map place_of (range_with_len 0 128)
-unfolding place_of words table
+-- the place of a word: a service signal by its own word, and a combination by its class
+abbrev place_by_class : ℕ → Option ℕ
+place_by_class word =
+    if word == 15 then Some 32
+    else (if word == 51 then Some 33
+    else (if word == 102 then Some 34 else place_below (class_of word)))
+
+all_words : map place_by_class (range_with_len 0 128) ≡ map place_of (range_with_len 0 128)
+unfolding class_of place_of words table
 all_words = refl
 
-pub place_of-BY_WORD : (word fallback : ℕ) → word < 128
-    → place_given (get_or BY_WORD word fallback) ≡ place_of word
-place_of-BY_WORD word fallback h =
-    sym (get_or-map place_given BY_WORD word fallback None h)
-    ∙ ap (λ l. get_or l word None) all_words
-    ∙ get_or-map-range_with_len place_of 0 128 word word None h (omega arith)
+place_of-by : (word : ℕ) → word < 128 → place_of word ≡ place_by_class word
+place_of-by word h =
+    sym (get_or-map-range_with_len place_of 0 128 word word None h (omega arith))
+    ∙ ap (λ l. get_or l word None) (sym all_words)
+    ∙ get_or-map-range_with_len place_by_class 0 128 word word None h (omega arith)
+
+pub place_of-alpha : place_of 15 ≡ Some 32
+place_of-alpha = place_of-by 15 (omega arith)
+
+pub place_of-beta : place_of 51 ≡ Some 33
+place_of-beta = place_of-by 51 (omega arith)
+
+pub place_of-repeat : place_of 102 ≡ Some 34
+place_of-repeat = place_of-by 102 (omega arith)
+
+pub place_of-other : (word : ℕ) → word < 128 → (word ≡ 15 → ⊥) → (word ≡ 51 → ⊥)
+    → (word ≡ 102 → ⊥) → place_of word ≡ place_below (class_of word)
+place_of-other word h a b c =
+    place_of-by word h
+    ∙ rw (ne_eqb word 15 a) (rw (ne_eqb word 51 b) (rw (ne_eqb word 102 c) refl))
 
 -- the first of two places that is one
 abbrev pub or_else : Option ℕ → Option ℕ → Option ℕ

@@ -6,7 +6,7 @@ use Rattle.std.proofs.lemmas.Bool.{agree_below_at, cases_eq, eq-eqb, ltb-true, n
 use Rattle.std.proofs.lemmas.List.{get_or-map}
 use Rattle.std.proofs.lemmas.List.FromFn.{get_or-map-range_with_len}
 use Rattle.nx_code.specs.declared.classes.TheConstants.{BY_WORD, PAIRED}
-use Rattle.nx_code.specs.declared.steps.TheConstants.{PRINTED, AFTER}
+use Rattle.nx_code.specs.declared.printer_steps.TheConstants.{PRINTED, AFTER}
 use Rattle.nx_code.specs.declared.shifts.Shift.{Shift}
 use Rattle.nx_code.specs.declared.shifts.Shift.TheVariants.{Letters, Figures}
 use Rattle.nx_code.specs.Classes.{class_of, paired, reception_of_class}

@@ -1,8 +1,8 @@
 use Rattle.std.proofs.Common.{ap, ◌∙◌, get_or}
 use Rattle.nx_code.specs.private.Rows.{byte_given}
-use Rattle.nx_code.specs.declared.steps.TheConstants.{PRINTED}
-use Rattle.nx_code.proofs.ClassLemmas.{byte_of-PRINTED}
-use Rattle.nx_code.proofs.steps.printed.Goals as goal
+use Rattle.nx_code.specs.declared.printer_steps.TheConstants.{PRINTED}
+use Rattle.nx_code.proofs.lemmas.Class.{byte_of-PRINTED}
+use Rattle.nx_code.proofs.printer_steps.printed.Goals as goal
 
 pub returns : goal.returns
 returns c =

@@ -9,7 +9,7 @@ use Rattle.nx_code.specs.Table.{row, table, words, place_of, row_of, traffic_wor
 use Rattle.nx_code.specs.Reading.{combination, idle, lost, character_of, shift_after_all, text}
 use Rattle.nx_code.specs.Reading.{characters, is_in_code}
 use Rattle.nx_code.specs.Spelling.{Spells}
-use Rattle.nx_code.proofs.SpellingLemmas.{Spells-push, spells_newline, spells_here, spells_there}
+use Rattle.nx_code.proofs.lemmas.Spelling.{Spells-push, spells_newline, spells_here, spells_there}
 
 -- ---- words and lists
 

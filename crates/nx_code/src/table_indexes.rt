@@ -1,29 +1,25 @@
-//! Where words and characters stand in the table. The two indexes save a search of the table for
-//! each word and each character; that they answer as the search would is proved.
+//! Where words and characters stand in the table. The class of a word, and an index of characters,
+//! save a search of the table for each of them; that they answer as the search would is proved.
 
 ghost use Rattle.std.specs.Prelude.{◌≡◌, ℕ, ◌+◌, ◌-◌, ◌≤◌, ◌<◌, Some, IfSome};
 ghost use Rattle.nx_code.specs.Reading.{character_of};
-ghost use Rattle.nx_code.specs.private.Rows.{place_given};
+ghost use Rattle.nx_code.specs.private.Rows.{place_below, place_given};
 ghost use Rattle.nx_code.specs.Table.{place_of};
 ghost use Rattle.nx_code.specs.declared.shifts.Shift.{Shift};
 
+use crate::classes::{NO_CLASS, class_of};
+use crate::table::{ALPHA, BETA, REPEAT};
 use crate::words::Word;
 
 /// In an index: no place of the table.
 const NOWHERE: u8 = 35;
 
-/// The place in the table of each word, by its number.
-#[rattlefmt::skip]
-static BY_WORD: [u8; 128] = [
-    35, 35, 35, 35, 35, 35, 35, 35, 35, 35, 35, 35, 35, 35, 35, 32,
-    35, 35, 35, 35, 35, 35, 35,  9, 35, 35, 35,  5, 35,  2, 10, 35,
-    35, 35, 35, 35, 35, 35, 35, 22, 35, 35, 35, 24, 35, 15, 16, 35,
-    35, 35, 35, 33, 35,  6, 29, 35, 35, 12, 23, 35, 21, 35, 35, 35,
-    35, 35, 35, 35, 35, 35, 35,  0, 35, 35, 35, 18, 35,  8, 20, 35,
-    35, 35, 35,  3, 35, 17,  4, 35, 35, 13, 28, 35, 30, 35, 35, 35,
-    35, 35, 35, 25, 35, 11, 34, 35, 35,  7, 31, 35, 27, 35, 35, 35,
-    35, 14,  1, 35, 19, 35, 35, 35, 26, 35, 35, 35, 35, 35, 35, 35,
-];
+/// The words of idle signal alpha, of idle signal beta and of signal repetition.
+const ALPHA_WORD: u8 = 0x0F;
+
+const BETA_WORD: u8 = 0x33;
+
+const REPEAT_WORD: u8 = 0x66;
 
 /// The place in the table of the combination that prints each byte.
 #[rattlefmt::skip]
@@ -62,7 +58,23 @@ pub(crate) fn place_of_word(word: Word) -> Option<usize>
     ensures place { result ≡ place_of word }
     ensures range { word < 128 }
 {
-    place_given(BY_WORD[usize::from(word.number())])
+    match word.number() {
+        ALPHA_WORD => Some(ALPHA),
+        BETA_WORD => Some(BETA),
+        REPEAT_WORD => Some(REPEAT),
+        _ => place_below(class_of(word)),
+    }
+}
+
+/// The place of a combination, one below its class; None for class 0.
+fn place_below(class: u8) -> Option<usize>
+    ensures { result ≡ place_below class }
+{
+    if class == NO_CLASS {
+        None
+    } else {
+        Some(usize::from(class - 1))
+    }
 }
 
 /// The place in the table of the combination that prints a byte, from 0; None where none does.

@@ -16,7 +16,7 @@ use Rattle.nx_code.specs.Table.{table, row_of}
 use Rattle.nx_code.specs.Reading.{character_of, is_in_code, characters, holds_in}
 use Rattle.nx_code.specs.private.Rows.{case_kept, character_in}
 use Rattle.nx_code.specs.declared.shifts.Case.{Case}
-use Rattle.nx_code.proofs.TableLemmas.{is_at, Some-is_at, character-TABLE}
+use Rattle.nx_code.proofs.lemmas.Table.{is_at, Some-is_at, character-TABLE}
 
 -- a test of what is printed, where something is
 abbrev pub if_some : (ℕ → Bool) → Option ℕ → Bool

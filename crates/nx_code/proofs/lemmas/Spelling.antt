@@ -16,8 +16,8 @@ use Rattle.nx_code.specs.declared.shifts.Case.TheVariants as cases
 use Rattle.nx_code.specs.Spelling.{other, IsOnlyIn, Fits, EachFits, Spells}
 use Rattle.nx_code.specs.declared.shifts.Shift.{Shift}
 use Rattle.nx_code.specs.declared.shifts.Shift.TheVariants.{Letters, Figures}
-use Rattle.nx_code.proofs.ReadingLemmas.{text-append, shift_after_all-append}
-use Rattle.nx_code.proofs.CharacterLemmas.{if_some, if_some-at}
+use Rattle.nx_code.proofs.lemmas.Reading.{text-append, shift_after_all-append}
+use Rattle.nx_code.proofs.lemmas.Character.{if_some, if_some-at}
 
 -- the first combination of some, if there is one
 abbrev pub first_of : List ℕ → Option ℕ

@@ -11,13 +11,13 @@ use Rattle.nx_code.specs.Reading.{shift_after_all, text, is_in_code}
 use Rattle.nx_code.specs.Spelling.{other, IsOnlyIn, Fits, EachFits, Spells}
 use Rattle.nx_code.specs.declared.shifts.Shift.{Shift}
 use Rattle.nx_code.specs.declared.shifts.Shift.TheVariants.{Letters, Figures}
-use Rattle.nx_code.proofs.CharacterLemmas.{in_code-prints, in_code-printed, if_some-at, place_for}
-use Rattle.nx_code.proofs.CharacterLemmas.{place_for-Some, place_for-printed, both-printed}
-use Rattle.nx_code.proofs.SpellingLemmas.{first_of, Spells-nil, Spells-append, spells_newline}
-use Rattle.nx_code.proofs.SpellingLemmas.{spells_here, spells_there, differs-other, other-other}
-use Rattle.nx_code.proofs.SpellingLemmas.{number_of_shift, shift_set-number, after_shift}
-use Rattle.nx_code.proofs.SpellingLemmas.{printed-line_feed, printed-return, printed-shift}
-use Rattle.nx_code.proofs.SpellingLemmas.{printed-newline, shift_set-None}
+use Rattle.nx_code.proofs.lemmas.Character.{in_code-prints, in_code-printed, if_some-at, place_for}
+use Rattle.nx_code.proofs.lemmas.Character.{place_for-Some, place_for-printed, both-printed}
+use Rattle.nx_code.proofs.lemmas.Spelling.{first_of, Spells-nil, Spells-append, spells_newline}
+use Rattle.nx_code.proofs.lemmas.Spelling.{spells_here, spells_there, differs-other, other-other}
+use Rattle.nx_code.proofs.lemmas.Spelling.{number_of_shift, shift_set-number, after_shift}
+use Rattle.nx_code.proofs.lemmas.Spelling.{printed-line_feed, printed-return, printed-shift}
+use Rattle.nx_code.proofs.lemmas.Spelling.{printed-newline, shift_set-None}
 
 -- ---- each text of the code has a spelling
 
