@@ -2,21 +2,21 @@
 use Rattle.std.specs.Prelude.{◌≡◌, ◌≢◌, ℕ, ◌%◌, ◌<◌, ◌≤◌, Bool, not, List, length, position, Option, Some, Result, Ok, Err, MatchResult, ⊤}
 use Rattle.std.specs.Global.{Vec}
 use Rattle.std.specs.Io.KnownBytes.{Appends, IsAtEnd}
-use Rattle.nx_fec.specs.Lines.{HasFault, IsBitFile, IsFaultless, file_of}
-use Rattle.nx_fec.specs.Aligned.{aligned_text, words_of}
-use Rattle.nx_fec.specs.WordLines.{word_lines}
+use Rattle.nx_fec.specs.air_files.Lines.{HasFault, IsBitFile, IsFaultless, file_of}
+use Rattle.nx_fec.specs.emissions.Aligned.{aligned_text, words_of}
+use Rattle.nx_fec.specs.texts.WordLines.{word_lines}
 use Rattle.nx_fec.specs.Transfers.{CountedDevice, WroteSome, Devices, IsReadOut, Reads, ReadsToEnd, Transfers, at_the_end}
 use Rattle.nx_fec.specs.declared.fault.LineFault.{LineFault}
 use Rattle.nx_fec.specs.declared.fault.LineFault.TheVariants as file
-use Rattle.nx_fec.specs.BitLines.{bit_lines}
-use Rattle.nx_fec.specs.Emission.{bits_of, emission, framed_positions}
+use Rattle.nx_fec.specs.air_files.BitLines.{bit_lines}
+use Rattle.nx_fec.specs.emissions.Emission.{bits_of, emission, framed_positions}
 use Rattle.nx_code.specs.Reading.{is_in_code}
 use Rattle.nx_code.specs.Spelling.{Spells}
 use Rattle.nx_code.specs.declared.shifts.Shift.TheVariants.{Letters}
 use Rattle.nx_code.specs.declared.spelling.SpellFault.{SpellFault}
 use Rattle.nx_code.specs.declared.spelling.SpellFault.TheVariants as spelling
-use Rattle.nx_fec.specs.declared.aligned.AlignedFault.{AlignedFault}
-use Rattle.nx_fec.specs.declared.aligned.AlignedFault.TheVariants as words
+use Rattle.nx_fec.specs.declared.emissions.aligned.AlignedFault.{AlignedFault}
+use Rattle.nx_fec.specs.declared.emissions.aligned.AlignedFault.TheVariants as words
 use Rattle.nx_fec.specs.declared.fault.ReadFault.{ReadFault}
 use Rattle.nx_fec.specs.declared.fault.ReadFault.TheVariants as read
 use Rattle.nx_fec.specs.declared.fault.RunFault.{RunFault}

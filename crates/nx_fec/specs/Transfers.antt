@@ -1,9 +1,9 @@
 -- What a run says of its devices: of the bytes that it read and wrote, and of the calls that failed
 -- (this profile).
-use Rattle.std.specs.Prelude.{◌≡◌, ◌≢◌, ◌<◌, ◌≤◌, ◌↔◌, ℕ, List, length, take, Option, Result, Err, IfErr, IfSome, IsErrOf, MatchResult, ⊤, IsErr, OnErr, OnOk, min, ◌+◌, ◌-◌, ◌^◌}
+use Rattle.std.specs.Prelude.{◌≡◌, ◌≢◌, ◌<◌, ◌≤◌, ◌↔◌, ℕ, List, [], length, take, Option, Result, Err, IfErr, IfSome, IsErrOf, MatchResult, ⊤, IsErr, OnErr, OnOk, min, ◌+◌, ◌-◌, ◌^◌}
 use Rattle.std.specs.Io.KnownBytes.{Consumes, IsAtEnd, Keeps, Appends}
-use Rattle.nx_fec.specs.declared.pieces.Piece.{Piece}
-use Rattle.nx_fec.specs.declared.pieces.Piece.TheVariants.{End, Failed, Bytes}
+use Rattle.nx_fec.specs.declared.devices.pieces.Piece.{Piece}
+use Rattle.nx_fec.specs.declared.devices.pieces.Piece.TheVariants.{End, Failed, Bytes}
 
 -- a reader or a writer, and how many calls on it failed
 pub record CountedDevice (T : Type 0) : Type 0 where
@@ -112,6 +112,28 @@ devices remaining contents reader reader_after writer writer_after = record {
 -- no input is left
 abbrev pub IsReadOut : {R W : Type 0} → Devices R W → Type 0
 IsReadOut d = IsAtEnd (d.remaining d.reader_after.inner)
+
+-- How much of an input some bytes are: `at_end` holds where they are all of it, and `is_left` of
+-- the bytes that a failed read left behind them.
+pub record Extent : Type 1 where
+  pub at_end : Type 0
+  pub is_left : List ℕ → Type 0
+
+-- bytes before the end, where no read failed
+abbrev pub inside : Extent
+inside = record { at_end = ⊥; is_left = λ more. ⊥ }
+
+-- the bytes that were read, which are all where this holds
+abbrev pub read_to : Type 0 → Extent
+read_to AtEnd = record { at_end = AtEnd; is_left = λ more. more ≡ [] }
+
+-- the bytes that were read from these devices
+abbrev pub as_read : {R W : Type 0} → Devices R W → Extent
+as_read d = read_to (IsReadOut d)
+
+-- the whole input, of which bytes may be left after a failed read
+abbrev pub whole_input : Extent
+whole_input = record { at_end = Unit {0}; is_left = λ more. Unit {0} }
 
 -- when a run writes: only after all else succeeded, or while it reads
 pub data Writing : Type 0 where

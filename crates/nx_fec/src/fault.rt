@@ -1,5 +1,5 @@
 //! The faults of air files and of runs over readers and writers.
-use crate::aligned::AlignedFault;
+use crate::emissions::aligned::AlignedFault;
 use nx_code::SpellFault;
 use std::alloc::AllocError;
 use thiserror::Error;

@@ -1,17 +1,17 @@
-//! Laws of emissions, of their decoding, of air files and of devices, over their definitions: each is the contract of a
-//! function that does nothing.
+//! Laws of emissions, of their decoding, of air files and of devices, over their definitions: each
+//! is the contract of a function that does nothing.
 
 ghost use Rattle.std.specs.Prelude.{◌≡◌, ◌+◌, ◌-◌, ◌*◌, ◌^◌, ◌%◌, ◌≤◌, Bool, List, ℕ, [], ◌∷◌, ◌++◌, Option, length, map, min, slice_index, take};
 ghost use Rattle.std.specs.Io.KnownBytes.{Appends};
 ghost use Rattle.nx_code.specs.Reading.{combination, idle, text};
 ghost use Rattle.nx_code.specs.declared.shifts.Shift.TheVariants.{Letters};
-ghost use Rattle.nx_fec.specs.AirFile.{IsLine, Line, spelling};
-ghost use Rattle.nx_fec.specs.Aligned.{aligned_text, dx_words, receptions, words_of};
-ghost use Rattle.nx_fec.specs.Pairing.{five_before, counts_as, third_last};
-ghost use Rattle.nx_fec.specs.BitLines.{bit_lines};
+ghost use Rattle.nx_fec.specs.air_files.AirFile.{IsLine, Line, spelling};
+ghost use Rattle.nx_fec.specs.emissions.Aligned.{aligned_text, dx_words, receptions, words_of};
+ghost use Rattle.nx_fec.specs.emissions.Pairing.{five_before, counts_as, third_last};
+ghost use Rattle.nx_fec.specs.air_files.BitLines.{bit_lines};
 ghost use Rattle.nx_fec.specs.Transfers.{WroteSome};
-ghost use Rattle.nx_fec.specs.Emission.{AreCombinations, AreInCode, AreWords, IsEmission, SentPosition, bits_of, emission, framed_positions, reception};
-ghost use Rattle.nx_fec.specs.Lines.{HasFault, IsAirFile, IsAtByte, IsBitFile, IsCause, Splits, file_of};
+ghost use Rattle.nx_fec.specs.emissions.Emission.{AreCombinations, AreInCode, AreWords, IsEmission, SentPosition, bits_of, emission, framed_positions, reception};
+ghost use Rattle.nx_fec.specs.air_files.Lines.{HasFault, IsAirFile, IsAtByte, IsBitFile, IsCause, Splits, file_of};
 ghost use Rattle.nx_fec.specs.Runs.{IsDecoded, IsEncoded};
 ghost use Rattle.nx_fec.specs.declared.fault.LineFault.{LineFault};
 
@@ -32,8 +32,9 @@ pub fn words_and_bits()
     ensures sound { (bits : List Bool) → AreWords (words_of bits) }
 {}
 
-/// What is taken of an emission all of whose words arrive, read from slot 0: two idle positions, whose DX words
-/// weren't seen, and then all positions but the last three, whose RX words aren't sent.
+/// What is taken of an emission all of whose words arrive, read from slot 0: two idle positions,
+/// whose DX words weren't seen, and then all positions but the last three, whose RX words aren't
+/// sent.
 pub fn receptions_of_emissions()
     ensures { (positions : List SentPosition) → AreInCode positions → 3 ≤ length positions
         → receptions (emission positions)
@@ -65,7 +66,8 @@ pub fn one_outcome()
         → HasFault limit bytes b → a ≡ b }
     ensures lines { (limit : ℕ) (bytes : List ℕ) (lines : List Line) (why : LineFault)
         → IsAirFile limit bytes lines → HasFault limit bytes why → ⊥ }
-    // What stands before a fault has none at a byte of its own: so the fault is the one at the earliest byte.
+    // What stands before a fault has none at a byte of its own: so the fault is the one at the
+    // earliest byte.
     ensures earliest { (limit : ℕ) (front : List ℕ) (lines : List Line) (rest : List ℕ)
         (why : LineFault)
         → Splits front lines rest
@@ -80,7 +82,8 @@ pub fn reading_of_writing()
         → IsBitFile limit (file_of (bit_lines bits)) bits }
 {}
 
-/// Decoding gives back what was encoded, wherever its file keeps to the limit; and a file has one text.
+/// Decoding gives back what was encoded, wherever its file keeps to the limit; and a file has one
+/// text.
 pub fn decoding_of_encoding()
     ensures text { (limit : ℕ) (text file : List ℕ) (positions : ℕ) → IsEncoded text file positions
         → length file ≤ limit → IsDecoded limit file text }
@@ -88,12 +91,14 @@ pub fn decoding_of_encoding()
         → a ≡ b }
 {}
 
-/// The third last of the DX words before RX word k is word k-5, and unseen where k < 5, whichever role the first word of
-/// a lock has: its first DX word is word 0, or word 1 where it begins with an RX word. So `Diversity`, which is given the
-/// DX words one by one, pairs each RX word with the word five before it.
+/// The third last of the DX words before RX word k is word k-5, and unseen where k < 5, whichever
+/// role the first word of a lock has: its first DX word is word 0, or word 1 where it begins with
+/// an RX word. So `Diversity`, which is given the DX words one by one, pairs each RX word with the
+/// word five before it.
 pub fn dx_words_of_locks()
     ensures third_last { (words : List ℕ) (first count : ℕ) → first ≤ 1
-        → third_last (dx_words words first count) ≡ five_before (slice_index words) (2 * count + first - 1) }
+        → third_last (dx_words words first count) ≡ five_before (slice_index words)
+        (2 * count + first - 1) }
     ensures none { (words : List ℕ) (first : ℕ) → dx_words words first 0 ≡ [] }
     ensures next { (words : List ℕ) (first count : ℕ) → dx_words words first (count + 1)
         ≡ dx_words words first count ++ counts_as (slice_index words (2 * count + first)) ∷ [] }
@@ -101,7 +106,8 @@ pub fn dx_words_of_locks()
         → dx_words (words ++ more) first count ≡ dx_words words first count }
 {}
 
-/// Where a cause stands after good lines and the beginning of one more, it is the fault of the file, whatever follows.
+/// Where a cause stands after good lines and the beginning of one more, it is the fault of the
+/// file, whatever follows.
 pub fn causes_of_faults()
     ensures { (limit : ℕ) (bytes : List ℕ) (lines : List Line) (rest more : List ℕ)
         (why : LineFault)
@@ -109,7 +115,8 @@ pub fn causes_of_faults()
         → IsCause limit (length bytes) lines rest more why → HasFault limit (bytes ++ more) why }
 {}
 
-/// What was written before counts with what a failed write took; and what was to follow it changes nothing.
+/// What was written before counts with what a failed write took; and what was to follow it changes
+/// nothing.
 pub fn writes_in_turn()
     ensures after { (a b c : Option (List ℕ)) (xs ys : List ℕ) (written : ℕ) → Appends a b xs
         → WroteSome b c ys written

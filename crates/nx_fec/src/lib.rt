@@ -1,49 +1,32 @@
-//! Forward error correction of collective mode B: each position is sent in two words, and received from both; and the
-//! air files that carry an emission.
+//! Forward error correction of collective mode B: each position is sent in two words, and received
+//! from both; and the air files that carry an emission.
 #![tactic(auto)]
 
-mod air_file;
-mod aligned;
-mod batch;
-mod channel;
-mod counting;
-mod diversity;
-mod emission;
-mod emission_lines;
+mod air_file_runs;
+mod air_files;
+mod devices;
+mod emissions;
 mod fault;
-mod feeds;
-mod hexadecimal;
 pub mod laws;
-mod line_batch;
-mod line_bytes;
-mod line_hearing;
-mod line_run;
-mod packed;
-mod packed_words;
-mod pieces;
-mod positions;
-mod reading;
-mod runs;
-mod scanner;
-mod table_text;
-mod word_lines;
-mod writing;
+mod texts;
 
-pub use air_file::{AirLine, LineKind, MAX_ELEMENTS, air_line};
-pub use aligned::{AlignedFault, decode_aligned, word_in};
-pub use batch::Batch;
-pub use channel::Channel;
-pub use counting::Counting;
-pub use diversity::{Diversity, Heard, combine};
-pub use emission::to_bits;
+pub use air_file_runs::{decode_run, encode_run, show_run};
+pub use air_files::channel::Channel;
+pub use air_files::line_hearing::{HearFault, LineHearer, hear_lines};
+pub use air_files::line_taking::{
+    LineTaker, LinesFault, LinesRead, TakeFault, run_lines, taking_of,
+};
+pub use air_files::lines::{AirLine, LineKind, MAX_ELEMENTS, air_line};
+pub use air_files::packed::PackedElements;
+pub use air_files::reading::{read_bits, read_whole};
+pub use air_files::scanner::Scanner;
+pub use devices::counting::Counting;
+pub use devices::pieces::{Piece, next_piece};
+pub use devices::write_batch::Batch;
+pub use devices::writing::{write_bits, write_on, write_out};
+pub use emissions::aligned::{AlignedFault, decode_aligned, word_in};
+pub use emissions::diversity::{Diversity, Heard, combine};
+pub use emissions::emission::to_bits;
+pub use emissions::positions::{Position, SPREAD, word_at};
 pub use fault::{LineFault, ReadFault, RunFault, WriteFault};
-pub use line_hearing::{HearFault, LineHearer, hear_lines};
-pub use line_run::{LineTaker, LinesFault, LinesRead, TakeFault, run_lines};
-pub use packed::PackedElements;
-pub use pieces::{Piece, next_piece};
-pub use positions::{Position, SPREAD, word_at};
-pub use reading::{read_bits, read_whole};
-pub use runs::{decode_run, encode_run, show_run};
-pub use scanner::Scanner;
-pub use table_text::write_table;
-pub use writing::{write_bits, write_on, write_out};
+pub use texts::table_text::write_table;

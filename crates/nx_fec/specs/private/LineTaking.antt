@@ -1,11 +1,11 @@
 -- A run over the lines of an air file while it goes on.
 use Rattle.std.specs.Prelude.{ℕ, List, Option}
-use Rattle.nx_fec.specs.AirFile.{Line}
-use Rattle.nx_fec.specs.LineRuns.{HasGiven, HasTaken, Standing, Waiting}
-use Rattle.nx_fec.specs.Lines.{Scanning, Scans}
+use Rattle.nx_fec.specs.air_files.AirFile.{Line}
+use Rattle.nx_fec.specs.air_files.LineRuns.{HasGiven, HasTaken, Standing, Waiting}
+use Rattle.nx_fec.specs.air_files.Lines.{Scanning, Scans}
 
--- the scanner stands so after these bytes, and all lines that they ended were taken: `holds` is true
--- of them
+-- the scanner stands so after these bytes, and all lines that they ended were taken: `holds` is
+-- true of them
 pub record IsHearing (holds : List Line → Type 0) (limit : ℕ) (scanner : Scanning)
     (bytes : List ℕ) : Type 0 where
   pub lines : List Line
@@ -16,4 +16,5 @@ pub record IsHearing (holds : List Line → Type 0) (limit : ℕ) (scanner : Sca
 abbrev pub IsTaking : {T : Type 0} → Standing T → T → T → ℕ → Scanning → Option (List ℕ)
     → Option (List ℕ) → Waiting → List ℕ → Type 0
 IsTaking stands first now limit scanner old new batch bytes =
-    IsHearing (λ lines. HasTaken stands first now lines (HasGiven old new batch)) limit scanner bytes
+    IsHearing (λ lines. HasTaken stands first now lines (HasGiven old new batch)) limit scanner
+    bytes

@@ -1,10 +1,10 @@
 -- What contracts see of a scanner gives back all that it keeps.
 use Rattle.std.specs.Prelude.{◌≡◌, ℕ, Bool, List, Option, None, Some, refl}
 use Rattle.std.proofs.Common.{sym}
-use Rattle.nx_fec.specs.Scanner.{elements_kept, kind_kept, line_with}
+use Rattle.nx_fec.specs.air_files.Scanner.{elements_kept, kind_kept, line_with}
 use Rattle.nx_fec.specs.private.ScannerKept.{IsKept, bytes_kept, line_ended, part_of}
-use Rattle.nx_fec.specs.declared.air_file.LineKind.{LineKind}
-use Rattle.nx_fec.specs.declared.air_file.LineKind.TheVariants.{Moment, Elements, RefuseStation, AcceptStation, RefuseSubject, AcceptSubject}
+use Rattle.nx_fec.specs.declared.air_files.lines.LineKind.{LineKind}
+use Rattle.nx_fec.specs.declared.air_files.lines.LineKind.TheVariants.{Moment, Elements, RefuseStation, AcceptStation, RefuseSubject, AcceptSubject}
 
 pub record Back (ended : Option LineKind) (bits : List Bool) (kept : List ℕ) : Type 0 where
   pub bytes : bytes_kept (line_ended ended bits) (part_of ended kept) ≡ kept

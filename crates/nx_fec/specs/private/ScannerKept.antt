@@ -1,10 +1,10 @@
 -- The bytes, the line and the elements that a scanner keeps: those of the line that is open, or of
 -- the line that the last byte ended.
 use Rattle.std.specs.Prelude.{◌≡◌, ℕ, Bool, List, [], Option, Some, None, IsSome}
-use Rattle.nx_fec.specs.AirFile.{IsLine, Line, accept_station, accept_subject, elements, moment, refuse_station, refuse_subject, spelling}
-use Rattle.nx_fec.specs.Lines.{elements_of}
-use Rattle.nx_fec.specs.Scanner.{line_with}
-use Rattle.nx_fec.specs.declared.air_file.LineKind.{LineKind}
+use Rattle.nx_fec.specs.air_files.AirFile.{IsLine, Line, accept_station, accept_subject, elements, moment, refuse_station, refuse_subject, spelling}
+use Rattle.nx_fec.specs.air_files.Lines.{elements_of}
+use Rattle.nx_fec.specs.air_files.Scanner.{line_with}
+use Rattle.nx_fec.specs.declared.air_files.lines.LineKind.{LineKind}
 
 -- the line names its channel
 abbrev pub IsMarked : Line → Type 0

@@ -1,7 +1,7 @@
 -- A scanner that takes a line whole, or none.
 use Rattle.std.specs.Prelude.{◌≡◌, ℕ, ◌+◌, ◌≤◌, List, [], length, take, Some}
-use Rattle.nx_fec.specs.AirFile.{IsLine, Line}
-use Rattle.nx_fec.specs.Lines.{Scanning, line_bytes}
+use Rattle.nx_fec.specs.air_files.AirFile.{IsLine, Line}
+use Rattle.nx_fec.specs.air_files.Lines.{Scanning, line_bytes}
 
 -- no line was open, and it took the one that a piece begins with, of so many bytes with its end
 pub record TakesLine (old new : Scanning) (piece : List ℕ) (count : ℕ) : Type 0 where

@@ -2,7 +2,7 @@
 use Rattle.std.specs.Prelude.{◌≡◌, ℕ, ◌==◌, if◌then◌else◌, Bool, true, false, refl}
 use Rattle.std.proofs.Common.{sym}
 use Rattle.std.proofs.lemmas.Bool.{eqb-true}
-use Rattle.nx_fec.specs.Pairing.{Counted, traffic, idle_signal, nothing}
+use Rattle.nx_fec.specs.emissions.Pairing.{Counted, traffic, idle_signal, nothing}
 
 -- what a word of this class counts as
 abbrev pub counted_by : ℕ → Counted

@@ -1,4 +1,4 @@
-use Rattle.nx_fec.proofs.EncodingLaws.{IsDecoded-encoded, IsDecoded-unique}
+use Rattle.nx_fec.proofs.lemmas.emissions.EncodingLaws.{IsDecoded-encoded, IsDecoded-unique}
 use Rattle.nx_fec.proofs.laws.decoding_of_encoding.Goals as goal
 
 pub returns-clause-text : goal.returns-clause-text

@@ -1,6 +1,6 @@
 use Rattle.std.proofs.Common.{sym, refl}
-use Rattle.nx_fec.specs.Aligned.{dx_words}
-use Rattle.nx_fec.proofs.AlignedLemmas.{dx_words-longer, dx_words-more, third_last-dx_words}
+use Rattle.nx_fec.specs.emissions.Aligned.{dx_words}
+use Rattle.nx_fec.proofs.lemmas.emissions.Aligned.{dx_words-longer, dx_words-more, third_last-dx_words}
 use Rattle.nx_fec.proofs.laws.dx_words_of_locks.Goals as goal
 
 pub returns-clause-third_last : goal.returns-clause-third_last

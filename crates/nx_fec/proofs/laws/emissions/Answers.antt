@@ -1,4 +1,4 @@
-use Rattle.nx_fec.proofs.EmissionLemmas.{IsEmission-emission, IsEmission-only, AreWords-emission}
+use Rattle.nx_fec.proofs.lemmas.emissions.Emission.{IsEmission-emission, IsEmission-only, AreWords-emission}
 use Rattle.nx_fec.proofs.laws.emissions.Goals as goal
 
 pub returns-clause-one : goal.returns-clause-one

@@ -1,4 +1,4 @@
-use Rattle.nx_fec.proofs.LineLaws.{HasFault-unique, IsAirFile-good, IsBitFile-unique, Splits-good}
+use Rattle.nx_fec.proofs.lemmas.lines.LineLaws.{HasFault-unique, IsAirFile-good, IsBitFile-unique, Splits-good}
 use Rattle.nx_fec.proofs.laws.one_outcome.Goals as goal
 
 pub returns-clause-fault : goal.returns-clause-fault

@@ -1,4 +1,4 @@
-use Rattle.nx_fec.proofs.LineLaws.{spelling-injective}
+use Rattle.nx_fec.proofs.lemmas.lines.LineLaws.{spelling-injective}
 use Rattle.nx_fec.proofs.laws.one_spelling.Goals as goal
 
 pub returns : goal.returns

@@ -1,6 +1,6 @@
 use Rattle.std.proofs.Common.{arith}
-use Rattle.nx_fec.proofs.RoundTripLemmas.{length-bits_of, words_of-bits_of, bits_of-words_of}
-use Rattle.nx_fec.proofs.RoundTripLemmas.{AreWords-words_of}
+use Rattle.nx_fec.proofs.lemmas.emissions.RoundTrip.{length-bits_of, words_of-bits_of, bits_of-words_of}
+use Rattle.nx_fec.proofs.lemmas.emissions.RoundTrip.{AreWords-words_of}
 use Rattle.nx_fec.proofs.laws.words_and_bits.Goals as goal
 
 pub returns-clause-words : goal.returns-clause-words

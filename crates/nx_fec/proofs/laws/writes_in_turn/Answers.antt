@@ -1,4 +1,4 @@
-use Rattle.nx_fec.proofs.WritingLaws.{WroteSome-after, WroteSome-front}
+use Rattle.nx_fec.proofs.lemmas.devices.WritingLaws.{WroteSome-after, WroteSome-front}
 use Rattle.nx_fec.proofs.laws.writes_in_turn.Goals as goal
 
 pub returns-clause-after : goal.returns-clause-after

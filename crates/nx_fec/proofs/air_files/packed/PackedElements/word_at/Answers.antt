@@ -1,0 +1,17 @@
+use Rattle.std.proofs.Common.{ap, ◌∙◌, arith}
+use Rattle.nx_code.specs.Word.{elements}
+use Rattle.nx_fec.proofs.lemmas.packed.PackedPlaces.{few_packed, part_of_packed}
+use Rattle.nx_fec.proofs.air_files.packed.PackedElements.word_at.Goals as goal
+
+pub elements_at-requires-clause-room : goal.elements_at-requires-clause-room
+elements_at-requires-clause-room c = omega (
+  arith,
+  few_packed c.args.self.now c.words.result.now c.words.ensures.elements,
+  c.requires,
+)
+
+pub returns : goal.returns
+unfolding elements
+returns c = ap elements c.packed_word.ensures ∙ c.elements_at.ensures.elements
+    ∙ part_of_packed c.args.self.now c.words.result.now c.args.place 7 c.words.ensures.elements
+    c.requires

@@ -1,0 +1,43 @@
+use Rattle.std.proofs.Common.{◌≡◌, ◌∙◌, ◌++◌, ◌+◌, ap, arith, length, refl, subst, sym, take}
+use Rattle.nx_fec.specs.private.ScannerKept.{SpellsLine}
+use Rattle.nx_fec.specs.declared.air_files.lines.LineKind.TheVariants.{Moment}
+use Rattle.nx_fec.proofs.lemmas.lines.WholeLine.{moment-spells, takes-moment}
+use Rattle.nx_fec.proofs.air_files.scanner.Scanner.take_moment.Goals as goal
+
+pub invariant_of-self : goal.invariant_of-self
+invariant_of-self c =
+    let piece = c.args.piece.now in
+    let count = c.moment_front-moment.result.1 in
+    let digits = c.in-Some.digits.now in
+    let found = c.moment_front-moment.ensures.found (omega (arith, c.if-count-eq0.false)) in (
+      omega (
+        arith,
+        c.self.invariant.0,
+        c.requires.room,
+        ap (λ s. s.room) c.self.view_is,
+        c.moment_front-moment.ensures.count,
+      ),
+      subst (SpellsLine (Moment c.moment_front-moment.result.0) c.clear-2.new.self)
+          (sym (c.append_front.ensures ∙ ap (λ l. l ++ take (2 + count) piece) c.clear.ensures))
+          (moment-spells piece digits c.moment_front-moment.result.0 count c.clear-2.new.self
+          c.in-Some.ensures found c.clear-2.ensures),
+    )
+
+pub returns-clause-taken : goal.returns-clause-taken
+returns-clause-taken c = λ _.
+    let piece = c.args.piece.now in
+    let count = c.moment_front-moment.result.1 in
+    let digits = c.in-Some.digits.now in
+    let size : length piece ≡ 2 + length digits = omega (arith, ap length c.in-Some.ensures) in
+    let found = c.moment_front-moment.ensures.found (omega (arith, c.if-count-eq0.false)) in
+    takes-moment c.args.self.now _ piece digits c.moment_front-moment.result.0 count
+    c.in-Some.ensures found
+    (omega (arith, size, c.requires.long, c.moment_front-moment.ensures.count))
+    c.if-digits-count-ne-LINE_END.false c.requires.empty
+    refl refl (ap (λ s. s.lines + 1) c.self.view_is)
+    (omega (
+      arith,
+      ap (λ s. s.room) c.self.view_is,
+      c.requires.room,
+      c.moment_front-moment.ensures.count,
+    ))

@@ -1,0 +1,58 @@
+use Rattle.std.proofs.Common.{◌≡◌, ◌+◌, ◌∙◌, ◌++◌, None, ap, arith, length, refl, subst, sym, take}
+use Rattle.nx_fec.specs.private.ScannerKept.{SpellsLine}
+use Rattle.nx_fec.specs.declared.air_files.lines.LineKind.TheVariants.{Elements}
+use Rattle.nx_fec.proofs.lemmas.lines.WholeLine.{Digits, digits-spell, takes-digits}
+use Rattle.nx_fec.proofs.air_files.scanner.Scanner.take_near.Goals as goal
+
+pub invariant_of-self : goal.invariant_of-self
+invariant_of-self c =
+    let piece = c.args.piece.now in
+    let digits = c.in-Some.digits.now in
+    let count = c.pack_near-word.result.1 in
+    let size : length piece ≡ 2 + length digits = omega (arith, ap length c.in-Some.ensures) in
+    let found : Digits piece None digits 2 count c.put.new.self = record {
+      whole = c.in-Some.ensures;
+      starts = omega (arith, size);
+      some = omega (arith, c.if-count-eq0.false);
+      fits = omega (arith, c.if-count-gt-NEAR_ELEMENTS.false);
+      right = c.pack_near-word.ensures.right;
+      within = omega (arith, size, c.requires.long, c.if-count-gt-NEAR_ELEMENTS.false);
+      feed = c.if-digits-count-ne-LINE_END.false;
+      are = c.put.ensures ∙ c.pack_near-word.ensures.word;
+    } in (
+      omega (
+        arith,
+        c.self.invariant.0,
+        c.requires.room,
+        ap (λ s. s.room) c.self.view_is,
+        c.if-count-gt-NEAR_ELEMENTS.false,
+      ),
+      subst (SpellsLine (Elements None) c.put.new.self)
+          (sym (c.append_front.ensures ∙ ap (λ l. l ++ take (2 + count) piece) c.clear.ensures))
+          (digits-spell piece None digits 2 count c.put.new.self found),
+    )
+
+pub returns-clause-taken : goal.returns-clause-taken
+returns-clause-taken c = λ _.
+    let piece = c.args.piece.now in
+    let digits = c.in-Some.digits.now in
+    let count = c.pack_near-word.result.1 in
+    let size : length piece ≡ 2 + length digits = omega (arith, ap length c.in-Some.ensures) in
+    let found : Digits piece None digits 2 count c.put.new.self = record {
+      whole = c.in-Some.ensures;
+      starts = omega (arith, size);
+      some = omega (arith, c.if-count-eq0.false);
+      fits = omega (arith, c.if-count-gt-NEAR_ELEMENTS.false);
+      right = c.pack_near-word.ensures.right;
+      within = omega (arith, size, c.requires.long, c.if-count-gt-NEAR_ELEMENTS.false);
+      feed = c.if-digits-count-ne-LINE_END.false;
+      are = c.put.ensures ∙ c.pack_near-word.ensures.word;
+    } in
+    takes-digits c.args.self.now _ piece None digits 2 count c.put.new.self found c.requires.empty
+    refl refl (ap (λ s. s.lines + 1) c.self.view_is)
+    (omega (
+      arith,
+      ap (λ s. s.room) c.self.view_is,
+      c.requires.room,
+      c.if-count-gt-NEAR_ELEMENTS.false,
+    ))

@@ -1,8 +1,0 @@
-use Rattle.std.proofs.Common.{arith}
-use Rattle.std.proofs.lemmas.Grind.{common_steps}
-use Rattle.nx_fec.specs.Aligned.{word_in}
-use Rattle.nx_fec.proofs.aligned.word_of_slot.Goals as goal
-
-pub returns : goal.returns
-unfolding word_in
-returns c = grind (arith, common_steps)

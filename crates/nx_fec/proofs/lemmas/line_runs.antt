@@ -1,0 +1,3 @@
+-- Runs over lines, step by step.
+pub mod Hearing
+pub mod LineRun

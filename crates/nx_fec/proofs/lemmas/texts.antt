@@ -1,0 +1,3 @@
+-- Words and the table as text.
+pub mod TableText
+pub mod WordLine

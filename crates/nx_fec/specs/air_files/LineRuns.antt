@@ -1,0 +1,185 @@
+-- A run over the lines of an air file: one that writes nothing, and one that writes while it reads
+-- (this profile).
+use Rattle.std.specs.Prelude.{◌≡◌, ℕ, ◌≤◌, List, [], ◌∷◌, ◌++◌, length, Option, Result, Ok, Err, ⊤}
+use Rattle.std.specs.Io.KnownBytes.{Appends, IsAtEnd}
+use Rattle.nx_fec.specs.air_files.AirFile.{Line}
+use Rattle.nx_fec.specs.air_files.Lines.{IsAirFile, IsCause, IsLineRefused, file_of, StopsAt}
+use Rattle.nx_fec.specs.Transfers.{CountedDevice, Devices, Extent, HasWritten, Reads, Transfers}
+use Rattle.nx_fec.specs.Transfers.{WroteSome, as_read, on_the_way, whole_input}
+use Rattle.nx_fec.specs.declared.fault.LineFault.{LineFault}
+use Rattle.nx_fec.specs.declared.fault.LineFault.TheVariants.{TooLong, LineLong, LineCut, BadLine}
+use Rattle.nx_fec.specs.declared.air_files.line_hearing.HearFault.{HearFault}
+use Rattle.nx_fec.specs.declared.air_files.line_hearing.HearFault.TheVariants as hear
+use Rattle.nx_fec.specs.declared.air_files.line_taking.LinesFault.{LinesFault}
+use Rattle.nx_fec.specs.declared.air_files.line_taking.LinesFault.TheVariants as run
+use Rattle.nx_fec.specs.declared.air_files.line_taking.TakeFault.{TakeFault}
+use Rattle.nx_fec.specs.declared.air_files.line_taking.TakeFault.TheVariants as take
+use Rattle.nx_fec.specs.declared.air_files.line_taking.LinesRead.{LinesRead}
+
+-- a fault at the end of the file comes where this holds
+abbrev pub IsPlaced : Type 0 → LineFault → Type 0
+IsPlaced AtEnd TooLong = ⊤
+IsPlaced AtEnd (LineLong line) = ⊤
+IsPlaced AtEnd (LineCut line) = AtEnd
+IsPlaced AtEnd (BadLine line) = ⊤
+
+-- What a fault of the lines says of the bytes that were read. The whole lines before it were taken,
+-- and `taken` holds of them: after a failed read no byte is left of which `IsLeft` doesn't hold; a
+-- fault of the air file is its first; or a line was refused.
+abbrev pub StopsLines : {F : Type 0} → (List Line → Line → F → Type 0) → (List Line → Type 0)
+    → Type 0 → (List ℕ → Type 0) → ℕ → List ℕ → HearFault F → Type 0
+StopsLines refuses taken AtEnd IsLeft limit bytes hear.Read =
+    StopsAt bytes (λ lines rest more. (length (file_of lines ++ rest) ≤ limit) × IsLeft more
+    × taken lines)
+StopsLines refuses taken AtEnd IsLeft limit bytes (hear.Line why) =
+    IsPlaced AtEnd why × StopsAt bytes
+    (λ lines rest more. IsCause limit (length (file_of lines ++ rest)) lines rest more why
+    × taken lines)
+StopsLines refuses taken AtEnd IsLeft limit bytes (hear.Refused line why) =
+    StopsAt bytes (λ lines rest more.
+    IsLineRefused (λ before next. refuses before next why) limit lines rest more line
+    × taken lines)
+
+-- a file was read to its end, and all its lines were taken
+pub record HasHeardAll (taken : List Line → Type 0) (limit : ℕ) (bytes : List ℕ)
+    (count : ℕ) : Type 0 where
+  pub lines : List Line
+  pub file : IsAirFile limit bytes lines
+  pub here : taken lines
+  pub counted : count ≡ length lines
+
+-- what a run over lines that writes nothing answers of these bytes
+abbrev pub AnswersHearing : {F : Type 0} → (List Line → Line → F → Type 0) → (List Line → Type 0)
+    → Type 0 → (List ℕ → Type 0) → ℕ → Result ℕ (HearFault F) → List ℕ → Type 0
+AnswersHearing refuses taken AtEnd IsLeft limit (Ok count) bytes =
+    AtEnd × HasHeardAll taken limit bytes count
+AnswersHearing refuses taken AtEnd IsLeft limit (Err fault) bytes =
+    StopsLines refuses taken AtEnd IsLeft limit bytes fault
+
+-- A run over lines that writes nothing, and has no writer: it answers so to the bytes that it read,
+-- and to the whole file, however it came.
+abbrev pub HearsLines : {R F : Type 0} → (List Line → Line → F → Type 0) → (List Line → Type 0) → ℕ
+    → (R → Option (List ℕ)) → CountedDevice R → CountedDevice R → Result ℕ (HearFault F) → Type 0
+HearsLines refuses taken limit remaining old new outcome =
+    Reads remaining old new hear.Read (λ _. ⊥) outcome (λ _. ⊤)
+    (λ bytes. AnswersHearing refuses taken (IsAtEnd (remaining new.inner)) (λ more. more ≡ []) limit
+    outcome bytes)
+    (λ bytes. AnswersHearing refuses taken (Unit {0}) (λ more. Unit {0}) limit outcome bytes)
+
+-- bytes that wait to be written, and how many were written before them
+pub record Waiting : Type 0 where
+  pub bytes : List ℕ
+  pub sent : ℕ
+
+-- these bytes were given: the first of them are written, and the others wait
+pub record HasGiven (old new : Option (List ℕ)) (batch : Waiting) (given : List ℕ) : Type 0 where
+  pub done : List ℕ
+  pub written : HasWritten old new done batch.sent
+  pub whole : given ≡ done ++ batch.bytes
+
+-- A taker of lines that stood so at `first` stands so now, after these lines, for which it gave
+-- these bytes; a beginning of what it gives for these lines; and why it refuses the next line after
+-- these.
+abbrev pub Standing : Type 0 → Type 1
+Standing T = T → T → List Line → List ℕ → Type 0
+
+abbrev pub Beginning : Type 0 → Type 1
+Beginning T = T → List Line → List ℕ → Type 0
+
+abbrev pub Refusing : Type 0 → Type 0 → Type 1
+Refusing T F = T → List Line → Line → F → Type 0
+
+-- a taker stands so after these lines, and this holds of the bytes that it gave for them
+pub record HasTaken {T : Type 0} (stands : Standing T) (first now : T) (lines : List Line)
+    (holds : List ℕ → Type 0) : Type 0 where
+  pub given : List ℕ
+  pub stood : stands first now lines given
+  pub here : holds given
+
+-- a beginning of what a taker gives for these lines was written in part
+pub record HasTakenSome {T : Type 0} (begins : Beginning T) (first : T) (old new : Option (List ℕ))
+    (lines : List Line) (written : ℕ) : Type 0 where
+  pub given : List ℕ
+  pub begun : begins first lines given
+  pub some : WroteSome old new given written
+
+-- what a fault of taking the next line says: it is refused, and nothing changed; or a write failed
+abbrev pub ExplainsTaking : {T F : Type 0} → Standing T → Beginning T → Refusing T F → T → T
+    → Option (List ℕ) → Option (List ℕ) → Waiting
+    → List Line → Line → TakeFault F → Type 0
+ExplainsTaking stands begins refuses first now old new batch lines line (take.Refused why) =
+    refuses first lines line why × HasTaken stands first now lines (HasGiven old new batch)
+ExplainsTaking stands begins refuses first now old new batch lines line (take.Write written) =
+    HasTakenSome begins first old new (lines ++ line ∷ []) written
+
+-- A run over lines, as far as it came: what its taker says of itself, how it stood at first and
+-- stands now, the most bytes of the file, and what the writer held at first and holds now.
+pub record LineRun (T F : Type 0) : Type 1 where
+  pub stands : Standing T
+  pub begins : Beginning T
+  pub refuses : Refusing T F
+  pub first : T
+  pub now : T
+  pub limit : ℕ
+  pub writer_first : Option (List ℕ)
+  pub writer_now : Option (List ℕ)
+
+-- in such a run these lines were taken, and this holds of the bytes that they gave
+abbrev pub HasRunOver : {T F : Type 0} → LineRun T F → (List ℕ → Type 0) → List Line → Type 0
+HasRunOver r wrote lines = HasTaken r.stands r.first r.now lines wrote
+
+-- What a fault of a run over lines that writes says of bytes of this extent. It is one of the
+-- lines, and `wrote` holds of what the whole lines before it gave; or a write failed, with a
+-- beginning of what the lines read by then give.
+abbrev pub ExplainsLines : {T F : Type 0} → LineRun T F → Extent → (List ℕ → Type 0) → List ℕ
+    → LinesFault F → Type 0
+ExplainsLines r extent wrote bytes run.Read =
+    StopsLines (r.refuses r.first) (HasRunOver r wrote) extent.at_end extent.is_left r.limit bytes
+    hear.Read
+ExplainsLines r extent wrote bytes (run.Line why) =
+    StopsLines (r.refuses r.first) (HasRunOver r wrote) extent.at_end extent.is_left r.limit bytes
+    (hear.Line why)
+ExplainsLines r extent wrote bytes (run.Refused line why) =
+    StopsLines (r.refuses r.first) (HasRunOver r wrote) extent.at_end extent.is_left r.limit bytes
+    (hear.Refused line why)
+ExplainsLines r extent wrote bytes (run.Write written) = StopsAt bytes (λ lines rest more.
+    HasTakenSome r.begins r.first r.writer_first r.writer_now lines written)
+
+-- a file was read to its end: all its lines were taken, and what they gave was written
+pub record HasTakenAll {T : Type 0} (stands : Standing T) (first now : T)
+    (old new : Option (List ℕ)) (limit : ℕ) (bytes : List ℕ) (read : LinesRead) : Type 0 where
+  pub lines : List Line
+  pub file : IsAirFile limit bytes lines
+  pub taken : HasTaken stands first now lines (λ given. HasWritten old new given read.written)
+  pub counted : read.lines ≡ length lines
+
+-- what a run over lines that writes answers to bytes of this extent
+abbrev pub AnswersLines : {T F : Type 0} → LineRun T F → Extent → Result LinesRead (LinesFault F)
+    → List ℕ → Type 0
+AnswersLines r extent (Ok read) bytes = extent.at_end
+    × HasTakenAll r.stands r.first r.now r.writer_first r.writer_now r.limit bytes read
+AnswersLines r extent (Err fault) bytes =
+    ExplainsLines r extent (Appends r.writer_first r.writer_now) bytes fault
+
+-- the run of a taker from these devices
+abbrev pub line_run : {R W T F : Type 0} → Standing T → Beginning T → Refusing T F → ℕ → T → T
+    → Devices R W → LineRun T F
+line_run stands begins refuses limit first now d = record {
+  stands = stands;
+  begins = begins;
+  refuses = refuses;
+  first = first;
+  now = now;
+  limit = limit;
+  writer_first = d.contents d.writer.inner;
+  writer_now = d.contents d.writer_after.inner;
+}
+
+-- A run over lines that writes: it answers so to the bytes that it read, and to the whole file,
+-- however it came; and it writes what the lines give before each further read.
+abbrev pub RunsLines : {R W T F : Type 0} → Standing T → Beginning T → Refusing T F → ℕ → T → T
+    → Devices R W → Result LinesRead (LinesFault F) → Type 0
+RunsLines stands begins refuses limit first now d outcome =
+    Transfers run.Read (λ _. ⊥) (λ written. run.Write written) on_the_way d outcome (λ _. ⊤)
+    (AnswersLines (line_run stands begins refuses limit first now d) (as_read d) outcome)
+    (AnswersLines (line_run stands begins refuses limit first now d) whole_input outcome)

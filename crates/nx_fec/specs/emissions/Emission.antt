@@ -1,0 +1,90 @@
+-- Emission (ITU-R M.625, collective mode B: each position is sent in two words, and the RX word
+-- comes five slots after the DX word, so that four words lie between).
+use Rattle.std.specs.Prelude.{◌≡◌, ℕ, ◌+◌, ◌-◌, ◌*◌, ◌/◌, ◌%◌, ◌<◌, ◌≤◌, ◌==◌, nat_lt, if◌then◌else◌, Bool, List, ◌++◌, length, map, replicate, slice_index, slice_index_or, EachIndex}
+use Rattle.std.specs.List.{flat_map, range_with_len}
+use Rattle.nx_code.specs.Word.{elements}
+use Rattle.nx_code.specs.Table.{traffic_word, phasing_1, phasing_2}
+use Rattle.nx_code.specs.Reading.{Reception, combination, idle}
+use Rattle.nx_fec.specs.declared.emissions.positions.Position.{Position}
+use Rattle.nx_fec.specs.declared.emissions.positions.Position.TheVariants.{Phasing, Traffic, End}
+
+-- a position that is sent: phasing, a traffic combination by its number, or the end of the emission
+pub data SentPosition : Type 0 where
+  phasing_position : SentPosition
+  traffic_position : ℕ → SentPosition
+  end_position : SentPosition
+
+-- the position that the code sends
+abbrev pub sent_position : Position → SentPosition
+sent_position Phasing = phasing_position
+sent_position (Traffic comb) = traffic_position comb.number
+sent_position End = end_position
+
+-- the word that is sent first, in a DX slot
+abbrev pub dx_word : SentPosition → ℕ
+dx_word phasing_position = phasing_2
+dx_word (traffic_position number) = traffic_word number
+dx_word end_position = phasing_1
+
+-- the word that is sent again, in an RX slot
+abbrev pub rx_word : SentPosition → ℕ
+rx_word (traffic_position number) = traffic_word number
+rx_word _ = phasing_1
+
+-- the position of an index
+abbrev pub position_at : List SentPosition → ℕ → SentPosition
+position_at positions i = slice_index_or positions i end_position
+
+-- P positions are sent in 2P-1 words, and none in none. Position i has its DX word in slot 2i and
+-- its RX word in slot 2i+5, where that is at most 2P-2; slots 1 and 3 hold P1.
+pub record IsEmission (positions : List SentPosition) (sent : List ℕ) : Type 0 where
+  pub slots : length sent ≡ 2 * length positions - 1
+  pub dx : (i : ℕ) → i < length positions
+      → slice_index sent (2 * i) ≡ dx_word (position_at positions i)
+  pub rx : (i : ℕ) → 2 * i + 5 ≤ 2 * length positions - 2
+      → slice_index sent (2 * i + 5) ≡ rx_word (position_at positions i)
+  pub first_rx : 1 < length sent → slice_index sent 1 ≡ phasing_1
+  pub second_rx : 3 < length sent → slice_index sent 3 ≡ phasing_1
+
+-- the word of a slot, and the words of all slots
+unfoldable pub word_sent : List SentPosition → ℕ → ℕ
+word_sent positions slot =
+    if slot % 2 == 0 then dx_word (position_at positions (slot / 2))
+    else (if nat_lt slot 5 then phasing_1 else rx_word (position_at positions ((slot - 5) / 2)))
+
+unfoldable pub emission : List SentPosition → List ℕ
+emission positions = map (word_sent positions) (range_with_len 0 (2 * length positions - 1))
+
+-- the bits of words: their elements in order
+unfoldable pub bits_of : List ℕ → List Bool
+bits_of sent = flat_map elements sent
+
+-- these are numbers of words
+abbrev pub AreWords : List ℕ → Type 0
+AreWords sent = EachIndex sent (λ slot. slice_index sent slot < 128)
+
+-- these are numbers of combinations
+abbrev pub AreCombinations : List ℕ → Type 0
+AreCombinations numbers =
+    EachIndex numbers (λ i. (1 ≤ slice_index numbers i) × (slice_index numbers i ≤ 32))
+
+-- a traffic position has a combination
+abbrev pub IsInCode : SentPosition → Type 0
+IsInCode phasing_position = Unit {0}
+IsInCode (traffic_position number) = (1 ≤ number) × (number ≤ 32)
+IsInCode end_position = Unit {0}
+
+abbrev pub AreInCode : List SentPosition → Type 0
+AreInCode positions = EachIndex positions (λ i. IsInCode (position_at positions i))
+
+-- what is taken of a position whose two words arrive
+abbrev pub reception : SentPosition → Reception
+reception phasing_position = idle
+reception (traffic_position number) = combination number
+reception end_position = idle
+
+-- the positions by which combinations are sent alone: four of phasing, the combinations, three of
+-- the end
+unfoldable pub framed_positions : List ℕ → List SentPosition
+framed_positions numbers =
+    replicate 4 phasing_position ++ map traffic_position numbers ++ replicate 3 end_position

@@ -1,0 +1,42 @@
+//! Line feeds, which end the lines of an air file.
+ghost use Rattle.std.specs.Prelude.{◌≡◌, ◌↔◌, ◌<◌, ◌≤◌, ℕ, length, slice_index};
+ghost use Rattle.std.specs.Int.{bit_at};
+ghost use Rattle.memchr.specs.Find.{IsFirstByte, is_byte};
+ghost use Rattle.nx_fec.specs.air_files.Lines.{line_end};
+
+use memchr::memchr;
+use std::simd::prelude::*;
+
+/// The byte that ends a line.
+pub(crate) const LINE_END: u8 = b'\n';
+
+/// How many bytes are compared at once.
+const LANES: usize = 32;
+
+/// The place of the first line feed of a piece, if it has one.
+// Inlined always: it runs for each line.
+#[inline(always)]
+pub(crate) fn first_feed(piece: &[u8]) -> Option<usize>
+    ensures { IsFirstByte (is_byte line_end) piece.now result }
+{
+    // A short line ends within one vector; `memchr` sets out for long ones.
+    if piece.len() >= LANES {
+        let near = feeds(piece);
+        if near != 0 {
+            return Some(near.trailing_zeros() as usize);
+        }
+    }
+    memchr(LINE_END, piece)
+}
+
+/// The line feeds among the first 32 bytes of a piece: bit k says whether byte k is one.
+// Inlined always, so that its vector stays in registers.
+#[inline(always)]
+fn feeds(piece: &[u8]) -> u64
+    requires { 32 ≤ length piece.now }
+    ensures { (k : ℕ) → (bit_at result k ≡ 1) ↔ ((k < 32) × (slice_index piece.now k ≡ line_end)) }
+{
+    u8x32::from_slice(piece)
+        .simd_eq(u8x32::splat(LINE_END))
+        .to_bitmask()
+}

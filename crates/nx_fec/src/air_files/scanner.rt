@@ -1,0 +1,377 @@
+//! A scanner of the lines of an air file, which takes one piece after the other.
+ghost use Rattle.std.specs.Prelude.{◌≡◌, ◌≢◌, ◌+◌, ◌<◌, ◌≤◌, ℕ, List, [], ◌∷◌, ◌++◌, None, option_to_list, IfOk, IfErr, IfSome, OnOk, OnErr, IsSomeAnd, length, take, MatchResult};
+ghost use Rattle.std.specs.List.{AllByRecursion};
+ghost use Rattle.std.specs.Option.{option_map};
+ghost use Rattle.nx_fec.specs.air_files.AirFile.{IsLine, Line, spelling};
+ghost use Rattle.nx_fec.specs.air_files.Lines.{Scans, StopsIn, IsCause, IsAirFile, IsAtByte, line_end};
+ghost use Rattle.nx_fec.specs.air_files.Scanner.{elements_kept, kind_kept};
+ghost use Rattle.nx_fec.specs.private.WholeLines.{TakesLine, Waits};
+
+use crate::air_files::bounded_bytes::BoundedBytes;
+use crate::air_files::line_feeds::{LINE_END, first_feed};
+use crate::air_files::lines::{
+    LineKind, MAX_ELEMENTS, after, digits_behind, moment_front, read_line, unpack,
+};
+use crate::air_files::packed::{PackedElements, pack_near};
+use crate::fault::LineFault;
+use arrayvec::ArrayVec;
+use std::marker::Model;
+use std::mem::size_of;
+
+/// The most bytes of a line before its end.
+const MAX_LINE_BYTES: usize = 514;
+
+/// A line of so few elements that names no channel is looked for first, in so many bytes of a
+/// piece, with its end.
+const NEAR_ELEMENTS: usize = 30;
+
+const NEAR_BYTES: usize = 34;
+
+/// Any other line of elements is looked for in so many, the most that a line has, with its end, and
+/// one more.
+const FAR_BYTES: usize = MAX_LINE_BYTES + 2;
+
+/// Reads the lines of an air file piece by piece: it holds the line that is open, or the one that
+/// the last byte ended, how many lines were ended, and how many more bytes it may take. No field
+/// can be added whose meaning contracts see, and its size is proved.
+#[derive(Drop)]
+pub struct Scanner {
+    /// The bytes of that line.
+    kept: BoundedBytes<MAX_LINE_BYTES>,
+    /// What the line that was ended says, and its elements.
+    ended: Option<LineKind>,
+    elements: PackedElements,
+    lines: u64,
+    room: u64,
+}
+
+impl Model for Scanner {
+    ghost use Rattle.std.specs.Prelude.{◌+◌, ◌^◌, ◌<◌, length};
+    ghost use Rattle.nx_fec.specs.air_files.Lines.{Scanning};
+    ghost use Rattle.nx_fec.specs.air_files.Scanner.{elements_kept, kind_kept};
+    ghost use Rattle.nx_fec.specs.private.ScannerKept.{IsKept, bytes_kept, line_ended, part_of};
+    ghost use Rattle.nx_fec.specs.private.ScannerFields.{kept-back};
+
+    ghost Value = { Scanning };
+
+    ghost view = { λ s. record {
+      part = part_of s.ended s.kept;
+      lines = s.lines;
+      room = s.room;
+      latest = line_ended s.ended s.elements;
+    } };
+
+    ghost invariant = { λ s. (s.lines + length (part_of s.ended s.kept) + s.room < 2 ^ 64)
+        × IsKept s.ended s.elements s.kept };
+
+    // What contracts see gives every field back. The bytes and the elements of earlier lines that
+    // lie behind those that are kept, in their places, are seen by no contract, and nothing reads
+    // them.
+    ghost inverse = { λ v. record {
+      kept = bytes_kept v.latest v.part;
+      ended = kind_kept v.latest;
+      elements = elements_kept v.latest;
+      lines = v.lines;
+      room = v.room;
+    } };
+
+    ghost inverse_ok = { λ s h i. record {
+      kept = (kept-back s.ended s.elements s.kept h.1).bytes i;
+      ended = (kept-back s.ended s.elements s.kept h.1).kind i;
+      elements = (kept-back s.ended s.elements s.kept h.1).elements i;
+      lines = s.lines;
+      room = s.room;
+    } };
+}
+
+impl Scanner {
+    /// A scanner before the first byte, for a file of at most `limit` bytes.
+    pub fn new(limit: u64) -> Self
+        ensures stands { Scans limit result [] [] }
+        ensures no_line { result.latest ≡ None }
+    {
+        // Nothing is kept beside these fields, not even in a type whose model forgets.
+        prove!(size_of::<Scanner>() == 640);
+        Scanner {
+            kept: BoundedBytes::new(),
+            ended: None,
+            elements: PackedElements::new(),
+            lines: 0,
+            room: limit,
+        }
+    }
+
+    /// How many lines were ended.
+    pub fn lines(&self) -> u64
+        ensures { result ≡ self.now.lines }
+    {
+        self.lines
+    }
+
+    /// What the line says that the last byte ended, if it ended one.
+    pub fn latest(&self) -> Option<LineKind>
+        ensures { result ≡ kind_kept self.now.latest }
+    {
+        self.ended
+    }
+
+    /// The elements of the line that the last byte ended; none where it ended no line of elements.
+    pub fn elements(&self) -> &PackedElements
+        ensures { result.now ≡ elements_kept self.now.latest }
+    {
+        &self.elements
+    }
+
+    /// Writes the elements of the line that the last byte ended, in place of those that were there;
+    /// none where it ended no line of elements.
+    pub fn unpacked(&self, bits: &mut ArrayVec<bool, MAX_ELEMENTS>)
+        ensures { bits.new.items ≡ elements_kept self.now.latest }
+    {
+        // The last bytes of the line are their digits.
+        let line = self.kept.as_slice();
+        unpack(&line[line.len() - self.elements.len()..], bits);
+    }
+
+    /// The bytes of the line that the last byte ended, without its line feed, if it ended one.
+    pub fn line(&self) -> Option<&[u8]>
+        ensures { option_map (λ line. line.now) result ≡ option_map spelling self.now.latest }
+    {
+        if self.ended.is_none() {
+            return None;
+        }
+        Some(self.kept.as_slice())
+    }
+
+    /// Takes the bytes of a piece up to and with its first line feed, or all where there is none,
+    /// and says how many. The line that was ended, if one was, is then the latest. `LineLong` at
+    /// the 515th byte of a line, `BadLine` at the end of one that is none of an air file's,
+    /// `TooLong` at a byte past the limit. After a fault, which is the file's first whatever bytes
+    /// follow, the bytes before it were taken.
+    // Inlined always: it runs for each line, from more than one caller, and no large answer goes
+    // through memory.
+    #[inline(always)]
+    pub fn push_line(&mut self, piece: &[u8]) -> Result<usize, LineFault>
+        requires { 0 < length piece.now }
+        ensures bytes { (limit : ℕ) (bytes : List ℕ) (lines : List Line)
+            → Scans limit self.old bytes lines →
+            MatchResult result
+            (λ count. Scans limit self.new (bytes ++ take count piece.now)
+            (lines ++ option_to_list self.new.latest))
+            (λ why. StopsIn limit self.new bytes piece.now lines why) }
+        ensures at_byte { IfErr result IsAtByte }
+        ensures some { IfOk result (λ count. (0 < count) × (count ≤ length piece.now)) }
+        ensures latest { OnOk result (IfSome self.new.latest IsLine) }
+        ensures whole { IfOk result (λ count. self.new.latest ≡ None → count ≡ length piece.now) }
+        ensures room { IfOk result (λ count. self.new.room + count ≡ self.old.room) }
+    {
+        let count = self.take_whole(piece);
+        if count > 0 {
+            return Ok(count);
+        }
+        self.push_part(piece)
+    }
+
+    /// Takes the bytes of a piece as `push_line` does, whatever line they are of.
+    // Never inlined: most lines are taken whole.
+    #[inline(never)]
+    fn push_part(&mut self, piece: &[u8]) -> Result<usize, LineFault>
+        requires { 0 < length piece.now }
+        ensures bytes { (limit : ℕ) (bytes : List ℕ) (lines : List Line)
+            → Scans limit self.old bytes lines →
+            MatchResult result
+            (λ count. Scans limit self.new (bytes ++ take count piece.now)
+            (lines ++ option_to_list self.new.latest))
+            (λ why. StopsIn limit self.new bytes piece.now lines why) }
+        ensures at_byte { IfErr result IsAtByte }
+        ensures some { IfOk result (λ count. (0 < count) × (count ≤ length piece.now)) }
+        ensures latest { OnOk result (IfSome self.new.latest IsLine) }
+        ensures whole { IfOk result (λ count. self.new.latest ≡ None → count ≡ length piece.now) }
+        ensures room { IfOk result (λ count. self.new.room + count ≡ self.old.room) }
+    {
+        let Some(at) = first_feed(piece) else {
+            self.go_on(piece, piece.len())?;
+            return Ok(piece.len());
+        };
+        self.go_on(piece, at)?;
+        if self.room == 0 {
+            return Err(LineFault::TooLong);
+        }
+        let Some(kind) = read_line(self.kept.as_slice(), &mut self.elements) else {
+            return Err(LineFault::BadLine {
+                line: self.lines + 1,
+            });
+        };
+        self.ended = Some(kind);
+        self.lines += 1;
+        self.room -= 1;
+        Ok(at + 1)
+    }
+
+    /// Takes the line that a piece begins with, where none is open and the line is one of elements
+    /// or a moment, and answers how many bytes it has with its end. 0 where it took nothing, as it
+    /// may.
+    // Inlined always, as a part of `push_line`.
+    #[inline(always)]
+    fn take_whole(&mut self, piece: &[u8]) -> usize
+        ensures taken { 0 < result → TakesLine self.old self.new piece.now result }
+        ensures none { result ≡ 0 → Waits self.old self.new }
+    {
+        if self.ended.is_none() || piece.len() < NEAR_BYTES || self.room < NEAR_BYTES as u64 {
+            return 0;
+        }
+        let count = self.take_near(piece);
+        if count > 0 {
+            return count;
+        }
+        let count = self.take_moment(piece);
+        if count > 0 {
+            return count;
+        }
+        self.take_far(piece)
+    }
+
+    /// Takes the line that a piece begins with as `take_whole` does, where it has few elements and
+    /// names no channel.
+    // Inlined always, as a part of `push_line`.
+    #[inline(always)]
+    fn take_near(&mut self, piece: &[u8]) -> usize
+        requires empty { self.old.part ≡ [] }
+        requires long { NEAR_BYTES ≤ length piece.now }
+        requires room { NEAR_BYTES ≤ self.old.room }
+        ensures taken { 0 < result → TakesLine self.old self.new piece.now result }
+        ensures none { result ≡ 0 → self.new ≡ self.old }
+    {
+        let Some(digits) = after(piece, b"B ") else {
+            return 0;
+        };
+        let (word, count) = pack_near(digits);
+        if count == 0 || count > NEAR_ELEMENTS || digits[count] != LINE_END {
+            return 0;
+        }
+        let end = 2 + count;
+        self.kept.clear();
+        self.kept.append_front(piece, end);
+        self.elements.put(word, count);
+        self.ended = Some(LineKind::Elements(None));
+        self.lines += 1;
+        self.room -= end as u64 + 1;
+        end + 1
+    }
+
+    /// Takes the line that a piece begins with as `take_whole` does, where it is a moment.
+    // Inlined always, as a part of `push_line`.
+    #[inline(always)]
+    fn take_moment(&mut self, piece: &[u8]) -> usize
+        requires empty { self.old.part ≡ [] }
+        requires long { NEAR_BYTES ≤ length piece.now }
+        requires room { NEAR_BYTES ≤ self.old.room }
+        ensures taken { 0 < result → TakesLine self.old self.new piece.now result }
+        ensures none { result ≡ 0 → self.new ≡ self.old }
+    {
+        let Some(digits) = after(piece, b"T ") else {
+            return 0;
+        };
+        let (moment, count) = moment_front(digits);
+        if count == 0 || digits[count] != LINE_END {
+            return 0;
+        }
+        let end = 2 + count;
+        self.kept.clear();
+        self.kept.append_front(piece, end);
+        self.elements.clear();
+        self.ended = Some(LineKind::Moment(moment));
+        self.lines += 1;
+        self.room -= end as u64 + 1;
+        end + 1
+    }
+
+    /// Takes the line that a piece begins with as `take_whole` does, where it has elements.
+    // Never inlined: many elements cost more than the call.
+    #[inline(never)]
+    fn take_far(&mut self, piece: &[u8]) -> usize
+        requires { self.old.part ≡ [] }
+        ensures taken { 0 < result → TakesLine self.old self.new piece.now result }
+        ensures none { result ≡ 0 → Waits self.old self.new }
+    {
+        if piece.len() < FAR_BYTES || self.room < FAR_BYTES as u64 {
+            return 0;
+        }
+        let Some((mark, digits)) = digits_behind(piece) else {
+            return 0;
+        };
+        self.open();
+        let count = self.elements.read_front(digits);
+        let end = piece.len() - digits.len() + count;
+        if count == 0 || end > MAX_LINE_BYTES || digits[count] != LINE_END {
+            self.elements.clear();
+            return 0;
+        }
+        self.kept.append_front(piece, end);
+        self.ended = Some(LineKind::Elements(mark));
+        self.lines += 1;
+        self.room -= end as u64 + 1;
+        end + 1
+    }
+
+    /// Takes the first `count` bytes of a piece into the open line; none of them is a line feed.
+    /// After a fault the bytes before it were taken.
+    // Inlined always, as a part of `push_line`.
+    #[inline(always)]
+    fn go_on(&mut self, piece: &[u8], count: usize) -> Result<(), LineFault>
+        requires within { count ≤ length piece.now }
+        requires none { AllByRecursion (λ byte. byte ≢ line_end) (take count piece.now) }
+        ensures bytes { (limit : ℕ) (before : List ℕ) (lines : List Line)
+            → Scans limit self.old before lines →
+            MatchResult result
+            (λ _. Scans limit self.new (before ++ take count piece.now) lines)
+            (λ why. StopsIn limit self.new before (take count piece.now) lines why) }
+        ensures at_byte { IfErr result IsAtByte }
+        ensures latest { self.new.latest ≡ None }
+        ensures room { OnOk result (self.new.room + count ≡ self.old.room) }
+    {
+        self.open();
+        let line_room = MAX_LINE_BYTES - self.kept.len();
+        let fitting = (count.min(line_room) as u64).min(self.room) as usize;
+        self.kept.append_front(piece, fitting);
+        self.room -= fitting as u64;
+        if fitting == count {
+            return Ok(());
+        }
+        if self.room == 0 {
+            return Err(LineFault::TooLong);
+        }
+        Err(LineFault::LineLong {
+            line: self.lines + 1,
+        })
+    }
+
+    /// Opens the next line where the last byte ended one.
+    fn open(&mut self)
+        ensures part { self.new.part ≡ self.old.part }
+        ensures lines { self.new.lines ≡ self.old.lines }
+        ensures room { self.new.room ≡ self.old.room }
+        ensures latest { self.new.latest ≡ None }
+    {
+        if self.ended.is_some() {
+            self.kept.clear();
+            self.elements.clear();
+            self.ended = None;
+        }
+    }
+
+    /// What the end of the file says: the lines so far are all of it, or the open line is cut.
+    pub fn end(&self) -> Result<(), LineFault>
+        ensures { (limit : ℕ) (bytes : List ℕ) (lines : List Line)
+            → Scans limit self.now bytes lines →
+            MatchResult result
+            (λ _. IsAirFile limit bytes lines)
+            (λ why. IsCause limit (length bytes) lines self.now.part [] why) }
+    {
+        if self.ended.is_some() || self.kept.len() == 0 {
+            return Ok(());
+        }
+        Err(LineFault::LineCut {
+            line: self.lines + 1,
+        })
+    }
+}
