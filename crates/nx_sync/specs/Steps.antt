@@ -67,6 +67,12 @@ pub record IsWordStep (before bits : List Bool) (s : Step) : Type 0 where
   pub inside : (k : ℕ) → k < 6 → IsStep (before ++ take (k + 1) bits) (step None None)
   pub last : IsStep (before ++ bits) s
 
+-- Of these bits, which come after others, the last one brings s, and those before it nothing: the
+-- pushes of these answer nothing, and that of the last one answers s.
+pub record IsLastStep (before bits : List Bool) (s : Step) : Type 0 where
+  pub quiet : (k : ℕ) → k + 1 < length bits → IsStep (before ++ take (k + 1) bits) (step None None)
+  pub last : IsStep (before ++ bits) s
+
 -- These words come after other bits, and none of them brings a change: the pushes of the elements
 -- of each answer that word alone. The first one has the role `first`, and roles alternate.
 abbrev pub AreQuietWords : List Bool → Role → List ℕ → Type 0

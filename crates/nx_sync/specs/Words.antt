@@ -20,8 +20,8 @@ losing_count = 40
 unfoldable pub word_of_lock : List Bool → ℕ → ℕ → ℕ
 word_of_lock bits t k = word_from bits (t + 7 * k)
 
--- the role of word 0 of the lock at t: DX where the pattern ended with phasing signal 1, else RX
--- (in M.625's mode B phasing signal 2 is sent as DX and phasing signal 1 as RX)
+-- the role of word 0 of the lock at t: DX where the pattern ended with phasing signal 1, else RX.
+-- In M.625's mode B phasing signal 2 is sent as DX and phasing signal 1 as RX.
 unfoldable pub first_role : List Bool → ℕ → Role
 first_role bits t = if word_from bits (t - 7) == phasing_1 then Dx else Rx
 
@@ -38,10 +38,18 @@ abbrev pub is_dx : Role → Bool
 is_dx Dx = true
 is_dx Rx = false
 
+-- the first of the last n words up to word k, or word 0 where they are fewer
+abbrev pub first_of_last : ℕ → ℕ → ℕ
+first_of_last n k = k + 1 - n
+
+-- how many of the words from word i to word k have the wrong weight
+abbrev pub wrong_between : (ℕ → ℕ) → ℕ → ℕ → ℕ
+wrong_between words i k = wrong_in words i (k + 1 - i)
+
 -- how many of the last 64 words up to word k, or of all up to it where they are fewer, have the
 -- wrong weight
 abbrev pub wrong_until : (ℕ → ℕ) → ℕ → ℕ
-wrong_until words k = wrong_in words (k + 1 - marked_words) (k + 1 - (k + 1 - marked_words))
+wrong_until words k = wrong_between words (first_of_last marked_words k) k
 
 -- word k of the lock at t, by its number and its role
 abbrev pub heard_word : List Bool → ℕ → ℕ → ℕ × Role

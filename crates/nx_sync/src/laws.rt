@@ -101,8 +101,8 @@ pub fn a_lock_stands_on()
         → IsLocked (bits ++ more) locks p t }
 {}
 
-/// A lock is released by one word at most, in one way: the earlier of the word of Ended and the word
-/// of Lost. It holds exactly where none of its words that were heard whole is one of the two.
+/// A lock is released by one word at most, in one way: the earlier of the word of Ended and the
+/// word of Lost. It holds exactly where none of its words that were heard whole is one of the two.
 pub fn the_earlier_releases()
     ensures word { (bits : List Bool) (t v w : ℕ) (how other : How) → IsReleased bits t v how
         → IsReleased bits t w other → v ≡ w }
@@ -114,8 +114,8 @@ pub fn the_earlier_releases()
         × (LostAt (word_of_lock bits t) w → ⊥))) }
 {}
 
-/// A lock is not released while each run of its words, no longer than it marks, has fewer wrong ones
-/// than lose it, and no two DX words in a row are phasing signal 1.
+/// A lock is not released while each run of its words, no longer than it marks, has fewer wrong
+/// ones than lose it, and no two DX words in a row are phasing signal 1.
 pub fn a_good_lock_is_kept()
     ensures { (bits : List Bool) (locks : List Lock) (p t : ℕ) → Past bits locks p → Finds bits p t
         → ((i n : ℕ) → n ≤ marked_words → t + 7 * (i + n) ≤ length bits

@@ -8,11 +8,13 @@ mod mark_bits;
 mod packed;
 mod step;
 mod synchroniser;
+mod taking;
 mod track;
 mod windows;
 mod word_synchroniser;
 
 pub use step::{Change, Role, Step};
 pub use synchroniser::Synchroniser;
+pub use taking::StepTaker;
 pub use windows::first_lock;
 pub use word_synchroniser::WordSynchroniser;

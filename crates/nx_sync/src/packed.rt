@@ -1,15 +1,17 @@
 //! Hunting in packed elements: the windows after those of a number. What runs for each number is
 //! inlined always, since a call would cost more than its few instructions.
 
-ghost use Rattle.std.specs.Prelude.{◌≡◌, ℕ, ◌*◌, ◌^◌, ◌<◌, ◌≤◌, length, [], ◌∷◌, IsTrue};
-ghost use Rattle.nx_code.specs.Word.{elements_from};
+ghost use Rattle.std.specs.Prelude.{◌≡◌, ℕ, ◌+◌, ◌*◌, ◌^◌, ◌<◌, ◌≤◌, length, [], ◌∷◌, IsTrue};
+ghost use Rattle.std.specs.List.{flat_map};
+ghost use Rattle.nx_code.specs.Word.{elements, elements_from};
 ghost use Rattle.nx_code.specs.Packed.{packed_elements, packed_part};
 ghost use Rattle.nx_sync.specs.Locks.{pattern_elements};
 ghost use Rattle.nx_sync.specs.private.Windows as spec;
 ghost use Rattle.nx_sync.specs.private.Windows.{IsBeforeLockIn};
 
+use crate::eight::EIGHT;
 use crate::windows::{PATTERN, is_lock_window};
-use nx_code::elements_at;
+use nx_code::{ELEMENTS, Word, elements_at, packed_word, words_of};
 
 /// How many elements a packed number has.
 pub(crate) const PACKED: usize = 64;
@@ -58,6 +60,24 @@ pub(crate) fn element(numbers: &[u64], place: usize) -> bool
     ensures { result ∷ [] ≡ packed_part numbers.now place 1 }
 {
     elements_at(numbers, place, 1) % 2 == 1
+}
+
+/// The word of the seven elements from a place on.
+#[inline(always)]
+pub(crate) fn word_in(numbers: &[u64], place: usize) -> Word
+    requires { place + 7 ≤ packed_elements * length numbers.now }
+    ensures { elements result ≡ packed_part numbers.now place 7 }
+{
+    packed_word(elements_at(numbers, place, ELEMENTS))
+}
+
+/// The eight words of the 56 elements from a place on.
+#[inline(always)]
+pub(crate) fn eight_words_in(numbers: &[u64], place: usize) -> [Word; EIGHT]
+    requires { place + 56 ≤ packed_elements * length numbers.now }
+    ensures { flat_map elements result ≡ packed_part numbers.now place 56 }
+{
+    words_of(elements_at(numbers, place, EIGHT * ELEMENTS))
 }
 
 /// Whether ten elements, as a number, stand in a pattern at any place.

@@ -1,6 +1,6 @@
 -- What word k of a lock would bring, as it is computed word by word. `Locks.antt` has the rule;
 -- that the least word that brings a change is the word of the rule is proved in
--- `proofs/Computed.antt`.
+-- `proofs/lemmas/words/Computed.antt`.
 use Rattle.std.specs.Prelude.{ℕ, ◌-◌, ◌==◌, nat_le, Bool, ◌&&◌, List, Option, Some, None}
 use Rattle.std.specs.Prelude.{if◌then◌else◌}
 use Rattle.nx_sync.specs.declared.step.Role.{Role}

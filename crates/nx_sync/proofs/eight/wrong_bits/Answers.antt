@@ -1,7 +1,7 @@
 use Rattle.std.proofs.Common.{◌<◌, ◌+◌, ◌-◌, ◌*◌, ◌^◌, ℕ, List, Bool, false}
 use Rattle.std.proofs.Common.{get_or, arith, rules}
-use Rattle.nx_code.proofs.WordLemmas.{value_of-bool_byte, value_of-le}
-use Rattle.nx_sync.proofs.MarkBits.{bits_before, few_bits, no_bits}
+use Rattle.nx_code.proofs.lemmas.Word.{value_of-bool_byte, value_of-le}
+use Rattle.nx_sync.proofs.lemmas.words.MarkBits.{bits_before, few_bits, no_bits}
 use Rattle.nx_sync.proofs.eight.wrong_bits.Goals as goal
 
 pub loop-place-init : goal.loop-place-init

@@ -1,5 +1,5 @@
 use Rattle.std.proofs.Common.{ℕ, List, arith}
-use Rattle.nx_sync.proofs.EightWords.{judged, wrong_ones-eight}
+use Rattle.nx_sync.proofs.lemmas.words.EightWords.{judged, wrong_ones-eight}
 use Rattle.nx_sync.proofs.eight.wrong_ones.Goals as goal
 
 pub returns : goal.returns

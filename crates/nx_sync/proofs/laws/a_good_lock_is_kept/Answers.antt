@@ -1,4 +1,4 @@
-use Rattle.nx_sync.proofs.Releases.{kept}
+use Rattle.nx_sync.proofs.lemmas.words.Releases.{kept}
 use Rattle.nx_sync.proofs.laws.a_good_lock_is_kept.Goals as goal
 
 pub returns : goal.returns

@@ -1,4 +1,4 @@
-use Rattle.nx_sync.proofs.PhasingStates.{between_wrong, between_released}
+use Rattle.nx_sync.proofs.lemmas.hunting.PhasingStates.{between_wrong, between_released}
 use Rattle.nx_sync.proofs.laws.a_lock_between_limits_is_lost.Goals as goal
 
 pub returns : goal.returns

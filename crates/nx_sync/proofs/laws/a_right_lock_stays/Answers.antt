@@ -1,4 +1,4 @@
-use Rattle.nx_sync.proofs.PhasingStates.{right_stays}
+use Rattle.nx_sync.proofs.lemmas.hunting.PhasingStates.{right_stays}
 use Rattle.nx_sync.proofs.laws.a_right_lock_stays.Goals as goal
 
 pub returns : goal.returns

@@ -1,5 +1,5 @@
-use Rattle.nx_sync.proofs.WordLists.{words_heard-found, words_heard-stands, words_heard-over}
-use Rattle.nx_sync.proofs.WordLists.{words_of-next, words_of-more}
+use Rattle.nx_sync.proofs.lemmas.words.WordLists.{words_heard-found, words_heard-stands, words_heard-over}
+use Rattle.nx_sync.proofs.lemmas.words.WordLists.{words_of-next, words_of-more}
 use Rattle.nx_sync.proofs.laws.a_word_is_appended.Goals as goal
 
 pub returns : goal.returns

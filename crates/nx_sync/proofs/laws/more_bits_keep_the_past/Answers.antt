@@ -1,6 +1,6 @@
-use Rattle.nx_sync.proofs.KeptPast.{Past-more, Finds-more, IsReleased-more, word_at-more}
-use Rattle.nx_sync.proofs.KeptPast.{first_role-more, wrong_until-more, IsSecondPhasing1-more}
-use Rattle.nx_sync.proofs.KeptPast.{IsSecondPhasing1-less}
+use Rattle.nx_sync.proofs.lemmas.states.KeptPast.{Past-more, Finds-more, IsReleased-more, word_at-more}
+use Rattle.nx_sync.proofs.lemmas.states.KeptPast.{first_role-more, wrong_until-more, IsSecondPhasing1-more}
+use Rattle.nx_sync.proofs.lemmas.states.KeptPast.{IsSecondPhasing1-less}
 use Rattle.nx_sync.proofs.laws.more_bits_keep_the_past.Goals as goal
 
 pub returns : goal.returns

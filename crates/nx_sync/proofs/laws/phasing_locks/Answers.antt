@@ -1,4 +1,4 @@
-use Rattle.nx_sync.proofs.Phasing as proof
+use Rattle.nx_sync.proofs.lemmas.hunting.Phasing as proof
 use Rattle.nx_sync.proofs.laws.phasing_locks.Goals as goal
 
 pub returns : goal.returns

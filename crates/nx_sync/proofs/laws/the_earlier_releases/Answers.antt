@@ -1,4 +1,4 @@
-use Rattle.nx_sync.proofs.Computed.{released-word, released-how, held-neither, neither-held}
+use Rattle.nx_sync.proofs.lemmas.words.Computed.{released-word, released-how, held-neither, neither-held}
 use Rattle.nx_sync.proofs.laws.the_earlier_releases.Goals as goal
 
 pub returns : goal.returns

@@ -1,5 +1,5 @@
-use Rattle.nx_sync.proofs.StateChanges.{standing_after}
-use Rattle.nx_sync.proofs.UniqueStates.{locks-unique, now-unique}
+use Rattle.nx_sync.proofs.lemmas.states.StateChanges.{standing_after}
+use Rattle.nx_sync.proofs.lemmas.states.UniqueStates.{locks-unique, now-unique}
 use Rattle.nx_sync.proofs.laws.what_stands_is_unique.Goals as goal
 
 pub returns : goal.returns

@@ -2,7 +2,7 @@ use Rattle.std.proofs.Common.{◌≡◌, ℕ, ◌+◌, sym, ap, ◌∙◌, inl, 
 use Rattle.std.proofs.lemmas.Bool.{cases_lt}
 use Rattle.nx_sync.specs.Windows.{is_lock_window}
 use Rattle.nx_sync.specs.private.Windows.{joined, window_in}
-use Rattle.nx_sync.proofs.Blocks.{window_after-joined}
+use Rattle.nx_sync.proofs.lemmas.hunting.Blocks.{window_after-joined}
 use Rattle.nx_sync.proofs.packed.count_by_windows.Goals as goal
 
 pub returns-then-is_lock_window : goal.returns-then-is_lock_window

@@ -1,7 +1,7 @@
 use Rattle.std.proofs.Common.{sym, ◌∙◌}
 use Rattle.std.proofs.lemmas.Bool.{not-true}
 use Rattle.nx_sync.specs.private.Windows.{joined}
-use Rattle.nx_sync.proofs.Blocks.{all_quiet, all_quiet_by_two}
+use Rattle.nx_sync.proofs.lemmas.hunting.Blocks.{all_quiet, all_quiet_by_two}
 use Rattle.nx_sync.proofs.packed.has_no_lock.Goals as goal
 
 pub returns-then-not-may_lock_in_blocks : goal.returns-then-not-may_lock_in_blocks

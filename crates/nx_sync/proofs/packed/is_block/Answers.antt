@@ -1,4 +1,4 @@
-use Rattle.nx_sync.proofs.Blocks.{in_table}
+use Rattle.nx_sync.proofs.lemmas.hunting.Blocks.{in_table}
 use Rattle.nx_sync.proofs.packed.is_block.Goals as goal
 
 pub returns : goal.returns

@@ -1,5 +1,5 @@
 use Rattle.std.proofs.Common.{sym, arith}
-use Rattle.nx_sync.proofs.Blocks.{window_after-all}
+use Rattle.nx_sync.proofs.lemmas.hunting.Blocks.{window_after-all}
 use Rattle.nx_sync.proofs.packed.last_window.Goals as goal
 
 pub returns-clause-value : goal.returns-clause-value

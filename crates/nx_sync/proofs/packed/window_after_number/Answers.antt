@@ -1,5 +1,5 @@
 use Rattle.std.proofs.Common.{◌/◌, ◌%◌, ◌^◌, sym, ap, ◌∙◌}
-use Rattle.nx_sync.proofs.Blocks.{window_after-joined}
+use Rattle.nx_sync.proofs.lemmas.hunting.Blocks.{window_after-joined}
 use Rattle.nx_sync.proofs.packed.window_after_number.Goals as goal
 
 pub returns-clause-value : goal.returns-clause-value

@@ -1,5 +1,5 @@
 use Rattle.std.proofs.lemmas.Bool.{eqb-true}
-use Rattle.nx_sync.proofs.Lanes.{no_lock_by_masks, mask_of}
+use Rattle.nx_sync.proofs.lemmas.hunting.Lanes.{no_lock_by_masks, mask_of}
 use Rattle.nx_sync.specs.Windows.{window_before_rx}
 use Rattle.nx_sync.proofs.windows.is_clear.Goals as goal
 

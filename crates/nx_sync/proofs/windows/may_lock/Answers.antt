@@ -1,5 +1,5 @@
 use Rattle.std.proofs.Common.{◌/◌, ◌^◌, arith}
-use Rattle.nx_sync.proofs.Strides.{in_table}
+use Rattle.nx_sync.proofs.lemmas.hunting.Strides.{in_table}
 use Rattle.nx_sync.proofs.windows.may_lock.Goals as goal
 
 pub returns : goal.returns

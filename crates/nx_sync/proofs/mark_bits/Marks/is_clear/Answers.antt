@@ -1,7 +1,7 @@
 use Rattle.std.proofs.Common.{◌≡◌, ◌==◌, ◌∙◌, ℕ, count_by, sym, ap, arith}
 use Rattle.std.specs.Int.RustNames.{count_ones}
 use Rattle.std.proofs.lemmas.Bool.{and_parts, eqb-true}
-use Rattle.nx_sync.proofs.MarkBits.{count_set}
+use Rattle.nx_sync.proofs.lemmas.words.MarkBits.{count_set}
 use Rattle.nx_sync.proofs.mark_bits.Marks.is_clear.Goals as goal
 
 pub returns-clause-none : goal.returns-clause-none

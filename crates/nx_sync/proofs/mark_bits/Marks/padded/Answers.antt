@@ -2,8 +2,8 @@ use Rattle.std.proofs.Common.{◌≡◌, ◌-◌, ◌∙◌, Bool, List, sym, ap
 use Rattle.std.proofs.Common.{length-set}
 use Rattle.std.proofs.lemmas.List.{take_all}
 use Rattle.nx_code.specs.Word.{elements_from}
-use Rattle.nx_code.proofs.PackedLemmas.{length-elements_from}
-use Rattle.nx_sync.proofs.MarkBits.{more_bits}
+use Rattle.nx_code.proofs.lemmas.Packed.{length-elements_from}
+use Rattle.nx_sync.proofs.lemmas.words.MarkBits.{more_bits}
 use Rattle.nx_sync.proofs.mark_bits.Marks.padded.Goals as goal
 
 pub loop-place-preserved : goal.loop-place-preserved

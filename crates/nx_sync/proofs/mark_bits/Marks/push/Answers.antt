@@ -2,9 +2,9 @@ use Rattle.std.proofs.Common.{◌≡◌, ◌≤◌, ◌+◌, ◌*◌, ◌/◌, �
 use Rattle.std.proofs.Common.{subst, sym, ◌∙◌, arith}
 use Rattle.circular_buffer.specs.Buffer.{keep_last}
 use Rattle.nx_code.specs.Word.{value_of}
-use Rattle.nx_code.proofs.WordLemmas.{value_of-bool_byte, value_of-le}
+use Rattle.nx_code.proofs.lemmas.Word.{value_of-bool_byte, value_of-le}
 use Rattle.nx_sync.specs.private.MarkBits.{marks_in}
-use Rattle.nx_sync.proofs.MarkBits.{Moved, moved, bit_of, length-marks_in}
+use Rattle.nx_sync.proofs.lemmas.words.MarkBits.{Moved, moved, bit_of, length-marks_in}
 use Rattle.nx_sync.proofs.mark_bits.Marks.push.Goals as goal
 
 pub invariant_of-self : goal.invariant_of-self

@@ -2,7 +2,7 @@ use Rattle.std.proofs.Common.{◌≡◌, ◌≤◌, ◌+◌, ◌*◌, ◌/◌, �
 use Rattle.std.proofs.Common.{ap, subst, sym, ◌∙◌, arith}
 use Rattle.nx_sync.specs.private.Eight.{wrong_ones, marks_after_words}
 use Rattle.nx_sync.specs.private.MarkBits.{marks_in}
-use Rattle.nx_sync.proofs.MarkBits.{Moved, moved_by_eight, marks_after, length-marks_in}
+use Rattle.nx_sync.proofs.lemmas.words.MarkBits.{Moved, moved_by_eight, marks_after, length-marks_in}
 use Rattle.nx_sync.proofs.mark_bits.Marks.push_eight.Goals as goal
 
 pub invariant_of-self : goal.invariant_of-self

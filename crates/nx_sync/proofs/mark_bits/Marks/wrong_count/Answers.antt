@@ -1,6 +1,6 @@
 use Rattle.std.proofs.Common.{◌∙◌, ap, count_by, arith}
 use Rattle.std.proofs.lemmas.Nat.{ones-le}
-use Rattle.nx_sync.proofs.MarkBits.{count_set}
+use Rattle.nx_sync.proofs.lemmas.words.MarkBits.{count_set}
 use Rattle.nx_sync.proofs.mark_bits.Marks.wrong_count.Goals as goal
 
 pub returns-clause-count : goal.returns-clause-count

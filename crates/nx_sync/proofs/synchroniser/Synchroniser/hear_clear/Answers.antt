@@ -3,8 +3,8 @@ use Rattle.nx_code.specs.Word.{elements_from}
 use Rattle.nx_sync.specs.private.Windows.{window_after}
 use Rattle.nx_sync.specs.Synchroniser.{Held}
 use Rattle.nx_sync.specs.private.Calls.{Passes}
-use Rattle.nx_sync.proofs.Blocks.{skips_number}
-use Rattle.nx_sync.proofs.Hunting.{passes_of}
+use Rattle.nx_sync.proofs.lemmas.hunting.Blocks.{skips_number}
+use Rattle.nx_sync.proofs.lemmas.hunting.Hunting.{passes_of}
 use Rattle.nx_sync.proofs.synchroniser.Synchroniser.hear_clear.Goals as goal
 
 pub returns-clause-heard : goal.returns-clause-heard

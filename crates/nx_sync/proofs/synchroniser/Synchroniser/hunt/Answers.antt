@@ -1,8 +1,8 @@
 use Rattle.std.proofs.Common.{◌≡◌, ℕ, ◌+◌, ◌-◌, ◌≤◌, List, Bool, length, take, drop, arith}
 use Rattle.std.proofs.Common.{length-take, length-drop}
 use Rattle.nx_sync.specs.private.Calls.{Skips}
-use Rattle.nx_sync.proofs.Hunting.{passes_on, passes_of, passes_early, skips_of, part_stops}
-use Rattle.nx_sync.proofs.Hunting.{hunted_stands, hunted_pushes, no_track}
+use Rattle.nx_sync.proofs.lemmas.hunting.Hunting.{passes_on, passes_of, passes_early, skips_of, part_stops}
+use Rattle.nx_sync.proofs.lemmas.hunting.Hunting.{hunted_stands, hunted_pushes, no_track}
 use Rattle.nx_sync.proofs.synchroniser.Synchroniser.hunt.Goals as goal
 
 pub loop-at-init : goal.loop-at-init

@@ -1,9 +1,9 @@
 use Rattle.std.proofs.Common.{ℕ, ◌-◌, List, Bool, take, drop, sym, subst, arith}
 use Rattle.nx_code.specs.Packed.{packed_part}
 use Rattle.nx_sync.specs.private.Calls.{Skips, SkipsSome}
-use Rattle.nx_sync.proofs.Hunting.{passes_on, passes_early, late_after, stops_on, skips_of}
-use Rattle.nx_sync.proofs.Hunting.{hunted_stands, hunted_pushes, no_track}
-use Rattle.nx_sync.proofs.PackedParts.{part_of_part, length-part}
+use Rattle.nx_sync.proofs.lemmas.hunting.Hunting.{passes_on, passes_early, late_after, stops_on, skips_of}
+use Rattle.nx_sync.proofs.lemmas.hunting.Hunting.{hunted_stands, hunted_pushes, no_track}
+use Rattle.nx_sync.proofs.lemmas.hunting.PackedParts.{part_of_part, length-part}
 use Rattle.nx_sync.proofs.synchroniser.Synchroniser.hunt_packed.Goals as goal
 
 pub loop-at-init : goal.loop-at-init

@@ -1,5 +1,5 @@
 use Rattle.std.proofs.Common.{rules}
-use Rattle.nx_sync.proofs.WordLimits.{limit_by}
+use Rattle.nx_sync.proofs.lemmas.words.WordLimits.{limit_by}
 use Rattle.nx_sync.proofs.synchroniser.Synchroniser.is_between_words.Goals as goal
 
 pub returns-in-None-clause-stands : goal.returns-in-None-clause-stands

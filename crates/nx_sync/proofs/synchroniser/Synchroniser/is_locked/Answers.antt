@@ -1,5 +1,5 @@
 use Rattle.std.proofs.Common.{rules}
-use Rattle.nx_sync.proofs.Pushes.{locked_by}
+use Rattle.nx_sync.proofs.lemmas.states.Pushes.{locked_by}
 use Rattle.nx_sync.proofs.synchroniser.Synchroniser.is_locked.Goals as goal
 
 -- the answer says whether a track is there

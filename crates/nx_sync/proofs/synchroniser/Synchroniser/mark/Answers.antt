@@ -2,7 +2,7 @@ use Rattle.std.proofs.Common.{◌≡◌, ◌++◌, ◌∷◌, [], List, Bool, ap
 use Rattle.circular_buffer.specs.Buffer.{keep_last}
 use Rattle.nx_sync.specs.Synchroniser.{Held}
 use Rattle.nx_sync.specs.Words.{marked_words}
-use Rattle.nx_sync.proofs.Marks.{marks_stay}
+use Rattle.nx_sync.proofs.lemmas.words.Marks.{marks_stay}
 use Rattle.nx_sync.proofs.synchroniser.Synchroniser.mark.Goals as goal
 
 -- 64 marks of words that were right stay as they are

@@ -1,5 +1,5 @@
 use Rattle.std.proofs.Common.{ap, sym, ◌∙◌}
-use Rattle.nx_sync.proofs.Pushes.{good_hunting, good_locked}
+use Rattle.nx_sync.proofs.lemmas.states.Pushes.{good_hunting, good_locked}
 use Rattle.nx_sync.proofs.synchroniser.Synchroniser.push.Goals as goal
 
 pub returns-in-None-clause-stands : goal.returns-in-None-clause-stands

@@ -1,6 +1,6 @@
 use Rattle.std.proofs.Common.{◌≡◌, ◌++◌, List, Bool, sym, ap, subst, subst₂, ◌∙◌}
 use Rattle.nx_code.specs.Word.{elements}
-use Rattle.nx_code.proofs.WordLemmas.{elements-number_of}
+use Rattle.nx_code.proofs.lemmas.Word.{elements-number_of}
 use Rattle.nx_sync.specs.Steps.{IsWordStep}
 use Rattle.nx_sync.specs.Synchroniser.{Held, StandsAfter}
 use Rattle.nx_sync.proofs.synchroniser.Synchroniser.push_word.Goals as goal

@@ -1,6 +1,6 @@
 use Rattle.std.proofs.Common.{◌≡◌, sym, ap, ◌∙◌}
 use Rattle.nx_sync.specs.Synchroniser.{Held}
-use Rattle.nx_sync.proofs.Marks.{same_marks}
+use Rattle.nx_sync.proofs.lemmas.words.Marks.{same_marks}
 use Rattle.nx_sync.proofs.synchroniser.Synchroniser.set_marks.Goals as goal
 
 -- of both none is set

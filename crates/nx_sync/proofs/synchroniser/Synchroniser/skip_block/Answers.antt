@@ -3,8 +3,8 @@ use Rattle.std.proofs.Common.{ap, subst, ◌∙◌, arith}
 use Rattle.nx_sync.specs.private.Windows.{window_after}
 use Rattle.nx_sync.specs.Synchroniser.{Held}
 use Rattle.nx_sync.specs.private.Calls.{heard_all, Skips}
-use Rattle.nx_sync.proofs.Hearing.{heard_all-none}
-use Rattle.nx_sync.proofs.Hunting.{Counted, counted_by, skips_by_windows, moved}
+use Rattle.nx_sync.proofs.lemmas.states.Hearing.{heard_all-none}
+use Rattle.nx_sync.proofs.lemmas.hunting.Hunting.{Counted, counted_by, skips_by_windows, moved}
 use Rattle.nx_sync.proofs.synchroniser.Synchroniser.skip_block.Goals as goal
 
 pub invariant_of-self : goal.invariant_of-self

@@ -1,8 +1,8 @@
 use Rattle.std.proofs.Common.{◌≡◌, ℕ, ◌+◌, ◌*◌, ◌≤◌, List, Bool, take, drop, refl, ap, subst, arith}
 use Rattle.nx_code.specs.Packed.{packed_part}
 use Rattle.nx_sync.specs.private.Calls.{Passes}
-use Rattle.nx_sync.proofs.Hunting.{passes_none, passes_on, late_after}
-use Rattle.nx_sync.proofs.PackedParts.{whole_number, length-part}
+use Rattle.nx_sync.proofs.lemmas.hunting.Hunting.{passes_none, passes_on, late_after}
+use Rattle.nx_sync.proofs.lemmas.hunting.PackedParts.{whole_number, length-part}
 use Rattle.nx_sync.proofs.synchroniser.Synchroniser.skip_clear.Goals as goal
 
 pub loop-at-init : goal.loop-at-init

@@ -1,7 +1,7 @@
 use Rattle.std.proofs.Common.{◌≡◌, ℕ, ◌<◌, ◌≤◌, List, Bool, false, length, take, get_or, sym, ap}
 use Rattle.std.proofs.Common.{◌∙◌, arith, length-take, get_or-take}
 use Rattle.nx_sync.specs.private.Calls.{heard_one, heard_all}
-use Rattle.nx_sync.proofs.Hearing.{heard_all-none, heard_all-more}
+use Rattle.nx_sync.proofs.lemmas.states.Hearing.{heard_all-none, heard_all-more}
 use Rattle.nx_sync.proofs.synchroniser.Synchroniser.skip_early.Goals as goal
 
 pub loop-bit-init : goal.loop-bit-init

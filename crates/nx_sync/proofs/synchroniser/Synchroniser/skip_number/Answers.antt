@@ -2,7 +2,7 @@ use Rattle.std.proofs.Common.{◌≡◌, ◌≤◌, ℕ, sym, ap, subst, subst�
 use Rattle.nx_code.specs.Word.{elements_from}
 use Rattle.nx_sync.specs.Synchroniser.{Held}
 use Rattle.nx_sync.specs.private.Calls.{Skips}
-use Rattle.nx_sync.proofs.Blocks.{skips_number}
+use Rattle.nx_sync.proofs.lemmas.hunting.Blocks.{skips_number}
 use Rattle.nx_sync.proofs.synchroniser.Synchroniser.skip_number.Goals as goal
 
 pub returns : goal.returns

@@ -2,9 +2,9 @@ use Rattle.std.proofs.Common.{◌≡◌, ℕ, ◌+◌, ◌≤◌, List, Bool, []
 use Rattle.std.proofs.Common.{arith}
 use Rattle.nx_code.specs.Packed.{packed_part}
 use Rattle.nx_sync.specs.private.Calls.{heard_all}
-use Rattle.nx_sync.proofs.Hearing.{heard_all-none, heard_all-add}
-use Rattle.nx_sync.proofs.Hunting.{heard_all-one}
-use Rattle.nx_sync.proofs.PackedParts.{part_of_part, length-part}
+use Rattle.nx_sync.proofs.lemmas.states.Hearing.{heard_all-none, heard_all-add}
+use Rattle.nx_sync.proofs.lemmas.hunting.Hunting.{heard_all-one}
+use Rattle.nx_sync.proofs.lemmas.hunting.PackedParts.{part_of_part, length-part}
 use Rattle.nx_sync.proofs.synchroniser.Synchroniser.skip_packed_early.Goals as goal
 
 pub loop-at-init : goal.loop-at-init

@@ -3,7 +3,7 @@ use Rattle.std.proofs.Common.{arith}
 use Rattle.nx_sync.specs.private.Windows.{is_in_phasing}
 use Rattle.nx_sync.specs.Synchroniser.{Held}
 use Rattle.nx_sync.specs.private.Calls.{Skips}
-use Rattle.nx_sync.proofs.Strides.{stride_skips}
+use Rattle.nx_sync.proofs.lemmas.hunting.Strides.{stride_skips}
 use Rattle.nx_sync.proofs.synchroniser.Synchroniser.skip_part.Goals as goal
 
 -- the seven elements before the stride stand in no pattern

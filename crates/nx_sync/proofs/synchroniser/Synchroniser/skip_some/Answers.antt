@@ -1,8 +1,8 @@
 use Rattle.std.proofs.Common.{◌≡◌, ℕ, ◌*◌, ◌/◌, List, Bool, take, sym, ap, subst, ◌∙◌, arith}
 use Rattle.nx_code.specs.Packed.{packed_part}
 use Rattle.nx_sync.specs.private.Calls.{Passes, Skips}
-use Rattle.nx_sync.proofs.Hunting.{some_of_passes, some_of_first}
-use Rattle.nx_sync.proofs.PackedParts.{first_part, rest_of_number, length-part}
+use Rattle.nx_sync.proofs.lemmas.hunting.Hunting.{some_of_passes, some_of_first}
+use Rattle.nx_sync.proofs.lemmas.hunting.PackedParts.{first_part, rest_of_number, length-part}
 use Rattle.nx_sync.proofs.synchroniser.Synchroniser.skip_some.Goals.{then-place-eq0+else-whole-gt0}
 use Rattle.nx_sync.proofs.synchroniser.Synchroniser.skip_some.Goals.{else-place-eq0}
 use Rattle.nx_sync.proofs.synchroniser.Synchroniser.skip_some.Goals as goal

@@ -1,12 +1,12 @@
 use Rattle.std.proofs.Common.{rules, ◌≡◌, ◌<◌, ◌/◌, ◌^◌, ℕ, Some, sym, ap, subst, ◌∙◌, arith}
 use Rattle.nx_code.specs.Word.{elements, number_of}
-use Rattle.nx_code.proofs.WordLemmas.{number_of-elements}
+use Rattle.nx_code.proofs.lemmas.Word.{number_of-elements}
 use Rattle.nx_sync.specs.declared.track.Track.{Track}
 use Rattle.nx_sync.specs.private.Windows.{next_word_window}
 use Rattle.nx_sync.specs.Synchroniser.{Held}
 use Rattle.nx_sync.specs.private.Calls.{Completes, held_at_words}
-use Rattle.nx_code.proofs.PackedLemmas.{length-elements}
-use Rattle.nx_sync.proofs.WholeWords.{word_stands, word_step, between}
+use Rattle.nx_code.proofs.lemmas.Packed.{length-elements}
+use Rattle.nx_sync.proofs.lemmas.words.WholeWords.{word_stands, word_step, between}
 use Rattle.nx_sync.proofs.word_synchroniser.WordSynchroniser.push.Goals as goal
 
 -- what is held after the word

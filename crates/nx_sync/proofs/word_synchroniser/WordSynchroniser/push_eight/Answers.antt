@@ -1,7 +1,7 @@
 use Rattle.std.proofs.Common.{◌≡◌, ◌<◌, ◌^◌, Some, sym, ap, subst, ◌∙◌}
 use Rattle.nx_sync.specs.Synchroniser.{Held}
 use Rattle.nx_sync.specs.declared.track.Track.{Track}
-use Rattle.nx_sync.proofs.EightWords.{eight_heard}
+use Rattle.nx_sync.proofs.lemmas.words.EightWords.{eight_heard}
 use Rattle.nx_sync.proofs.word_synchroniser.WordSynchroniser.push_eight.Goals as goal
 
 pub returns-clause-stands : goal.returns-clause-stands

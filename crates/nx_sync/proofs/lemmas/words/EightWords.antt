@@ -1,0 +1,451 @@
+-- Eight words heard at once: what is held after them, and what was brought, is what one word after
+-- the other makes of it.
+use Rattle.std.proofs.Common.{◌≡◌, ℕ, zero, suc, ◌+◌, ◌-◌, ◌*◌, ◌/◌, ◌%◌, ◌^◌, ◌<◌, ◌≤◌, ◌==◌}
+use Rattle.std.proofs.Common.{nat_le, List, [], ◌∷◌, ◌++◌, length, take, get_or, Bool, true}
+use Rattle.std.proofs.Common.{false, not, ◌&&◌, ◌||◌, cond, count_by, refl, sym, ap, ap₂, subst}
+use Rattle.std.proofs.Common.{subst₂, ◌∙◌, arith, Option, Some, None, append_assoc, append-nil}
+use Rattle.std.specs.Prelude.{slice_index}
+use Rattle.std.specs.List.{flat_map}
+use Rattle.std.proofs.lemmas.Bool.{eqb-true, ne_eqb, eq-eqb, lt-leb, leb-true}
+use Rattle.std.proofs.lemmas.Grind.{get_or_default_zero}
+use Rattle.std.proofs.lemmas.List.Sums.{sum_by_push, sum_by-take-drop}
+use Rattle.circular_buffer.specs.Buffer.{keep_last}
+use Rattle.nx_code.specs.Table.{phasing_1}
+use Rattle.nx_code.specs.Word.{elements, number_of, value_of, weight, is_wrong}
+use Rattle.nx_code.proofs.lemmas.Word.{value_of-le, number_of-elements, number_of-lt}
+use Rattle.nx_sync.specs.declared.step.Role.{Role}
+use Rattle.nx_sync.specs.declared.step.Role.TheVariants.{Dx, Rx}
+use Rattle.nx_sync.specs.declared.track.Track.{Track}
+use Rattle.nx_sync.specs.Words.{marked_words, losing_count, other_role, is_dx, word_of_lock}
+use Rattle.nx_sync.specs.Words.{role_of}
+use Rattle.nx_sync.specs.private.Windows.{next_word_window}
+use Rattle.nx_sync.specs.private.Calls.{track_after, fills_releasing_word, Completes}
+use Rattle.nx_sync.specs.private.Eight.{wrong_ones, last_four, last_five_marks, marks_after_words}
+use Rattle.nx_sync.specs.private.Eight.{after_eight}
+use Rattle.nx_sync.specs.Steps.{step, IsWordStep, AreQuietWords}
+use Rattle.nx_sync.specs.Locks.{Now, hunting, locked}
+use Rattle.nx_sync.specs.Synchroniser.{Held, p1_marks, Tracks, StandsAfter, awaits_free_dx}
+use Rattle.nx_sync.specs.Synchroniser.{has_dx_phasing_1, keeps_lock}
+use Rattle.nx_code.proofs.lemmas.WordCounts.{one_if-le}
+use Rattle.nx_sync.proofs.lemmas.words.Marks.{length-p1_marks}
+use Rattle.nx_code.proofs.lemmas.Packed.{length-elements}
+use Rattle.nx_sync.proofs.lemmas.words.WholeWords.{word_stands, word_step}
+
+-- eight items by their places
+pub eight_items : (xs : List ℕ) → length xs ≡ 8
+    → xs ≡ slice_index xs 0 ∷ slice_index xs 1 ∷ slice_index xs 2 ∷ slice_index xs 3
+    ∷ slice_index xs 4 ∷ slice_index xs 5 ∷ slice_index xs 6 ∷ slice_index xs 7 ∷ []
+eight_items [] l = absurd (omega arith)
+eight_items (a ∷ []) l = absurd (omega arith)
+eight_items (a ∷ b ∷ []) l = absurd (omega arith)
+eight_items (a ∷ b ∷ c ∷ []) l = absurd (omega arith)
+eight_items (a ∷ b ∷ c ∷ d ∷ []) l = absurd (omega arith)
+eight_items (a ∷ b ∷ c ∷ d ∷ e ∷ []) l = absurd (omega arith)
+eight_items (a ∷ b ∷ c ∷ d ∷ e ∷ f ∷ []) l = absurd (omega arith)
+eight_items (a ∷ b ∷ c ∷ d ∷ e ∷ f ∷ g ∷ []) l = absurd (omega arith)
+eight_items (a ∷ b ∷ c ∷ d ∷ e ∷ f ∷ g ∷ h ∷ []) l = refl
+eight_items (a ∷ b ∷ c ∷ d ∷ e ∷ f ∷ g ∷ h ∷ i ∷ xs) l = absurd (omega arith)
+
+-- whether a word of a list is right
+right_at : (xs : List ℕ) (k x : ℕ) (right : Bool) → k < length xs
+    → (right ≡ true → weight (get_or xs k x) ≡ 4) × (weight (get_or xs k x) ≡ 4 → right ≡ true)
+    → right ≡ (weight (slice_index xs k) == 4)
+right_at xs k x true h both =
+    sym (eq-eqb _ _ (ap weight (sym (get_or_default_zero xs k x h)) ∙ both.0 refl))
+right_at xs k x false h both = sym (ne_eqb _ _ (λ e.
+    let t : false ≡ true = both.1 (ap weight (get_or_default_zero xs k x h) ∙ e) in cc))
+
+-- a word's place and its default, and whether it is right
+pub record Judged (xs : List ℕ) (k : ℕ) (right : Bool) : Type 0 where
+  pub is : right ≡ (weight (slice_index xs k) == 4)
+
+pub judged : (xs : List ℕ) (k x : ℕ) (right : Bool) → length xs ≡ 8 → k < 8
+    → (right ≡ true → weight (get_or xs k x) ≡ 4) × (weight (get_or xs k x) ≡ 4 → right ≡ true)
+    → Judged xs k right
+judged xs k x right l h both = record { is = right_at xs k x right (omega arith) both }
+
+-- the marks of eight words
+pub wrong_ones-eight : (xs : List ℕ) (a b c d e f g h : Bool) → length xs ≡ 8
+    → Judged xs 0 a → Judged xs 1 b → Judged xs 2 c → Judged xs 3 d
+    → Judged xs 4 e → Judged xs 5 f → Judged xs 6 g → Judged xs 7 h
+    → not a ∷ not b ∷ not c ∷ not d ∷ not e ∷ not f ∷ not g ∷ not h ∷ [] ≡ wrong_ones xs
+wrong_ones-eight xs a b c d e f g h l ja jb jc jd je jf jg jh =
+    rw (ja.is, jb.is, jc.is, jd.is, je.is, jf.is, jg.is, jh.is)
+    (sym (ap wrong_ones (eight_items xs l)))
+
+-- what is held after words of a lock, where none of them brings a change
+unfoldable window_after_words : ℕ → List ℕ → ℕ
+window_after_words window [] = window
+window_after_words window (word ∷ words) = window_after_words (next_word_window window word) words
+
+unfoldable track_after_words : Track → List ℕ → Track
+track_after_words track [] = track
+track_after_words track (word ∷ words) = track_after_words (track_after track word) words
+
+abbrev after_words : Held → Track → List ℕ → Held
+after_words held track words = record held {
+  recent = window_after_words held.recent words;
+  track = Some (track_after_words track words);
+  wrong = marks_after_words held.wrong words;
+}
+
+-- the window after four words, whatever was before
+four_words : (r a b c d : ℕ) → r < 2 ^ 28 → a < 128 → b < 128 → c < 128
+    → next_word_window (next_word_window (next_word_window (next_word_window r a) b) c) d
+    ≡ a + 2 ^ 7 * b + 2 ^ 14 * c + 2 ^ 21 * d
+four_words r a b c d h ha hb hc =
+    let one : (r / 2 ^ 7 + 2 ^ 21 * a) / 2 ^ 7 ≡ r / 2 ^ 14 + 2 ^ 14 * a = omega arith in
+    let two : (r / 2 ^ 14 + 2 ^ 14 * a + 2 ^ 21 * b) / 2 ^ 7 ≡ r / 2 ^ 21 + 2 ^ 7 * a + 2 ^ 14 * b =
+    omega arith in
+    let three : (r / 2 ^ 21 + 2 ^ 7 * a + 2 ^ 14 * b + 2 ^ 21 * c) / 2 ^ 7
+    ≡ a + 2 ^ 7 * b + 2 ^ 14 * c = omega arith in
+    rw (one, two, three) refl
+
+window_after_eight : (xs : List ℕ) (r : ℕ) → length xs ≡ 8 → r < 2 ^ 28
+    → ((k : ℕ) → k < 8 → slice_index xs k < 128) → window_after_words r xs ≡ last_four xs
+unfolding window_after_words
+window_after_eight xs r l h small =
+    let a : ℕ = slice_index xs 0 in
+    let b : ℕ = slice_index xs 1 in
+    let c : ℕ = slice_index xs 2 in
+    let d : ℕ = slice_index xs 3 in
+    let first = four_words r a b c d h (small 0 (omega arith)) (small 1 (omega arith))
+    (small 2 (omega arith)) in
+    let within : a + 2 ^ 7 * b + 2 ^ 14 * c + 2 ^ 21 * d < 2 ^ 28 =
+    omega (
+      arith,
+      small 0 (omega arith),
+      small 1 (omega arith),
+      small 2 (omega arith),
+      small 3 (omega arith),
+    ) in
+    let second = four_words (a + 2 ^ 7 * b + 2 ^ 14 * c + 2 ^ 21 * d) (slice_index xs 4)
+    (slice_index xs 5) (slice_index xs 6) (slice_index xs 7) within (small 4 (omega arith))
+    (small 5 (omega arith)) (small 6 (omega arith)) in
+    ap (window_after_words r) (eight_items xs l)
+    ∙ (ap (λ w. next_word_window (next_word_window (next_word_window (next_word_window w
+    (slice_index xs 4)) (slice_index xs 5)) (slice_index xs 6)) (slice_index xs 7)) first
+    ∙ second)
+
+-- the track after eight words: their roles end where they began, and the marks of the last five
+-- words are left
+eight_marks : (p a b c d e f g h : ℕ) → p < 32 → a ≤ 1 → b ≤ 1 → c ≤ 1 → d ≤ 1 → e ≤ 1
+    → f ≤ 1 → g ≤ 1 → h ≤ 1
+    → (((((((p / 2 + 2 ^ 4 * a) / 2 + 2 ^ 4 * b) / 2 + 2 ^ 4 * c) / 2 + 2 ^ 4 * d) / 2
+    + 2 ^ 4 * e) / 2 + 2 ^ 4 * f) / 2 + 2 ^ 4 * g) / 2 + 2 ^ 4 * h
+    ≡ d + 2 * e + 4 * f + 8 * g + 16 * h
+eight_marks p a b c d e f g h sp sa sb sc sd se sf sg sh =
+    let three : ((p / 2 + 2 ^ 4 * a) / 2 + 2 ^ 4 * b) / 2 + 2 ^ 4 * c
+    ≡ p / 8 + 4 * a + 8 * b + 16 * c = omega arith in
+    let five : ((p / 8 + 4 * a + 8 * b + 16 * c) / 2 + 2 ^ 4 * d) / 2 + 2 ^ 4 * e
+    ≡ a + 2 * b + 4 * c + 8 * d + 16 * e = omega arith in
+    let eight : (((a + 2 * b + 4 * c + 8 * d + 16 * e) / 2 + 2 ^ 4 * f) / 2 + 2 ^ 4 * g) / 2
+    + 2 ^ 4 * h ≡ d + 2 * e + 4 * f + 8 * g + 16 * h = omega arith in
+    rw (three, five) eight
+
+eight_turns : (role : Role) → other_role (other_role (other_role (other_role (other_role
+    (other_role (other_role (other_role role))))))) ≡ role
+eight_turns Dx = refl
+eight_turns Rx = refl
+
+track_after_eight : (track : Track) (xs : List ℕ) → length xs ≡ 8 → track.was_p1 < 32
+    → track_after_words track xs ≡ record track { filled = 0; was_p1 = last_five_marks xs }
+unfolding track_after_words
+track_after_eight track xs l small =
+    let v : ℕ → ℕ = λ k. value_of (slice_index xs k == phasing_1) in
+    let le : (k : ℕ) → v k ≤ 1 = λ k. value_of-le (slice_index xs k == phasing_1) in
+    let make : Role → ℕ → Track = λ role p. record { role = role; filled = 0; was_p1 = p } in
+    ap (track_after_words track) (eight_items xs l)
+    ∙ ap₂ make (eight_turns track.role)
+    (eight_marks track.was_p1 (v 0) (v 1) (v 2) (v 3) (v 4) (v 5) (v 6) (v 7) small (le 0) (le 1)
+    (le 2) (le 3) (le 4) (le 5) (le 6) (le 7))
+
+-- none of these words ends the lock
+unfoldable NoneEnds : Track → List ℕ → Type 0
+NoneEnds track [] = Unit {0}
+NoneEnds track (word ∷ words) =
+    (fills_releasing_word track ≡ false) × NoneEnds (track_after track word) words
+
+-- words that go on after others
+record RunsOn (held : Held) (track : Track) (before : List Bool) (words : List ℕ) : Type 0 where
+  stands : StandsAfter (after_words held track words) (before ++ flat_map elements words)
+  steps : AreQuietWords before track.role words
+
+-- one mark more
+count_marks : (marks : List Bool) (b : Bool)
+    → count_by (λ b. b) (keep_last marked_words (marks ++ b ∷ [])) ≤ count_by (λ b. b) marks + 1
+count_marks marks b =
+    let xs : List Bool = marks ++ b ∷ [] in
+    let parts = sum_by-take-drop (λ b. cond b 1 0) xs (length xs - marked_words) in
+    let one = sum_by_push (λ b. cond b 1 0) marks b in
+    omega (arith, parts, one, one_if-le b)
+
+-- the word of the last seven elements
+last_seven : (r w : ℕ) → r < 2 ^ 28 → w < 128 → next_word_window r w / 2 ^ 21 ≡ w
+last_seven r w h l = omega arith
+
+-- one word that brings no change
+module _ (held : Held) (track : Track) (word : ℕ) (within : held.recent < 2 ^ 28)
+    (small : word < 128) (goes_on : fills_releasing_word track ≡ false)
+    (few : count_by (λ b. b) held.wrong + 1 < losing_count) where
+  abbrev next : Held
+  next = record held {
+    recent = next_word_window held.recent word;
+    track = Some (track_after track word);
+    wrong = keep_last marked_words (held.wrong ++ is_wrong word ∷ []);
+  }
+
+  one_word : Completes
+      (record held { recent = next_word_window held.recent (number_of (elements word)) }) track next
+      (step (Some (word, track.role)) None)
+  one_word =
+      let n : number_of (elements word) ≡ word = number_of-elements word small in
+      let last : next_word_window held.recent (number_of (elements word)) / 2 ^ 21 ≡ word =
+      ap (λ w. next_word_window held.recent w / 2 ^ 21) n
+      ∙ last_seven held.recent word within small in
+      let kept : nat_le losing_count (count_by (λ b. b) next.wrong) ≡ false =
+      lt-leb losing_count (count_by (λ b. b) next.wrong)
+      (omega (arith, few, count_marks held.wrong (is_wrong word))) in
+      record {
+        recent = ap (next_word_window held.recent) (sym n);
+        seen = refl;
+        marks = ap (λ w. keep_last marked_words (held.wrong ++ is_wrong w ∷ [])) (sym last);
+        change = sym (rw (goes_on, kept) refl);
+        word = ap (λ (w : ℕ). Some (w, track.role)) (sym last);
+        goes_on = λ h. ap (λ w. Some (track_after track w)) (sym last);
+        over = λ how h. absurd (cc);
+      }
+
+  next_stands : (before : List Bool) → StandsAfter held before → held.track ≡ Some track
+      → held.seen ≡ 28 → track.filled ≡ 0 → StandsAfter next (before ++ elements word)
+  next_stands before a is full limit =
+      word_stands held before (elements word) track a is full limit (length-elements word) next
+      (step (Some (word, track.role)) None) one_word
+
+  next_step : (before : List Bool) → StandsAfter held before → held.track ≡ Some track
+      → held.seen ≡ 28 → track.filled ≡ 0
+      → IsWordStep before (elements word) (step (Some (word, track.role)) None)
+  next_step before a is full limit =
+      word_step held before (elements word) track a is full limit (length-elements word) next
+      (step (Some (word, track.role)) None) one_word
+
+-- the role of a later word, from the next one on
+role_of-after : (first : Role) (k : ℕ) → role_of (other_role first) k ≡ role_of first (suc k)
+unfolding role_of
+role_of-after first zero = refl
+role_of-after first (suc k) = ap other_role (role_of-after first k)
+
+-- one word and then others
+quiet_after : (before : List Bool) (role : Role) (word : ℕ) (words : List ℕ)
+    → IsWordStep before (elements word) (step (Some (word, role)) None)
+    → AreQuietWords (before ++ elements word) (other_role role) words
+    → AreQuietWords before role (word ∷ words)
+unfolding role_of
+quiet_after before role word words one rest zero h =
+    subst (λ xs. IsWordStep xs (elements word) (step (Some (word, role)) None))
+    (sym (append-nil before)) one
+quiet_after before role word words one rest (suc k) h =
+    subst (λ xs. IsWordStep xs (elements (slice_index words k))
+    (step (Some (slice_index words k, role_of role (suc k))) None))
+    (append_assoc before (elements word) (flat_map elements (take k words)))
+    (subst (λ r. IsWordStep ((before ++ elements word) ++ flat_map elements (take k words))
+    (elements (slice_index words k)) (step (Some (slice_index words k, r)) None))
+    (role_of-after role k) (rest k (omega arith)))
+
+-- the first of them, and the others
+pub quiet_first : (before : List Bool) (role : Role) (word : ℕ) (words : List ℕ)
+    → AreQuietWords before role (word ∷ words)
+    → IsWordStep before (elements word) (step (Some (word, role)) None)
+unfolding role_of
+quiet_first before role word words all =
+    subst (λ xs. IsWordStep xs (elements word) (step (Some (word, role)) None))
+    (append-nil before) (all 0 (omega arith))
+
+pub quiet_rest : (before : List Bool) (role : Role) (word : ℕ) (words : List ℕ)
+    → AreQuietWords before role (word ∷ words)
+    → AreQuietWords (before ++ elements word) (other_role role) words
+unfolding role_of
+quiet_rest before role word words all k h =
+    subst (λ xs. IsWordStep xs (elements (slice_index words k))
+    (step (Some (slice_index words k, role_of (other_role role) k)) None))
+    (sym (append_assoc before (elements word) (flat_map elements (take k words))))
+    (subst (λ r. IsWordStep (before ++ (elements word ++ flat_map elements (take k words)))
+    (elements (slice_index words k)) (step (Some (slice_index words k, r)) None))
+    (sym (role_of-after role k)) (all (suc k) (omega arith)))
+
+runs_on : (words : List ℕ) (held : Held) (track : Track) (before : List Bool)
+    → StandsAfter held before → held.track ≡ Some track → held.seen ≡ 28 → track.filled ≡ 0
+    → held.recent < 2 ^ 28 → NoneEnds track words
+    → ((k : ℕ) → k < length words → slice_index words k < 128)
+    → count_by (λ b. b) held.wrong + length words < losing_count → RunsOn held track before words
+unfolding NoneEnds window_after_words track_after_words marks_after_words
+runs_on [] held track before a is full limit within goes_on small few = record {
+  stands = subst₂ StandsAfter (ap (λ t. record held { track = t }) is) (sym (append-nil before)) a;
+  steps = λ k h. absurd (omega arith);
+}
+runs_on (word ∷ words) held track before a is full limit within goes_on small few =
+    let low : word < 128 = small 0 (omega arith) in
+    let enough : count_by (λ b. b) held.wrong + 1 < losing_count = omega arith in
+    let after : Held = next held track word within low goes_on.0 enough in
+    let marks = count_marks held.wrong (is_wrong word) in
+    let rest = runs_on words after (track_after track word) (before ++ elements word)
+    (next_stands held track word within low goes_on.0 enough before a is full limit) refl full refl
+    (omega arith) goes_on.1 (λ k h. small (suc k) (omega arith)) (omega (arith, few, marks)) in
+    record {
+      stands = subst (λ xs. StandsAfter (after_words held track (word ∷ words)) xs)
+          (append_assoc before (elements word) (flat_map elements words)) rest.stands;
+      steps = quiet_after before track.role word words
+          (next_step held track word within low goes_on.0 enough before a is full limit) rest.steps;
+    }
+
+-- what the test of eight words says
+record Kept (held : Held) (track : Track) (words : List ℕ) : Type 0 where
+  filled : track.filled ≡ 0
+  dx : track.role ≡ Dx
+  two_before : track.was_p1 / 2 % 2 ≡ 0
+  four_before : track.was_p1 / 8 % 2 ≡ 0
+  free : ((slice_index words 0 == phasing_1) ≡ false) × ((slice_index words 2 == phasing_1) ≡ false)
+      × ((slice_index words 4 == phasing_1) ≡ false) × ((slice_index words 6 == phasing_1) ≡ false)
+  few : count_by (λ b. b) held.wrong + 8 < losing_count
+
+is_dx-true : (role : Role) → is_dx role ≡ true → role ≡ Dx
+is_dx-true Dx h = refl
+is_dx-true Rx h = absurd (cc)
+
+four_true : (a b c d : Bool) → (a && b && c && d) ≡ true
+    → (a ≡ true) × (b ≡ true) × (c ≡ true) × (d ≡ true)
+four_true true true true true h = (refl, refl, refl, refl)
+four_true true true true false h = absurd (cc)
+four_true true true false d h = absurd (cc)
+four_true true false c d h = absurd (cc)
+four_true false b c d h = absurd (cc)
+
+four_false : (a b c d : Bool) → (a || b || c || d) ≡ false
+    → (a ≡ false) × (b ≡ false) × (c ≡ false) × (d ≡ false)
+four_false false false false false h = (refl, refl, refl, refl)
+four_false false false false true h = absurd (cc)
+four_false false false true d h = absurd (cc)
+four_false false true c d h = absurd (cc)
+four_false true b c d h = absurd (cc)
+
+three_true : (a b c : Bool) → (a && not b && c) ≡ true → (a ≡ true) × (b ≡ false) × (c ≡ true)
+three_true true false true h = (refl, refl, refl)
+three_true true false false h = absurd (cc)
+three_true true true c h = absurd (cc)
+three_true false b c h = absurd (cc)
+
+kept : (held : Held) (track : Track) (words : List ℕ) → held.track ≡ Some track
+    → keeps_lock held words ≡ true → Kept held track words
+kept held track words is h =
+    let all = three_true (awaits_free_dx held.track) (has_dx_phasing_1 words)
+    (nat_le (count_by (λ b. b) held.wrong + 8 + 1) losing_count) h in
+    let free = four_true (track.filled == 0) (is_dx track.role) (track.was_p1 / 2 % 2 == 0)
+    (track.was_p1 / 8 % 2 == 0) (sym (ap awaits_free_dx is) ∙ all.0) in
+    record {
+      filled = eqb-true track.filled 0 free.0;
+      dx = is_dx-true track.role free.1;
+      two_before = eqb-true (track.was_p1 / 2 % 2) 0 free.2;
+      four_before = eqb-true (track.was_p1 / 8 % 2) 0 free.3;
+      free = four_false _ _ _ _ all.1;
+      few = let e = leb-true (count_by (λ b. b) held.wrong + 8 + 1) losing_count all.2 in
+          omega arith;
+    }
+
+within_by : (h : List Bool) (now : Now) (wrong : List Bool) (others : Option Track) (track : Track)
+    → Tracks h now wrong others → others ≡ Some track → track.was_p1 < 32
+within_by h (hunting p) wrong others track f is = absurd (cc)
+within_by h (locked p t) wrong others track f is =
+    let same : f.one ≡ track = let e = f.is in cc in
+    let marks : List Bool = p1_marks (word_of_lock h t) f.follows.whole in
+    let five : number_of marks < 2 ^ 5 =
+    subst (λ n. number_of marks < 2 ^ n) (length-p1_marks (word_of_lock h t) f.follows.whole)
+    (number_of-lt marks) in
+    subst (λ t. t.was_p1 < 32) same (omega (arith, five, f.follows.phasing))
+
+-- the marks of phasing signal 1 that a track keeps are five
+marks_within : (held : Held) (h : List Bool) (track : Track) → StandsAfter held h
+    → held.track ≡ Some track → track.was_p1 < 32
+marks_within held h track a is = within_by h a.now held.wrong held.track track a.tracks is
+
+-- an RX word whose oldest mark isn't set doesn't end the lock
+goes_on_at : (q : ℕ) → q % 2 ≡ 0 → ((q % 2 == 1) && (q / 4 % 2 == 1)) ≡ false
+goes_on_at q e = rw e refl
+
+-- the oldest marks of phasing signal 1 before the words 1, 3, 5 and 7
+odd_marks : (p a b c d e f g : ℕ) → p < 32 → p / 2 % 2 ≡ 0 → p / 8 % 2 ≡ 0 → a ≡ 0 → c ≡ 0
+    → e ≡ 0 → g ≡ 0 → b ≤ 1 → d ≤ 1 → f ≤ 1
+    → ((p / 2 + 2 ^ 4 * a) % 2 ≡ 0)
+    × ((((p / 2 + 2 ^ 4 * a) / 2 + 2 ^ 4 * b) / 2 + 2 ^ 4 * c) % 2 ≡ 0)
+    × ((((((p / 2 + 2 ^ 4 * a) / 2 + 2 ^ 4 * b) / 2 + 2 ^ 4 * c) / 2 + 2 ^ 4 * d) / 2
+    + 2 ^ 4 * e) % 2 ≡ 0)
+    × ((((((((p / 2 + 2 ^ 4 * a) / 2 + 2 ^ 4 * b) / 2 + 2 ^ 4 * c) / 2 + 2 ^ 4 * d) / 2
+    + 2 ^ 4 * e) / 2 + 2 ^ 4 * f) / 2 + 2 ^ 4 * g) % 2 ≡ 0)
+odd_marks p a b c d e f g small two four za zc ze zg sb sd sf =
+    let three : ((p / 2 + 2 ^ 4 * a) / 2 + 2 ^ 4 * b) / 2 + 2 ^ 4 * c ≡ p / 8 + 8 * b =
+    omega arith in
+    let five : ((p / 8 + 8 * b) / 2 + 2 ^ 4 * d) / 2 + 2 ^ 4 * e ≡ 2 * b + 8 * d = omega arith in
+    let seven : ((2 * b + 8 * d) / 2 + 2 ^ 4 * f) / 2 + 2 ^ 4 * g ≡ 2 * d + 8 * f = omega arith in
+    let at_three : (p / 8 + 8 * b) % 2 ≡ 0 = omega (arith, four) in
+    let at_five : (2 * b + 8 * d) % 2 ≡ 0 = omega arith in
+    let at_seven : (2 * d + 8 * f) % 2 ≡ 0 = omega arith in (
+      omega (arith, two, za),
+      rw three at_three,
+      rw (three, five) at_five,
+      rw (three, five, seven) at_seven,
+    )
+
+-- none of eight words that keep the lock ends it
+eight_go_on : (held : Held) (p : ℕ) (xs : List ℕ) → length xs ≡ 8 → p < 32
+    → Kept held (record { role = Dx; filled = 0; was_p1 = p }) xs
+    → NoneEnds (record { role = Dx; filled = 0; was_p1 = p }) xs
+unfolding NoneEnds
+eight_go_on held p xs l small k =
+    let v : ℕ → ℕ = λ i. value_of (slice_index xs i == phasing_1) in
+    let le : (i : ℕ) → v i ≤ 1 = λ i. value_of-le (slice_index xs i == phasing_1) in
+    let odd = odd_marks p (v 0) (v 1) (v 2) (v 3) (v 4) (v 5) (v 6) small k.two_before k.four_before
+    (ap value_of k.free.0) (ap value_of k.free.1) (ap value_of k.free.2) (ap value_of k.free.3)
+    (le 1) (le 3) (le 5) in
+    let one = goes_on_at _ odd.0 in
+    let three = goes_on_at _ odd.1 in
+    let five = goes_on_at _ odd.2 in
+    let seven = goes_on_at _ odd.3 in
+    subst (NoneEnds (record { role = Dx; filled = 0; was_p1 = p })) (sym (eight_items xs l))
+    (refl, (one, (refl, (three, (refl, (five, (refl, (seven, tt))))))))
+
+pub record EightHeard (held : Held) (words : List ℕ) (before : List Bool) (new : Held)
+    : Type 0 where
+  pub stands : StandsAfter new (before ++ flat_map elements words)
+  pub steps : AreQuietWords before Dx words
+
+-- eight words that keep the lock
+pub eight_heard : (held : Held) (track : Track) (words : List ℕ) (before : List Bool) (new : Held)
+    → StandsAfter held before → held.track ≡ Some track → held.seen ≡ 28 → held.recent < 2 ^ 28
+    → keeps_lock held words ≡ true → length words ≡ 8
+    → ((k : ℕ) → k < 8 → slice_index words k < 128) → new ≡ after_eight held track words
+    → EightHeard held words before new
+eight_heard held track words before new a is full within keeps l small e =
+    let k : Kept held track words = kept held track words is keeps in
+    let p : ℕ = track.was_p1 in
+    let few : p < 32 = marks_within held before track a is in
+    let plain : Track = record { role = Dx; filled = 0; was_p1 = p } in
+    let same : track ≡ plain =
+    ap₂ (λ r f. record { role = r; filled = f; was_p1 = track.was_p1 }) k.dx k.filled in
+    let on : NoneEnds plain words = eight_go_on held p words l few
+    (subst (λ t. Kept held t words) same k) in
+    let runs = runs_on words held plain before a (is ∙ ap Some same) full refl within on
+    (λ i h. small i (omega arith)) (omega (arith, k.few, l)) in
+    let after : after_words held plain words ≡ new =
+    ap₂ (λ r t. record held {
+      recent = r;
+      track = Some t;
+      wrong = marks_after_words held.wrong words;
+    }) (window_after_eight words held.recent l within small) (track_after_eight plain words l few)
+    ∙ (ap (λ r. record held {
+      recent = last_four words;
+      track = Some (record { role = r; filled = 0; was_p1 = last_five_marks words });
+      wrong = marks_after_words held.wrong words;
+    }) (sym k.dx) ∙ sym e) in
+    record {
+      stands = subst (λ s. StandsAfter s (before ++ flat_map elements words)) after runs.stands;
+      steps = runs.steps;
+    }

@@ -1,0 +1,206 @@
+-- The marks of the words of a lock, and what is decided by them.
+use Rattle.std.proofs.Common.{◌≡◌, ℕ, zero, suc, ◌+◌, ◌-◌, ◌*◌, ◌/◌, ◌%◌, ◌^◌, ◌<◌, ◌≤◌, ◌==◌, List}
+use Rattle.std.proofs.Common.{[], ◌∷◌, ◌++◌, length, drop, replicate, Bool, true, false, not, ◌&&◌}
+use Rattle.std.proofs.Common.{cond, count_by, refl, sym, ap, ap₂, subst, ◌∙◌, inl, inr, arith}
+use Rattle.std.proofs.lemmas.Bool.{cases_lt, le-leb, lt-leb}
+use Rattle.std.proofs.lemmas.List.{length_push, drop-append-le, drop_all}
+use Rattle.std.proofs.lemmas.List.Sums.{sum_by_push, sum_by-cons}
+use Rattle.circular_buffer.specs.Buffer.{keep_last}
+use Rattle.nx_sync.specs.declared.step.Role.{Role}
+use Rattle.nx_sync.specs.declared.step.Role.TheVariants.{Dx, Rx}
+use Rattle.nx_sync.specs.declared.track.Track.{Track}
+use Rattle.nx_code.specs.Table.{phasing_1}
+use Rattle.nx_sync.specs.Words.{marked_words, other_role, is_dx, role_of, wrong_until}
+use Rattle.nx_code.proofs.lemmas.WordCounts.{one_if}
+use Rattle.nx_sync.specs.private.Releases.{releases_as_ended, change_at}
+use Rattle.nx_sync.specs.Synchroniser.{wrong_marks, was_p1, p1_marks}
+use Rattle.nx_sync.specs.private.Calls.{fills_releasing_word, change_of}
+use Rattle.nx_code.specs.Word.{number_of, value_of, is_wrong, wrong_in}
+use Rattle.nx_sync.proofs.lemmas.hunting.Numbers.{number_of-next, first_bit, third_on}
+use Rattle.nx_sync.proofs.lemmas.states.Lists.{keep_last-push}
+
+-- marks look at their words alone
+pub wrong_marks-same : (f g : ℕ → ℕ) (n : ℕ) → ((j : ℕ) → j < n → f j ≡ g j)
+    → wrong_marks f n ≡ wrong_marks g n
+unfolding wrong_marks
+wrong_marks-same f g zero same = refl
+wrong_marks-same f g (suc n) same =
+    ap₂ (λ xs w. xs ++ is_wrong w ∷ []) (wrong_marks-same f g n (λ j h. same j (omega arith)))
+    (same n (omega arith))
+
+was_p1-same : (f g : ℕ → ℕ) (i : ℕ) → (5 ≤ i → f (i - 5) ≡ g (i - 5)) → was_p1 f i ≡ was_p1 g i
+was_p1-same f g i same = elim (cases_lt i 5) [
+  | inl early ↦ rw (lt-leb 5 i early) refl
+  | inr late ↦ rw (same late) refl
+]
+
+pub p1_marks-same : (f g : ℕ → ℕ) (n : ℕ) → ((j : ℕ) → j < n → f j ≡ g j)
+    → p1_marks f n ≡ p1_marks g n
+unfolding p1_marks
+p1_marks-same f g n same =
+    let at : (i : ℕ) → i < n + 5 → was_p1 f i ≡ was_p1 g i =
+    λ i near. was_p1-same f g i (λ h. same (i - 5) (omega arith)) in
+    rw (
+      at n (omega arith),
+      at (n + 1) (omega arith),
+      at (n + 2) (omega arith),
+      at (n + 3)
+          (omega arith),
+      at (n + 4) (omega arith),
+    ) refl
+
+-- the marks after one more word
+pub p1_marks-next : (f : ℕ → ℕ) (n : ℕ)
+    → drop 1 (p1_marks f n) ++ (f n == phasing_1) ∷ [] ≡ p1_marks f (n + 1)
+unfolding p1_marks
+p1_marks-next f n =
+    let e2 : n + 1 + 1 ≡ n + 2 = omega arith in
+    let e3 : n + 1 + 2 ≡ n + 3 = omega arith in
+    let e4 : n + 1 + 3 ≡ n + 4 = omega arith in
+    let e5 : n + 1 + 4 - 5 ≡ n = omega arith in
+    rw (e2, e3, e4, le-leb 5 (n + 1 + 4) (omega arith), e5) refl
+
+pub length-p1_marks : (f : ℕ → ℕ) (n : ℕ) → length (p1_marks f n) ≡ 4 + 1
+unfolding p1_marks
+length-p1_marks f n = refl
+
+-- as a number
+pub p1_number-next : (f : ℕ → ℕ) (n : ℕ)
+    → number_of (p1_marks f n) / 2 + 2 ^ 4 * value_of (f n == phasing_1)
+    ≡ number_of (p1_marks f (n + 1))
+p1_number-next f n = sym (number_of-next 4 (p1_marks f n) (f n == phasing_1) (length-p1_marks f n))
+    ∙ ap number_of (p1_marks-next f n)
+
+-- no word is there before the first
+pub p1_number-none : (f : ℕ → ℕ) → number_of (p1_marks f 0) ≡ 0
+unfolding p1_marks number_of
+p1_number-none f = refl
+
+-- three words on, the role is the other one
+three_turns : (role : Role) → is_dx role ≡ not (is_dx (other_role (other_role (other_role role))))
+three_turns Dx = refl
+three_turns Rx = refl
+
+-- the role three words before
+role_of-three : (first : Role) (k : ℕ) → 3 ≤ k
+    → is_dx (role_of first (k - 3)) ≡ not (is_dx (role_of first k))
+unfolding role_of
+role_of-three first k h = let e : k ≡ suc (suc (suc (k - 3))) = omega arith in
+    three_turns (role_of first (k - 3)) ∙ ap (λ j. not (is_dx (role_of first j))) (sym e)
+
+and_no : (b : Bool) → (b && false) ≡ false
+and_no true = refl
+and_no false = refl
+
+-- the oldest of the five marks, and the one two words later, from their number
+p1_oldest : (f : ℕ → ℕ) (k : ℕ) → (number_of (p1_marks f k) % 2 == 1) ≡ was_p1 f k
+unfolding p1_marks number_of
+p1_oldest f k = first_bit (was_p1 f k) _
+
+p1_third : (f : ℕ → ℕ) (k : ℕ) → (number_of (p1_marks f k) / 4 % 2 == 1) ≡ was_p1 f (k + 2)
+unfolding p1_marks number_of
+p1_third f k = ap (λ n. n % 2 == 1) (third_on (was_p1 f k) (was_p1 f (k + 1)) _)
+    ∙ first_bit (was_p1 f (k + 2)) _
+
+and_turned : (a b c : Bool) → (a && b && c) ≡ (a && c && b)
+and_turned true true true = refl
+and_turned true true false = refl
+and_turned true false true = refl
+and_turned true false false = refl
+and_turned false b c = refl
+
+-- the test of the track is the definition's
+pub fills_releasing_word-is : (first : Role) (f : ℕ → ℕ) (k : ℕ) (track : Track)
+    → track.role ≡ role_of first k → track.was_p1 ≡ number_of (p1_marks f k)
+    → fills_releasing_word track ≡ releases_as_ended first f k
+unfolding releases_as_ended
+fills_releasing_word-is first f k track r m =
+    let tests : fills_releasing_word track
+    ≡ (not (is_dx (role_of first k)) && was_p1 f k && was_p1 f (k + 2)) =
+    rw (r, m, p1_oldest f k, p1_third f k) refl in
+    tests
+    ∙ (and_turned (not (is_dx (role_of first k))) (was_p1 f k) (was_p1 f (k + 2))
+    ∙ elim (cases_lt k 5) [
+      | inl early ↦ rw (lt-leb 5 k early) (and_no _)
+      | inr late ↦
+          let e : k + 2 - 5 ≡ k - 3 = omega arith in
+          rw (
+            le-leb 5 k late,
+            le-leb 5 (k + 2) (omega arith),
+            e,
+            role_of-three first k
+                (omega arith),
+          ) refl
+    ])
+
+pub length-wrong_marks : (f : ℕ → ℕ) (n : ℕ) → length (wrong_marks f n) ≡ n
+unfolding wrong_marks
+length-wrong_marks f zero = refl
+length-wrong_marks f (suc n) =
+    length_push (wrong_marks f n) (is_wrong (f n)) ∙ omega (arith, length-wrong_marks f n)
+
+-- the marks from word i on are counted as the definition counts them
+count-marks : (f : ℕ → ℕ) (i n : ℕ)
+    → count_by (λ b. b) (drop i (wrong_marks f (i + n))) ≡ wrong_in f i n
+unfolding wrong_marks wrong_in
+count-marks f i zero = let e : i + 0 ≡ i = omega arith in
+    rw (e, drop_all i (wrong_marks f i) (omega (arith, length-wrong_marks f i))) refl
+count-marks f i (suc n) =
+    let e : i + suc n ≡ suc (i + n) = omega arith in
+    rw (
+      e,
+      drop-append-le i (wrong_marks f (i + n)) (is_wrong (f (i + n)) ∷ [])
+          (omega (arith, length-wrong_marks f (i + n))),
+    )
+    (sum_by_push (λ b. cond b 1 0) (drop i (wrong_marks f (i + n))) (is_wrong (f (i + n)))
+    ∙ ap (λ s. s + one_if (is_wrong (f (i + n)))) (count-marks f i n))
+
+pub count-last_marks : (f : ℕ → ℕ) (k : ℕ)
+    → count_by (λ b. b) (keep_last marked_words (wrong_marks f (k + 1))) ≡ wrong_until f k
+count-last_marks f k =
+    let e : length (wrong_marks f (k + 1)) - marked_words ≡ k + 1 - marked_words =
+    omega (arith, length-wrong_marks f (k + 1)) in
+    let s : k + 1 - marked_words + (k + 1 - (k + 1 - marked_words)) ≡ k + 1 = omega arith in
+    ap (λ i. count_by (λ b. b) (drop i (wrong_marks f (k + 1)))) e
+    ∙ (ap (λ n. count_by (λ b. b) (drop (k + 1 - marked_words) (wrong_marks f n))) (sym s)
+    ∙ count-marks f (k + 1 - marked_words) (k + 1 - (k + 1 - marked_words)))
+
+-- the marks after one more word
+pub wrong_marks-next : (f : ℕ → ℕ) (n : ℕ)
+    → keep_last marked_words (keep_last marked_words (wrong_marks f n) ++ is_wrong (f n) ∷ [])
+    ≡ keep_last marked_words (wrong_marks f (n + 1))
+unfolding wrong_marks
+wrong_marks-next f n =
+    let e : n + 1 ≡ suc n = omega arith in
+    rw e (keep_last-push marked_words (wrong_marks f n) (is_wrong (f n)))
+
+-- what the track and the marks decide is the definition's change
+pub change_of-change_at : (first : Role) (f : ℕ → ℕ) (k : ℕ) (track : Track) (wrong : List Bool)
+    → track.role ≡ role_of first k → track.was_p1 ≡ number_of (p1_marks f k)
+    → wrong ≡ keep_last marked_words (wrong_marks f (k + 1))
+    → change_of track wrong ≡ change_at first f k
+unfolding change_at
+change_of-change_at first f k track wrong r m w =
+    rw (fills_releasing_word-is first f k track r m, w, count-last_marks f k) refl
+
+none_marked : (xs : List Bool) → count_by (λ b. b) xs ≡ 0 → xs ≡ replicate (length xs) false
+none_marked [] h = refl
+none_marked (true ∷ xs) h = absurd (omega (arith, sum_by-cons (λ b. cond b 1 0) true xs))
+none_marked (false ∷ xs) h =
+    ap (λ ys. false ∷ ys) (none_marked xs (omega (arith, sum_by-cons (λ b. cond b 1 0) false xs)))
+
+-- marks of which none is set are the same, where there are 64
+pub same_marks : (xs ys : List Bool) → length xs ≡ marked_words → count_by (λ b. b) xs ≡ 0
+    → length ys ≡ marked_words → count_by (λ b. b) ys ≡ 0 → xs ≡ ys
+same_marks xs ys l none m unset =
+    none_marked xs none
+    ∙ (ap (λ n. replicate n false) (l ∙ sym m) ∙ sym (none_marked ys unset))
+
+-- where none of 64 words is wrong, and one more isn't either, their marks stay
+pub marks_stay : (xs : List Bool) (is_wrong : Bool) → length xs ≡ marked_words
+    → count_by (λ b. b) xs ≡ 0 → is_wrong ≡ false
+    → xs ≡ keep_last marked_words (xs ++ is_wrong ∷ [])
+marks_stay xs is_wrong l none right =
+    let e : xs ≡ replicate marked_words false =
+    none_marked xs none ∙ ap (λ n. replicate n false) l in
+    subst (λ ys. ys ≡ keep_last marked_words (ys ++ is_wrong ∷ [])) (sym e) (rw right refl)

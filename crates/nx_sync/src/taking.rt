@@ -1,0 +1,237 @@
+//! How packed elements are heard for a taker. What comes next, a hunt, one element, one word or
+//! eight of them, is decided here alone, and what the synchroniser holds meanwhile. What runs for
+//! each element or each word is inlined always, since its answers would go through memory
+//! otherwise.
+
+ghost use Rattle.std.specs.Prelude.{◌≡◌, ℕ, ◌+◌, ◌*◌, ◌^◌, ◌<◌, ◌≤◌, List, Bool, Option, None, false, [], ◌++◌, length, take, IsTrue};
+ghost use Rattle.std.specs.List.{flat_map};
+ghost use Rattle.nx_code.specs.Packed.{packed_elements, packed_part};
+ghost use Rattle.nx_code.specs.Word.{elements};
+ghost use Rattle.nx_sync.specs.Synchroniser.{Held, is_between_words, is_hunting};
+ghost use Rattle.nx_sync.specs.Taking.{BringsStep, BringsWords, IsTaken};
+
+use crate::eight::EIGHT;
+use crate::packed::{eight_words_in, element, word_in};
+use crate::step::Step;
+use crate::synchroniser::Synchroniser;
+use crate::word_synchroniser::WordSynchroniser;
+use nx_code::{ELEMENTS, Word};
+
+/// How many elements eight words have.
+const EIGHT_WORDS: usize = EIGHT * ELEMENTS;
+
+/// Takes what the elements bring that a synchroniser hears, in order.
+pub trait StepTaker {
+    /// What can be over with an element, at which the hearing stops.
+    type Over: Copy;
+
+    /// It has room for what so many elements bring.
+    ghost can_take: { Self → ℕ → Type 0 };
+
+    /// A synchroniser that held the first and this taker heard these elements, and hold and are
+    /// that then; with the last of them this is over, and nothing was with one before it.
+    ghost hears: { Held → Self → List Bool → Held → Self → Option Self.Over → Type 0 };
+
+    /// Takes what so many elements bring: the last one this step, and those before it nothing.
+    /// Answers what is over with the last one, if anything is.
+    fn take(&mut self, count: usize, step: Step) -> Option<Self::Over>
+        requires some { 0 < count }
+        requires can { can_take self.old count }
+        ensures hears { (old new : Held) (bits : List Bool) → length bits ≡ count
+            → BringsStep old new bits step → hears old self.old bits new self.new result }
+        ensures can { (more : ℕ) → can_take self.old (count + more) → can_take self.new more };
+
+    /// Takes eight words of a lock that bring no change, the first of which is a DX word, at once,
+    /// where surely nothing is over with any of them: `true` where it did. Else nothing changed,
+    /// and they have to be taken one by one.
+    fn take_eight(&mut self, words: &[Word; EIGHT]) -> bool
+        requires can { can_take self.old 56 }
+        ensures hears { IsTrue result → (old new : Held) → BringsWords old new words.now
+            → hears old self.old (flat_map elements words.now) new self.new None }
+        ensures can { (more : ℕ) → can_take self.old (56 + more) → can_take self.new more }
+        ensures same { result ≡ false → self.new ≡ self.old };
+
+    /// No elements bring nothing.
+    ghost none: { (held : Held) (taker : Self) → hears held taker [] held taker None };
+
+    /// Elements after others bring what both do.
+    ghost both: { (old mid new : Held) (first between last : Self) (xs ys : List Bool)
+        (over : Option Self.Over)
+        → hears old first xs mid between None → hears mid between ys new last over
+        → hears old first (xs ++ ys) new last over };
+
+    /// Room for more elements is room for fewer.
+    ghost fewer: { (taker : Self) (n more : ℕ) → can_take taker (n + more) → can_take taker n };
+}
+
+impl Synchroniser {
+    /// Hears packed elements for a taker, so many from a place on: up to and with the first one
+    /// with which anything is over for it, all of them where nothing is. Says how many, and what is
+    /// over. Element i is bit `i % 64` of number `i / 64`, set for B.
+    pub fn hear<T: StepTaker>(
+        &mut self,
+        taker: &mut T,
+        numbers: &[u64],
+        from: usize,
+        count: usize,
+    ) -> (usize, Option<T::Over>)
+        requires room { from + count ≤ packed_elements * length numbers.now }
+        requires counted { from + count < 2 ^ 64 }
+        requires can { T.can_take taker.old count }
+        ensures within { result.0 ≤ count }
+        ensures some { 0 < count → 0 < result.0 }
+        ensures all { result.1 ≡ None → result.0 ≡ count }
+        ensures taken { IsTaken T.hears T.can_take self.old taker.old
+            (take result.0 (packed_part numbers.now from count)) self.new taker.new result.1 }
+    {
+        let mut heard = 0;
+        while heard < count {
+            let (part, over) = self.hear_part(taker, numbers, from + heard, count - heard);
+            heard += part;
+            if over.is_some() {
+                return (heard, over);
+            }
+        }
+        (heard, None)
+    }
+
+    /// Hears one or more of these elements: those of a hunt, whole words, or one element.
+    #[inline(always)]
+    fn hear_part<T: StepTaker>(
+        &mut self,
+        taker: &mut T,
+        numbers: &[u64],
+        from: usize,
+        count: usize,
+    ) -> (usize, Option<T::Over>)
+        requires some { 0 < count }
+        requires room { from + count ≤ packed_elements * length numbers.now }
+        requires counted { from + count < 2 ^ 64 }
+        requires can { T.can_take taker.old count }
+        ensures within { result.0 ≤ count }
+        ensures some { 0 < result.0 }
+        ensures taken { IsTaken T.hears T.can_take self.old taker.old
+            (take result.0 (packed_part numbers.now from count)) self.new taker.new result.1 }
+    {
+        if !self.is_locked() {
+            return self.hear_hunting(taker, numbers, from, count);
+        }
+        if self.is_between_words() && count >= ELEMENTS {
+            let mut words = self.at_words();
+            let answer = words.hear(taker, numbers, from, count);
+            self.go_on_from(&words);
+            return answer;
+        }
+        let step = self.push(element(numbers, from));
+        (1, taker.take(1, step))
+    }
+
+    /// Hears the elements of a hunt: those up to and with the one that locks, all where none does.
+    fn hear_hunting<T: StepTaker>(
+        &mut self,
+        taker: &mut T,
+        numbers: &[u64],
+        from: usize,
+        count: usize,
+    ) -> (usize, Option<T::Over>)
+        requires hunting { IsTrue (is_hunting self.old) }
+        requires some { 0 < count }
+        requires room { from + count ≤ packed_elements * length numbers.now }
+        requires counted { from + count < 2 ^ 64 }
+        requires can { T.can_take taker.old count }
+        ensures within { result.0 ≤ count }
+        ensures some { 0 < result.0 }
+        ensures taken { IsTaken T.hears T.can_take self.old taker.old
+            (take result.0 (packed_part numbers.now from count)) self.new taker.new result.1 }
+    {
+        let quiet = self.hunt_packed(numbers, from, count);
+        if quiet == count {
+            return (count, taker.take(count, Step::NOTHING));
+        }
+        let step = self.push(element(numbers, from + quiet));
+        (quiet + 1, taker.take(quiet + 1, step))
+    }
+}
+
+impl WordSynchroniser {
+    /// Hears whole words of these elements: as many as there are, up to and with the first with
+    /// which the lock or anything for the taker is over.
+    #[inline(always)]
+    fn hear<T: StepTaker>(
+        &mut self,
+        taker: &mut T,
+        numbers: &[u64],
+        from: usize,
+        count: usize,
+    ) -> (usize, Option<T::Over>)
+        requires limit { IsTrue (is_between_words self.old) }
+        requires some { 7 ≤ count }
+        requires room { from + count ≤ packed_elements * length numbers.now }
+        requires counted { from + count < 2 ^ 64 }
+        requires can { T.can_take taker.old count }
+        ensures within { result.0 ≤ count }
+        ensures some { 0 < result.0 }
+        ensures taken { IsTaken T.hears T.can_take self.old taker.old
+            (take result.0 (packed_part numbers.now from count)) self.new taker.new result.1 }
+    {
+        let mut heard = 0;
+        while count - heard >= ELEMENTS {
+            let (part, over) = self.hear_some(taker, numbers, from + heard, count - heard);
+            heard += part;
+            if over.is_some() | !self.is_between_words() {
+                return (heard, over);
+            }
+        }
+        (heard, None)
+    }
+
+    /// Hears the next eight words of these elements at once, where they are there and neither the
+    /// lock nor anything for the taker is over with them, else the next word.
+    #[inline(always)]
+    fn hear_some<T: StepTaker>(
+        &mut self,
+        taker: &mut T,
+        numbers: &[u64],
+        from: usize,
+        count: usize,
+    ) -> (usize, Option<T::Over>)
+        requires limit { IsTrue (is_between_words self.old) }
+        requires some { 7 ≤ count }
+        requires room { from + count ≤ packed_elements * length numbers.now }
+        requires can { T.can_take taker.old count }
+        ensures within { result.0 ≤ count }
+        ensures some { 0 < result.0 }
+        ensures taken { IsTaken T.hears T.can_take self.old taker.old
+            (take result.0 (packed_part numbers.now from count)) self.new taker.new result.1 }
+    {
+        if count >= EIGHT_WORDS {
+            if self.hear_eight(taker, &eight_words_in(numbers, from)) {
+                return (EIGHT_WORDS, None);
+            }
+        }
+        let step = self.push(word_in(numbers, from));
+        (ELEMENTS, taker.take(ELEMENTS, step))
+    }
+
+    /// Hears these eight words, which come next, at once, where neither the lock nor anything for
+    /// the taker is over with them: `true` where it did. Else nothing changed.
+    #[inline(always)]
+    fn hear_eight<T: StepTaker>(&mut self, taker: &mut T, words: &[Word; EIGHT]) -> bool
+        requires limit { IsTrue (is_between_words self.old) }
+        requires can { T.can_take taker.old 56 }
+        ensures taken { IsTrue result → IsTaken T.hears T.can_take self.old taker.old
+            (flat_map elements words.now) self.new taker.new None }
+        ensures limit { IsTrue (is_between_words self.new) }
+        ensures same { result ≡ false → self.new ≡ self.old }
+        ensures same_taker { result ≡ false → taker.new ≡ taker.old }
+    {
+        if !self.keeps_lock(words) {
+            return false;
+        }
+        if !taker.take_eight(words) {
+            return false;
+        }
+        self.push_eight(words);
+        true
+    }
+}
