@@ -4,7 +4,9 @@ use Rattle.std.specs.Prelude.{ℕ, ◌-◌, ◌==◌, nat_le, Bool, if◌then◌
 use Rattle.std.specs.List.{filter, filter_map}
 use Rattle.std.specs.Option.{option_map, option_or, is_none}
 use Rattle.nx_code.specs.Reading.{asterisk}
-use Rattle.nx_envelope.specs.Header.{identity_at_end, marker_at_end, Header, newline}
+use Rattle.nx_envelope.specs.Header.{Header}
+use Rattle.nx_envelope.specs.AtTheEnd.{identity_at_end, marker_at_end}
+use Rattle.nx_code.specs.Reading.{newline}
 use Rattle.nx_envelope.specs.declared.found.How.{How}
 use Rattle.nx_envelope.specs.declared.found.How.TheVariants.{Cut, Long}
 
@@ -47,8 +49,8 @@ ending_by_marker text =
 abbrev pub most_found : ℕ
 most_found = 4100
 
--- the end of a raw text: at the first of its beginnings, within 4,100 characters, that ends with a
--- marker; where there is none, but 4,100 characters stand there, it is long; else it has no end
+-- The end of a raw text: at the first of its beginnings, within 4,100 characters, that ends with a
+-- marker. Where there is none, but 4,100 characters stand there, it is long; else it has no end.
 unfoldable pub ending_of : List ℕ → Option Ending
 ending_of raw =
     option_or (slice_get (filter_map ending_by_marker (beginnings (take most_found raw))) 0)

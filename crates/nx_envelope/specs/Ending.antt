@@ -2,15 +2,9 @@
 -- places: the raw text of a copy begins at place 0.
 use Rattle.std.specs.Prelude.{◌≡◌, ℕ, ◌-◌, ◌<◌, ◌≤◌, ◌⊎◌, List, length, take}
 use Rattle.nx_envelope.specs.Copies.{Ending, most_found}
-use Rattle.nx_envelope.specs.Header.{EndsWith, start_marker, end_marker}
+use Rattle.nx_envelope.specs.Header.{EndsWithMarker}
 use Rattle.nx_envelope.specs.declared.found.How.{How}
-use Rattle.nx_envelope.specs.declared.found.How.TheVariants.{Full, Cut, Long}
-
--- the text ends with the marker that ends a copy in this way
-abbrev pub EndsWithMarker : List ℕ → How → Type 0
-EndsWithMarker text Full = EndsWith text end_marker
-EndsWithMarker text Cut = EndsWith text start_marker
-EndsWithMarker text Long = ⊥
+use Rattle.nx_envelope.specs.declared.found.How.TheVariants.{Long}
 
 -- that marker ends at the place, and so begins at place 0 or later
 abbrev pub MarkerEndsAt : List ℕ → ℕ → How → Type 0

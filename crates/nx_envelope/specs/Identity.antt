@@ -2,9 +2,13 @@
 use Rattle.std.specs.Prelude.{ℕ, Bool, ◌==◌, ◌&&◌, List, ◌∷◌, [], ◌%◌, ◌+◌, ◌/◌}
 use Rattle.nx_envelope.specs.declared.identity.Identity.{Identity}
 
+-- the digit 0, behind which stand those from 1 to 9
+abbrev pub digit_zero : ℕ
+digit_zero = 48
+
 -- the two decimal digits of a number below 100
 abbrev pub two_digits : ℕ → List ℕ
-two_digits n = (48 + n / 10) ∷ (48 + n % 10) ∷ []
+two_digits n = (digit_zero + n / 10) ∷ (digit_zero + n % 10) ∷ []
 
 -- the two name one message: the same station, the same subject and the same number
 abbrev pub same_identity : Identity → Identity → Bool

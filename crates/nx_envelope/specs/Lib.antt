@@ -1,3 +1,4 @@
+pub mod AtTheEnd
 pub mod Copies
 pub mod Ending
 pub mod Finder

@@ -1,6 +1,6 @@
 -- This profile: a moment is a count of whole seconds since 1970-01-01 00:00:00 UTC, and is printed
 -- as the civil date and time of the Gregorian calendar.
-use Rattle.std.specs.Prelude.{◌≡◌, ℕ, ◌/◌, ◌%◌, List, ◌∷◌, ◌++◌, pos}
+use Rattle.std.specs.Prelude.{◌≡◌, ℕ, ◌/◌, ◌%◌, List, ◌++◌, codes, pos}
 use Rattle.jiff_core.specs.Calendar.{IsCivilDate, days_from_civil}
 use Rattle.nx_envelope.specs.Identity.{two_digits}
 
@@ -8,9 +8,9 @@ use Rattle.nx_envelope.specs.Identity.{two_digits}
 abbrev pub last_moment : ℕ
 last_moment = 32503679999
 
--- The text shows the moment: as YYYY-MM-DD HH:MM:SS, where 45 is a hyphen, 32 a space and 58 a colon,
--- the date whose day number, 0 for 1970-01-01, is how many whole days of 86,400 seconds the moment
--- has, and the time of that day.
+-- The text shows the moment as YYYY-MM-DD HH:MM:SS. The date is the one whose day number, 0 for
+-- 1970-01-01, is how many whole days of 86,400 seconds the moment has; the time is that of this
+-- day.
 pub record IsShownAs (moment : ℕ) (text : List ℕ) : Type 0 where
   pub year : ℕ
   pub month : ℕ
@@ -18,9 +18,9 @@ pub record IsShownAs (moment : ℕ) (text : List ℕ) : Type 0 where
   pub date : IsCivilDate (pos year) month day
   pub is_day : days_from_civil (pos year) month day ≡ pos (moment / 86400)
   pub is_text : text ≡ two_digits (year / 100) ++ two_digits (year % 100)
-      ++ 45 ∷ two_digits month ++ 45 ∷ two_digits day
-      ++ 32 ∷ two_digits (moment % 86400 / 3600)
-      ++ 58 ∷ two_digits (moment % 3600 / 60) ++ 58 ∷ two_digits (moment % 60)
+      ++ codes "-" ++ two_digits month ++ codes "-" ++ two_digits day
+      ++ codes " " ++ two_digits (moment % 86400 / 3600)
+      ++ codes ":" ++ two_digits (moment % 3600 / 60) ++ codes ":" ++ two_digits (moment % 60)
 
 -- the moment has a civil text
 pub record HasText (moment : ℕ) : Type 0 where

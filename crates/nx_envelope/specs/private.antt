@@ -3,6 +3,7 @@ pub mod CivilTimes
 pub mod DigitBytes
 pub mod Finding
 pub mod Letters
+pub mod Reading
 pub mod Room
 pub mod Stage
 pub mod Windows

@@ -1,15 +1,16 @@
-//! The finder of copies, which sees a received text byte by byte.
+//! The finder of copies, which sees a received text byte by byte. What runs for each byte, or for
+//! each four, is inlined always; what needs a place for a text of 4,100 bytes never is.
 
 ghost use Rattle.std.specs.Prelude.{◌≡◌, ◌+◌, ◌≤◌, ◌∷◌, ◌++◌, ℕ, List, length, take};
-ghost use Rattle.nx_envelope.specs.private.Backward.{last_four, marker_back};
+ghost use Rattle.nx_envelope.specs.private.Backward.{last_four};
 ghost use Rattle.nx_envelope.specs.Copies.{errors_of};
 ghost use Rattle.nx_envelope.specs.Found.{IsFoundOf};
 
 use crate::found::{FinderStep, Found, FoundHead, HeldCopy, How, MAX_FOUND, TextEvent};
 use crate::identity::Identity;
-use crate::message::{END_MARKER, NEWLINE, START_MARKER};
+use crate::message::{NEWLINE, START_MARKER};
 use crate::stage::Stage;
-use crate::windows::{eight_of, ends_marker, four_behind};
+use crate::windows::{eight_of, ends_marker, four_behind, marker_of};
 use arrayvec::ArrayVec;
 use nx_code::ASTERISK;
 use std::marker::Model;
@@ -67,7 +68,6 @@ impl Finder {
     pub fn new() -> Finder
         ensures { StandsAfter result [] }
     {
-        // No room for anything else.
         prove!(size_of::<Finder>() == 4128);
         Finder {
             recent: [0; MARKER_LEN],
@@ -78,7 +78,6 @@ impl Finder {
     }
 
     /// Takes in the next byte of the text and answers what it brings.
-    // Inlined, so that the step is built where the caller has it.
     #[inline(always)]
     pub fn push(&mut self, byte: u8) -> FinderStep
         ensures stands { (text : List ℕ) → StandsAfter self.old text
@@ -98,7 +97,6 @@ impl Finder {
     /// Takes in the next byte of the text and answers what it brings; a copy that it ends can be
     /// taken before the next byte. It does what `push` does, for callers that go over many bytes:
     /// its answer is small.
-    // Inlined, since it is called for each byte.
     #[inline(always)]
     pub fn hear(&mut self, byte: u8) -> TextEvent
         ensures stands { (text : List ℕ) → StandsAfter self.old text
@@ -125,7 +123,6 @@ impl Finder {
     /// a copy: `true` where it did. Else nothing changed, and they have to be heard one by one. It
     /// is `true` only in an open copy behind whose header something stands already, and where no
     /// copy is open or can be taken and no header has begun.
-    // Inlined always, since it is called for each four bytes of a text.
     #[inline(always)]
     pub fn hear_plain(&mut self, bytes: [u8; MARKER_LEN], count: usize) -> bool
         requires { count ≤ 4 }
@@ -150,7 +147,6 @@ impl Finder {
 
     /// Takes in bytes as `hear_plain` does, where no copy is open or can be taken and no header has
     /// begun.
-    // Inlined always, as `hear_plain`.
     #[inline(always)]
     fn pass_plain(&mut self, bytes: [u8; MARKER_LEN], count: usize) -> bool
         requires { count ≤ 4 }
@@ -173,7 +169,6 @@ impl Finder {
     }
 
     /// The copy that the last byte ended, where it was not taken yet.
-    // Not inlined, so that no loop over bytes has a place for a text of 4,100.
     #[inline(never)]
     pub fn take_found(&mut self) -> Option<Found>
         ensures stands { (text : List ℕ) → StandsAfter self.old text → StandsAfter self.new text }
@@ -236,7 +231,6 @@ impl Finder {
     }
 
     /// The identity of the copy that is open, or that can be taken.
-    // Inlined, since its answer is small and asked where it is used.
     #[inline(always)]
     pub fn identity(&self) -> Option<Identity>
         ensures { result ≡ held_identity self.now.copy }
@@ -249,7 +243,6 @@ impl Finder {
 
     /// Ends the text and answers the copy that stands open; the finder is then as new. A copy that
     /// could be taken is gone.
-    // Not inlined, as `take_found`.
     #[inline(never)]
     pub fn end(&mut self) -> Option<Found>
         ensures closes { (text : List ℕ) → StandsAfter self.old text → Closes text result }
@@ -324,7 +317,6 @@ impl Finder {
 }
 
 /// Appends the first `count` of these bytes.
-// Inlined always, so that four bytes are one write.
 #[inline(always)]
 fn append(text: &mut ArrayVec<u8, MAX_FOUND>, bytes: [u8; MARKER_LEN], count: usize)
     requires room { length text.old.items + 4 ≤ 4100 }
@@ -359,18 +351,5 @@ fn found_of(identity: Identity, how: How, text: ArrayVec<u8, MAX_FOUND>) -> Foun
         text,
         errors,
         how,
-    }
-}
-
-/// How the copy ends whose text has these last four bytes, if they are a marker.
-fn marker_of(recent: [u8; MARKER_LEN]) -> Option<How>
-    ensures { (back : List ℕ) → recent ≡ last_four back → result ≡ marker_back back }
-{
-    if recent == END_MARKER {
-        Some(How::Full)
-    } else if recent == START_MARKER {
-        Some(How::Cut)
-    } else {
-        None
     }
 }

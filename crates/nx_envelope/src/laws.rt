@@ -3,7 +3,8 @@
 
 ghost use Rattle.std.specs.Prelude.{◌≡◌, ◌↔◌, ◌<◌, ◌≤◌, ◌++◌, [], ℕ, Contains, List, Option, IsTrue, None, Some, length, map};
 ghost use Rattle.std.specs.List.{AllZip};
-ghost use Rattle.nx_envelope.specs.Header.{ends_with, identity_at_end, ComesBefore, EndsWithHeader, Header, StandsIn, EndsWith, end_marker, start_marker};
+ghost use Rattle.nx_envelope.specs.AtTheEnd.{identity_at_end, marker_at_end};
+ghost use Rattle.nx_envelope.specs.Header.{ComesBefore, EndsWithHeader, EndsWithMarker, Header, StandsIn};
 ghost use Rattle.nx_envelope.specs.Copies.{Ending, closed_copy, copies, headers, ended_copies, ending_of, open_headers};
 ghost use Rattle.nx_envelope.specs.Finder.{Closes};
 ghost use Rattle.nx_envelope.specs.Found.{IsFound};
@@ -13,14 +14,14 @@ ghost use Rattle.nx_envelope.specs.Laws.{AreAnswers, Grows, copies_handed_out};
 ghost use Rattle.nx_envelope.specs.Moment.{HasText, IsShownAs, last_moment};
 ghost use Rattle.nx_envelope.specs.declared.found.FinderStep.{FinderStep};
 ghost use Rattle.nx_envelope.specs.declared.found.Found.{Found};
+ghost use Rattle.nx_envelope.specs.declared.found.How.{How};
 ghost use Rattle.nx_envelope.specs.declared.identity.Identity.{Identity};
 
-/// A text ends with a marker, as its last four bytes tell, exactly where it is spelled so.
+/// A text ends with a marker that ends a copy in a way, as it is looked for there, exactly where it
+/// is spelled so: `NNNN` as full, `ZCZC` as cut.
 pub fn markers_are_spelled()
-    ensures start { (text : List ℕ) → IsTrue (ends_with start_marker text)
-        ↔ EndsWith text start_marker }
-    ensures end { (text : List ℕ) → IsTrue (ends_with end_marker text)
-        ↔ EndsWith text end_marker }
+    ensures { (text : List ℕ) (how : How) → (marker_at_end text ≡ Some how)
+        ↔ EndsWithMarker text how }
 {}
 
 /// Headers, copies and their ends come in one order; at most one copy is open, and it is the last.

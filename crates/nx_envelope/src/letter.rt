@@ -27,6 +27,17 @@ impl Letter {
         }
     }
 
+    /// The letter of a byte that is known to be A to Z.
+    pub fn of_capital(byte: u8) -> Letter
+        requires { IsCapital byte }
+        ensures { result.byte ≡ byte }
+    {
+        match Letter::new(byte) {
+            Some(letter) => letter,
+            None => unreachable!(),
+        }
+    }
+
     /// The byte that it was made of, 65 (A) to 90 (Z).
     pub fn byte(self) -> u8
         ensures value { result ≡ self.byte }

@@ -83,18 +83,17 @@ impl Model for Message {
 ghost use Rattle.nx_envelope.specs.Message.{AreLines, IsMessageLine, IsLineByte, IsLineFault, IsMessageFault};
 
 impl Message {
-    /// The message of an identity and lines, which are looked at in order. Of the first line that is
-    /// at fault, `LongLine` where it has more than 69 characters, else `BadCharacter` at the first
-    /// byte that is a newline or not in the code, else `Reserved` where it has `ZCZC` or `NNNN`; then
-    /// `LongText` where all lines with their newlines have more than 4,096 characters; and `Memory`
-    /// where it ran out.
+    /// The message of an identity and lines, which are looked at in order. Of the first line that
+    /// is at fault, `LongLine` where it has more than 69 characters, else `BadCharacter` at the
+    /// first byte that is a newline or not in the code, else `Reserved` where it has `ZCZC` or
+    /// `NNNN`; then `LongText` where all lines with their newlines have more than 4,096 characters;
+    /// and `Memory` where it ran out.
     pub fn new(alloc: Global, identity: Identity, lines: &[&[u8]]) -> Result<Message, MessageFault>
         ensures identity { IfOk result (λ message. message.identity ≡ identity) }
         ensures lines { IfOk result (λ message. message.lines ≡ map (λ line. line.now) lines.now) }
         ensures sound { IfOk result (λ message. AreLines message.lines) }
         ensures refused { IfErr result (IsMessageFault (map (λ line. line.now) lines.now)) }
     {
-        // No room for anything else.
         prove!(size_of::<Message>() == 32);
         check_lines(lines)?;
         match line_copies(alloc, lines) {

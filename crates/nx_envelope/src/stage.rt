@@ -2,7 +2,8 @@
 
 ghost use Rattle.std.specs.Prelude.{◌≡◌, ◌∷◌, ℕ, List};
 ghost use Rattle.nx_envelope.specs.private.Backward.{ends_in, header_back};
-ghost use Rattle.nx_envelope.specs.Header.{space, start_marker};
+ghost use Rattle.nx_envelope.specs.Header.{start_marker};
+ghost use Rattle.nx_code.specs.Reading.{space};
 ghost use Rattle.nx_envelope.specs.private.Stage.{IsStageOf};
 
 use crate::digit::Digit;

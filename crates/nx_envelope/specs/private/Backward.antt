@@ -2,7 +2,8 @@
 -- read from its end: its newest byte first. That this gives what is spelled there is a lemma.
 use Rattle.std.specs.Prelude.{ℕ, ◌==◌, ◌&&◌, ◌||◌, Bool, false, if◌then◌else◌, Option, Some, None, List, [], ◌∷◌, slice_index}
 use Rattle.std.specs.Str.{bytes_eq}
-use Rattle.nx_envelope.specs.Header.{space, start_marker, end_marker}
+use Rattle.nx_envelope.specs.Header.{start_marker, end_marker}
+use Rattle.nx_code.specs.Reading.{space}
 use Rattle.nx_envelope.specs.private.Letters.{letter_of, digit_of, both, identity_with}
 use Rattle.nx_envelope.specs.declared.digit.Digit.{Digit}
 use Rattle.nx_envelope.specs.declared.found.How.{How}

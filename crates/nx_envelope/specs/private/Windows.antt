@@ -7,11 +7,6 @@ use Rattle.nx_envelope.specs.private.Backward.{last_four, marker_back}
 abbrev pub window : ℕ → ℕ → ℕ
 window eight count = eight / 2 ^ (8 * count) % 2 ^ 32
 
--- a text that ends with these four of the eight ends with no marker
-abbrev pub IsUnmarked : ℕ → ℕ → Type 0
-IsUnmarked eight count = (back : List ℕ) → window eight count ≡ from_le_bytes w32 (last_four back)
-    → marker_back back ≡ None
-
 -- four bytes, and each is one
 pub record Four (bytes : List ℕ) : Type 0 where
   pub first : ℕ
@@ -24,8 +19,14 @@ pub record Four (bytes : List ℕ) : Type 0 where
   pub third_fits : third < 256
   pub last_fits : last < 256
 
+-- a text that ends with these four of the eight ends with no marker
+abbrev pub IsUnmarked : ℕ → ℕ → Type 0
+IsUnmarked eight count = (back : List ℕ) → Four (last_four back)
+    → window eight count ≡ from_le_bytes w32 (last_four back) → marker_back back ≡ None
+
 -- the number is that of the last four bytes of a text, read from its back, and of the four that
--- come next: those that stand behind so many of the eight are the last four of the text so much later
+-- come next: those that stand behind so many of the eight are the last four of the text so much
+-- later
 pub record IsEight (eight : ℕ) (back bytes : List ℕ) : Type 0 where
   pub old : Four (last_four back)
   pub new : Four bytes

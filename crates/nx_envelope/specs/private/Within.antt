@@ -1,5 +1,5 @@
--- The end of a raw text within any number of characters, for lemmas; the rule is `ending_of`, within
--- 4,100.
+-- The end of a raw text within any number of characters, for lemmas; the rule is `ending_of`,
+-- within 4,100.
 use Rattle.std.specs.Prelude.{ℕ, nat_le, if◌then◌else◌, Option, Some, None, List, [], ◌∷◌, length, take}
 use Rattle.std.specs.Option.{option_or}
 use Rattle.nx_envelope.specs.Copies.{Ending, beginnings, ending_by_marker}

@@ -1,4 +1,4 @@
-use Rattle.nx_envelope.proofs.OneText.{one_text}
+use Rattle.nx_envelope.proofs.lemmas.moments.OneText.{one_text}
 use Rattle.nx_envelope.proofs.laws.a_moment_has_one_text.Goals as goal
 
 pub returns : goal.returns

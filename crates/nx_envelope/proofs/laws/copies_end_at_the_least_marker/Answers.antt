@@ -1,4 +1,4 @@
-use Rattle.nx_envelope.proofs.Endings.{ended_both, open_both}
+use Rattle.nx_envelope.proofs.lemmas.copies.Endings.{ended_both, open_both}
 use Rattle.nx_envelope.proofs.laws.copies_end_at_the_least_marker.Goals as goal
 
 pub returns : goal.returns

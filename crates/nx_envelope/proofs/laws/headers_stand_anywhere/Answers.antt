@@ -1,4 +1,4 @@
-use Rattle.nx_envelope.proofs.Anywhere.{anywhere_both}
+use Rattle.nx_envelope.proofs.lemmas.headers.Anywhere.{anywhere_both}
 use Rattle.nx_envelope.proofs.laws.headers_stand_anywhere.Goals as goal
 
 pub returns : goal.returns

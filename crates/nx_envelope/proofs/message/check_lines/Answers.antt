@@ -4,7 +4,7 @@ use Rattle.std.proofs.lemmas.List.{get_or-map, length-map}
 use Rattle.std.proofs.lemmas.List.Elements.{All-more}
 use Rattle.std.proofs.lemmas.Result.{err_from_is_err_and}
 use Rattle.nx_envelope.specs.Message.{IsMessageLine}
-use Rattle.nx_envelope.proofs.MessageLines.{first_fault, text_more}
+use Rattle.nx_envelope.proofs.lemmas.messages.MessageLines.{first_fault, text_more}
 use Rattle.nx_envelope.proofs.message.check_lines.Goals as goal
 
 pub returns-in_err-check_line-clause-fault : goal.returns-in_err-check_line-clause-fault

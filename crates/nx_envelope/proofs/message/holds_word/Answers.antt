@@ -1,7 +1,7 @@
 use Rattle.std.proofs.Common.{◌≡◌, true, drop, eqb, arith, refl, sym}
 use Rattle.std.specs.List.{starts_with}
 use Rattle.std.proofs.lemmas.List.{take_rest}
-use Rattle.nx_envelope.proofs.WordsInTexts.{holds_at, holds_none}
+use Rattle.nx_envelope.proofs.lemmas.messages.WordsInTexts.{holds_at, holds_none}
 use Rattle.nx_envelope.proofs.message.holds_word.Goals as goal
 
 pub returns-then-starts_with : goal.returns-then-starts_with

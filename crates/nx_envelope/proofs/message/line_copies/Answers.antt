@@ -1,5 +1,5 @@
 use Rattle.std.proofs.Common.{◌<◌, length, arith}
-use Rattle.nx_envelope.proofs.MessageLines.{map_more_alike}
+use Rattle.nx_envelope.proofs.lemmas.messages.MessageLines.{map_more_alike}
 use Rattle.nx_envelope.proofs.message.line_copies.Goals as goal
 
 pub loop-line-preserved : goal.loop-line-preserved

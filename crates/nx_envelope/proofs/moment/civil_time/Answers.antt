@@ -3,8 +3,8 @@ use Rattle.std.proofs.Common.{◌≡◌, pos, ◌*ℤ◌, ◌≤ℤ◌, arith, t
 use Rattle.std.proofs.lemmas.Int.{to_z_pos}
 use Rattle.jiff_core.proofs.SignedLemmas.{signed_arith}
 use Rattle.jiff_core.specs.DateTime.{civil_nanos}
-use Rattle.nx_envelope.proofs.CivilTimes.{year_from_epoch, seconds_of_nanos, day_of_nanos}
-use Rattle.nx_envelope.proofs.CivilTimes.{cast_year, moment_at}
+use Rattle.nx_envelope.proofs.lemmas.moments.CivilTimes.{year_from_epoch, seconds_of_nanos, day_of_nanos}
+use Rattle.nx_envelope.proofs.lemmas.moments.CivilTimes.{cast_year, moment_at}
 use Rattle.nx_envelope.proofs.moment.civil_time.Goals as goal
 use Rattle.nx_envelope.proofs.moment.civil_time.Goals.{After-to_plain-datetime}
 

@@ -1,5 +1,5 @@
 use Rattle.std.proofs.Common.{arith, rules}
-use Rattle.nx_envelope.proofs.EightBytes.{four_of, is_eight}
+use Rattle.nx_envelope.proofs.lemmas.finder.EightBytes.{four_of, is_eight}
 use Rattle.nx_envelope.proofs.windows.eight_of.Goals as goal
 
 pub returns : goal.returns

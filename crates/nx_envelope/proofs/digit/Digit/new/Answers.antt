@@ -1,5 +1,5 @@
 use Rattle.std.proofs.Common.{refl, sym, rules}
-use Rattle.nx_envelope.proofs.LettersAndDigits.{digit_of-value, digit_of-none}
+use Rattle.nx_envelope.proofs.lemmas.headers.LettersAndDigits.{digit_of-value, digit_of-none}
 use Rattle.nx_envelope.proofs.digit.Digit.new.Goals as goal
 
 pub returns-then-is_ascii_digit-clause-digit : goal.returns-then-is_ascii_digit-clause-digit

@@ -5,8 +5,8 @@ use Rattle.std.proofs.Common.{◌≡◌, ℕ, ◌+◌, ◌-◌, ◌<◌, ◌∷�
 use Rattle.std.proofs.Common.{refl, sym, ap, ◌∙◌, arith}
 use Rattle.std.proofs.lemmas.Bool.Decides.{nat_tests}
 use Rattle.nx_envelope.specs.FinderView.{FinderView}
-use Rattle.nx_envelope.proofs.Hearing.{goes_newline, goes_on, ends_by, ends_full, stays}
-use Rattle.nx_envelope.proofs.Hearing.{becomes_ready}
+use Rattle.nx_envelope.proofs.lemmas.finder.Hearing.{goes_newline, goes_on, ends_by, ends_full, stays}
+use Rattle.nx_envelope.proofs.lemmas.finder.Hearing.{becomes_ready}
 use Rattle.nx_envelope.proofs.finder.Finder.add.Goals as goal
 
 pub returns-then-byte-eq-NEWLINE-clause-hearing : goal.returns-then-byte-eq-NEWLINE-clause-hearing

@@ -1,5 +1,5 @@
 use Rattle.std.proofs.Common.{refl}
-use Rattle.nx_envelope.proofs.Hearing.{none_begins, one_begins}
+use Rattle.nx_envelope.proofs.lemmas.finder.Hearing.{none_begins, one_begins}
 use Rattle.nx_envelope.proofs.finder.Finder.begin.Goals as goal
 
 pub returns-in_default-clause-hearing : goal.returns-in_default-clause-hearing

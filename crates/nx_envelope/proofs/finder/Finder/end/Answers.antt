@@ -2,7 +2,7 @@ use Rattle.std.proofs.Common.{ap, subst, ◌∙◌}
 use Rattle.nx_envelope.specs.Found.{IsFoundOf}
 use Rattle.nx_envelope.specs.declared.found.How.TheVariants.{Cut}
 use Rattle.nx_envelope.specs.FinderView.{FinderView}
-use Rattle.nx_envelope.proofs.Hearing.{closes_none, closes_copy, none_open}
+use Rattle.nx_envelope.proofs.lemmas.finder.Hearing.{closes_none, closes_copy, none_open}
 use Rattle.nx_envelope.proofs.finder.Finder.end.Goals as goal
 
 pub returns-in_default : goal.returns-in_default

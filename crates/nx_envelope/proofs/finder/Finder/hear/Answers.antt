@@ -6,9 +6,9 @@ use Rattle.nx_envelope.specs.Header.{start_marker}
 use Rattle.nx_envelope.specs.private.Backward.{last_four}
 use Rattle.nx_envelope.specs.private.Finding.{Hearing}
 use Rattle.nx_envelope.specs.private.Stage.{IsStageOf}
-use Rattle.nx_envelope.proofs.Beginnings.{reverse-push}
-use Rattle.nx_envelope.proofs.Hearing.{last_four-push, none_held}
-use Rattle.nx_envelope.proofs.PlainBytes.{stage_open}
+use Rattle.nx_envelope.proofs.lemmas.copies.Beginnings.{reverse-push}
+use Rattle.nx_envelope.proofs.lemmas.finder.Hearing.{last_four-push, none_held}
+use Rattle.nx_envelope.proofs.lemmas.finder.PlainBytes.{stage_open}
 use Rattle.nx_envelope.proofs.finder.Finder.hear.Goals as goal
 
 pub returns-in-Open-clause-stands : goal.returns-in-Open-clause-stands

@@ -4,9 +4,9 @@ use Rattle.std.proofs.lemmas.List.{reverse-append}
 use Rattle.nx_envelope.specs.FinderView.{FinderView}
 use Rattle.nx_envelope.specs.private.Backward.{last_four}
 use Rattle.nx_envelope.specs.private.Stage.{IsStageOf}
-use Rattle.nx_envelope.proofs.EightBytes.{four_later}
-use Rattle.nx_envelope.proofs.Hearing.{held}
-use Rattle.nx_envelope.proofs.PlainBytes.{clear, plain_four, unmarked, stage_stays}
+use Rattle.nx_envelope.proofs.lemmas.finder.EightBytes.{four_later}
+use Rattle.nx_envelope.proofs.lemmas.finder.Hearing.{held}
+use Rattle.nx_envelope.proofs.lemmas.finder.PlainBytes.{clear, plain_four, unmarked, stage_stays}
 use Rattle.nx_envelope.proofs.finder.Finder.hear_plain.Goals as goal
 
 pub returns-clause-stands : goal.returns-clause-stands

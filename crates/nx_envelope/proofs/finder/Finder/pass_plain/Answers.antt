@@ -7,8 +7,8 @@ use Rattle.nx_envelope.specs.Finder.{StandsAfter}
 use Rattle.nx_envelope.specs.FinderView.{FinderView}
 use Rattle.nx_envelope.specs.Header.{start_marker}
 use Rattle.nx_envelope.specs.private.Backward.{last_four}
-use Rattle.nx_envelope.proofs.EightBytes.{four_later}
-use Rattle.nx_envelope.proofs.PlainBytes.{PlainPassed, four_passed, unmarked}
+use Rattle.nx_envelope.proofs.lemmas.finder.EightBytes.{four_later}
+use Rattle.nx_envelope.proofs.lemmas.finder.PlainBytes.{PlainPassed, four_passed, unmarked}
 use Rattle.nx_envelope.proofs.finder.Finder.pass_plain.Goals as goal
 
 -- the bytes go by

@@ -1,4 +1,4 @@
-use Rattle.nx_envelope.proofs.Hearing.{hands_out}
+use Rattle.nx_envelope.proofs.lemmas.finder.Hearing.{hands_out}
 use Rattle.nx_envelope.proofs.finder.Finder.push.Goals as goal
 
 pub returns-in-Some-clause-brings : goal.returns-in-Some-clause-brings

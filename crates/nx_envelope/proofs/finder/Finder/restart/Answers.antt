@@ -1,5 +1,5 @@
 use Rattle.std.proofs.Common.{refl}
-use Rattle.nx_envelope.proofs.Hearing.{stage-nil, none-nil}
+use Rattle.nx_envelope.proofs.lemmas.finder.Hearing.{stage-nil, none-nil}
 use Rattle.nx_envelope.proofs.finder.Finder.restart.Goals as goal
 
 pub returns-clause-as_new : goal.returns-clause-as_new

@@ -1,6 +1,6 @@
 use Rattle.std.proofs.Common.{Some, ap, sym, refl, ◌∙◌}
-use Rattle.nx_envelope.proofs.LettersAndDigits.{identity_is}
-use Rattle.nx_envelope.proofs.Stages.{header_is, not_tens}
+use Rattle.nx_envelope.proofs.lemmas.headers.LettersAndDigits.{identity_is}
+use Rattle.nx_envelope.proofs.lemmas.headers.Stages.{header_is, not_tens}
 use Rattle.nx_envelope.proofs.stage.Stage.header.Goals as goal
 
 pub returns-in_default : goal.returns-in_default

@@ -1,7 +1,7 @@
 use Rattle.std.proofs.Common.{inl, inr}
-use Rattle.nx_envelope.proofs.LettersAndDigits.{letter_given}
-use Rattle.nx_envelope.proofs.Stages.{to_station, from_spaces, to_subject, from_station, to_tens}
-use Rattle.nx_envelope.proofs.Stages.{from_subject, from_tens, from_nowhere}
+use Rattle.nx_envelope.proofs.lemmas.headers.LettersAndDigits.{letter_given}
+use Rattle.nx_envelope.proofs.lemmas.headers.Stages.{to_station, from_spaces, to_subject, from_station, to_tens}
+use Rattle.nx_envelope.proofs.lemmas.headers.Stages.{from_subject, from_tens, from_nowhere}
 use Rattle.nx_envelope.proofs.stage.Stage.next.Goals as goal
 
 pub returns-in-Some : goal.returns-in-Some

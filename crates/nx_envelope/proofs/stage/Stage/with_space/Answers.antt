@@ -1,5 +1,5 @@
 use Rattle.std.proofs.Common.{refl}
-use Rattle.nx_envelope.proofs.Stages.{with_space, not_spaces}
+use Rattle.nx_envelope.proofs.lemmas.headers.Stages.{with_space, not_spaces}
 use Rattle.nx_envelope.proofs.stage.Stage.with_space.Goals as goal
 
 pub returns-then-after_start : goal.returns-then-after_start

@@ -6,8 +6,8 @@ use Rattle.nx_envelope.specs.private.Backward.{header_back}
 use Rattle.nx_envelope.specs.Copies.{headers}
 use Rattle.nx_envelope.specs.Header.{ComesBefore, Header}
 use Rattle.nx_envelope.specs.declared.identity.Identity.{Identity}
-use Rattle.nx_envelope.proofs.OneMoreByte.{no_more_headers, one_more_header}
-use Rattle.nx_envelope.proofs.OneOpenCopy.{headers-nil}
+use Rattle.nx_envelope.proofs.lemmas.copies.OneMoreByte.{no_more_headers, one_more_header}
+use Rattle.nx_envelope.proofs.lemmas.copies.OneOpenCopy.{headers-nil}
 
 -- all of them stand behind the place, and all of them before it or at it
 abbrev pub AllBehind : ℕ → List Header → Type 0

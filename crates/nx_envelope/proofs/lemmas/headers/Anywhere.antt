@@ -12,9 +12,9 @@ use Rattle.nx_envelope.specs.private.Backward.{header_back}
 use Rattle.nx_envelope.specs.Copies.{header_at_end, headers}
 use Rattle.nx_envelope.specs.Header.{Header, EndsWithHeader, StandsIn}
 use Rattle.nx_envelope.specs.declared.identity.Identity.{Identity}
-use Rattle.nx_envelope.proofs.Beginnings.{headers-push, header_at_end-push, reverse-push}
-use Rattle.nx_envelope.proofs.OneOpenCopy.{headers-nil}
-use Rattle.nx_envelope.proofs.SpelledHeaders.{header_both}
+use Rattle.nx_envelope.proofs.lemmas.copies.Beginnings.{headers-push, header_at_end-push, reverse-push}
+use Rattle.nx_envelope.proofs.lemmas.copies.OneOpenCopy.{headers-nil}
+use Rattle.nx_envelope.proofs.lemmas.headers.SpelledHeaders.{header_both}
 
 abbrev header_named : Identity → ℕ → Header
 header_named identity behind = record { identity = identity; behind = behind }

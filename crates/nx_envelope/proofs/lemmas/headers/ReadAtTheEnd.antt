@@ -1,6 +1,6 @@
 -- The header and the marker with which a text ends: looked for by their spelling, and read from the
 -- back of the text.
-use Rattle.std.proofs.Common.{◌≡◌, ℕ, ◌+◌, ◌-◌, ◌≤◌, Bool, true, ◌&&◌, nat_le, inl, inr}
+use Rattle.std.proofs.Common.{◌≡◌, ℕ, ◌+◌, ◌-◌, ◌≤◌, Bool, true, false, ◌&&◌, nat_le, inl, inr}
 use Rattle.std.proofs.Common.{if◌then◌else◌, Option, Some, None, List, [], ◌∷◌, ◌++◌, length, take}
 use Rattle.std.proofs.Common.{drop, reverse, refl, sym, ap, ◌∙◌, ◌⊎◌, arith, length-append, subst}
 use Rattle.std.specs.Option.{option_or}
@@ -12,16 +12,16 @@ use Rattle.std.proofs.lemmas.Bool.{and_parts, leb-true, le-leb}
 use Rattle.std.proofs.lemmas.Slice.Eq.{bytes_eq-Decides}
 use Rattle.std.specs.Cmp.{both_ways}
 use Rattle.nx_code.specs.Lists.{last_of}
-use Rattle.nx_envelope.specs.Header.{nearest_identity, read_header, identity_at_end, ends_with}
-use Rattle.nx_envelope.specs.Header.{marker_at_end, EndsWithHeader, EndsWith, start_marker}
-use Rattle.nx_envelope.specs.Header.{end_marker}
+use Rattle.nx_envelope.specs.private.Reading.{nearest_identity, read_header, identity_read, ends_with}
+use Rattle.nx_envelope.specs.private.Reading.{marker_read}
+use Rattle.nx_envelope.specs.Header.{EndsWithHeader, EndsWithMarker, EndsWith, start_marker, end_marker}
 use Rattle.nx_envelope.specs.private.Backward.{ends_in, header_back, marker_back}
 use Rattle.nx_envelope.specs.Identity.{identity_bytes}
 use Rattle.nx_envelope.specs.declared.found.How.{How}
-use Rattle.nx_envelope.specs.declared.found.How.TheVariants.{Full, Cut}
+use Rattle.nx_envelope.specs.declared.found.How.TheVariants.{Full, Cut, Long}
 use Rattle.nx_envelope.specs.declared.identity.Identity.{Identity}
-use Rattle.nx_envelope.proofs.LettersAndDigits.{nearest_identity-is}
-use Rattle.nx_envelope.proofs.SpelledHeaders.{if_some, starts_both, ends_both, header_both}
+use Rattle.nx_envelope.proofs.lemmas.headers.LettersAndDigits.{nearest_identity-is}
+use Rattle.nx_envelope.proofs.lemmas.headers.SpelledHeaders.{if_some, starts_both, ends_both, header_both, ends_in-true, nnnn_word, zczc_word}
 
 -- Two that are there, or true, for the same.
 
@@ -67,22 +67,60 @@ ends_same text =
 abbrev mark_of : Bool → Bool → Option How
 mark_of full cut = if full then Some Full else (if cut then Some Cut else None)
 
-pub marker_at_end-back : (text : List ℕ) → marker_at_end text ≡ marker_back (reverse text)
-unfolding marker_at_end
-marker_at_end-back text =
+pub marker_read-back : (text : List ℕ) → marker_read text ≡ marker_back (reverse text)
+unfolding marker_read
+marker_read-back text =
     ap (λ (full : Bool). mark_of full (ends_with start_marker text)) (ends_same text)
     ∙ ap (mark_of (ends_in end_marker (reverse text))) (starts_same text)
 
--- what the law says of both markers
-pub start_spelled : (text : List ℕ)
-    → (ends_with start_marker text ≡ true → EndsWith text start_marker)
-    × (EndsWith text start_marker → ends_with start_marker text ≡ true)
-start_spelled text = (word_forth start_marker text, word_back start_marker text refl)
+marks_of : (text : List ℕ) (how : How) (full cut : Bool) → ends_in end_marker (reverse text) ≡ full
+    → ends_in start_marker (reverse text) ≡ cut → mark_of full cut ≡ Some how
+    → EndsWithMarker text how
+marks_of text Full true cut f s e = (ends_both text).0 f
+marks_of text Cut true cut f s e = absurd (cc)
+marks_of text Long true cut f s e = absurd (cc)
+marks_of text Full false true f s e = absurd (cc)
+marks_of text Cut false true f s e = (starts_both text).0 s
+marks_of text Long false true f s e = absurd (cc)
+marks_of text how false false f s e = absurd (cc)
 
-pub end_spelled : (text : List ℕ)
-    → (ends_with end_marker text ≡ true → EndsWith text end_marker)
-    × (EndsWith text end_marker → ends_with end_marker text ≡ true)
-end_spelled text = (word_forth end_marker text, word_back end_marker text refl)
+pub marks : (text : List ℕ) (how : How) → marker_back (reverse text) ≡ Some how
+    → EndsWithMarker text how
+marks text how e = marks_of text how _ _ refl refl e
+
+-- ZCZC is not NNNN
+abbrev first_byte : List ℕ → ℕ
+first_byte [] = 0
+first_byte (b ∷ rest) = b
+
+not_both : (text : List ℕ) → ends_in end_marker (reverse text) ≡ true
+    → ends_in start_marker (reverse text) ≡ true → ⊥
+not_both text f s =
+    let n = ends_in-true 78 78 78 78 nnnn_word (reverse text) f in
+    let c = ends_in-true 90 67 90 67 zczc_word (reverse text) s in
+    let heads : 78 ∷ (78 ∷ 78 ∷ 78 ∷ drop 4 (reverse text))
+    ≡ 67 ∷ (90 ∷ 67 ∷ 90 ∷ drop 4 (reverse text)) = sym n ∙ c in
+    let same : (◌≡◌ {A = ℕ} 78 67) = ap first_byte heads in
+    omega (arith, same)
+
+cut_only : (text : List ℕ) (full : Bool) → ends_in end_marker (reverse text) ≡ full
+    → ends_in start_marker (reverse text) ≡ true → marker_back (reverse text) ≡ Some Cut
+cut_only text true f s = absurd (not_both text f s)
+cut_only text false f s = rw (f, s) refl
+
+pub marker_is : (text : List ℕ) (how : How) → EndsWithMarker text how
+    → marker_back (reverse text) ≡ Some how
+marker_is text Full h = let end = (ends_both text).1 h in rw end refl
+marker_is text Cut h = cut_only text _ refl ((starts_both text).1 h)
+marker_is text Long h = absurd h
+
+-- so the marker that is read is the one that is spelled
+pub marker_spelled : (text : List ℕ) (how : How)
+    → (marker_read text ≡ Some how → EndsWithMarker text how)
+    × (EndsWithMarker text how → marker_read text ≡ Some how)
+marker_spelled text how =
+    let same : marker_read text ≡ marker_back (reverse text) = marker_read-back text in
+    (λ e. marks text how (sym same ∙ e), λ h. same ∙ marker_is text how h)
 
 -- Headers: what is read is spelled.
 
@@ -117,10 +155,10 @@ behind b text i h = record {
       ap (λ (xs : List ℕ). b ∷ xs) h.spelled;
 }
 
-forth : (text : List ℕ) (i : Identity) → identity_at_end text ≡ Some i → EndsWithHeader text i
-unfolding identity_at_end
+forth : (text : List ℕ) (i : Identity) → identity_read text ≡ Some i → EndsWithHeader text i
+unfolding identity_read
 forth [] i e = absurd (cc)
-forth (b ∷ text) i e = elim (or_cases (read_header (b ∷ text)) (identity_at_end text) i e) [
+forth (b ∷ text) i e = elim (or_cases (read_header (b ∷ text)) (identity_read text) i e) [
   | inl here ↦ header_forth (b ∷ text) i here
   | inr later ↦ behind b text i (forth text i later)
 ]
@@ -177,13 +215,13 @@ header_reads n i =
     record { it = nearest_identity (last_of 4 text); is = rw holds refl }
 
 end_reads : (front : List ℕ) (n : ℕ) (i : Identity)
-    → Gives (identity_at_end (front
+    → Gives (identity_read (front
     ++ (start_marker ++ (replicate (n + 1) 32 ++ identity_bytes i))))
-unfolding identity_at_end
+unfolding identity_read
 end_reads [] n i = gives_first _ _ (header_reads n i)
 end_reads (b ∷ front) n i = gives_second _ _ (end_reads front n i)
 
-back : (text : List ℕ) (i : Identity) → EndsWithHeader text i → identity_at_end text ≡ Some i
+back : (text : List ℕ) (i : Identity) → EndsWithHeader text i → identity_read text ≡ Some i
 back text i h =
     let spaces : List ℕ = replicate (h.more_spaces + 1) 32 in
     let joined : text ≡ h.front ++ (start_marker ++ (spaces ++ identity_bytes i)) =
@@ -191,19 +229,19 @@ back text i h =
     ∙ append_assoc (h.front ++ start_marker) spaces (identity_bytes i)
     ∙ append_assoc h.front start_marker (spaces ++ identity_bytes i) in
     let g = end_reads h.front h.more_spaces i in
-    let reads : identity_at_end text ≡ Some g.it = ap identity_at_end joined ∙ g.is in
+    let reads : identity_read text ≡ Some g.it = ap identity_read joined ∙ g.is in
     let one : header_back (reverse text) ≡ Some i = (header_both text i).1 h in
     let other : header_back (reverse text) ≡ Some g.it =
     (header_both text g.it).1 (forth text g.it reads) in
     reads ∙ sym other ∙ one
 
 pub identity_spelled_at_end : (text : List ℕ) (i : Identity)
-    → (identity_at_end text ≡ Some i → EndsWithHeader text i)
-    × (EndsWithHeader text i → identity_at_end text ≡ Some i)
+    → (identity_read text ≡ Some i → EndsWithHeader text i)
+    × (EndsWithHeader text i → identity_read text ≡ Some i)
 identity_spelled_at_end text i = (forth text i, back text i)
 
-pub identity_at_end-back : (text : List ℕ) → identity_at_end text ≡ header_back (reverse text)
-identity_at_end-back text =
-    same_options (identity_at_end text) (header_back (reverse text))
+pub identity_read-back : (text : List ℕ) → identity_read text ≡ header_back (reverse text)
+identity_read-back text =
+    same_options (identity_read text) (header_back (reverse text))
     (λ i e. (header_both text i).1 (forth text i e))
     (λ i e. back text i ((header_both text i).0 e))

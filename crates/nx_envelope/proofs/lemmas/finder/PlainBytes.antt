@@ -14,11 +14,12 @@ use Rattle.nx_envelope.specs.private.Windows.{IsEight, IsUnmarked}
 use Rattle.nx_envelope.specs.declared.identity.Identity.{Identity}
 use Rattle.nx_envelope.specs.declared.stage.Stage.{Stage}
 use Rattle.nx_envelope.specs.declared.stage.Stage.TheVariants.{Nowhere}
-use Rattle.nx_envelope.proofs.Beginnings.{reverse-push}
-use Rattle.nx_envelope.proofs.Hearing.{goes_on, held}
-use Rattle.nx_envelope.proofs.OneMoreByte.{still_none}
-use Rattle.nx_envelope.proofs.RawTexts.{no_start}
-use Rattle.nx_envelope.proofs.Stages.{Stands, no_header, quiet_more}
+use Rattle.nx_envelope.proofs.lemmas.copies.Beginnings.{reverse-push}
+use Rattle.nx_envelope.proofs.lemmas.finder.EightBytes.{all_four}
+use Rattle.nx_envelope.proofs.lemmas.finder.Hearing.{goes_on, held}
+use Rattle.nx_envelope.proofs.lemmas.copies.OneMoreByte.{still_none}
+use Rattle.nx_envelope.proofs.lemmas.copies.RawTexts.{no_start}
+use Rattle.nx_envelope.proofs.lemmas.headers.Stages.{Stands, no_header, quiet_more}
 
 -- no marker ends with one of these bytes behind that text
 abbrev pub NoMarkers : List ℕ → List ℕ → Type 0
@@ -123,10 +124,13 @@ unmarked result eight none m1 m2 m3 m4 =
 four_unmarked : (eight count : ℕ) (back bytes : List ℕ) → IsEight eight back bytes
     → AllUnmarked eight → count ≤ 4 → NoMarkers back (take count bytes)
 four_unmarked eight count back bytes w m few =
+    let four = all_four eight back bytes w in
     let none = no_markers w.new.first w.new.second w.new.third w.new.last back
-    (m.one (w.new.first ∷ back) w.one) (m.two (w.new.second ∷ w.new.first ∷ back) w.two)
-    (m.three (w.new.third ∷ w.new.second ∷ w.new.first ∷ back) w.three)
-    (m.four (w.new.last ∷ w.new.third ∷ w.new.second ∷ w.new.first ∷ back) w.four) count few in
+    (m.one (w.new.first ∷ back) four.one w.one)
+    (m.two (w.new.second ∷ w.new.first ∷ back) four.two w.two)
+    (m.three (w.new.third ∷ w.new.second ∷ w.new.first ∷ back) four.three w.three)
+    (m.four (w.new.last ∷ w.new.third ∷ w.new.second ∷ w.new.first ∷ back) four.four w.four) count
+    few in
     rw w.new.spelled none
 
 pub plain_four : (eight count : ℕ) (kept text bytes : List ℕ) (identity : Identity)

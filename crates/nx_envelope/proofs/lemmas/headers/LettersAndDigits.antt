@@ -6,7 +6,8 @@ use Rattle.std.specs.Option.{IsSome, IfSome}
 use Rattle.std.proofs.Math.Nat.{min-le_left}
 use Rattle.std.proofs.lemmas.Bool.Decides.{leb_tells, nat_tests}
 use Rattle.std.proofs.Props.{props}
-use Rattle.nx_envelope.specs.Header.{nearest_identity, nearest_letter, start_marker}
+use Rattle.nx_envelope.specs.Header.{start_marker}
+use Rattle.nx_envelope.specs.private.Reading.{nearest_identity, nearest_letter}
 use Rattle.nx_envelope.specs.Identity.{identity_bytes}
 use Rattle.nx_envelope.specs.private.Letters.{letter_from, letter_of, digit_from, digit_of, both}
 use Rattle.nx_envelope.specs.private.Letters.{identity_of, identity_with}

@@ -15,9 +15,9 @@ use Rattle.nx_envelope.specs.Identity.{identity_bytes}
 use Rattle.nx_envelope.specs.declared.digit.Digit.{Digit}
 use Rattle.nx_envelope.specs.declared.identity.Identity.{Identity}
 use Rattle.nx_envelope.specs.declared.letter.Letter.{Letter}
-use Rattle.nx_envelope.proofs.LettersAndDigits.{letter_at, digit_at, letter_of-byte, letter_of-none}
-use Rattle.nx_envelope.proofs.LettersAndDigits.{digit_of-value, same_identity_at, both_first}
-use Rattle.nx_envelope.proofs.LettersAndDigits.{both_second, identity_some, digit_of-some}
+use Rattle.nx_envelope.proofs.lemmas.headers.LettersAndDigits.{letter_at, digit_at, letter_of-byte, letter_of-none}
+use Rattle.nx_envelope.proofs.lemmas.headers.LettersAndDigits.{digit_of-value, same_identity_at, both_first}
+use Rattle.nx_envelope.proofs.lemmas.headers.LettersAndDigits.{both_second, identity_some, digit_of-some}
 
 -- Words of four letters.
 

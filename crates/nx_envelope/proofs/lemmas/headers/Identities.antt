@@ -4,7 +4,7 @@ use Rattle.std.proofs.lemmas.Bool.{and_parts, eq-eqb, eqb-true, and_from}
 use Rattle.nx_envelope.specs.Identity.{same_identity}
 use Rattle.nx_envelope.specs.declared.identity.Identity.{Identity}
 use Rattle.nx_envelope.specs.declared.letter.Letter.{Letter}
-use Rattle.nx_envelope.proofs.LettersAndDigits.{same_letter, identity_at, same_identity_at}
+use Rattle.nx_envelope.proofs.lemmas.headers.LettersAndDigits.{same_letter, identity_at, same_identity_at}
 
 of_parts : (a b : Identity) → a.b1 ≡ b.b1 → a.b2 ≡ b.b2 → a.number ≡ b.number → a ≡ b
 of_parts a b station subject number =

@@ -14,10 +14,10 @@ use Rattle.nx_envelope.specs.declared.letter.Letter.{Letter}
 use Rattle.nx_envelope.specs.declared.stage.Stage.{Stage}
 use Rattle.nx_envelope.specs.declared.stage.Stage.TheVariants.{Nowhere, Spaces, Station, Subject}
 use Rattle.nx_envelope.specs.declared.stage.Stage.TheVariants.{Tens}
-use Rattle.nx_envelope.proofs.LettersAndDigits.{stage_parts, both-none, letter_of-none}
-use Rattle.nx_envelope.proofs.LettersAndDigits.{letter_of-space, digit_of-space, both_first}
-use Rattle.nx_envelope.proofs.LettersAndDigits.{both_second, identity_some, digit_of-some}
-use Rattle.nx_envelope.proofs.RawTexts.{IsPlain}
+use Rattle.nx_envelope.proofs.lemmas.headers.LettersAndDigits.{stage_parts, both-none, letter_of-none}
+use Rattle.nx_envelope.proofs.lemmas.headers.LettersAndDigits.{letter_of-space, digit_of-space, both_first}
+use Rattle.nx_envelope.proofs.lemmas.headers.LettersAndDigits.{both_second, identity_some, digit_of-some}
+use Rattle.nx_envelope.proofs.lemmas.copies.RawTexts.{IsPlain}
 
 -- a stage stands at the back and a flag tells whether it ends with ZCZC
 pub record Stands (stage : Stage) (start : Bool) (back : List ℕ) : Type 0 where

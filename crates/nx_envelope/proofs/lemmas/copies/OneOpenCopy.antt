@@ -7,7 +7,8 @@ use Rattle.std.specs.List.{filter, filter_map}
 use Rattle.std.specs.Option.{option_to_list, unwrap_or}
 use Rattle.std.proofs.lemmas.Bool.Decides.{leb_tells, nat_tests}
 use Rattle.std.proofs.lemmas.List.{append-nil, map-append, reverse-append, reverse-reverse}
-use Rattle.nx_envelope.specs.Header.{identity_at_end, Header}
+use Rattle.nx_envelope.specs.Header.{Header}
+use Rattle.nx_envelope.specs.private.Reading.{identity_read}
 use Rattle.nx_envelope.specs.private.Backward.{marker_back, header_back}
 use Rattle.nx_envelope.specs.Copies.{Ending, Copy, beginnings, header_at_end, headers, raw_text}
 use Rattle.nx_envelope.specs.Copies.{ending_of, ended_copy, ended_copies, is_open, open_headers}
@@ -16,10 +17,10 @@ use Rattle.nx_envelope.specs.Finder.{Ends, is_empty}
 use Rattle.nx_envelope.specs.Laws.{Grows}
 use Rattle.nx_envelope.specs.declared.found.How.{How}
 use Rattle.nx_envelope.specs.declared.identity.Identity.{Identity}
-use Rattle.nx_envelope.proofs.Beginnings.{ending_of-within, headers-push, open_is_short}
-use Rattle.nx_envelope.proofs.OneMoreByte.{OneOpen, adds, drops_newline, ended_before, ended_with}
-use Rattle.nx_envelope.proofs.OneMoreByte.{ends_long, ends_marked, open_headers-one, open_with}
-use Rattle.nx_envelope.proofs.OneMoreByte.{opens, still_none}
+use Rattle.nx_envelope.proofs.lemmas.copies.Beginnings.{ending_of-within, headers-push, open_is_short}
+use Rattle.nx_envelope.proofs.lemmas.copies.OneMoreByte.{OneOpen, adds, drops_newline, ended_before, ended_with}
+use Rattle.nx_envelope.proofs.lemmas.copies.OneMoreByte.{ends_long, ends_marked, open_headers-one, open_with}
+use Rattle.nx_envelope.proofs.lemmas.copies.OneMoreByte.{opens, still_none}
 
 -- Every text is one or the other.
 
@@ -27,7 +28,7 @@ abbrev pub Parts : List ℕ → Type 0
 Parts text = (open_headers text ≡ []) ⊎ OneOpen text
 
 pub headers-nil : headers [] ≡ []
-unfolding headers beginnings header_at_end identity_at_end
+unfolding headers beginnings header_at_end identity_read
 headers-nil = refl
 
 pub open_headers-nil : open_headers [] ≡ []

@@ -1,70 +1,24 @@
 -- Where the copy with a raw text ends.
-use Rattle.std.proofs.Common.{◌≡◌, ℕ, ◌+◌, ◌-◌, ◌<◌, ◌≤◌, Bool, true, false, inl, inr}
-use Rattle.std.proofs.Common.{if◌then◌else◌, Option, Some, None, List, [], ◌∷◌, ◌++◌, length, take}
-use Rattle.std.proofs.Common.{drop, reverse, refl, sym, ap, subst, ◌∙◌, arith, min, length-append}
+use Rattle.std.proofs.Common.{◌≡◌, ℕ, ◌+◌, ◌-◌, ◌<◌, ◌≤◌, inl, inr}
+use Rattle.std.proofs.Common.{Option, Some, None, List, [], ◌∷◌, ◌++◌, length, take}
+use Rattle.std.proofs.Common.{reverse, refl, sym, ap, subst, ◌∙◌, arith, min, length-append}
 use Rattle.std.specs.Option.{option_map, option_or}
 use Rattle.std.proofs.lemmas.Bool.Decides.{leb_tells}
 use Rattle.std.proofs.lemmas.List.{reverse-append, reverse-reverse, take-append-le, take-take}
 use Rattle.std.proofs.lemmas.List.{take_all, length-take}
-use Rattle.nx_envelope.specs.Header.{marker_at_end, start_marker, end_marker}
-use Rattle.nx_envelope.specs.private.Backward.{ends_in, marker_back}
+use Rattle.nx_envelope.specs.private.Reading.{marker_read}
+use Rattle.nx_envelope.specs.private.Backward.{marker_back}
 use Rattle.nx_envelope.specs.Copies.{Ending, beginnings, ending_by_marker, ending_of, most_found}
 use Rattle.nx_envelope.specs.private.Within.{first_value, long_within, ending_within}
-use Rattle.nx_envelope.specs.Ending.{EndsWithMarker, MarkerEndsAt, EndsAtMarker, HasNoMarker}
+use Rattle.nx_envelope.specs.Ending.{MarkerEndsAt, EndsAtMarker, HasNoMarker}
+use Rattle.nx_envelope.specs.Header.{EndsWithMarker}
 use Rattle.nx_envelope.specs.Ending.{IsEnding, IsUnended}
 use Rattle.nx_envelope.specs.declared.found.How.{How}
-use Rattle.nx_envelope.specs.declared.found.How.TheVariants.{Full, Cut, Long}
-use Rattle.nx_envelope.proofs.Beginnings.{beginnings-push, ending_of-within, first_value-push}
-use Rattle.nx_envelope.proofs.Beginnings.{long_at, not_long}
-use Rattle.nx_envelope.proofs.ReadAtTheEnd.{marker_at_end-back}
-use Rattle.nx_envelope.proofs.SpelledHeaders.{ends_in-true, nnnn_word, starts_both, ends_both}
-use Rattle.nx_envelope.proofs.SpelledHeaders.{zczc_word}
+use Rattle.nx_envelope.proofs.lemmas.copies.Beginnings.{beginnings-push, ending_of-within, first_value-push}
+use Rattle.nx_envelope.proofs.lemmas.copies.Beginnings.{long_at, not_long}
+use Rattle.nx_envelope.proofs.lemmas.headers.ReadAtTheEnd.{marker_read-back, marks, marker_is}
 
--- A marker at the end of a text, computed and spelled.
-
-abbrev mark_of : Bool → Bool → Option How
-mark_of full cut = if full then Some Full else (if cut then Some Cut else None)
-
-marks_of : (text : List ℕ) (how : How) (full cut : Bool) → ends_in end_marker (reverse text) ≡ full
-    → ends_in start_marker (reverse text) ≡ cut → mark_of full cut ≡ Some how
-    → EndsWithMarker text how
-marks_of text Full true cut f s e = (ends_both text).0 f
-marks_of text Cut true cut f s e = absurd (cc)
-marks_of text Long true cut f s e = absurd (cc)
-marks_of text Full false true f s e = absurd (cc)
-marks_of text Cut false true f s e = (starts_both text).0 s
-marks_of text Long false true f s e = absurd (cc)
-marks_of text how false false f s e = absurd (cc)
-
-pub marks : (text : List ℕ) (how : How) → marker_back (reverse text) ≡ Some how
-    → EndsWithMarker text how
-marks text how e = marks_of text how _ _ refl refl e
-
--- ZCZC is not NNNN
-abbrev first_byte : List ℕ → ℕ
-first_byte [] = 0
-first_byte (b ∷ rest) = b
-
-not_both : (text : List ℕ) → ends_in end_marker (reverse text) ≡ true
-    → ends_in start_marker (reverse text) ≡ true → ⊥
-not_both text f s =
-    let n = ends_in-true 78 78 78 78 nnnn_word (reverse text) f in
-    let c = ends_in-true 90 67 90 67 zczc_word (reverse text) s in
-    let heads : 78 ∷ (78 ∷ 78 ∷ 78 ∷ drop 4 (reverse text))
-    ≡ 67 ∷ (90 ∷ 67 ∷ 90 ∷ drop 4 (reverse text)) = sym n ∙ c in
-    let same : (◌≡◌ {A = ℕ} 78 67) = ap first_byte heads in
-    omega (arith, same)
-
-cut_only : (text : List ℕ) (full : Bool) → ends_in end_marker (reverse text) ≡ full
-    → ends_in start_marker (reverse text) ≡ true → marker_back (reverse text) ≡ Some Cut
-cut_only text true f s = absurd (not_both text f s)
-cut_only text false f s = rw (f, s) refl
-
-pub marker_is : (text : List ℕ) (how : How) → EndsWithMarker text how
-    → marker_back (reverse text) ≡ Some how
-marker_is text Full h = let end = (ends_both text).1 h in rw end refl
-marker_is text Cut h = cut_only text _ refl ((starts_both text).1 h)
-marker_is text Long h = absurd h
+-- No marker at the end of a text.
 
 no_marker_at : (text : List ℕ) (how : How) → marker_back (reverse text) ≡ None
     → ¬ EndsWithMarker text how
@@ -143,12 +97,12 @@ gives_push : (text : List ℕ) (b : ℕ) (o : Option Ending) → FirstIs text o
     → FirstIs (text ++ b ∷ []) (option_or o (ending_by_marker (text ++ b ∷ [])))
 unfolding ending_by_marker
 gives_push text b None none =
-    last_gives text b (marker_at_end (text ++ b ∷ [])) (sym (marker_at_end-back (text ++ b ∷ [])))
+    last_gives text b (marker_read (text ++ b ∷ [])) (sym (marker_read-back (text ++ b ∷ [])))
     none
 gives_push text b (Some ending) f = stays_first text b ending f
 
 first_nil : FirstIs [] (first_value ending_by_marker (beginnings []))
-unfolding ending_by_marker marker_at_end beginnings
+unfolding ending_by_marker marker_read beginnings
 first_nil place how le h =
     no_marker_at [] how refl (rw (take_all {A = ℕ} place [] (omega arith)) at h)
 

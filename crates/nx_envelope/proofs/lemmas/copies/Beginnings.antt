@@ -8,13 +8,14 @@ use Rattle.std.proofs.lemmas.Bool.{le-leb}
 use Rattle.std.proofs.lemmas.Bool.Decides.{leb_tells}
 use Rattle.std.proofs.lemmas.List.{map_push, reverse-append, take_all, take-append-le}
 use Rattle.std.proofs.lemmas.List.Elements.{filter_map-append}
-use Rattle.nx_envelope.specs.Header.{identity_at_end, Header}
+use Rattle.nx_envelope.specs.Header.{Header}
+use Rattle.nx_envelope.specs.private.Reading.{identity_read}
 use Rattle.nx_envelope.specs.private.Backward.{header_back}
 use Rattle.nx_envelope.specs.Copies.{Ending, beginnings, header_at_end, headers, ending_by_marker}
 use Rattle.nx_envelope.specs.Copies.{ending_of, most_found}
 use Rattle.nx_envelope.specs.private.Within.{first_value, long_within, ending_within}
 use Rattle.nx_envelope.specs.declared.found.How.TheVariants.{Long}
-use Rattle.nx_envelope.proofs.ReadAtTheEnd.{identity_at_end-back}
+use Rattle.nx_envelope.proofs.lemmas.headers.ReadAtTheEnd.{identity_read-back}
 
 -- the back of a text with one more byte
 pub reverse-push : (text : List ℕ) (b : ℕ) → reverse (text ++ b ∷ []) ≡ b ∷ reverse text
@@ -67,8 +68,8 @@ pub header_at_end-push : (text : List ℕ) (b : ℕ)
     (header_back (b ∷ reverse text))
 unfolding header_at_end
 header_at_end-push text b =
-    let read : identity_at_end (text ++ b ∷ []) ≡ header_back (b ∷ reverse text) =
-    identity_at_end-back (text ++ b ∷ []) ∙ ap header_back (reverse-push text b) in
+    let read : identity_read (text ++ b ∷ []) ≡ header_back (b ∷ reverse text) =
+    identity_read-back (text ++ b ∷ []) ∙ ap header_back (reverse-push text b) in
     let long : length (text ++ b ∷ []) ≡ length text + 1 =
     omega (arith, length-append text (b ∷ [])) in
     rw (read, long) refl

@@ -6,7 +6,8 @@ use Rattle.std.specs.Prelude.{slice_index}
 use Rattle.std.proofs.lemmas.Bool.Decides.{leb_tells, nat_tests}
 use Rattle.std.proofs.lemmas.List.{reverse-append, take-append-le, take_all, drop-append-le}
 use Rattle.std.proofs.lemmas.List.{drop_all}
-use Rattle.nx_envelope.specs.Header.{marker_at_end, Header, start_marker, end_marker}
+use Rattle.nx_envelope.specs.Header.{Header, start_marker, end_marker}
+use Rattle.nx_envelope.specs.private.Reading.{marker_read}
 use Rattle.nx_envelope.specs.private.Backward.{marker_back, ends_in}
 use Rattle.nx_envelope.specs.Copies.{Ending, less_newline, raw_text, ending_by_marker, beginnings}
 use Rattle.nx_envelope.specs.Copies.{ending_of}
@@ -15,9 +16,9 @@ use Rattle.nx_envelope.specs.Finder.{is_empty}
 use Rattle.nx_envelope.specs.private.Finding.{found_text}
 use Rattle.nx_envelope.specs.declared.found.How.{How}
 use Rattle.nx_envelope.specs.declared.found.How.TheVariants.{Full, Cut, Long}
-use Rattle.nx_envelope.proofs.ReadAtTheEnd.{marker_at_end-back}
-use Rattle.nx_envelope.proofs.Beginnings.{ending_of-within, long_at, not_long, ending-push}
-use Rattle.nx_envelope.proofs.Beginnings.{ending_stays, ending-short, open_is_short}
+use Rattle.nx_envelope.proofs.lemmas.headers.ReadAtTheEnd.{marker_read-back}
+use Rattle.nx_envelope.proofs.lemmas.copies.Beginnings.{ending_of-within, long_at, not_long, ending-push}
+use Rattle.nx_envelope.proofs.lemmas.copies.Beginnings.{ending_stays, ending-short, open_is_short}
 
 pub empty_is : (xs : List ℕ) → is_empty xs ≡ true → xs ≡ []
 empty_is [] e = refl
@@ -58,7 +59,7 @@ unfolding raw_text
 raw-none text h e = rw e refl
 
 ending_by_marker-none : ending_by_marker [] ≡ None
-unfolding ending_by_marker marker_at_end
+unfolding ending_by_marker marker_read
 ending_by_marker-none = refl
 
 pub ending_of-nil : ending_of [] ≡ None
@@ -211,7 +212,7 @@ ending-marker raw b how none m =
     let within = sym (ending_of-within raw) ∙ none in
     let push = ending_of-within (raw ++ b ∷ [])
     ∙ ending-push 4100 raw b (open_is_short 4100 raw within) in
-    let marked = marker_at_end-back (raw ++ b ∷ []) in
+    let marked = marker_read-back (raw ++ b ∷ []) in
     let text = sym (found_is (reverse (raw ++ b ∷ [])) raw b how m) in
     let short = shorter raw b in
     push ∙ rw (within, marked, m, short, text) refl
@@ -225,7 +226,7 @@ ending-long raw b none m full =
     let within = sym (ending_of-within raw) ∙ none in
     let push = ending_of-within (raw ++ b ∷ [])
     ∙ ending-push 4100 raw b (open_is_short 4100 raw within) in
-    let marked = marker_at_end-back (raw ++ b ∷ []) in
+    let marked = marker_read-back (raw ++ b ∷ []) in
     let long = long_at 4100 (raw ++ b ∷ []) (omega (arith, length-append raw (b ∷ []))) in
     let whole = take_all 4100 (raw ++ b ∷ []) (omega (arith, length-append raw (b ∷ []))) in
     push ∙ rw (within, marked, m, long, whole) refl
@@ -239,6 +240,6 @@ ending-open raw b none m short =
     let within = sym (ending_of-within raw) ∙ none in
     let push = ending_of-within (raw ++ b ∷ [])
     ∙ ending-push 4100 raw b (open_is_short 4100 raw within) in
-    let marked = marker_at_end-back (raw ++ b ∷ []) in
+    let marked = marker_read-back (raw ++ b ∷ []) in
     let long = not_long 4100 (raw ++ b ∷ []) (omega (arith, length-append raw (b ∷ []))) in
     push ∙ rw (within, marked, m, long) refl

@@ -11,7 +11,7 @@ use Rattle.nx_envelope.specs.Laws.{AreAnswers, found_in, copies_handed_out}
 use Rattle.nx_envelope.specs.declared.found.FinderStep.{FinderStep}
 use Rattle.nx_envelope.specs.declared.found.FinderStep.TheVariants as steps
 use Rattle.nx_envelope.specs.declared.found.Found.{Found}
-use Rattle.nx_envelope.proofs.OneOpenCopy.{headers-nil}
+use Rattle.nx_envelope.proofs.lemmas.copies.OneOpenCopy.{headers-nil}
 
 ended-nil : ended_copies [] ≡ []
 unfolding ended_copies

@@ -101,6 +101,59 @@ bytes_of n back e r3 r2 r1 r0 = le_bytes_4 (last_four back) n refl
     (four_small (slice_index back 3) (slice_index back 2) (slice_index back 1) (slice_index back 0)
     r3 r2 r1 r0) e
 
+-- the number of four bytes, as bytes again
+pub four_bytes : (n : ℕ) (back : List ℕ) → Four (last_four back)
+    → n ≡ from_le_bytes w32 (last_four back) → to_le_bytes w32 n ≡ last_four back
+four_bytes n back four e =
+    let p3 : slice_index back 3 ≡ four.first = cc (four.spelled) in
+    let p2 : slice_index back 2 ≡ four.second = cc (four.spelled) in
+    let p1 : slice_index back 1 ≡ four.third = cc (four.spelled) in
+    let p0 : slice_index back 0 ≡ four.last = cc (four.spelled) in
+    bytes_of n back e (rw p3 four.first_fits) (rw p2 four.second_fits) (rw p1 four.third_fits)
+    (rw p0 four.last_fits)
+
+four_last : (back : List ℕ) → slice_index back 3 < 256 → slice_index back 2 < 256
+    → slice_index back 1 < 256 → slice_index back 0 < 256 → Four (last_four back)
+four_last back r3 r2 r1 r0 = record {
+  first = slice_index back 3;
+  second = slice_index back 2;
+  third = slice_index back 1;
+  last = slice_index back 0;
+  spelled = refl;
+  first_fits = r3;
+  second_fits = r2;
+  third_fits = r1;
+  last_fits = r0;
+}
+
+-- the last four bytes of a text, one byte later and more
+pub record AllFour (a b c d : ℕ) (back : List ℕ) : Type 0 where
+  pub one : Four (last_four (a ∷ back))
+  pub two : Four (last_four (b ∷ a ∷ back))
+  pub three : Four (last_four (c ∷ b ∷ a ∷ back))
+  pub four : Four (last_four (d ∷ c ∷ b ∷ a ∷ back))
+
+pub all_four : (eight : ℕ) (back bytes : List ℕ) (w : IsEight eight back bytes)
+    → AllFour w.new.first w.new.second w.new.third w.new.last back
+all_four eight back bytes w =
+    let p2 : slice_index back 2 ≡ w.old.second = cc (w.old.spelled) in
+    let p1 : slice_index back 1 ≡ w.old.third = cc (w.old.spelled) in
+    let p0 : slice_index back 0 ≡ w.old.last = cc (w.old.spelled) in
+    let r2 : slice_index back 2 < 256 = rw p2 w.old.second_fits in
+    let r1 : slice_index back 1 < 256 = rw p1 w.old.third_fits in
+    let r0 : slice_index back 0 < 256 = rw p0 w.old.last_fits in
+    let a = w.new.first in
+    let b = w.new.second in
+    let c = w.new.third in
+    record {
+      one = four_last (a ∷ back) r2 r1 r0 w.new.first_fits;
+      two = four_last (b ∷ a ∷ back) r1 r0 w.new.first_fits w.new.second_fits;
+      three = four_last (c ∷ b ∷ a ∷ back) r0 w.new.first_fits w.new.second_fits
+          w.new.third_fits;
+      four = four_last (w.new.last ∷ c ∷ b ∷ a ∷ back) w.new.first_fits w.new.second_fits
+          w.new.third_fits w.new.last_fits;
+    }
+
 -- the last four bytes of the text so many bytes later
 later_by : (eight : ℕ) (back bytes : List ℕ) (w : IsEight eight back bytes) (count : ℕ) → count ≤ 4
     → slice_index back 3 < 256 → slice_index back 2 < 256 → slice_index back 1 < 256

@@ -23,10 +23,10 @@ use Rattle.nx_envelope.specs.declared.found.How.{How}
 use Rattle.nx_envelope.specs.declared.found.How.TheVariants.{Cut, Long}
 use Rattle.nx_envelope.specs.declared.identity.Identity.{Identity}
 use Rattle.nx_envelope.specs.declared.stage.Stage.TheVariants.{Nowhere}
-use Rattle.nx_envelope.proofs.OneMoreByte.{OneOpen, open_headers-one, still_none, opens}
-use Rattle.nx_envelope.proofs.OneMoreByte.{drops_newline, adds, ends_marked, ends_long}
-use Rattle.nx_envelope.proofs.OneOpenCopy.{open_headers-nil, parts, copies_none, copies_one, is_ten}
-use Rattle.nx_envelope.proofs.RawTexts.{empty_is, found_is, raw-push, raw-newline, raw-none}
+use Rattle.nx_envelope.proofs.lemmas.copies.OneMoreByte.{OneOpen, open_headers-one, still_none, opens}
+use Rattle.nx_envelope.proofs.lemmas.copies.OneMoreByte.{drops_newline, adds, ends_marked, ends_long}
+use Rattle.nx_envelope.proofs.lemmas.copies.OneOpenCopy.{open_headers-nil, parts, copies_none, copies_one, is_ten}
+use Rattle.nx_envelope.proofs.lemmas.copies.RawTexts.{empty_is, found_is, raw-push, raw-newline, raw-none}
 
 pub stage-nil : IsStageOf Nowhere []
 unfolding spaces_back station_back subject_back tens_back

@@ -18,11 +18,11 @@ use Rattle.nx_envelope.specs.declared.found.How.{How}
 use Rattle.nx_envelope.specs.declared.found.How.TheVariants.{Long}
 use Rattle.nx_envelope.specs.declared.identity.Identity.{Identity}
 use Rattle.nx_envelope.specs.declared.stage.Stage.TheVariants.{Nowhere}
-use Rattle.nx_envelope.proofs.Beginnings.{reverse-push, headers-push, header_at_end-push}
-use Rattle.nx_envelope.proofs.RawTexts.{IsPlain, raw-push, raw-newline, raw-none, ending_of-nil}
-use Rattle.nx_envelope.proofs.RawTexts.{ended_stays, marker_apart, no_start, ending-marker}
-use Rattle.nx_envelope.proofs.RawTexts.{ending-long, ending-open}
-use Rattle.nx_envelope.proofs.Stages.{quiet_more, no_header, after_header}
+use Rattle.nx_envelope.proofs.lemmas.copies.Beginnings.{reverse-push, headers-push, header_at_end-push}
+use Rattle.nx_envelope.proofs.lemmas.copies.RawTexts.{IsPlain, raw-push, raw-newline, raw-none, ending_of-nil}
+use Rattle.nx_envelope.proofs.lemmas.copies.RawTexts.{ended_stays, marker_apart, no_start, ending-marker}
+use Rattle.nx_envelope.proofs.lemmas.copies.RawTexts.{ending-long, ending-open}
+use Rattle.nx_envelope.proofs.lemmas.headers.Stages.{quiet_more, no_header, after_header}
 
 -- Copies that have ended.
 
