@@ -5,7 +5,7 @@ use Rattle.std.specs.List.{list_any}
 use Rattle.nx_code.specs.Lists.{last_of}
 use Rattle.nx_envelope.specs.declared.identity.Identity.{Identity}
 use Rattle.nx_envelope.specs.Identity.{same_identity}
-use Rattle.nx_memory.specs.declared.entry.MemoryEntry.{MemoryEntry}
+use Rattle.nx_memory.specs.declared.memories.entry.MemoryEntry.{MemoryEntry}
 
 -- how many entries a memory keeps
 abbrev pub most_entries : ℕ

@@ -2,7 +2,7 @@
 use Rattle.std.specs.Prelude.{ℕ, ◌≤◌, max, List, [], ◌∷◌, Option, Some, None, slice_get}
 use Rattle.std.specs.FinSet as set
 use Rattle.nx_envelope.specs.Moment.{last_moment}
-use Rattle.nx_memory.specs.declared.entry.MemoryEntry.{MemoryEntry}
+use Rattle.nx_memory.specs.declared.memories.entry.MemoryEntry.{MemoryEntry}
 use Rattle.nx_memory.specs.Content.{IsContent}
 use Rattle.nx_memory.specs.Memory.{newest_of, newest_moment}
 use Rattle.nx_memory.specs.Selection.{Refused, IsRefusable}

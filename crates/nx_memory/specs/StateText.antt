@@ -4,23 +4,24 @@ use Rattle.std.specs.Fmt.{decimal}
 use Rattle.std.specs.List.{AllByRecursion, filter, range_with_len}
 use Rattle.std.specs.Ordering.{nat_cmp}
 use Rattle.std.specs.FinSet as set
+use Rattle.nx_code.specs.Reading.{capital_a, capitals, newline}
 use Rattle.nx_envelope.specs.Identity.{identity_bytes}
 use Rattle.nx_memory.specs.Saved.{SavedState, SavedStates, IsSavedState, AreSavedStates, on_channel_0}
-use Rattle.nx_memory.specs.declared.saved_line.SavedLine.{SavedLine}
-use Rattle.nx_memory.specs.declared.saved_line.SavedLine.TheVariants.{Station, Subject, Entry}
-use Rattle.nx_memory.specs.declared.state_reader.StateStep.{StateStep}
-use Rattle.nx_memory.specs.declared.state_reader.StateStep.TheVariants.{More, Done, Bad}
+use Rattle.nx_memory.specs.declared.state.saved_line.SavedLine.{SavedLine}
+use Rattle.nx_memory.specs.declared.state.saved_line.SavedLine.TheVariants.{Station, Subject, Entry}
+use Rattle.nx_memory.specs.declared.state.state_reader.StateStep.{StateStep}
+use Rattle.nx_memory.specs.declared.state.state_reader.StateStep.TheVariants.{More, Done, Bad}
 
 -- a line that stands behind the head of a channel: `RS` and a refused station, `RJ` and a refused
--- subject, or the identity of an entry, a space (32) and its moment
+-- subject, or the identity of an entry, a space and its moment
 abbrev pub spelling : SavedLine → List ℕ
 spelling (Station letter) = codes "RS " ++ letter ∷ []
 spelling (Subject letter) = codes "RJ " ++ letter ∷ []
-spelling (Entry entry) = identity_bytes entry.identity ++ 32 ∷ decimal entry.moment
+spelling (Entry entry) = identity_bytes entry.identity ++ (codes " " ++ decimal entry.moment)
 
--- the letters of a set in rising order, of A (65) and the 25 behind it
+-- the letters of a set in rising order, from A to Z
 unfoldable pub rising : set.FinSet nat_cmp → List ℕ
-rising letters = filter (set.contains letters) (range_with_len 65 26)
+rising letters = filter (set.contains letters) (range_with_len capital_a capitals)
 
 -- what is said of a channel: its refused stations, its refused subjects, its entries, oldest first
 abbrev pub said : SavedState → List SavedLine
@@ -76,10 +77,14 @@ abbrev pub BeginsNoText : List (List ℕ) → Type 0
 BeginsNoText lines =
     (more : List (List ℕ)) (states : SavedStates) → ¬ IsStateText (lines ++ more) states
 
--- a line of at most 16 bytes, none of which is a line feed
+-- the most bytes of a line
+abbrev pub longest_saved_line : ℕ
+longest_saved_line = 16
+
+-- a line of at most 16 bytes, none of which is a newline
 pub record IsShortLine (line : List ℕ) : Type 0 where
-  pub short : length line ≤ 16
-  pub one_line : AllByRecursion (λ byte. byte ≢ 10) line
+  pub short : length line ≤ longest_saved_line
+  pub one_line : AllByRecursion (λ byte. byte ≢ newline) line
 
 -- where a line was taken and more lines have to come, this holds
 abbrev pub OnMore : StateStep → Type 0 → Type 0

@@ -4,7 +4,7 @@
 ghost use Rattle.std.specs.Prelude.{◌≡◌, ℕ, ◌<◌, ◌≤◌, ◌↔◌, List, [], ◌∷◌, ◌++◌, IsTrue, false};
 ghost use Rattle.nx_code.specs.Lists.{last_of};
 ghost use Rattle.nx_envelope.specs.declared.identity.Identity.{Identity};
-ghost use Rattle.nx_memory.specs.declared.entry.MemoryEntry.{MemoryEntry};
+ghost use Rattle.nx_memory.specs.declared.memories.entry.MemoryEntry.{MemoryEntry};
 ghost use Rattle.nx_memory.specs.Content.{IsContent};
 ghost use Rattle.nx_memory.specs.Memory.{IsLive, content_after, is_known, most_entries, newest_moment};
 ghost use Rattle.nx_memory.specs.Table.{identities, index_of, is_recent_moment, moment_of_last};
@@ -13,10 +13,10 @@ ghost use Rattle.std.specs.List.{AllByRecursion};
 ghost use Rattle.nx_memory.specs.Saved.{SavedStates, AreSavedStates};
 ghost use Rattle.nx_memory.specs.StateText.{IsShortLine, IsStateText, IsText1, IsText2, text_2};
 
-use crate::listed::Listed;
-use crate::recall::Recall;
-use crate::saved::Saved;
+use crate::memories::listed::Listed;
+use crate::memories::recall::Recall;
 use crate::selection::Selection;
+use crate::state::saved::Saved;
 
 /// Of all the entries made so far, those among the last 200 make an identity known exactly where
 /// one of them is live: it bears the identity, is less than 66 hours old, and fewer than 200

@@ -13,7 +13,7 @@ pub(crate) const LETTERS: usize = 26;
 
 /// A set of letters, with a flag for each. Contracts see it as the set of their bytes, from which
 /// the flags can be told again: it holds nothing else.
-#[derive(Clone, Copy)]
+#[derive(Clone, Copy, Debug)]
 pub struct LetterSet {
     flags: [bool; LETTERS],
 }

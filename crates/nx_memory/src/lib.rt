@@ -3,29 +3,21 @@
 //! each for 66 hours (this profile).
 #![tactic(auto)]
 
-mod entry;
 pub mod laws;
 mod letter_set;
-mod listed;
-mod moment_table;
-mod plain;
-mod recall;
-mod ring;
-mod saved;
-mod saved_line;
-mod saved_set;
+mod memories;
 mod selection;
-mod state_reader;
-mod state_text;
+mod state;
 
-pub use entry::MemoryEntry;
-pub use listed::Listed;
-pub use plain::PlainRecall;
-pub use recall::{CAPACITY, LIFETIME, Recall};
-pub use ring::RingRecall;
-pub use saved::Saved;
-pub use saved_line::MAX_STATE_LINE;
-pub use saved_set::SavedSet;
+pub use letter_set::LetterSet;
+pub use memories::entry::MemoryEntry;
+pub use memories::listed::Listed;
+pub use memories::plain_recall::PlainRecall;
+pub use memories::recall::{CAPACITY, LIFETIME, Recall};
+pub use memories::ring_recall::RingRecall;
 pub use selection::{Selection, Vital};
-pub use state_reader::{StateReader, StateStep};
-pub use state_text::state_line;
+pub use state::saved::Saved;
+pub use state::saved_line::MAX_STATE_LINE;
+pub use state::saved_set::SavedSet;
+pub use state::state_reader::{StateReader, StateStep};
+pub use state::state_text::state_line;

@@ -48,7 +48,7 @@ impl Model for Selection {
     } };
 }
 
-#[tactic(auto, using(crate::proofs::Letters::changes))]
+#[tactic(auto, using(crate::proofs::lemmas::Letters::changes))]
 impl Selection {
     /// Everything is selected.
     pub fn all() -> Self
@@ -90,7 +90,7 @@ impl Selection {
 
     /// Refuses the subject, of all stations. To refuse it again changes nothing. `Vital` where it
     /// is A, B, D or L; the selection then stays as it was.
-    #[tactic(auto, using(crate::proofs::Letters::changes, crate::proofs::Letters::kept))]
+    #[tactic(auto, using(crate::proofs::lemmas::Letters::changes, crate::proofs::lemmas::Letters::kept))]
     pub fn refuse_subject(&mut self, subject: Letter) -> Result<(), Vital>
         ensures vital { IsErr result ↔ IsTrue (is_vital subject.byte) }
         ensures fault { IfErr result (λ vital. vital.subject ≡ subject) }

@@ -9,10 +9,10 @@ use Rattle.nx_memory.specs.Memory.{most_entries, newest_moment, is_known}
 use Rattle.nx_memory.specs.Saved.{SavedState, SavedStates, IsSavedState, nothing_saved}
 use Rattle.nx_memory.specs.Selection.{is_vital}
 use Rattle.nx_memory.specs.StateText.{rising, section}
-use Rattle.nx_memory.specs.declared.saved_line.SavedLine.{SavedLine}
-use Rattle.nx_memory.specs.declared.saved_line.SavedLine.TheVariants.{Station, Subject, Entry}
-use Rattle.nx_memory.specs.declared.state_reader.Stage.{Stage}
-use Rattle.nx_memory.specs.declared.state_reader.Stage.TheVariants.{Start, Version1, Version2, Channel0, Channel1, Channel2}
+use Rattle.nx_memory.specs.declared.state.saved_line.SavedLine.{SavedLine}
+use Rattle.nx_memory.specs.declared.state.saved_line.SavedLine.TheVariants.{Station, Subject, Entry}
+use Rattle.nx_memory.specs.declared.state.state_reader.Stage.{Stage}
+use Rattle.nx_memory.specs.declared.state.state_reader.Stage.TheVariants.{Start, Version1, Version2, Channel0, Channel1, Channel2}
 
 -- the line has a spelling within 16 bytes
 abbrev pub IsSpelled : SavedLine → Type 0

@@ -1,5 +1,5 @@
 use Rattle.std.proofs.Common.{inr, refl}
-use Rattle.nx_memory.proofs.StateLaws.{none_begins, one_state, one_text, text_short}
+use Rattle.nx_memory.proofs.lemmas.StateLaws.{none_begins, one_state, one_text, text_short}
 use Rattle.nx_memory.proofs.laws.a_state_text_stands_for_one_state.Goals as goal
 
 pub returns : goal.returns

@@ -1,4 +1,4 @@
-use Rattle.nx_memory.proofs.Known.{live_from_known, known_from_live}
+use Rattle.nx_memory.proofs.lemmas.Known.{live_from_known, known_from_live}
 use Rattle.nx_memory.proofs.laws.known_is_live.Goals as goal
 
 pub returns : goal.returns

@@ -1,4 +1,4 @@
-use Rattle.nx_memory.proofs.Tables.{known_by_last}
+use Rattle.nx_memory.proofs.lemmas.Tables.{known_by_last}
 use Rattle.nx_memory.proofs.laws.the_last_entry_tells.Goals as goal
 
 pub returns : goal.returns

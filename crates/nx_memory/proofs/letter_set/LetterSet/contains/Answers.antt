@@ -1,5 +1,5 @@
 use Rattle.std.proofs.Common.{arith}
-use Rattle.nx_memory.proofs.Letters.{contains-letters_of}
+use Rattle.nx_memory.proofs.lemmas.Letters.{contains-letters_of}
 use Rattle.nx_memory.proofs.letter_set.LetterSet.contains.Goals as goal
 
 pub returns : goal.returns

@@ -1,5 +1,5 @@
 use Rattle.std.proofs.Common.{true, arith}
-use Rattle.nx_memory.proofs.Letters.{flags_of-set, letters_of-set_true}
+use Rattle.nx_memory.proofs.lemmas.Letters.{flags_of-set, letters_of-set_true}
 use Rattle.nx_memory.proofs.letter_set.LetterSet.insert.Goals as goal
 
 pub returns : goal.returns

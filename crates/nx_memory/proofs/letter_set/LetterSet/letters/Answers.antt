@@ -6,7 +6,7 @@ use Rattle.std.proofs.lemmas.List.{append-nil, length_push}
 use Rattle.std.proofs.lemmas.List.Elements.{filter_more}
 use Rattle.std.proofs.lemmas.List.FromFn.{get_or-range_with_len}
 use Rattle.nx_memory.specs.StateText.{rising}
-use Rattle.nx_memory.proofs.Letters.{contains-letters_of}
+use Rattle.nx_memory.proofs.lemmas.Letters.{contains-letters_of}
 use Rattle.nx_memory.proofs.letter_set.LetterSet.letters.Goals as goal
 use Rattle.nx_memory.proofs.letter_set.LetterSet.letters.Goals.{then-self-place, else-self-place}
 

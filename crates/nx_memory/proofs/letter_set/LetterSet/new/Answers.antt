@@ -1,5 +1,5 @@
 use Rattle.std.proofs.Common.{false, replicate, refl}
-use Rattle.nx_memory.proofs.Letters.{letters_of-none, flags_of-letters_of}
+use Rattle.nx_memory.proofs.lemmas.Letters.{letters_of-none, flags_of-letters_of}
 use Rattle.nx_memory.proofs.letter_set.LetterSet.new.Goals as goal
 
 pub returns : goal.returns

@@ -1,5 +1,5 @@
 use Rattle.std.proofs.Common.{false, arith}
-use Rattle.nx_memory.proofs.Letters.{flags_of-set, letters_of-set_false}
+use Rattle.nx_memory.proofs.lemmas.Letters.{flags_of-set, letters_of-set_false}
 use Rattle.nx_memory.proofs.letter_set.LetterSet.remove.Goals as goal
 
 pub returns : goal.returns

@@ -1,0 +1,126 @@
+//! What a receiver keeps while it is switched off.
+
+ghost use Rattle.std.specs.Prelude.{◌≡◌, ◌≤◌, [], length};
+ghost use Rattle.std.specs.FinSet as set;
+ghost use Rattle.nx_envelope.specs.Moment.{last_moment};
+ghost use Rattle.nx_memory.specs.Memory.{entry_at, newest_of, newest_moment};
+ghost use Rattle.nx_memory.specs.Saved.{AreSavedEntries};
+
+use crate::memories::entry::MemoryEntry;
+use crate::memories::listed::Listed;
+use crate::memories::recall::{CAPACITY, Recall};
+use crate::selection::Selection;
+use arrayvec::ArrayVec;
+use nx_envelope::Identity;
+use std::marker::Model;
+
+mod text;
+
+/// A selection and the entries of a memory, at most 200, none past the last moment. Contracts see
+/// it as what is refused and the list of the entries, oldest first, and it holds nothing else.
+#[derive(Drop)]
+pub struct Saved {
+    selection: Selection,
+    entries: ArrayVec<MemoryEntry, CAPACITY>,
+}
+
+impl Model for Saved {
+    ghost use Rattle.std.specs.Coded.{codes};
+    ghost use Rattle.nx_memory.specs.private.RefusedCode.{refused_code};
+    ghost use Rattle.nx_memory.specs.Saved.{SavedState, AreSavedEntries};
+
+    ghost Value = { SavedState };
+
+    ghost coded = { Prim.hlevel (codes, refused_code) };
+
+    ghost view = { λ saved. record {
+      refused = saved.selection;
+      entries = saved.entries.items;
+    } };
+
+    ghost invariant = { λ saved. AreSavedEntries saved.entries.items };
+
+    ghost inverse = { λ state. record {
+      selection = state.refused;
+      entries = record { items = state.entries };
+    } };
+}
+
+impl Saved {
+    /// Everything is selected, and there is no entry.
+    pub fn new() -> Self
+        ensures stations { result.refused.stations ≡ set.empty }
+        ensures subjects { result.refused.subjects ≡ set.empty }
+        ensures entries { result.entries ≡ [] }
+    {
+        prove!(size_of::<Saved>() == 3264);
+        Saved {
+            selection: Selection::all(),
+            entries: ArrayVec::new(),
+        }
+    }
+
+    /// The selection and the entries of the memory, none of which is past the last moment.
+    pub fn of<M: Listed>(selection: &Selection, memory: &M) -> Self
+        requires { newest_moment (M.content memory.now) ≤ last_moment }
+        ensures refused { result.refused ≡ selection.now }
+        ensures entries { result.entries ≡ M.content memory.now }
+    {
+        let mut entries = ArrayVec::new();
+        for place in 0..memory.count() {
+            if let Some((identity, moment)) = memory.entry(place) {
+                entries.push(MemoryEntry { identity, moment });
+            }
+        }
+        Saved {
+            selection: *selection,
+            entries,
+        }
+    }
+
+    /// The selection.
+    pub fn selection(&self) -> Selection
+        ensures selection { result ≡ self.now.refused }
+        ensures sound { AreSavedEntries self.now.entries }
+    {
+        self.selection
+    }
+
+    /// How many entries there are, at most 200.
+    pub fn count(&self) -> usize
+        ensures count { result ≡ length self.now.entries }
+        ensures sound { AreSavedEntries self.now.entries }
+    {
+        self.entries.len()
+    }
+
+    /// The entry at that place, from 0, the oldest, with its moment in whole seconds since
+    /// 1970-01-01 00:00:00 UTC; `None` past the newest.
+    pub fn entry(&self, place: usize) -> Option<(Identity, u64)>
+        ensures entry { result ≡ entry_at self.now.entries place }
+        ensures sound { AreSavedEntries self.now.entries }
+    {
+        self.entries
+            .as_slice()
+            .get(place)
+            .map(|entry| (entry.identity, entry.moment))
+    }
+
+    /// The moment of the newest entry, `None` where there is none.
+    pub fn newest(&self) -> Option<u64>
+        ensures newest { result ≡ newest_of self.now.entries }
+        ensures sound { AreSavedEntries self.now.entries }
+    {
+        self.entries.as_slice().last().map(|entry| entry.moment)
+    }
+
+    /// Enters the entries, oldest first, into a memory that has none.
+    pub fn load<M: Recall>(&self, memory: &mut M)
+        requires { M.content memory.old ≡ [] }
+        ensures { M.content memory.new ≡ self.now.entries }
+    {
+        for entry in self.entries.as_slice() {
+            memory.enter(entry.identity, entry.moment);
+        }
+    }
+}
