@@ -1,64 +1,52 @@
 -- The positions of a message and of a list of messages (ITU-R M.540, form of a message; ITU-R
--- M.625, mode B, for phasing and the end; how many positions of phasing are sent is this
--- profile's).
+-- M.625, mode B, for phasing and the end). How many positions of phasing are sent is this
+-- profile's.
 use Rattle.std.specs.Prelude.{◌≡◌, ℕ, ◌-◌, ◌/◌, ◌%◌, List, [], ◌∷◌, ◌++◌, map, replicate, slice_index}
 use Rattle.std.specs.List.{AllZip, flat_map}
 use Rattle.nx_code.specs.Reading.{combination, shift_after_all}
 use Rattle.nx_code.specs.Spelling.{Spells}
+use Rattle.nx_code.specs.Table.{carriage_return, figure_shift, letter_shift, line_feed, space_combination}
 use Rattle.nx_code.specs.declared.shifts.Shift.{Shift}
 use Rattle.nx_code.specs.declared.shifts.Shift.TheVariants.{Letters, Figures}
-use Rattle.nx_envelope.specs.Header.{space, start_marker, end_marker, newline}
+use Rattle.nx_envelope.specs.Header.{start_marker, end_marker}
+use Rattle.nx_code.specs.Reading.{capital_a, newline, space}
 use Rattle.nx_envelope.specs.Identity.{identity_bytes}
 use Rattle.nx_envelope.specs.Message.{text_of, MessageView}
 use Rattle.nx_envelope.specs.declared.identity.Identity.{Identity}
-use Rattle.nx_envelope.specs.declared.letter.Letter.{Letter}
-use Rattle.nx_fec.specs.Emission.{SentPosition, phasing_position, traffic_position, end_position}
+use Rattle.nx_fec.specs.emissions.Emission.{SentPosition, phasing_position, traffic_position, end_position}
 
 -- the combinations whose figures are the digits 0 to 9
 abbrev pub digit_combination : ℕ → ℕ
 digit_combination digit = slice_index (16 ∷ 17 ∷ 23 ∷ 5 ∷ 18 ∷ 20 ∷ 25 ∷ 21 ∷ 9 ∷ 15 ∷ []) digit
 
--- the combinations of the two shifts, of a space, and of the end of a line (M.476)
-abbrev pub letter_shift : ℕ
-letter_shift = 29
+-- the combination of a letter, by its byte: 1 for A to 26 for Z
+abbrev pub letter_combination : ℕ → ℕ
+letter_combination byte = byte - (capital_a - 1)
 
-abbrev pub figure_shift : ℕ
-figure_shift = 30
-
-abbrev pub space_combination : ℕ
-space_combination = 31
-
-abbrev pub carriage_return : ℕ
-carriage_return = 27
-
-abbrev pub line_feed : ℕ
-line_feed = 28
-
--- the combination of a letter: 1 for A, whose byte is 65, to 26 for Z
-abbrev pub letter_combination : Letter → ℕ
-letter_combination letter = letter.byte - 64
-
--- the letters that begin a message, Z C Z C, and those that end it, N N N N, before what follows
-abbrev pub start_and : List ℕ → List ℕ
-start_and more = 26 ∷ 3 ∷ 26 ∷ 3 ∷ more
-
-abbrev pub end_and : List ℕ → List ℕ
-end_and more = 14 ∷ 14 ∷ 14 ∷ 14 ∷ more
+-- the combinations of letters
+abbrev pub letter_combinations : List ℕ → List ℕ
+letter_combinations letters = map letter_combination letters
 
 -- The head of a message: letter shift, Z, C, Z, C, space, station, subject, figure shift, the two
 -- digits of the number, carriage return and line feed.
 unfoldable pub head : Identity → List ℕ
 head identity =
-    letter_shift ∷ start_and (space_combination
-    ∷ letter_combination identity.b1 ∷ letter_combination identity.b2
+    letter_shift ∷ (letter_combinations start_marker ++ (space_combination
+    ∷ letter_combination identity.b1.byte ∷ letter_combination identity.b2.byte
     ∷ figure_shift ∷ digit_combination (identity.number / 10)
-    ∷ digit_combination (identity.number % 10) ∷ carriage_return ∷ line_feed ∷ [])
+    ∷ digit_combination (identity.number % 10) ∷ carriage_return ∷ line_feed ∷ []))
+
+-- what follows the letter shift, if there is one, at the end of a message: N, N, N, N, carriage
+-- return, line feed, line feed
+abbrev pub ending_in_letters : List ℕ
+ending_in_letters =
+    letter_combinations end_marker ++ (carriage_return ∷ line_feed ∷ line_feed ∷ [])
 
 -- The end of a message, by the shift that its text leaves in force: a letter shift if that is
--- figures; N, N, N, N, carriage return, line feed, line feed.
+-- figures, and then the letters and the two lines.
 unfoldable pub ending : Shift → List ℕ
-ending Letters = end_and (carriage_return ∷ line_feed ∷ line_feed ∷ [])
-ending Figures = letter_shift ∷ end_and (carriage_return ∷ line_feed ∷ line_feed ∷ [])
+ending Letters = ending_in_letters
+ending Figures = letter_shift ∷ ending_in_letters
 
 -- the combinations of a message: its head, its text spelled from the figure shift, its end
 pub record IsSpelled (message : MessageView) (numbers : List ℕ) : Type 0 where

@@ -1,10 +1,10 @@
 -- The channel: in which words an emission may be received (this profile). Words are those of slots;
 -- what arrives of the slots before the first slot belongs to the gap before the emission.
-use Rattle.std.specs.Prelude.{◌≡◌, ◌≢◌, ℕ, zero, suc, ◌+◌, ◌-◌, ◌*◌, ◌<◌, ◌≤◌, ◌⊎◌, List, [], ◌∷◌, length, slice_index, EachIndex}
+use Rattle.std.specs.Prelude.{◌≡◌, ◌≢◌, ℕ, zero, suc, ◌+◌, ◌-◌, ◌*◌, ◌<◌, ◌≤◌, ◌⊎◌, List, [], ◌∷◌, length, slice_index}
 use Rattle.nx_code.specs.Table.{phasing_1, phasing_2}
 use Rattle.nx_code.specs.Word.{weight}
 use Rattle.nx_station.specs.Broadcast.{first_phasing}
-use Rattle.nx_fec.specs.Emission.{SentPosition, end_position, position_at, word_sent}
+use Rattle.nx_fec.specs.emissions.Emission.{AreWords, SentPosition, end_position, position_at, word_sent}
 
 -- how many positions of the phasing before the first message are received, the last ones
 abbrev pub phasing_received : ℕ
@@ -38,13 +38,14 @@ heard_in heard slot = slice_index heard (slot - first_slot)
 abbrev pub IsAsSent : List SentPosition → List ℕ → ℕ → Type 0
 IsAsSent positions heard slot = heard_in heard slot ≡ word_sent positions slot
 
--- The emission of these positions passes the channel, and these are the words that are heard from
--- the first slot on, to its last slot, 2P-2 of P positions, each by its number. The words before
--- those of the first message are as sent; each later word is as sent or has the wrong weight; and
--- of each position behind the first phasing that isn't one of the end, at least one of its two
--- words, in the slots 2i and 2i+5, is as sent.
+-- The emission of these positions passes the channel, and what is heard of it are these words, each
+-- by its number. They are the words of all slots from the first slot on to the last, which is slot
+-- 2P-2 of P positions. In the slots before the first message each word is heard as it was sent. In
+-- each later slot it is heard as it was sent, or a word of the wrong weight is heard in its place.
+-- Of each position behind the first phasing, but for those of the end, one word at least is heard
+-- as it was sent: that of slot 2i or that of slot 2i+5.
 pub record PassesChannel (positions : List SentPosition) (heard : List ℕ) : Type 0 where
-  pub words : EachIndex heard (λ slot. slice_index heard slot < 128)
+  pub words : AreWords heard
   pub whole : first_slot + length heard ≡ slots_of positions
   pub phasing : (slot : ℕ) → first_slot ≤ slot → slot < message_slot
       → IsAsSent positions heard slot

@@ -3,7 +3,7 @@ use Rattle.std.specs.Prelude.{◌≡◌, ℕ, Bool, List, [], ◌∷◌, ◌++�
 use Rattle.std.specs.Io.KnownBytes.{Appends}
 use Rattle.nx_envelope.specs.Message.{MessageView}
 use Rattle.nx_fec.specs.Transfers.{WroteSome, Devices, IsReadOut, Transfers, at_the_end}
-use Rattle.nx_fec.specs.Lines.{IsBitFile, IsFaultless, line_end}
+use Rattle.nx_fec.specs.air_files.Lines.{IsBitFile, IsFaultless, line_end}
 use Rattle.nx_fec.specs.Runs.{ExplainsReading, IsOutside, file_limit}
 use Rattle.nx_fec.specs.declared.fault.RunFault.TheVariants as run
 use Rattle.nx_station.specs.MessageFile.{file_message_of, message_file_bytes}

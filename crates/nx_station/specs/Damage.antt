@@ -3,13 +3,13 @@ use Rattle.std.specs.Prelude.{◌≡◌, ℕ, ◌+◌, ◌-◌, ◌/◌, ◌%◌
 use Rattle.std.specs.List.{flat_map}
 use Rattle.std.specs.Io.KnownBytes.{Appends}
 use Rattle.nx_code.specs.Word.{value_of}
-use Rattle.nx_fec.specs.AirFile.{Line, elements}
-use Rattle.nx_fec.specs.Channels.{channel_of}
+use Rattle.nx_fec.specs.air_files.AirFile.{Line, elements}
+use Rattle.nx_fec.specs.air_files.Channels.{channel_of}
 use Rattle.nx_fec.specs.Transfers.{WroteSome, Devices, IsReadOut, Transfers, on_the_way}
-use Rattle.nx_fec.specs.LineRuns.{IsPlaced}
-use Rattle.nx_fec.specs.Lines.{StopsAt, air_limit, IsAirFile, IsCause, elements_on, file_of}
-use Rattle.nx_fec.specs.declared.channel.Channel.{Channel}
-use Rattle.nx_fec.specs.declared.channel.Channel.TheVariants.{Zero}
+use Rattle.nx_fec.specs.air_files.LineRuns.{IsPlaced}
+use Rattle.nx_fec.specs.air_files.Lines.{StopsAt, air_limit, IsAirFile, IsCause, elements_on, file_of}
+use Rattle.nx_fec.specs.declared.air_files.channel.Channel.{Channel}
+use Rattle.nx_fec.specs.declared.air_files.channel.Channel.TheVariants.{Zero}
 use Rattle.nx_fec.specs.declared.fault.LineFault.{LineFault}
 use Rattle.nx_fec.specs.declared.fault.LineFault.TheVariants as file
 use Rattle.nx_station.specs.declared.damaging.DamageKind.{DamageKind}
@@ -94,9 +94,10 @@ StopsFor AtEnd limit damage old new air why =
     IsCause limit (length (file_of lines ++ rest)) lines rest more why
     × Appends old new (damaged_file damage lines))
 
--- What a fault says of the air file that was read. After a failed read no byte is left of which
--- `IsLeft` doesn't hold, and the whole lines before it were written; so it is with a fault of the
--- file; a write that failed wrote a part.
+-- What a fault says of the air file that was read. A failed read comes behind whole lines and the
+-- beginning of one more; `IsLeft` says what may come behind these: no byte that was read, but any
+-- of the file. The whole lines before it were written, as before a fault of the file. A write that
+-- failed wrote a part.
 abbrev pub ExplainsDamaging : Type 0 → (List ℕ → Type 0) → ℕ → Damage
     → Option (List ℕ) → Option (List ℕ) → List ℕ → DamageFault → Type 0
 ExplainsDamaging AtEnd IsLeft limit damage old new air Read =

@@ -2,11 +2,11 @@
 use Rattle.std.specs.Prelude.{◌≡◌, ℕ, ◌<◌, ◌≤◌, List, [], ◌∷◌, length, map, Option, Result, Ok, Err, ⊤}
 use Rattle.std.specs.Io.KnownBytes.{Appends}
 use Rattle.nx_envelope.specs.Message.{MessageView}
-use Rattle.nx_fec.specs.AirFile.{moment}
-use Rattle.nx_fec.specs.BitLines.{bit_lines}
+use Rattle.nx_fec.specs.air_files.AirFile.{moment}
+use Rattle.nx_fec.specs.air_files.BitLines.{bit_lines}
 use Rattle.nx_fec.specs.Transfers.{WroteSome, Devices, IsReadOut, Transfers, at_the_end}
-use Rattle.nx_fec.specs.Emission.{SentPosition, bits_of, emission}
-use Rattle.nx_fec.specs.Lines.{file_of}
+use Rattle.nx_fec.specs.emissions.Emission.{SentPosition, bits_of, emission}
+use Rattle.nx_fec.specs.air_files.Lines.{file_of}
 use Rattle.nx_fec.specs.Runs.{IsWithin, file_limit}
 use Rattle.nx_station.specs.Broadcast.{IsBroadcast}
 use Rattle.nx_station.specs.MessageFile.{IsMessageFile, HasFirstFault, bad_line, bad_text, line_cut, not_ended, file_message_of}

@@ -1,8 +1,8 @@
 -- The lines of a message file, and its first fault (this profile).
-use Rattle.std.specs.Prelude.{◌≡◌, ◌≢◌, ℕ, ◌+◌, ◌≤◌, List, [], ◌∷◌, ◌++◌, length, Option, Some, None, ⊤}
+use Rattle.std.specs.Prelude.{◌≡◌, ◌≢◌, ℕ, ◌+◌, ◌≤◌, List, [], ◌∷◌, ◌++◌, codes, length, Option, Some, None, ⊤}
 use Rattle.std.specs.List.{flat_map, AllByRecursion}
 use Rattle.nx_envelope.specs.Identity.{two_digits}
-use Rattle.nx_fec.specs.Lines.{line_end}
+use Rattle.nx_fec.specs.air_files.Lines.{line_end}
 use Rattle.nx_code.specs.Reading.{IsCapital}
 use Rattle.nx_envelope.specs.Message.{AreLines, IsMessageFault, text_of, MessageView}
 use Rattle.nx_envelope.specs.declared.message.MessageFault.{MessageFault}
@@ -24,11 +24,11 @@ file_message_of message = record {
 
 -- the first line of a message, without its end: `#`, the subject, two digits
 abbrev pub heading : ℕ → ℕ → List ℕ
-heading subject number = 35 ∷ subject ∷ two_digits number
+heading subject number = codes "#" ++ (subject ∷ two_digits number)
 
 -- the line that ends a message, without its end: `;`
 abbrev pub closing : List ℕ
-closing = 59 ∷ []
+closing = codes ";"
 
 -- the lines of a message up to the last line of its text
 abbrev pub opening : FileMessage → List ℕ
@@ -124,9 +124,9 @@ IsOfLines (message.Reserved line) = ⊤
 IsOfLines message.LongText = ⊤
 IsOfLines (message.Memory error) = ⊥
 
--- the fault of a message file, with the number of a line, from 1: a line that begins no message; a
--- message, by its first line, whose lines have this fault; the line in which the file ends; the
--- message, by its first line, in which it ends
+-- The fault of a message file, with the number of a line, from 1. It is a line that begins no
+-- message; or a message, by its first line, whose lines have this fault. Or it is the line in which
+-- the file ends; or the message, by its first line, in which it ends.
 pub data FileFault : Type 0 where
   bad_line : ℕ → FileFault
   bad_text : ℕ → MessageFault → FileFault

@@ -1,15 +1,19 @@
 -- The lists of messages that a station may send, and why another list is refused (this profile).
 use Rattle.std.specs.Prelude.{◌≡◌, ◌≢◌, ℕ, ◌<◌, ◌≤◌, ◌==◌, not, List, [], ◌∷◌, length, position, Option, Some, None}
 use Rattle.std.specs.List.{AllByRecursion}
-use Rattle.nx_fec.specs.Emission.{SentPosition}
+use Rattle.nx_fec.specs.emissions.Emission.{SentPosition}
 use Rattle.nx_envelope.specs.Message.{AreLines, MessageView}
 use Rattle.nx_station.specs.Broadcast.{IsBroadcast}
 use Rattle.nx_station.specs.declared.fault.SendFault.{SendFault}
 use Rattle.nx_station.specs.declared.fault.SendFault.TheVariants.{NoMessages, MixedStations, NoSlot, SlotFull, Memory}
 
--- the stations A (65) to X (88) have slots, Y and Z have none
+-- the last station that has slots, X
+abbrev pub station_x : ℕ
+station_x = 88
+
+-- the stations A to X have slots, Y and Z have none
 abbrev pub HasSlots : ℕ → Type 0
-HasSlots station = station ≤ 88
+HasSlots station = station ≤ station_x
 
 -- the most positions of an emission: they are 8,571 words, which take 599.97 seconds
 abbrev pub max_positions : ℕ

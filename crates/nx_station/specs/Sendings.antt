@@ -4,7 +4,7 @@ use Rattle.std.specs.Prelude.{◌≡◌, ℕ, ◌+◌, ◌-◌, ◌*◌, Bool, L
 use Rattle.std.specs.List.{AllByRecursion, AllZip, flat_map}
 use Rattle.nx_code.specs.Reading.{combination, shift_after_all, text}
 use Rattle.nx_code.specs.declared.shifts.Shift.TheVariants.{Figures}
-use Rattle.nx_fec.specs.Emission.{SentPosition, traffic_position, bits_of}
+use Rattle.nx_fec.specs.emissions.Emission.{SentPosition, traffic_position, bits_of}
 use Rattle.nx_envelope.specs.Message.{AreLines, MessageView, text_of}
 use Rattle.nx_station.specs.Broadcast.{IsSpelled, end_positions, ending, first_phasing, further_phasing, head, layout}
 use Rattle.nx_station.specs.Channel.{PassesChannel, first_slot}
@@ -48,20 +48,28 @@ pub record IsCut (bits : List Bool) (parts : List Part) : Type 0 where
   pub each : (before : List Part) (emission : ReceivedEmission) (after : List Part)
       → parts ≡ before ++ received emission ∷ after → IsReceived emission
 
--- how many positions are sent before the message that follows messages with these combinations: the
--- phasing before the first message, and that before each further one
+-- How many positions are sent before the message that follows messages with these combinations: the
+-- phasing before the first message, those messages themselves, and the phasing before each further
+-- message.
 abbrev pub positions_before : List (List ℕ) → ℕ
 positions_before [] = first_phasing
 positions_before (numbers ∷ more) = (length numbers + further_phasing) + positions_before more
 
--- the slot of the RX of the second digit of message i, which is position 10 of the message: the RX
--- of position i is sent in slot 2i+5
+-- the place of the second digit among the positions of a message, and the slot in which a position
+-- is sent as RX
+abbrev pub second_digit : ℕ
+second_digit = 10
+
+abbrev pub rx_slot : ℕ → ℕ
+rx_slot position = 2 * position + 5
+
+-- the slot of the RX of the second digit of message i
 abbrev pub digit_slot : List (List ℕ) → ℕ → ℕ
-digit_slot spellings i = 2 * (positions_before (take i spellings) + 10) + 5
+digit_slot spellings i = rx_slot (positions_before (take i spellings) + second_digit)
 
 -- The message is sent in a received emission that is one of these parts, as the message of this
--- index; and its header is at this place: the index, among all bits, of the last bit of the RX word
--- of its second digit.
+-- index. Its header is at this place: the index, among all bits, of the last bit of the RX word of
+-- its second digit.
 pub record IsSentAt (parts : List Part) (sent : MessageView) (at : ℕ) : Type 0 where
   pub before : List Part
   pub emission : ReceivedEmission

@@ -1,8 +1,16 @@
 -- The slots of stations (ITU-R M.540: the stations of an area send by turns; that the turns are ten
 -- minutes of each four hours, counted from 1970-01-01 00:00:00 UTC, is this profile's).
 use Rattle.std.specs.Prelude.{◌≡◌, ℕ, ◌+◌, ◌-◌, ◌*◌, ◌<◌, ◌≤◌}
+use Rattle.nx_code.specs.Reading.{capital_a}
 use Rattle.nx_envelope.specs.Moment.{last_moment}
 use Rattle.nx_station.specs.Sendable.{HasSlots}
+
+-- how many seconds a round has, and a slot
+abbrev pub round_seconds : ℕ
+round_seconds = 14400
+
+abbrev pub slot_seconds : ℕ
+slot_seconds = 600
 
 -- A slot of the station begins at this moment. In each round of 14,400 seconds each station has
 -- one, which begins 600 seconds after that of the station before it; that of A begins with the
@@ -10,7 +18,7 @@ use Rattle.nx_station.specs.Sendable.{HasSlots}
 pub record IsSlot (station moment : ℕ) : Type 0 where
   pub has_slots : HasSlots station
   pub round : ℕ
-  pub begins : moment ≡ 14400 * round + 600 * (station - 65)
+  pub begins : moment ≡ round_seconds * round + slot_seconds * (station - capital_a)
 
 -- the next slot of the station, from a moment on: the least that isn't before it, and no later than
 -- the last moment

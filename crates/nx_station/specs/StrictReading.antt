@@ -1,11 +1,11 @@
 -- What strict reading finds in elements: the messages of an emission, or the first of its faults
--- (ITU-R M.625, mode B, for words and pairs; ITU-R M.540, form of a message; that all else is
--- refused, and in which order, is this profile's).
+-- (ITU-R M.625, mode B, for words and pairs; ITU-R M.540, form of a message). That all else is
+-- refused, and in which order, is this profile's.
 use Rattle.std.specs.Prelude.{◌≡◌, ◌≢◌, ℕ, ◌+◌, ◌*◌, ◌%◌, ◌<◌, Bool, List, length, slice_index, ⊤}
 use Rattle.nx_code.specs.Word.{weight}
 use Rattle.nx_envelope.specs.Message.{MessageView}
-use Rattle.nx_fec.specs.Aligned.{words_of}
-use Rattle.nx_fec.specs.Emission.{SentPosition, IsInCode, bits_of, dx_word, emission, rx_word}
+use Rattle.nx_fec.specs.emissions.Aligned.{words_of}
+use Rattle.nx_fec.specs.emissions.Emission.{SentPosition, IsInCode, bits_of, dx_word, emission, rx_word}
 use Rattle.nx_station.specs.Broadcast.{IsBroadcast}
 use Rattle.nx_station.specs.Sendable.{IsSendable}
 use Rattle.nx_station.specs.declared.fault.EmissionFault.{EmissionFault}

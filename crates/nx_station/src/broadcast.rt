@@ -6,7 +6,7 @@ ghost use Rattle.nx_code.specs.Reading.{is_in_code};
 ghost use Rattle.nx_code.specs.Spelling.{Spells};
 ghost use Rattle.nx_code.specs.declared.shifts.Shift.TheVariants.{Figures};
 ghost use Rattle.nx_envelope.specs.Message.{AreLines, text_of, MessageView};
-ghost use Rattle.nx_fec.specs.Emission.{sent_position, traffic_position};
+ghost use Rattle.nx_fec.specs.emissions.Emission.{sent_position, traffic_position};
 ghost use Rattle.nx_station.specs.Broadcast.{IsBroadcast, IsSpelled, ending, phasing_and_message};
 ghost use Rattle.nx_station.specs.private.MessageParts.{IsExtent};
 ghost use Rattle.nx_station.specs.Sendable.{AreOf, HavePositions, IsRefusal, IsSendable, HasSlots};

@@ -12,9 +12,9 @@ use nx_fec::{Counting, read_bits, write_out};
 use std::alloc::{AllocError, Global};
 use std::io::{Read, Write};
 
-/// Reads an air file to its end, reads its elements on channel 0 as an emission, and writes the line
-/// `station E`, with the station of its messages for E, and their message file. Answers how many
-/// messages there are. Good lines of other channels are skipped.
+/// Reads an air file to its end, reads its elements on channel 0 as an emission, and writes the
+/// line `station E`, with the station of its messages for E, and their message file. Answers how
+/// many messages there are. Good lines of other channels are skipped.
 ///
 /// The faults of `read_bits` come first, as `Run`; then those of `read_emission`, as `Emission`;
 /// then `Write`, as `Run`. Nothing is written before all else succeeded. Memory may run out at any

@@ -1,11 +1,11 @@
 //! Damage of an air file on purpose: the first element of each word that is named is inverted.
 ghost use Rattle.std.specs.Prelude.{◌≡◌, ◌≢◌, ◌+◌, ◌-◌, ◌*◌, ◌^◌, ◌<◌, ◌≤◌, ◌↔◌, ◌⊎◌, ◌++◌, ◌∷◌, [], ℕ, Bool, List, Option, IfNone, IfSome, IsSomeAnd, IsTrue, Some, length, map, min};
-ghost use Rattle.nx_fec.specs.AirFile.{IsLine, Line, element_digit};
-ghost use Rattle.nx_fec.specs.Channels.{channel_of};
-ghost use Rattle.nx_fec.specs.Lines.{elements_on, line_bytes};
-ghost use Rattle.nx_fec.specs.declared.air_file.LineKind.TheVariants.{Elements};
-ghost use Rattle.nx_fec.specs.declared.channel.Channel.{Channel};
-ghost use Rattle.nx_fec.specs.declared.channel.Channel.TheVariants.{Zero};
+ghost use Rattle.nx_fec.specs.air_files.AirFile.{IsLine, Line, element_digit};
+ghost use Rattle.nx_fec.specs.air_files.Channels.{channel_of};
+ghost use Rattle.nx_fec.specs.air_files.Lines.{elements_on, line_bytes};
+ghost use Rattle.nx_fec.specs.declared.air_files.lines.LineKind.TheVariants.{Elements};
+ghost use Rattle.nx_fec.specs.declared.air_files.channel.Channel.{Channel};
+ghost use Rattle.nx_fec.specs.declared.air_files.channel.Channel.TheVariants.{Zero};
 ghost use Rattle.nx_fec.specs.Transfers.{devices};
 ghost use Rattle.nx_station.specs.Damage.{Damage, Damages, damaged_elements, damaged_line, inverted_count, inverts};
 ghost use Rattle.nx_station.specs.private.DamageTaker.{AreNamed, HasDigitsFrom, IsAmong, IsAt, line_fault};
@@ -72,7 +72,6 @@ impl Model for Damaging {
 
     ghost invariant = { λ d. d.phase < 14 };
 
-    // What contracts see gives every field back: it keeps nothing else.
     ghost inverse = { λ v. record {
       kind = v.kind;
       begin = v.begin;

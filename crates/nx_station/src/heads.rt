@@ -1,7 +1,7 @@
 //! The combinations at the head and at the end of a message (M.540, form of a message).
 ghost use Rattle.std.specs.Prelude.{◌≡◌, ◌<◌, length, map};
 ghost use Rattle.nx_station.specs.Broadcast.{digit_combination, ending, head};
-ghost use Rattle.nx_station.specs.private.Heads.{letter_combination};
+ghost use Rattle.nx_station.specs.Broadcast.{letter_combination};
 
 use nx_code::{Comb, Shift, char_to_code};
 use nx_envelope::{Identity, Letter};

@@ -5,15 +5,15 @@ ghost use Rattle.nx_code.specs.Reading.{combination, shift_after_all, text};
 ghost use Rattle.nx_code.specs.declared.shifts.Shift.{Shift};
 ghost use Rattle.nx_code.specs.declared.shifts.Shift.TheVariants.{Letters};
 ghost use Rattle.nx_envelope.specs.Message.{AreLines, MessageView};
-ghost use Rattle.nx_fec.specs.Emission.{SentPosition, reception};
+ghost use Rattle.nx_fec.specs.emissions.Emission.{SentPosition, reception};
 ghost use Rattle.nx_station.specs.Broadcast.{IsBroadcast, IsSpelled, printed_text};
 ghost use Rattle.nx_station.specs.MessageFile.{FileMessage, FileFault, IsMessageFile, HasFirstFault};
-ghost use Rattle.nx_fec.specs.AirFile.{Line};
-ghost use Rattle.nx_fec.specs.Lines.{IsAirFile, elements_on};
+ghost use Rattle.nx_fec.specs.air_files.AirFile.{Line};
+ghost use Rattle.nx_fec.specs.air_files.Lines.{IsAirFile, elements_on};
 ghost use Rattle.nx_fec.specs.Runs.{file_limit};
-ghost use Rattle.nx_fec.specs.Scanner.{kind_of};
-ghost use Rattle.nx_fec.specs.declared.channel.Channel.{Channel};
-ghost use Rattle.nx_fec.specs.declared.channel.Channel.TheVariants.{Zero};
+ghost use Rattle.nx_fec.specs.air_files.Scanner.{kind_of};
+ghost use Rattle.nx_fec.specs.declared.air_files.channel.Channel.{Channel};
+ghost use Rattle.nx_fec.specs.declared.air_files.channel.Channel.TheVariants.{Zero};
 ghost use Rattle.nx_station.specs.Damage.{Damage, IsDamaged, damaged_elements, damaged_lines};
 ghost use Rattle.nx_station.specs.Checking.{IsChecked, station_line};
 ghost use Rattle.nx_station.specs.FileSending.{IsTransmission};
@@ -79,8 +79,8 @@ pub fn an_emission_has_one_reading()
 {}
 
 /// Checking gives back what was sent: an air file that sending wrote of a message file keeps to the
-/// limit of files that are checked, and is checked wherever it keeps to the limit; the report is the
-/// line of the station and then the very bytes that were sent. An air file has one report.
+/// limit of files that are checked, and is checked wherever it keeps to the limit; the report is
+/// the line of the station and then the very bytes that were sent. An air file has one report.
 pub fn checking_gives_back_what_was_sent()
     ensures within { (station from : ℕ) (file air : List ℕ) (sent : Sent)
         → IsTransmission station from file air sent → length air ≤ file_limit }

@@ -1,6 +1,6 @@
 //! Strict reading: from the elements of an emission back to its messages (M.625, mode B; M.540).
 ghost use Rattle.std.specs.Prelude.{◌≡◌, ◌↔◌, ◌<◌, ◌/◌, IfErr, IfOk, IfSome, IsNone, IsTrue, OnOk, length};
-ghost use Rattle.nx_fec.specs.Aligned.{aligned_text, words_of};
+ghost use Rattle.nx_fec.specs.emissions.Aligned.{aligned_text, words_of};
 ghost use Rattle.nx_station.specs.StrictReading.{ArePaired, AreRight, AreWhole, ExplainsEmission, IsEmissionOf, IsLeast, IsPair, IsUnpaired, IsWrongWord};
 
 use crate::broadcast::emission;

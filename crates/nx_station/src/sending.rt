@@ -1,10 +1,10 @@
 //! Sending: from a message file to the air file of its emission.
 ghost use Rattle.std.specs.Prelude.{◌≡◌, ◌++◌, IfErr, IfOk, OnOk};
 ghost use Rattle.std.specs.Io.KnownBytes.{Appends};
-ghost use Rattle.nx_fec.specs.AirFile.{moment};
-ghost use Rattle.nx_fec.specs.BitLines.{bit_lines};
+ghost use Rattle.nx_fec.specs.air_files.AirFile.{moment};
+ghost use Rattle.nx_fec.specs.air_files.BitLines.{bit_lines};
 ghost use Rattle.nx_fec.specs.Transfers.{FailsOnce, WroteSome, devices};
-ghost use Rattle.nx_fec.specs.Lines.{file_of, line_bytes};
+ghost use Rattle.nx_fec.specs.air_files.Lines.{file_of, line_bytes};
 ghost use Rattle.nx_station.specs.FileSending.{Sends};
 
 use crate::broadcast::emission;

@@ -1,13 +1,13 @@
 -- What the taker of lines that damages them holds.
 use Rattle.std.specs.Prelude.{◌≡◌, ℕ, ◌+◌, ◌-◌, ◌*◌, ◌/◌, ◌%◌, ◌^◌, ◌<◌, ◌≤◌, ◌↔◌, Bool, IsTrue, List, Option, Some, length, min}
 use Rattle.std.specs.List.{flat_map}
-use Rattle.nx_fec.specs.AirFile.{Line, mark_bytes}
-use Rattle.nx_fec.specs.Channels.{channel_of}
-use Rattle.nx_fec.specs.Lines.{elements_on}
-use Rattle.nx_fec.specs.declared.air_file.LineKind.{LineKind}
-use Rattle.nx_fec.specs.declared.air_file.LineKind.TheVariants.{Elements}
-use Rattle.nx_fec.specs.declared.channel.Channel.{Channel}
-use Rattle.nx_fec.specs.declared.channel.Channel.TheVariants.{Zero}
+use Rattle.nx_fec.specs.air_files.AirFile.{Line, mark_bytes}
+use Rattle.nx_fec.specs.air_files.Channels.{channel_of}
+use Rattle.nx_fec.specs.air_files.Lines.{elements_on}
+use Rattle.nx_fec.specs.declared.air_files.lines.LineKind.{LineKind}
+use Rattle.nx_fec.specs.declared.air_files.lines.LineKind.TheVariants.{Elements}
+use Rattle.nx_fec.specs.declared.air_files.channel.Channel.{Channel}
+use Rattle.nx_fec.specs.declared.air_files.channel.Channel.TheVariants.{Zero}
 use Rattle.nx_fec.specs.declared.fault.LineFault.{LineFault}
 use Rattle.nx_fec.specs.declared.fault.LineFault.TheVariants as file
 use Rattle.nx_station.specs.Damage.{Damage, damaged_file, inverted_count, inverts}
@@ -16,9 +16,9 @@ use Rattle.nx_station.specs.declared.damaging.Named.{Named}
 use Rattle.nx_station.specs.declared.fault.DamageFault.{DamageFault}
 use Rattle.nx_station.specs.declared.fault.DamageFault.TheVariants.{AirTooLong, LineLong, LineCut, BadLine}
 
--- a taker: its kind, how many elements come before the words that may be damaged and how many
--- before their end, the place of the next element among those of two words, and how many elements
--- were inverted
+-- A taker: its kind; how many elements come before the words that may be damaged, and how many
+-- before their end. Then the place of the next element among those of two words, and how many
+-- elements were inverted.
 pub record Damager : Type 0 where
   pub kind : DamageKind
   pub begin : ℕ

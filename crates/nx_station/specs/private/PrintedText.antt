@@ -3,7 +3,7 @@ use Rattle.std.specs.Prelude.{◌≢◌, ℕ, List, ◌∷◌, ◌++◌, ⊤}
 use Rattle.std.specs.List.{flat_map, AllByRecursion}
 use Rattle.nx_envelope.specs.Header.{end_marker}
 use Rattle.nx_envelope.specs.Message.{AreLines, text_of, MessageView}
-use Rattle.nx_fec.specs.Lines.{line_end}
+use Rattle.nx_fec.specs.air_files.Lines.{line_end}
 use Rattle.nx_station.specs.Broadcast.{printed_text}
 use Rattle.nx_station.specs.MessageFile.{IsOneLine}
 use Rattle.nx_station.specs.declared.fault.EmissionFault.{EmissionFault}

@@ -1,8 +1,8 @@
 use Rattle.std.proofs.Common.{◌++◌, ◌∷◌, [], ap, ◌∙◌, map}
-use Rattle.nx_fec.specs.Emission.{sent_position}
+use Rattle.nx_fec.specs.emissions.Emission.{sent_position}
 use Rattle.nx_station.specs.Broadcast.{phasing_and_message, first_phasing}
-use Rattle.nx_station.proofs.BroadcastLemmas.{empty-broadcast, more-spelled, others-more}
-use Rattle.nx_station.proofs.BroadcastLemmas.{broadcast-of}
+use Rattle.nx_station.proofs.lemmas.broadcasts.Broadcast.{empty-broadcast, more-spelled, others-more}
+use Rattle.nx_station.proofs.lemmas.broadcasts.Broadcast.{broadcast-of}
 use Rattle.nx_station.proofs.broadcast.broadcast.Goals as goal
 
 pub returns-in_default : goal.returns-in_default

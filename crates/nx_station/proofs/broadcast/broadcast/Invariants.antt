@@ -1,6 +1,6 @@
 use Rattle.std.proofs.Common.{◌≡◌, ◌++◌, ℕ, List, map, take}
 use Rattle.std.specs.List.{flat_map}
-use Rattle.nx_fec.specs.Emission.{sent_position}
+use Rattle.nx_fec.specs.emissions.Emission.{sent_position}
 use Rattle.nx_station.specs.Broadcast.{AreSpelled, phasing_and_message, further_phasing}
 use Rattle.nx_station.proofs.broadcast.broadcast.Given as goal
 

@@ -1,6 +1,6 @@
 use Rattle.std.proofs.Common.{ap, ◌∙◌, sym}
 use Rattle.std.proofs.lemmas.Bool.{false≢true}
-use Rattle.nx_station.proofs.StationLemmas.{another-found, all-same, none_of}
+use Rattle.nx_station.proofs.lemmas.broadcasts.Station.{another-found, all-same, none_of}
 use Rattle.nx_station.proofs.broadcast.check_stations.Goals as goal
 
 pub returns-in-Some-first_of_another-clause-refused :

@@ -1,5 +1,5 @@
 use Rattle.std.proofs.Common.{arith}
-use Rattle.nx_station.proofs.BroadcastLemmas.{length-ending, spelled-of}
+use Rattle.nx_station.proofs.lemmas.broadcasts.Broadcast.{length-ending, spelled-of}
 use Rattle.nx_station.proofs.broadcast.count_combs.Goals as goal
 
 pub overflow_add-result-2 : goal.overflow_add-result-2

@@ -1,6 +1,6 @@
 use Rattle.std.proofs.Common.{◌++◌, ◌∷◌, [], arith}
-use Rattle.nx_station.proofs.BroadcastLemmas.{total-push, more-spelled, more-sound, all-sound}
-use Rattle.nx_station.proofs.BroadcastLemmas.{counted-all}
+use Rattle.nx_station.proofs.lemmas.broadcasts.Broadcast.{total-push, more-spelled, more-sound, all-sound}
+use Rattle.nx_station.proofs.lemmas.broadcasts.Broadcast.{counted-all}
 use Rattle.nx_station.proofs.broadcast.count_positions.Goals as goal
 
 pub loop-message-preserved : goal.loop-message-preserved

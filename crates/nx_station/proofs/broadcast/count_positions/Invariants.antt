@@ -2,7 +2,7 @@ use Rattle.std.proofs.Common.{◌≡◌, ◌≤◌, ◌*◌, ℕ, List, take}
 use Rattle.std.specs.List.{AllByRecursion}
 use Rattle.nx_envelope.specs.Message.{AreLines, MessageView}
 use Rattle.nx_station.specs.Broadcast.{AreSpelled}
-use Rattle.nx_station.proofs.BroadcastLemmas.{total}
+use Rattle.nx_station.proofs.lemmas.broadcasts.Broadcast.{total}
 use Rattle.nx_station.proofs.broadcast.count_positions.Given as goal
 
 abbrev pub invariant-loop-message : goal.invariant-loop-message

@@ -1,6 +1,6 @@
 use Rattle.std.proofs.Common.{◌++◌, ◌∷◌, [], length-append, arith, take}
 use Rattle.nx_envelope.specs.Message.{text_of}
-use Rattle.nx_station.proofs.BroadcastLemmas.{IsExtent-line}
+use Rattle.nx_station.proofs.lemmas.broadcasts.Broadcast.{IsExtent-line}
 use Rattle.nx_station.proofs.broadcast.extent_of_text.Goals as goal
 
 pub loop-i-preserved : goal.loop-i-preserved

@@ -1,6 +1,6 @@
 use Rattle.std.proofs.Common.{◌+◌, [], ◌∙◌}
 use Rattle.std.proofs.lemmas.Option.{slice_get-get_or}
-use Rattle.nx_station.proofs.BroadcastLemmas.{line-in_code, text-line, text-few}
+use Rattle.nx_station.proofs.lemmas.broadcasts.Broadcast.{line-in_code, text-line, text-few}
 use Rattle.nx_station.proofs.broadcast.line_at.Goals as goal
 
 -- the line that was found is that of the place

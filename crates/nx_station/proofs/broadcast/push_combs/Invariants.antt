@@ -1,6 +1,6 @@
 use Rattle.std.proofs.Common.{◌≡◌, ◌++◌, map, take}
 use Rattle.nx_code.specs.declared.signals.Comb.{Comb}
-use Rattle.nx_fec.specs.Emission.{sent_position, traffic_position}
+use Rattle.nx_fec.specs.emissions.Emission.{sent_position, traffic_position}
 use Rattle.nx_station.proofs.broadcast.push_combs.Given as goal
 
 abbrev pub invariant-loop-comb : goal.invariant-loop-comb

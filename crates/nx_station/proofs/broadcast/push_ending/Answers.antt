@@ -1,6 +1,6 @@
 use Rattle.std.proofs.Common.{◌++◌, ◌∷◌, [], ◌∙◌, ap, sym, map, append_assoc}
 use Rattle.std.proofs.lemmas.Result.{on_ok_weaker}
-use Rattle.nx_fec.specs.Emission.{sent_position, traffic_position}
+use Rattle.nx_fec.specs.emissions.Emission.{sent_position, traffic_position}
 use Rattle.nx_station.specs.Broadcast.{ending}
 use Rattle.nx_station.proofs.broadcast.push_ending.Goals as goal
 

@@ -1,5 +1,5 @@
 use Rattle.std.proofs.Common.{◌≡◌, ◌++◌, map, replicate}
-use Rattle.nx_fec.specs.Emission.{sent_position}
+use Rattle.nx_fec.specs.emissions.Emission.{sent_position}
 use Rattle.nx_station.proofs.broadcast.push_many.Given as goal
 
 abbrev pub invariant-loop : goal.invariant-loop

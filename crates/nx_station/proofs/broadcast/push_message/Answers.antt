@@ -2,7 +2,7 @@ use Rattle.std.proofs.Common.{◌∙◌, List, ap, map}
 use Rattle.std.proofs.lemmas.Result.{on_ok_weaker}
 use Rattle.nx_code.specs.declared.signals.Comb.{Comb}
 use Rattle.nx_station.specs.Broadcast.{head}
-use Rattle.nx_station.proofs.BroadcastLemmas.{message-positions}
+use Rattle.nx_station.proofs.lemmas.broadcasts.Broadcast.{message-positions}
 use Rattle.nx_station.proofs.broadcast.push_message.Goals as goal
 
 pub returns : goal.returns

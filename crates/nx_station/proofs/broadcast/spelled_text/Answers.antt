@@ -1,5 +1,5 @@
 use Rattle.std.proofs.Common.{ap, ◌∙◌, Err}
-use Rattle.nx_station.proofs.BroadcastLemmas.{all-in_code, text-in_code}
+use Rattle.nx_station.proofs.lemmas.broadcasts.Broadcast.{all-in_code, text-in_code}
 use Rattle.nx_station.proofs.broadcast.spelled_text.Goals as goal
 
 pub unreachable-requires : goal.unreachable-requires

@@ -5,7 +5,7 @@ use Rattle.std.proofs.lemmas.Result.{err_from_is_err_and}
 use Rattle.nx_fec.specs.Transfers.{devices}
 use Rattle.nx_station.specs.Checking.{report}
 use Rattle.nx_station.specs.StrictReading.{IsEmissionOf}
-use Rattle.nx_station.proofs.CheckingLaws.{of_first, unread, unwritten}
+use Rattle.nx_station.proofs.lemmas.strict_reading.CheckingLaws.{of_first, unread, unwritten}
 use Rattle.nx_station.proofs.checking.check_run.Goals as goal
 
 pub returns-in_err-messages : goal.returns-in_err-messages

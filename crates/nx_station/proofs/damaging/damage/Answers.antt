@@ -1,7 +1,7 @@
 use Rattle.std.proofs.Common.{ap}
 use Rattle.nx_station.specs.Damage.{Damage}
-use Rattle.nx_station.proofs.DamageLaws.{first_for, line-of, ok-of, read-of, refused-none, starts}
-use Rattle.nx_station.proofs.DamageLaws.{write-of}
+use Rattle.nx_station.proofs.lemmas.damage.DamageLaws.{first_for, line-of, ok-of, read-of, refused-none, starts}
+use Rattle.nx_station.proofs.lemmas.damage.DamageLaws.{write-of}
 use Rattle.nx_station.proofs.damaging.damage.Goals as goal
 
 pub unreachable-requires : goal.unreachable-requires

@@ -2,7 +2,7 @@ use Rattle.std.proofs.Common.{Option, Some, None, refl, arith}
 use Rattle.std.specs.Option.{IsSome, IsSomeAnd}
 use Rattle.nx_code.specs.declared.shifts.Shift.TheVariants.{Figures}
 use Rattle.nx_station.specs.Broadcast.{digit_combination}
-use Rattle.nx_station.proofs.HeadLemmas.{digit_combination-prints, digit_combination-range}
+use Rattle.nx_station.proofs.lemmas.broadcasts.Head.{digit_combination-prints, digit_combination-range}
 use Rattle.nx_station.proofs.heads.digit_comb.Goals as goal
 
 is_some_of : {X : Type 0} (P : X → Type 0) (o : Option X) → IsSomeAnd o P → IsSome o

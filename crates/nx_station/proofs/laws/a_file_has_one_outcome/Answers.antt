@@ -1,4 +1,4 @@
-use Rattle.nx_station.proofs.FileLaws.{no_fault, one_fault}
+use Rattle.nx_station.proofs.lemmas.message_files.FileLaws.{no_fault, one_fault}
 use Rattle.nx_station.proofs.laws.a_file_has_one_outcome.Goals as goal
 
 pub returns-clause-messages : goal.returns-clause-messages

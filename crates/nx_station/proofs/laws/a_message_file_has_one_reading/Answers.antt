@@ -1,5 +1,5 @@
 use Rattle.std.proofs.Common.{sym, ◌∙◌}
-use Rattle.nx_station.proofs.FileLaws.{list-unique}
+use Rattle.nx_station.proofs.lemmas.message_files.FileLaws.{list-unique}
 use Rattle.nx_station.proofs.laws.a_message_file_has_one_reading.Goals as goal
 
 pub returns-clause-spelling : goal.returns-clause-spelling

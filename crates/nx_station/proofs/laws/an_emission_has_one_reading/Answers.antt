@@ -1,5 +1,5 @@
-use Rattle.nx_station.proofs.EmissionReading.{emission-one}
-use Rattle.nx_station.proofs.EmissionFaults.{emission-no_fault, one_fault}
+use Rattle.nx_station.proofs.lemmas.strict_reading.EmissionReading.{emission-one}
+use Rattle.nx_station.proofs.lemmas.strict_reading.EmissionFaults.{emission-no_fault, one_fault}
 use Rattle.nx_station.proofs.laws.an_emission_has_one_reading.Goals as goal
 
 pub returns-clause-list : goal.returns-clause-list

@@ -1,5 +1,5 @@
-use Rattle.nx_station.proofs.CheckingLaws.{checked-one, sent-checked}
-use Rattle.nx_station.proofs.TransmissionLength.{length-transmission}
+use Rattle.nx_station.proofs.lemmas.strict_reading.CheckingLaws.{checked-one, sent-checked}
+use Rattle.nx_station.proofs.lemmas.broadcasts.TransmissionLength.{length-transmission}
 use Rattle.nx_station.proofs.laws.checking_gives_back_what_was_sent.Goals as goal
 
 pub returns-clause-within : goal.returns-clause-within

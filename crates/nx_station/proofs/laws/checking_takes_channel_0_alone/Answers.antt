@@ -1,4 +1,4 @@
-use Rattle.nx_station.proofs.CheckingLaws.{checked-alone, checked-one, sent-alone}
+use Rattle.nx_station.proofs.lemmas.strict_reading.CheckingLaws.{checked-alone, checked-one, sent-alone}
 use Rattle.nx_station.proofs.laws.checking_takes_channel_0_alone.Goals as goal
 
 pub returns-clause-same : goal.returns-clause-same

@@ -1,6 +1,6 @@
-use Rattle.nx_station.proofs.DamageLemmas.{length-damaged, lines-elements, lines-kinds}
-use Rattle.nx_station.proofs.DamageLemmas.{lines-others, lines-twice}
-use Rattle.nx_station.proofs.DamageLaws.{files-twice}
+use Rattle.nx_station.proofs.lemmas.damage.Damage.{length-damaged, lines-elements, lines-kinds}
+use Rattle.nx_station.proofs.lemmas.damage.Damage.{lines-others, lines-twice}
+use Rattle.nx_station.proofs.lemmas.damage.DamageLaws.{files-twice}
 use Rattle.nx_station.proofs.laws.damage_undoes_itself.Goals as goal
 
 pub returns-clause-twice : goal.returns-clause-twice

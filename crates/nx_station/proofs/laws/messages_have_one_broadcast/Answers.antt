@@ -1,4 +1,4 @@
-use Rattle.nx_station.proofs.BroadcastLemmas.{broadcast-exists, broadcast-one}
+use Rattle.nx_station.proofs.lemmas.broadcasts.Broadcast.{broadcast-exists, broadcast-one}
 use Rattle.nx_station.proofs.laws.messages_have_one_broadcast.Goals as goal
 
 pub returns-clause-some : goal.returns-clause-some

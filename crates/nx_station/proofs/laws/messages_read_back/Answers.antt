@@ -1,4 +1,4 @@
-use Rattle.nx_station.proofs.ReadingBack.{message-prints, broadcast-prints}
+use Rattle.nx_station.proofs.lemmas.strict_reading.ReadingBack.{message-prints, broadcast-prints}
 use Rattle.nx_station.proofs.laws.messages_read_back.Goals as goal
 
 pub returns-clause-message : goal.returns-clause-message

@@ -2,7 +2,7 @@ use Rattle.std.proofs.Common.{◌++◌, ◌∷◌, ◌∙◌, ap, map, subst, sy
 use Rattle.std.proofs.lemmas.Result.{err_from_is_err_and}
 use Rattle.nx_envelope.specs.Message.{IsMessageFault}
 use Rattle.nx_station.specs.private.MessageParts.{ExplainsFirst}
-use Rattle.nx_station.proofs.FileReading.{text-explains}
+use Rattle.nx_station.proofs.lemmas.message_files.FileReading.{text-explains}
 use Rattle.nx_station.proofs.message_file.first_message.Goals as goal
 
 pub returns-in_err-body-clause-fault : goal.returns-in_err-body-clause-fault

@@ -1,8 +1,8 @@
 use Rattle.std.proofs.Common.{◌≡◌, ◌++◌, ◌∷◌, [], ◌∙◌, ap, map, length, length-append, arith}
 use Rattle.std.proofs.lemmas.List.{map-append}
 use Rattle.nx_station.specs.MessageFile.{file_message_of, file_message_bytes}
-use Rattle.nx_station.proofs.FileReading.{file-more, entries-more, of_station-more, lines-more}
-use Rattle.nx_station.proofs.FileReading.{spelling-long}
+use Rattle.nx_station.proofs.lemmas.message_files.FileReading.{file-more, entries-more, of_station-more, lines-more}
+use Rattle.nx_station.proofs.lemmas.message_files.FileReading.{spelling-long}
 use Rattle.nx_station.proofs.message_file.messages_in.Goals as goal
 
 pub loop-rest-preserved : goal.loop-rest-preserved

@@ -2,7 +2,7 @@ use Rattle.std.proofs.Common.{◌+◌, refl, ◌∙◌, ap, sym, length, map, ar
 use Rattle.std.proofs.lemmas.Bool.{eqb-true, eq-eqb, false≢true}
 use Rattle.std.proofs.lemmas.List.{length-append, length-map}
 use Rattle.nx_envelope.specs.Message.{text_of}
-use Rattle.nx_station.proofs.FileReading.{body-open, body-cut, text-long, none-left, some-left}
+use Rattle.nx_station.proofs.lemmas.message_files.FileReading.{body-open, body-cut, text-long, none-left, some-left}
 use Rattle.nx_station.proofs.message_file.text_lines.Goals as goal
 
 pub returns-then-is_empty-clause-fault : goal.returns-then-is_empty-clause-fault

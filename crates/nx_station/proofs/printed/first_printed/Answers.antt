@@ -1,7 +1,7 @@
 use Rattle.std.proofs.Common.{subst, map, refl}
 use Rattle.std.proofs.lemmas.Result.{err_from_is_err_and}
 use Rattle.nx_envelope.specs.Message.{IsMessageFault}
-use Rattle.nx_station.proofs.PrintedText.{lines-fault, lines-read, printed-header, unmade-fault}
+use Rattle.nx_station.proofs.lemmas.strict_reading.PrintedText.{lines-fault, lines-read, printed-header, unmade-fault}
 use Rattle.nx_station.proofs.printed.first_printed.Goals as goal
 
 pub returns-in_default-identity_of_header-clause-fault :

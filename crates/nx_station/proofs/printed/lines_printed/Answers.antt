@@ -1,5 +1,5 @@
 use Rattle.std.proofs.Common.{◌∙◌, sym, map, refl}
-use Rattle.nx_station.proofs.PrintedText.{marked-open}
+use Rattle.nx_station.proofs.lemmas.strict_reading.PrintedText.{marked-open}
 use Rattle.nx_station.proofs.printed.lines_printed.Goals as goal
 
 pub returns-clause-fault : goal.returns-clause-fault

@@ -1,7 +1,7 @@
 use Rattle.std.proofs.Common.{ap, ◌∙◌, eq-eqb, length}
 use Rattle.std.proofs.lemmas.Bool.{false≢true}
 use Rattle.std.proofs.lemmas.Result.{err_from_is_err_and}
-use Rattle.nx_station.proofs.PrintedText.{left-fault}
+use Rattle.nx_station.proofs.lemmas.strict_reading.PrintedText.{left-fault}
 use Rattle.nx_station.proofs.printed.messages_printed.Goals as goal
 
 pub returns-in_err-part-clause-fault : goal.returns-in_err-part-clause-fault

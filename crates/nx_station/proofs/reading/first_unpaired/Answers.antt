@@ -1,5 +1,5 @@
 use Rattle.std.proofs.Common.{arith}
-use Rattle.nx_fec.proofs.AlignedLemmas.{length-words_of}
+use Rattle.nx_fec.proofs.lemmas.emissions.Aligned.{length-words_of}
 use Rattle.nx_station.proofs.reading.first_unpaired.Goals as goal
 
 pub returns-clause-none : goal.returns-clause-none

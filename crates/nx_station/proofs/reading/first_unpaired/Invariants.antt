@@ -1,5 +1,5 @@
 use Rattle.std.proofs.Common.{ℕ, ◌<◌}
-use Rattle.nx_fec.specs.Aligned.{words_of}
+use Rattle.nx_fec.specs.emissions.Aligned.{words_of}
 use Rattle.nx_station.specs.StrictReading.{IsUnpaired}
 use Rattle.nx_station.proofs.reading.first_unpaired.Given as goal
 

@@ -1,6 +1,6 @@
 use Rattle.std.proofs.Common.{rules}
 use Rattle.std.proofs.Common.{arith}
-use Rattle.nx_fec.proofs.AlignedLemmas.{length-words_of}
+use Rattle.nx_fec.proofs.lemmas.emissions.Aligned.{length-words_of}
 use Rattle.nx_station.proofs.reading.first_wrong_word.Goals as goal
 
 pub returns-clause-none : goal.returns-clause-none

@@ -1,9 +1,9 @@
 use Rattle.std.proofs.Common.{◌∙◌, sym, Some, ap}
 use Rattle.std.proofs.lemmas.Bool.{eqb-true, eq-eqb, false≢true}
 use Rattle.nx_code.specs.Signal.{number_of_signal}
-use Rattle.nx_fec.proofs.EmissionLemmas.{phasing_1-words}
-use Rattle.nx_station.proofs.PairLemmas.{found-traffic, found-repeat, found-alpha, found-beta}
-use Rattle.nx_station.proofs.PairLemmas.{found-none, pair-traffic, pair-repeat, pair-alpha}
+use Rattle.nx_fec.proofs.lemmas.emissions.Emission.{phasing_1-words}
+use Rattle.nx_station.proofs.lemmas.broadcasts.Pair.{found-traffic, found-repeat, found-alpha, found-beta}
+use Rattle.nx_station.proofs.lemmas.broadcasts.Pair.{found-none, pair-traffic, pair-repeat, pair-alpha}
 use Rattle.nx_station.proofs.reading.is_pair.Goals as goal
 
 pub returns-in-Some-Traffic : goal.returns-in-Some-Traffic

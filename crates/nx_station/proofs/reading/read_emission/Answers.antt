@@ -3,10 +3,10 @@ use Rattle.std.proofs.lemmas.Bool.{false≢true, not-false}
 use Rattle.std.proofs.lemmas.Result.{err_from_is_err_and}
 use Rattle.std.specs.Cmp.{booleans_Decides}
 use Rattle.std.specs.Cmp.Lexicographic.{pointwise_decides}
-use Rattle.nx_fec.specs.Emission.{bits_of, emission, sent_position}
+use Rattle.nx_fec.specs.emissions.Emission.{bits_of, emission, sent_position}
 use Rattle.nx_station.specs.Broadcast.{IsBroadcast}
 use Rattle.nx_station.specs.Sendable.{IsRefusal, IsSendable}
-use Rattle.nx_station.proofs.EmissionFaults.{differing-fault, refused-fault, unprinted-fault}
+use Rattle.nx_station.proofs.lemmas.strict_reading.EmissionFaults.{differing-fault, refused-fault, unprinted-fault}
 use Rattle.nx_station.proofs.reading.read_emission.Goals as goal
 
 pub returns-in_err-messages-clause-fault : goal.returns-in_err-messages-clause-fault

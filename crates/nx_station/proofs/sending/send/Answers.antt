@@ -1,20 +1,19 @@
 use Rattle.std.proofs.Common.{rules}
-use Rattle.std.proofs.Common.{◌≡◌, ◌≢◌, ◌++◌, [], ◌∙◌, List, ℕ, ap, subst, refl, map, length, arith}
+use Rattle.std.proofs.Common.{◌≡◌, ◌≢◌, ◌++◌, [], ◌∙◌, ap, subst, refl, map, length, arith}
 use Rattle.std.proofs.lemmas.Bool.{false≢true, eq-eqb}
 use Rattle.std.proofs.lemmas.List.{length-map}
 use Rattle.std.proofs.lemmas.Result.{err_from_is_err_and}
-use Rattle.nx_envelope.specs.Message.{MessageView}
-use Rattle.nx_fec.specs.BitLines.{bit_lines}
-use Rattle.nx_fec.specs.Emission.{bits_of, emission, sent_position}
-use Rattle.nx_fec.specs.Lines.{file_of}
+use Rattle.nx_fec.specs.air_files.BitLines.{bit_lines}
+use Rattle.nx_fec.specs.emissions.Emission.{bits_of, emission, sent_position}
+use Rattle.nx_fec.specs.air_files.Lines.{file_of}
 use Rattle.nx_fec.specs.Transfers.{devices}
 use Rattle.nx_station.specs.Faults.{send_fault}
 use Rattle.nx_station.specs.MessageFile.{IsMessageFile, file_message_of}
-use Rattle.nx_station.specs.Sendable.{AreOf, IsRefusal}
+use Rattle.nx_station.specs.Sendable.{IsRefusal}
 use Rattle.nx_station.specs.declared.fault.SendFault.TheVariants as refusal
 use Rattle.nx_station.specs.declared.fault.SendRunFault.TheVariants.{Send}
-use Rattle.nx_station.proofs.SendingLaws.{unsent, unwritten, sent-all, refusal-explains}
-use Rattle.nx_station.proofs.SendingLaws.{refusal-inside, transmission-of}
+use Rattle.nx_station.proofs.lemmas.broadcasts.SendingLaws.{unsent, unwritten, sent-all, refusal-explains}
+use Rattle.nx_station.proofs.lemmas.broadcasts.SendingLaws.{refusal-inside, transmission-of}
 use Rattle.nx_station.proofs.sending.send.Goals as goal
 
 pub returns-in_default : goal.returns-in_default

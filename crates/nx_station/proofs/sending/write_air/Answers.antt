@@ -1,5 +1,5 @@
 use Rattle.std.proofs.Common.{arith}
-use Rattle.nx_fec.proofs.WritingLaws.{WroteSome-after}
+use Rattle.nx_fec.proofs.lemmas.devices.WritingLaws.{WroteSome-after}
 use Rattle.nx_station.proofs.sending.write_air.Goals as goal
 
 pub returns-in-Err-clause-err : goal.returns-in-Err-clause-err

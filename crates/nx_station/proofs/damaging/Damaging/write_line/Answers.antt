@@ -1,11 +1,11 @@
 use Rattle.std.proofs.Common.{◌∙◌, ◌+◌, ◌-◌, drop, length, take, ap, subst}
 use Rattle.std.specs.Option.{option_map}
 use Rattle.std.proofs.lemmas.List.{length-map}
-use Rattle.nx_fec.specs.AirFile.{element_digit}
-use Rattle.nx_fec.specs.Lines.{elements_on}
-use Rattle.nx_fec.specs.declared.channel.Channel.TheVariants.{Zero}
+use Rattle.nx_fec.specs.air_files.AirFile.{element_digit}
+use Rattle.nx_fec.specs.air_files.Lines.{elements_on}
+use Rattle.nx_fec.specs.declared.air_files.channel.Channel.TheVariants.{Zero}
 use Rattle.nx_station.specs.private.DamageTaker.{HasDigitsFrom, IsAt}
-use Rattle.nx_station.proofs.DamageLaws.{has-digits, line-digits, line-refilled, text-short}
+use Rattle.nx_station.proofs.lemmas.damage.DamageLaws.{has-digits, line-digits, line-refilled, text-short}
 use Rattle.nx_station.proofs.damaging.Damaging.write_line.Goals as goal
 
 pub copy_line-requires-clause-short : goal.copy_line-requires-clause-short

@@ -1,6 +1,6 @@
 use Rattle.std.proofs.Common.{◌∙◌, ◌++◌}
 use Rattle.nx_station.specs.private.DamageTaker.{damage_of}
-use Rattle.nx_station.proofs.DamageLaws.{taken-more}
+use Rattle.nx_station.proofs.lemmas.damage.DamageLaws.{taken-more}
 use Rattle.nx_station.proofs.damaging.DamagingLineTaker.take.Goals as goal
 
 pub returns-in-Ok-clause-taken : goal.returns-in-Ok-clause-taken

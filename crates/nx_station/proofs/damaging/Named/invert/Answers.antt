@@ -1,6 +1,6 @@
 use Rattle.std.proofs.Common.{◌+◌, map, ap, ◌∙◌, arith}
-use Rattle.nx_fec.specs.AirFile.{element_digit}
-use Rattle.nx_station.proofs.NamedLemmas.{count-more, stride-few, walk-ends, walk-next}
+use Rattle.nx_fec.specs.air_files.AirFile.{element_digit}
+use Rattle.nx_station.proofs.lemmas.damage.Named.{count-more, stride-few, walk-ends, walk-next}
 use Rattle.nx_station.proofs.damaging.Named.invert.Goals as goal
 
 pub loop-at-preserved : goal.loop-at-preserved

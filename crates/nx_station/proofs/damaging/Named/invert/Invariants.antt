@@ -1,5 +1,5 @@
 use Rattle.std.proofs.Common.{◌≡◌, ℕ, ◌-◌, ◌≤◌, Bool, List, map}
-use Rattle.nx_fec.specs.AirFile.{element_digit}
+use Rattle.nx_fec.specs.air_files.AirFile.{element_digit}
 use Rattle.nx_station.specs.Damage.{Damage}
 use Rattle.nx_station.specs.private.DamageTaker.{AreNamed}
 use Rattle.nx_station.specs.private.DamageWalk.{IsOnWalk, front, front_count}

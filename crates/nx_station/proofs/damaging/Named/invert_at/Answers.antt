@@ -1,4 +1,4 @@
-use Rattle.nx_station.proofs.NamedLemmas.{digits-at}
+use Rattle.nx_station.proofs.lemmas.damage.Named.{digits-at}
 use Rattle.nx_station.proofs.damaging.Named.invert_at.Goals as goal
 
 pub returns : goal.returns

@@ -1,7 +1,7 @@
 use Rattle.std.proofs.Common.{◌+◌, ◌*◌, map, sym, ap, ◌∙◌, arith}
-use Rattle.nx_fec.specs.AirFile.{element_digit}
-use Rattle.nx_station.proofs.NamedLemmas.{count-fours, stride-few, walk-begins, walk-by}
-use Rattle.nx_station.proofs.NamedLemmas.{walk-starts}
+use Rattle.nx_fec.specs.air_files.AirFile.{element_digit}
+use Rattle.nx_station.proofs.lemmas.damage.Named.{count-fours, stride-few, walk-begins, walk-by}
+use Rattle.nx_station.proofs.lemmas.damage.Named.{walk-starts}
 use Rattle.nx_station.proofs.damaging.Named.invert_fours.Goals as goal
 
 pub loop-at-init : goal.loop-at-init

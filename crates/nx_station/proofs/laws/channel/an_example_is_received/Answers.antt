@@ -1,5 +1,5 @@
-use Rattle.nx_station.proofs.ChannelExamples.{example_cut, example_received, example_sendable}
-use Rattle.nx_station.proofs.ChannelExamples.{example_sent, not_received}
+use Rattle.nx_station.proofs.lemmas.reception.ChannelExamples.{example_cut, example_received, example_sendable}
+use Rattle.nx_station.proofs.lemmas.reception.ChannelExamples.{example_sent, not_received}
 use Rattle.nx_station.proofs.laws.channel.an_example_is_received.Goals as goal
 
 pub returns-clause-sendable : goal.returns-clause-sendable

@@ -1,5 +1,5 @@
-use Rattle.nx_station.proofs.ChannelPositions.{all_tell}
-use Rattle.nx_station.proofs.ChannelUndamaged.{undamaged-cut, undamaged-received}
+use Rattle.nx_station.proofs.lemmas.reception.ChannelPositions.{all_tell}
+use Rattle.nx_station.proofs.lemmas.reception.ChannelUndamaged.{undamaged-cut, undamaged-received}
 use Rattle.nx_station.proofs.laws.channel.an_undamaged_emission_is_received.Goals as goal
 
 pub returns-clause-passes : goal.returns-clause-passes

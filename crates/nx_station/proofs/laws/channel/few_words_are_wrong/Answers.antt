@@ -1,5 +1,5 @@
-use Rattle.nx_station.proofs.ChannelWindows.{few-listed, few-in_lock, received-inner}
-use Rattle.nx_station.proofs.ChannelLaws.{few-wrong}
+use Rattle.nx_station.proofs.lemmas.reception.ChannelWindows.{few-listed, few-in_lock, received-inner}
+use Rattle.nx_station.proofs.lemmas.reception.ChannelLaws.{few-wrong}
 use Rattle.nx_station.proofs.laws.channel.few_words_are_wrong.Goals as goal
 
 pub returns-clause-few : goal.returns-clause-few

@@ -1,4 +1,4 @@
-use Rattle.nx_station.proofs.SendingsLemmas.{digit-sent, digit-within, message-stands}
+use Rattle.nx_station.proofs.lemmas.reception.Sendings.{digit-sent, digit-within, message-stands}
 use Rattle.nx_station.proofs.laws.channel.messages_stand_in_their_emission.Goals as goal
 
 pub returns-clause-stands : goal.returns-clause-stands

@@ -1,5 +1,5 @@
-use Rattle.nx_station.proofs.ChannelWindows.{received-inner}
-use Rattle.nx_station.proofs.ChannelLaws.{no-phasing_1}
+use Rattle.nx_station.proofs.lemmas.reception.ChannelWindows.{received-inner}
+use Rattle.nx_station.proofs.lemmas.reception.ChannelLaws.{no-phasing_1}
 use Rattle.nx_station.proofs.laws.channel.no_phasing_1_before_the_end.Goals as goal
 
 pub returns : goal.returns

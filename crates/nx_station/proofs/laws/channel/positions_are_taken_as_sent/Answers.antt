@@ -1,5 +1,5 @@
-use Rattle.nx_station.proofs.ChannelWindows.{received-inner}
-use Rattle.nx_station.proofs.ChannelLaws.{taken-as_sent}
+use Rattle.nx_station.proofs.lemmas.reception.ChannelWindows.{received-inner}
+use Rattle.nx_station.proofs.lemmas.reception.ChannelLaws.{taken-as_sent}
 use Rattle.nx_station.proofs.laws.channel.positions_are_taken_as_sent.Goals as goal
 
 pub returns : goal.returns

@@ -1,7 +1,7 @@
 use Rattle.std.proofs.Common.{◌-◌, arith}
-use Rattle.nx_station.proofs.ChannelWindows.{word-in_bits}
+use Rattle.nx_station.proofs.lemmas.reception.ChannelWindows.{word-in_bits}
 use Rattle.nx_station.specs.Channel.{first_slot}
-use Rattle.nx_station.proofs.ChannelPhasing.{heard-phasing}
+use Rattle.nx_station.proofs.lemmas.reception.ChannelPhasing.{heard-phasing}
 use Rattle.nx_station.proofs.laws.channel.words_stand_in_the_bits.Goals as goal
 
 pub returns-clause-phasing : goal.returns-clause-phasing

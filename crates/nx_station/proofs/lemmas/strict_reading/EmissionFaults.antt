@@ -4,8 +4,8 @@ use Rattle.std.proofs.Common.{subst, arith}
 use Rattle.std.specs.List.{flat_map}
 use Rattle.std.proofs.lemmas.Bool.{cases_lt}
 use Rattle.nx_envelope.specs.Message.{MessageView}
-use Rattle.nx_fec.specs.Aligned.{aligned_text, words_of}
-use Rattle.nx_fec.specs.Emission.{SentPosition, bits_of, emission}
+use Rattle.nx_fec.specs.emissions.Aligned.{aligned_text, words_of}
+use Rattle.nx_fec.specs.emissions.Emission.{SentPosition, bits_of, emission}
 use Rattle.nx_station.specs.Broadcast.{IsBroadcast, printed_text}
 use Rattle.nx_station.specs.Faults.{unread_fault}
 use Rattle.nx_station.specs.Sendable.{IsRefusal, IsSendable, HasSlots}
@@ -17,11 +17,11 @@ use Rattle.nx_station.specs.declared.fault.EmissionFault.TheVariants.{Ragged, Wr
 use Rattle.nx_station.specs.declared.fault.EmissionFault.TheVariants.{BadEnvelope, Memory}
 use Rattle.nx_station.specs.declared.fault.SendFault.{SendFault}
 use Rattle.nx_station.specs.declared.fault.SendFault.TheVariants as refusal
-use Rattle.nx_station.proofs.BroadcastLemmas.{broadcast-one}
-use Rattle.nx_station.proofs.EmissionReading.{emission-paired, emission-right, emission-text}
-use Rattle.nx_station.proofs.EmissionReading.{emission-whole}
-use Rattle.nx_station.proofs.PrintedText.{printed-one}
-use Rattle.nx_station.proofs.SendingLaws.{of_one-None, same-station}
+use Rattle.nx_station.proofs.lemmas.broadcasts.Broadcast.{broadcast-one}
+use Rattle.nx_station.proofs.lemmas.strict_reading.EmissionReading.{emission-paired, emission-right, emission-text}
+use Rattle.nx_station.proofs.lemmas.strict_reading.EmissionReading.{emission-whole}
+use Rattle.nx_station.proofs.lemmas.strict_reading.PrintedText.{printed-one}
+use Rattle.nx_station.proofs.lemmas.broadcasts.SendingLaws.{of_one-None, same-station}
 
 -- ---- one outcome
 

@@ -6,7 +6,7 @@ use Rattle.std.specs.List.{count_by}
 use Rattle.std.proofs.lemmas.List.{get_or-drop}
 use Rattle.std.proofs.lemmas.List.Sums.{count_by_more_yes, count_by_more_no}
 use Rattle.nx_code.specs.Word.{weight, is_wrong, wrong_in}
-use Rattle.nx_code.proofs.WordCounts.{one_if-le}
+use Rattle.nx_code.proofs.lemmas.WordCounts.{one_if-le}
 
 -- a word of the wrong weight counts one
 abbrev pub one_if_wrong : ℕ → ℕ

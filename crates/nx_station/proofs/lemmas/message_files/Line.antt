@@ -8,7 +8,7 @@ use Rattle.std.proofs.lemmas.List.Elements.{recursion_from_All}
 use Rattle.nx_code.specs.Reading.{is_in_code, characters}
 use Rattle.nx_envelope.specs.Identity.{two_digits}
 use Rattle.nx_envelope.specs.Message.{IsMessageLine, IsLineByte, text_of}
-use Rattle.nx_fec.proofs.LineLaws.{first_feed, no_feed-not}
+use Rattle.nx_fec.proofs.lemmas.lines.LineLaws.{first_feed, no_feed-not}
 use Rattle.nx_station.specs.MessageFile.{FileMessage, IsOneLine, IsInside, IsNamed, IsFileMessage}
 use Rattle.nx_station.specs.MessageFile.{IsBegun, heading, closing, opening, file_message_bytes}
 

@@ -3,19 +3,19 @@ use Rattle.std.proofs.Common.{◌≡◌, ℕ, ◌<◌, ◌≤◌, ◌^◌, Bool,
 use Rattle.std.proofs.Common.{Result, Ok, Err, refl, sym, ap, ◌∙◌, subst, arith, length-append}
 use Rattle.nx_envelope.specs.Message.{MessageView}
 use Rattle.std.specs.List.{flat_map}
-use Rattle.nx_fec.specs.AirFile.{Line, moment}
-use Rattle.nx_fec.specs.BitLines.{bit_lines}
+use Rattle.nx_fec.specs.air_files.AirFile.{Line, moment}
+use Rattle.nx_fec.specs.air_files.BitLines.{bit_lines}
 use Rattle.nx_fec.specs.Transfers.{WroteSome, Devices, IsReadOut, Reads}
-use Rattle.nx_fec.specs.Emission.{bits_of, emission}
-use Rattle.nx_fec.specs.Lines.{IsAirFile, IsBitFile, IsFaultless, elements_on, line_bytes}
-use Rattle.nx_fec.specs.Lines.{file_of as air_file_of}
+use Rattle.nx_fec.specs.emissions.Emission.{bits_of, emission}
+use Rattle.nx_fec.specs.air_files.Lines.{IsAirFile, IsBitFile, IsFaultless, elements_on, line_bytes}
+use Rattle.nx_fec.specs.air_files.Lines.{file_of as air_file_of}
 use Rattle.nx_fec.specs.Runs.{IsOutside, file_limit}
-use Rattle.nx_fec.specs.declared.channel.Channel.TheVariants.{Zero}
+use Rattle.nx_fec.specs.declared.air_files.channel.Channel.TheVariants.{Zero}
 use Rattle.nx_fec.specs.declared.fault.RunFault.{RunFault}
 use Rattle.nx_fec.specs.declared.fault.RunFault.TheVariants as run
-use Rattle.nx_fec.proofs.EncodingLaws.{bit_lines-IsBitFile}
-use Rattle.nx_fec.proofs.LineLaws.{IsBitFile-unique}
-use Rattle.nx_fec.proofs.TransferLaws.{Ok-not_err, Reads-on}
+use Rattle.nx_fec.proofs.lemmas.emissions.EncodingLaws.{bit_lines-IsBitFile}
+use Rattle.nx_fec.proofs.lemmas.lines.LineLaws.{IsBitFile-unique}
+use Rattle.nx_fec.proofs.lemmas.devices.TransferLaws.{Ok-not_err, Reads-on}
 use Rattle.nx_station.specs.Checking.{Checks, IsChecked, report, station_line}
 use Rattle.nx_station.specs.FileSending.{IsTransmission}
 use Rattle.nx_station.specs.Sendable.{AreOf}
@@ -24,8 +24,8 @@ use Rattle.nx_station.specs.declared.fault.CheckFault.{CheckFault}
 use Rattle.nx_station.specs.declared.fault.CheckFault.TheVariants.{Run, Emission}
 use Rattle.nx_station.specs.declared.fault.EmissionFault.{EmissionFault}
 use Rattle.nx_station.specs.declared.sending.Sent.{Sent}
-use Rattle.nx_station.proofs.EmissionReading.{emission-one}
-use Rattle.nx_station.proofs.SendingLaws.{same-station}
+use Rattle.nx_station.proofs.lemmas.strict_reading.EmissionReading.{emission-one}
+use Rattle.nx_station.proofs.lemmas.broadcasts.SendingLaws.{same-station}
 
 -- an outcome of reading elements
 abbrev pub as_read : {N : Type 0} → Result N RunFault → Result N RunFault

@@ -2,10 +2,10 @@
 use Rattle.std.proofs.Common.{◌≡◌, ℕ, ◌-◌, ◌≤◌, refl, ap, ◌∙◌, arith}
 use Rattle.nx_code.specs.Table.{phasing_1, phasing_2}
 use Rattle.nx_code.specs.Word.{weight, elements, elements_from}
-use Rattle.nx_code.proofs.TableLemmas.{traffic_word-is}
-use Rattle.nx_fec.specs.Emission.{SentPosition, IsInCode, dx_word, rx_word, phasing_position}
-use Rattle.nx_fec.specs.Emission.{traffic_position, end_position}
-use Rattle.nx_fec.proofs.PairingLemmas.{weight-words}
+use Rattle.nx_code.proofs.lemmas.Table.{traffic_word-is}
+use Rattle.nx_fec.specs.emissions.Emission.{SentPosition, IsInCode, dx_word, rx_word, phasing_position}
+use Rattle.nx_fec.specs.emissions.Emission.{traffic_position, end_position}
+use Rattle.nx_fec.proofs.lemmas.emissions.Pairing.{weight-words}
 
 pub phasing_1-weight : weight phasing_1 ≡ 4
 unfolding weight elements elements_from

@@ -4,13 +4,13 @@ use Rattle.std.proofs.Common.{false, not, List, length, map, get_or, set, inl, i
 use Rattle.std.proofs.Common.{◌∙◌, subst, arith}
 use lib.Bits.{bit_xor}
 use Rattle.std.proofs.lemmas.List.{length-map, map-set, get_or-map}
-use Rattle.nx_fec.specs.AirFile.{element_digit}
+use Rattle.nx_fec.specs.air_files.AirFile.{element_digit}
 use Rattle.nx_station.specs.Damage.{Damage, damaged_elements, inverted_count, inverts}
 use Rattle.nx_station.specs.private.DamageTaker.{AreNamed}
 use Rattle.nx_station.specs.private.DamageWalk.{IsOnWalk, front, front_count}
 use Rattle.nx_station.specs.declared.damaging.Named.{Named}
-use Rattle.nx_station.proofs.DamageLemmas.{front-all, front-inverted, front-same, front_count-all}
-use Rattle.nx_station.proofs.DamageLemmas.{front_count-inverted, front_count-same, length-front}
+use Rattle.nx_station.proofs.lemmas.damage.Damage.{front-all, front-inverted, front-same, front_count-all}
+use Rattle.nx_station.proofs.lemmas.damage.Damage.{front_count-inverted, front_count-same, length-front}
 
 -- ---- strides
 

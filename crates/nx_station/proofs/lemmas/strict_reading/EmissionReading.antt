@@ -10,23 +10,23 @@ use Rattle.std.proofs.lemmas.List.Elements.{All-from_recursion}
 use Rattle.nx_code.specs.Reading.{idle, text}
 use Rattle.nx_code.specs.Word.{weight}
 use Rattle.nx_code.specs.declared.shifts.Shift.TheVariants.{Letters}
-use Rattle.nx_code.proofs.ReadingLemmas.{text-append}
+use Rattle.nx_code.proofs.lemmas.Reading.{text-append}
 use Rattle.nx_envelope.specs.Message.{MessageView}
-use Rattle.nx_fec.specs.Aligned.{aligned_text, words_of}
-use Rattle.nx_fec.specs.Emission.{SentPosition, AreInCode, IsInCode, bits_of, emission}
-use Rattle.nx_fec.specs.Emission.{end_position, phasing_position, position_at, reception}
-use Rattle.nx_fec.specs.Emission.{traffic_position, word_sent}
-use Rattle.nx_fec.proofs.EmissionLemmas.{AreWords-emission, IsEmission-emission, get_or-emission}
-use Rattle.nx_fec.proofs.EmissionLemmas.{length-emission, word_sent-dx, word_sent-rx}
-use Rattle.nx_fec.proofs.RoundTripLemmas.{length-bits_of, receptions-IsEmission, words_of-bits_of}
+use Rattle.nx_fec.specs.emissions.Aligned.{aligned_text, words_of}
+use Rattle.nx_fec.specs.emissions.Emission.{SentPosition, AreInCode, IsInCode, bits_of, emission}
+use Rattle.nx_fec.specs.emissions.Emission.{end_position, phasing_position, position_at, reception}
+use Rattle.nx_fec.specs.emissions.Emission.{traffic_position, word_sent}
+use Rattle.nx_fec.proofs.lemmas.emissions.Emission.{AreWords-emission, IsEmission-emission, get_or-emission}
+use Rattle.nx_fec.proofs.lemmas.emissions.Emission.{length-emission, word_sent-dx, word_sent-rx}
+use Rattle.nx_fec.proofs.lemmas.emissions.RoundTrip.{length-bits_of, receptions-IsEmission, words_of-bits_of}
 use Rattle.nx_station.specs.Broadcast.{AreSpelled, IsBroadcast, IsSpelled, layout}
 use Rattle.nx_station.specs.Broadcast.{phasing_and_message, printed_text, first_phasing}
 use Rattle.nx_station.specs.Broadcast.{further_phasing, end_positions}
 use Rattle.nx_station.specs.StrictReading.{IsEmissionOf, AreRight, ArePaired, AreWhole, IsPair}
-use Rattle.nx_station.proofs.ChannelPositions.{IsCombination, each-append, spelled-combinations}
-use Rattle.nx_station.proofs.PrintedText.{printed-one}
-use Rattle.nx_station.proofs.ReadingBack.{broadcast-prints}
-use Rattle.nx_station.proofs.WordWeights.{phasing_1-weight, dx-weight, rx-weight}
+use Rattle.nx_station.proofs.lemmas.reception.ChannelPositions.{IsCombination, each-append, spelled-combinations}
+use Rattle.nx_station.proofs.lemmas.strict_reading.PrintedText.{printed-one}
+use Rattle.nx_station.proofs.lemmas.strict_reading.ReadingBack.{broadcast-prints}
+use Rattle.nx_station.proofs.lemmas.reception.WordWeights.{phasing_1-weight, dx-weight, rx-weight}
 
 -- ---- the positions of messages are in the code
 

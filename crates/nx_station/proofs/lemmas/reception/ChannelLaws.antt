@@ -7,21 +7,21 @@ use Rattle.std.proofs.lemmas.Bool.{cases_lt, cases_eq, eq-eqb}
 use Rattle.nx_code.specs.Table.{phasing_1, phasing_2, traffic_word}
 use Rattle.nx_code.specs.Word.{weight, wrong_in}
 use Rattle.nx_code.specs.Reading.{combination, lost}
-use Rattle.nx_code.proofs.TableLemmas.{traffic_word-is}
-use Rattle.nx_fec.specs.Emission.{SentPosition, phasing_position, traffic_position, end_position}
-use Rattle.nx_fec.specs.Emission.{dx_word, rx_word, position_at, word_sent, reception, IsInCode}
-use Rattle.nx_fec.specs.Pairing.{Counted, traffic, idle_signal, nothing, counts_as, pairing}
-use Rattle.nx_fec.proofs.EmissionLemmas.{word_sent-dx, word_sent-rx}
-use Rattle.nx_fec.proofs.PairingLemmas.{counts_as-combination, counts_as-wrong}
-use Rattle.nx_fec.proofs.RoundTripLemmas.{counts_as-phasing_1, counts_as-phasing_2}
+use Rattle.nx_code.proofs.lemmas.Table.{traffic_word-is}
+use Rattle.nx_fec.specs.emissions.Emission.{SentPosition, phasing_position, traffic_position, end_position}
+use Rattle.nx_fec.specs.emissions.Emission.{dx_word, rx_word, position_at, word_sent, reception, IsInCode}
+use Rattle.nx_fec.specs.emissions.Pairing.{Counted, traffic, idle_signal, nothing, counts_as, pairing}
+use Rattle.nx_fec.proofs.lemmas.emissions.Emission.{word_sent-dx, word_sent-rx}
+use Rattle.nx_fec.proofs.lemmas.emissions.Pairing.{counts_as-combination, counts_as-wrong}
+use Rattle.nx_fec.proofs.lemmas.emissions.RoundTrip.{counts_as-phasing_1, counts_as-phasing_2}
 use Rattle.nx_station.specs.Channel.{PassesChannel, IsAsSent, heard_in, first_slot, message_slot}
 use Rattle.nx_station.specs.Channel.{slots_of, window, most_wrong}
-use Rattle.nx_station.proofs.ChannelCounts.{one_if_wrong, right-counts_none, one_if_wrong-le}
-use Rattle.nx_station.proofs.ChannelCounts.{wrong_in-right, wrong_in-one}
-use Rattle.nx_code.proofs.WordCounts.{wrong_in-add, wrong_in-le}
-use Rattle.nx_station.proofs.ChannelPositions.{HasInner, IsInner, inner-no_end, position-end}
-use Rattle.nx_station.proofs.ChannelPositions.{position-inner}
-use Rattle.nx_station.proofs.WordWeights.{phasing_1-weight, dx-weight, rx-weight}
+use Rattle.nx_station.proofs.lemmas.reception.ChannelCounts.{one_if_wrong, right-counts_none, one_if_wrong-le}
+use Rattle.nx_station.proofs.lemmas.reception.ChannelCounts.{wrong_in-right, wrong_in-one}
+use Rattle.nx_code.proofs.lemmas.WordCounts.{wrong_in-add, wrong_in-le}
+use Rattle.nx_station.proofs.lemmas.reception.ChannelPositions.{HasInner, IsInner, inner-no_end, position-end}
+use Rattle.nx_station.proofs.lemmas.reception.ChannelPositions.{position-inner}
+use Rattle.nx_station.proofs.lemmas.reception.WordWeights.{phasing_1-weight, dx-weight, rx-weight}
 use Rattle.nx_station.specs.Broadcast.{first_phasing, end_positions}
 
 -- ---- the words that are sent

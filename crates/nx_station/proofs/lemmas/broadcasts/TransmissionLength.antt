@@ -1,21 +1,21 @@
 -- How many bytes an air file has that sending wrote.
-use Rattle.std.proofs.Common.{◌≡◌, ℕ, ◌*◌, ◌^◌, ◌<◌, ◌≤◌, Bool, List, [], ◌∷◌, None, map, length}
+use Rattle.std.proofs.Common.{ℕ, ◌*◌, ◌^◌, ◌<◌, ◌≤◌, Bool, List, [], ◌∷◌, None, map, length}
 use Rattle.std.proofs.Common.{take, drop, sym, ap, ◌∙◌, arith}
 use Rattle.std.specs.Int.{div_ceil}
 use Rattle.std.specs.List.{range_with_len}
 use Rattle.std.proofs.lemmas.List.{length-append, length-map, length-take}
 use Rattle.std.proofs.lemmas.List.FromFn.{length-map-range_with_len}
-use Rattle.nx_fec.specs.AirFile.{Line, element_digit, elements, moment, spelling}
-use Rattle.nx_fec.specs.BitLines.{bit_lines}
-use Rattle.nx_fec.specs.Emission.{bits_of, emission}
-use Rattle.nx_fec.specs.Lines.{file_of, line_bytes}
+use Rattle.nx_fec.specs.air_files.AirFile.{Line, element_digit, elements, moment, spelling}
+use Rattle.nx_fec.specs.air_files.BitLines.{bit_lines}
+use Rattle.nx_fec.specs.emissions.Emission.{bits_of, emission}
+use Rattle.nx_fec.specs.air_files.Lines.{file_of, line_bytes}
 use Rattle.nx_fec.specs.Runs.{file_limit}
-use Rattle.nx_fec.proofs.EmissionLemmas.{length-emission}
-use Rattle.nx_fec.proofs.LineLaws.{spelling-IsBeginning}
-use Rattle.nx_fec.proofs.RoundTripLemmas.{length-bits_of}
+use Rattle.nx_fec.proofs.lemmas.emissions.Emission.{length-emission}
+use Rattle.nx_fec.proofs.lemmas.lines.LineLaws.{spelling-IsBeginning}
+use Rattle.nx_fec.proofs.lemmas.emissions.RoundTrip.{length-bits_of}
 use Rattle.nx_station.specs.FileSending.{IsTransmission}
 use Rattle.nx_station.specs.declared.sending.Sent.{Sent}
-use Rattle.nx_station.proofs.BroadcastLemmas.{broadcast-one}
+use Rattle.nx_station.proofs.lemmas.broadcasts.Broadcast.{broadcast-one}
 
 length-some : (bits : ℕ → List Bool) (indices : List ℕ) → ((i : ℕ) → length (bits i) ≤ 490)
     → length (file_of (map (λ i. elements None (bits i)) indices)) ≤ 493 * length indices

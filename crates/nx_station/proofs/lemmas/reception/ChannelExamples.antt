@@ -11,11 +11,11 @@ use Rattle.nx_code.specs.Spelling.{Spells}
 use Rattle.nx_code.specs.Table.{row_of, table, traffic_word}
 use Rattle.nx_code.specs.Word.{elements, elements_from, weight}
 use Rattle.nx_code.specs.declared.shifts.Shift.TheVariants.{Letters, Figures}
-use Rattle.nx_code.proofs.SpellingLemmas.{Spells-push, spells_here, spells_newline, spells_there}
+use Rattle.nx_code.proofs.lemmas.Spelling.{Spells-push, spells_here, spells_newline, spells_there}
 use Rattle.nx_envelope.specs.Message.{AreLines, IsMessageLine, IsLineByte}
-use Rattle.nx_envelope.proofs.WordsInTexts.{holds_none}
-use Rattle.nx_fec.specs.Emission.{SentPosition, phasing_position, traffic_position, end_position}
-use Rattle.nx_fec.specs.Emission.{bits_of, position_at, word_sent}
+use Rattle.nx_envelope.proofs.lemmas.messages.WordsInTexts.{holds_none}
+use Rattle.nx_fec.specs.emissions.Emission.{SentPosition, phasing_position, traffic_position, end_position}
+use Rattle.nx_fec.specs.emissions.Emission.{bits_of, position_at, word_sent}
 use Rattle.nx_station.specs.Broadcast.{IsSpelled, ending, first_phasing, head, layout}
 use Rattle.nx_station.specs.Channel.{PassesChannel, IsAsSent, first_slot, heard_in, message_slot}
 use Rattle.nx_station.specs.Channel.{phasing_received, phasing_words, slots_of}
@@ -24,8 +24,8 @@ use Rattle.nx_station.specs.ChannelExample.{example_sending, example_message, ex
 use Rattle.nx_station.specs.ChannelExample.{example_words, heard_half, heard_without_75}
 use Rattle.nx_station.specs.Sendable.{IsSendable}
 use Rattle.nx_station.specs.Sendings.{IsCut, IsReceived, IsSending, gap}
-use Rattle.nx_station.proofs.ChannelPositions.{spelled-tells}
-use Rattle.nx_station.proofs.SendingsLemmas.{each_received}
+use Rattle.nx_station.proofs.lemmas.reception.ChannelPositions.{spelled-tells}
+use Rattle.nx_station.proofs.lemmas.reception.Sendings.{each_received}
 
 -- ---- whether an emission passes the channel, computed
 

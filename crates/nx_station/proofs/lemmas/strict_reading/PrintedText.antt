@@ -11,8 +11,8 @@ use Rattle.nx_envelope.specs.Message.{MessageView}
 use Rattle.nx_envelope.specs.declared.identity.Identity.{Identity}
 use Rattle.nx_envelope.specs.declared.message.MessageFault.{MessageFault}
 use Rattle.nx_envelope.specs.declared.message.MessageFault.TheVariants as message
-use Rattle.nx_envelope.proofs.Identities.{same_identity-true}
-use Rattle.nx_fec.proofs.LineLaws.{first_feed, no_feed-not}
+use Rattle.nx_envelope.proofs.lemmas.headers.Identities.{same_identity-true}
+use Rattle.nx_fec.proofs.lemmas.lines.LineLaws.{first_feed, no_feed-not}
 use Rattle.nx_station.specs.Broadcast.{header, printed_text}
 use Rattle.nx_station.specs.Faults.{unmade_fault}
 use Rattle.nx_station.specs.MessageFile.{IsOneLine}
@@ -22,9 +22,9 @@ use Rattle.nx_station.specs.private.PrintedText.{ended_lines}
 use Rattle.nx_station.specs.declared.fault.EmissionFault.{EmissionFault}
 use Rattle.nx_station.specs.declared.fault.EmissionFault.TheVariants.{Ragged, WrongWord, Unpaired}
 use Rattle.nx_station.specs.declared.fault.EmissionFault.TheVariants.{BadEnvelope, Memory}
-use Rattle.nx_station.proofs.LineLemmas.{digits-same, line_bytes}
-use Rattle.nx_station.proofs.LineLemmas.{text-cons}
-use Rattle.nx_station.proofs.MessageFaultLemmas.{none_of_message}
+use Rattle.nx_station.proofs.lemmas.message_files.Line.{digits-same, line_bytes}
+use Rattle.nx_station.proofs.lemmas.message_files.Line.{text-cons}
+use Rattle.nx_station.proofs.lemmas.message_files.MessageFault.{none_of_message}
 
 -- ---- lines that are ended by NNNN
 

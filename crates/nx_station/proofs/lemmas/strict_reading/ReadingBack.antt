@@ -10,22 +10,22 @@ use Rattle.nx_code.specs.Reading.{Reception, combination, idle, character_of, sh
 use Rattle.nx_code.specs.Reading.{shift_after_all, text}
 use Rattle.nx_code.specs.declared.shifts.Shift.{Shift}
 use Rattle.nx_code.specs.declared.shifts.Shift.TheVariants.{Letters, Figures}
-use Rattle.nx_code.proofs.ReadingLemmas.{text-append, shift_after_all-append}
-use Rattle.nx_code.proofs.SpellingLemmas.{number_of_shift, after_character, after_shift}
-use Rattle.nx_code.proofs.SpellingLemmas.{printed-shift, printed-return, printed-line_feed}
+use Rattle.nx_code.proofs.lemmas.Reading.{text-append, shift_after_all-append}
+use Rattle.nx_code.proofs.lemmas.Spelling.{number_of_shift, after_character, after_shift}
+use Rattle.nx_code.proofs.lemmas.Spelling.{printed-shift, printed-return, printed-line_feed}
 use Rattle.nx_envelope.specs.Message.{text_of, MessageView}
 use Rattle.nx_envelope.specs.declared.identity.Identity.{Identity}
-use Rattle.nx_fec.specs.Emission.{SentPosition, phasing_position, traffic_position, end_position}
-use Rattle.nx_fec.specs.Emission.{reception}
+use Rattle.nx_fec.specs.emissions.Emission.{SentPosition, phasing_position, traffic_position, end_position}
+use Rattle.nx_fec.specs.emissions.Emission.{reception}
 use Rattle.nx_station.specs.Broadcast.{IsSpelled, AreSpelled, IsBroadcast, head, ending}
 use Rattle.nx_station.specs.Broadcast.{phasing_and_message, layout, header, printed_text}
 use Rattle.nx_station.specs.Broadcast.{digit_combination, first_phasing, further_phasing}
 use Rattle.nx_station.specs.Broadcast.{end_positions}
-use Rattle.nx_station.specs.private.Heads.{letter_combination}
+use Rattle.nx_station.specs.Broadcast.{letter_combination}
 use Rattle.nx_station.specs.Sendings.{Tells}
-use Rattle.nx_station.proofs.ChannelPositions.{spelled-tells}
-use Rattle.nx_station.proofs.HeadLemmas.{letter_combination-prints, digit_combination-prints}
-use Rattle.nx_station.proofs.HeadLemmas.{digit_combination-range}
+use Rattle.nx_station.proofs.lemmas.reception.ChannelPositions.{spelled-tells}
+use Rattle.nx_station.proofs.lemmas.broadcasts.Head.{letter_combination-prints, digit_combination-prints}
+use Rattle.nx_station.proofs.lemmas.broadcasts.Head.{digit_combination-range}
 
 -- these positions print these bytes from a shift, and leave another
 pub record Prints (first : Shift) (positions : List Reception) (bytes : List ℕ)

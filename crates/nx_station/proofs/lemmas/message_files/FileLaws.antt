@@ -4,17 +4,17 @@ use Rattle.std.proofs.Common.{refl, sym, ap, ◌∙◌, subst, append_assoc, app
 use Rattle.std.specs.List.{AllByRecursion}
 use Rattle.nx_envelope.specs.Message.{IsMessageFault, text_of}
 use Rattle.nx_envelope.specs.declared.message.MessageFault.{MessageFault}
-use Rattle.nx_fec.proofs.LineLaws.{first_feed, no_feed-not}
+use Rattle.nx_fec.proofs.lemmas.lines.LineLaws.{first_feed, no_feed-not}
 use Rattle.nx_station.specs.MessageFile.{FileMessage, FileFault, bad_line, bad_text, line_cut}
 use Rattle.nx_station.specs.MessageFile.{not_ended, IsOneLine, IsNamed, IsFileMessage, IsBegun}
 use Rattle.nx_station.specs.MessageFile.{EndsInLine, IsOfLines, IsFirstFault, IsMessageFile}
 use Rattle.nx_station.specs.MessageFile.{HasFirstFault, IsBegunIf, bytes_begun, lines_begun}
 use Rattle.nx_station.specs.MessageFile.{message_file_bytes, heading, opening, file_message_bytes}
 use Rattle.nx_station.specs.MessageFile.{lines_of}
-use Rattle.nx_station.proofs.LineLemmas.{heading-one_line, heading-same}
-use Rattle.nx_station.proofs.LineLemmas.{ended-same, ended-open, open-same, IsFileMessage-IsBegun}
-use Rattle.nx_station.proofs.LineLemmas.{spelling-line}
-use Rattle.nx_station.proofs.MessageFaultLemmas.{one_of_lines, none_of_message}
+use Rattle.nx_station.proofs.lemmas.message_files.Line.{heading-one_line, heading-same}
+use Rattle.nx_station.proofs.lemmas.message_files.Line.{ended-same, ended-open, open-same, IsFileMessage-IsBegun}
+use Rattle.nx_station.proofs.lemmas.message_files.Line.{spelling-line}
+use Rattle.nx_station.proofs.lemmas.message_files.MessageFault.{one_of_lines, none_of_message}
 
 -- ---- the shape of a front of a file: what its first message is, or why it has none
 

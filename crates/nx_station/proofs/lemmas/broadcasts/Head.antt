@@ -6,7 +6,7 @@ use Rattle.nx_code.specs.Table.{table, row_of}
 use Rattle.nx_code.specs.Reading.{character_of}
 use Rattle.nx_code.specs.declared.shifts.Shift.TheVariants.{Letters, Figures}
 use Rattle.nx_station.specs.Broadcast.{digit_combination}
-use Rattle.nx_station.specs.private.Heads.{letter_combination}
+use Rattle.nx_station.specs.Broadcast.{letter_combination}
 
 -- this is printed
 abbrev is_printed : Option ℕ → ℕ → Bool

@@ -8,14 +8,14 @@ use Rattle.std.proofs.lemmas.List.Quantifiers.{position-Some}
 use Rattle.std.specs.Io.KnownBytes.{Appends}
 use Rattle.nx_envelope.specs.Message.{MessageView}
 use Rattle.nx_fec.specs.Transfers.{WroteSome, Devices, IsReadOut, Reads}
-use Rattle.nx_fec.specs.Emission.{SentPosition, bits_of, emission}
-use Rattle.nx_fec.specs.BitLines.{bit_lines}
-use Rattle.nx_fec.specs.Lines.{file_of, line_bytes}
-use Rattle.nx_fec.specs.AirFile.{moment}
+use Rattle.nx_fec.specs.emissions.Emission.{SentPosition, bits_of, emission}
+use Rattle.nx_fec.specs.air_files.BitLines.{bit_lines}
+use Rattle.nx_fec.specs.air_files.Lines.{file_of, line_bytes}
+use Rattle.nx_fec.specs.air_files.AirFile.{moment}
 use Rattle.nx_fec.specs.Runs.{ExplainsWhole, IsOutsideWhole, IsWithin, file_limit}
 use Rattle.nx_fec.specs.declared.fault.ReadFault.{ReadFault}
 use Rattle.nx_fec.specs.declared.fault.ReadFault.TheVariants as read
-use Rattle.nx_fec.proofs.TransferLaws.{Ok-not_err, Reads-on}
+use Rattle.nx_fec.proofs.lemmas.devices.TransferLaws.{Ok-not_err, Reads-on}
 use Rattle.nx_station.specs.Broadcast.{IsBroadcast}
 use Rattle.nx_station.specs.Faults.{read_fault, send_fault}
 use Rattle.nx_station.specs.MessageFile.{IsMessageFile, file_message_of}

@@ -7,20 +7,20 @@ use Rattle.std.proofs.lemmas.Bool.{cases_lt}
 use Rattle.std.proofs.lemmas.List.{take_all, drop-append-le, take-append-le}
 use Rattle.std.proofs.Math.Seq.{drop-append-add}
 use Rattle.nx_code.specs.Word.{is_wrong, number_of, word_from, weight, wrong_in}
-use Rattle.nx_fec.specs.Aligned.{word_in}
-use Rattle.nx_fec.specs.Emission.{SentPosition, bits_of, AreWords}
-use Rattle.nx_fec.proofs.RoundTripLemmas.{length-bits_of, words_of-bits_of}
-use Rattle.nx_fec.proofs.AlignedLemmas.{get_or-words_of}
+use Rattle.nx_fec.specs.emissions.Aligned.{word_in}
+use Rattle.nx_fec.specs.emissions.Emission.{SentPosition, bits_of, AreWords}
+use Rattle.nx_fec.proofs.lemmas.emissions.RoundTrip.{length-bits_of, words_of-bits_of}
+use Rattle.nx_fec.proofs.lemmas.emissions.Aligned.{get_or-words_of}
 use Rattle.nx_station.specs.Broadcast.{IsBroadcast, layout}
 use Rattle.nx_envelope.specs.Message.{MessageView}
 use Rattle.nx_station.specs.Channel.{PassesChannel, heard_in, first_slot, message_slot}
 use Rattle.nx_station.specs.Channel.{phasing_received, slots_of, window, most_wrong}
-use Rattle.nx_station.proofs.ChannelCounts.{wrong_in-count}
-use Rattle.nx_code.proofs.WordCounts.{wrong_in-add, wrong_in-le}
-use Rattle.nx_station.proofs.ChannelCounts.{wrong_in-right}
-use Rattle.nx_code.proofs.WordCounts.{wrong_in-same}
-use Rattle.nx_station.proofs.ChannelLaws.{few-wrong, sent-weight}
-use Rattle.nx_station.proofs.ChannelPositions.{HasInner, layout-inner}
+use Rattle.nx_station.proofs.lemmas.reception.ChannelCounts.{wrong_in-count}
+use Rattle.nx_code.proofs.lemmas.WordCounts.{wrong_in-add, wrong_in-le}
+use Rattle.nx_station.proofs.lemmas.reception.ChannelCounts.{wrong_in-right}
+use Rattle.nx_code.proofs.lemmas.WordCounts.{wrong_in-same}
+use Rattle.nx_station.proofs.lemmas.reception.ChannelLaws.{few-wrong, sent-weight}
+use Rattle.nx_station.proofs.lemmas.reception.ChannelPositions.{HasInner, layout-inner}
 
 -- an emission that passes has positions
 pub not-empty : (spellings : List (List ℕ)) (heard : List ℕ)

@@ -11,7 +11,7 @@ use Rattle.nx_station.specs.MessageFile.{heading, opening, file_message_bytes, m
 use Rattle.nx_station.specs.MessageFile.{lines_of}
 use Rattle.nx_envelope.specs.declared.message.MessageFault.TheVariants as message
 use Rattle.nx_station.specs.private.MessageParts.{ExplainsFirst, text_fault}
-use Rattle.nx_station.proofs.LineLemmas.{spelling-line}
+use Rattle.nx_station.proofs.lemmas.message_files.Line.{spelling-line}
 
 -- ---- the lines of a text
 

@@ -7,15 +7,15 @@ use Rattle.std.proofs.lemmas.List.{get_or-drop, take-append-drop}
 use Rattle.std.proofs.lemmas.List.Concat.{flat_map-append}
 use Rattle.nx_code.specs.Word.{elements}
 use Rattle.nx_envelope.specs.Message.{MessageView}
-use Rattle.nx_fec.specs.Emission.{SentPosition, AreInCode, AreWords, IsInCode, bits_of, emission}
-use Rattle.nx_fec.specs.Emission.{position_at}
-use Rattle.nx_fec.proofs.EmissionLemmas.{AreWords-emission, get_or-emission, length-emission}
+use Rattle.nx_fec.specs.emissions.Emission.{SentPosition, AreInCode, AreWords, IsInCode, bits_of, emission}
+use Rattle.nx_fec.specs.emissions.Emission.{position_at}
+use Rattle.nx_fec.proofs.lemmas.emissions.Emission.{AreWords-emission, get_or-emission, length-emission}
 use Rattle.nx_station.specs.Broadcast.{IsBroadcast, end_positions, layout}
 use Rattle.nx_station.specs.Channel.{PassesChannel, IsAsSent, first_slot, slots_of}
-use Rattle.nx_station.proofs.BroadcastLemmas.{spelled-some}
-use Rattle.nx_station.proofs.ChannelLaws.{inner-in_code}
-use Rattle.nx_station.proofs.ChannelPhasing.{fewest_positions, received-long}
-use Rattle.nx_station.proofs.ChannelPositions.{HasInner, layout-inner, position-end, position-inner}
+use Rattle.nx_station.proofs.lemmas.broadcasts.Broadcast.{spelled-some}
+use Rattle.nx_station.proofs.lemmas.reception.ChannelLaws.{inner-in_code}
+use Rattle.nx_station.proofs.lemmas.reception.ChannelPhasing.{fewest_positions, received-long}
+use Rattle.nx_station.proofs.lemmas.reception.ChannelPositions.{HasInner, layout-inner, position-end, position-inner}
 
 inner-all_in_code : (positions : List SentPosition) → HasInner positions → AreInCode positions
 inner-all_in_code positions has i h = elim (cases_lt (i + end_positions) (length positions)) [

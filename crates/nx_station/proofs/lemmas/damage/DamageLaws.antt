@@ -9,26 +9,26 @@ use Rattle.std.specs.Option.{option_map, IsSomeAnd}
 use Rattle.std.specs.Io.KnownBytes.{Appends}
 use Rattle.std.proofs.lemmas.List.{length-map}
 use Rattle.std.proofs.lemmas.List.Concat.{flat_map-append}
-use Rattle.nx_fec.specs.AirFile.{Line, IsLine, element_digit, mark_bytes, moment, elements}
-use Rattle.nx_fec.specs.AirFile.{refuse_station, accept_station, refuse_subject, accept_subject}
-use Rattle.nx_fec.specs.AirFile.{spelling}
-use Rattle.nx_fec.specs.Channels.{channel_of, same_channel}
+use Rattle.nx_fec.specs.air_files.AirFile.{Line, IsLine, element_digit, mark_bytes, moment, elements}
+use Rattle.nx_fec.specs.air_files.AirFile.{refuse_station, accept_station, refuse_subject, accept_subject}
+use Rattle.nx_fec.specs.air_files.AirFile.{spelling}
+use Rattle.nx_fec.specs.air_files.Channels.{channel_of, same_channel}
 use Rattle.nx_fec.specs.Transfers.{WroteSome, Devices}
-use Rattle.nx_fec.specs.LineRuns.{Beginning, HasTaken, HasTakenAll, HasTakenSome, IsPlaced}
-use Rattle.nx_fec.specs.LineRuns.{Refusing, RunsLines, Standing}
-use Rattle.nx_fec.specs.Lines.{StopsAt, IsCause, elements_on, file_of, line_bytes}
-use Rattle.nx_fec.specs.Scanner.{kind_kept, kind_of}
-use Rattle.nx_fec.specs.declared.air_file.LineKind.TheVariants.{Elements}
-use Rattle.nx_fec.specs.declared.channel.Channel.{Channel}
-use Rattle.nx_fec.specs.declared.channel.Channel.TheVariants.{Zero, One, Two}
+use Rattle.nx_fec.specs.air_files.LineRuns.{Beginning, HasTaken, HasTakenAll, HasTakenSome, IsPlaced}
+use Rattle.nx_fec.specs.air_files.LineRuns.{Refusing, RunsLines, Standing}
+use Rattle.nx_fec.specs.air_files.Lines.{StopsAt, IsCause, elements_on, file_of, line_bytes}
+use Rattle.nx_fec.specs.air_files.Scanner.{kind_kept, kind_of}
+use Rattle.nx_fec.specs.declared.air_files.lines.LineKind.TheVariants.{Elements}
+use Rattle.nx_fec.specs.declared.air_files.channel.Channel.{Channel}
+use Rattle.nx_fec.specs.declared.air_files.channel.Channel.TheVariants.{Zero, One, Two}
 use Rattle.nx_fec.specs.declared.fault.LineFault.{LineFault}
 use Rattle.nx_fec.specs.declared.fault.LineFault.TheVariants as file
-use Rattle.nx_fec.specs.declared.line_run.LinesFault.{LinesFault}
-use Rattle.nx_fec.specs.declared.line_run.LinesFault.TheVariants as run
-use Rattle.nx_fec.specs.declared.line_run.LinesRead.{LinesRead}
-use Rattle.nx_fec.proofs.LineLaws.{IsAirFile-unique, spelling-IsBeginning}
-use Rattle.nx_fec.proofs.LineRunLemmas.{StopsAt-map}
-use Rattle.nx_fec.proofs.TransferLaws.{Ok-not_err, Reads-on}
+use Rattle.nx_fec.specs.declared.air_files.line_taking.LinesFault.{LinesFault}
+use Rattle.nx_fec.specs.declared.air_files.line_taking.LinesFault.TheVariants as run
+use Rattle.nx_fec.specs.declared.air_files.line_taking.LinesRead.{LinesRead}
+use Rattle.nx_fec.proofs.lemmas.lines.LineLaws.{IsAirFile-unique, spelling-IsBeginning}
+use Rattle.nx_fec.proofs.lemmas.line_runs.LineRun.{StopsAt-map}
+use Rattle.nx_fec.proofs.lemmas.devices.TransferLaws.{Ok-not_err, Reads-on}
 use Rattle.nx_station.specs.Damage.{Damage, Damages, ExplainsDamaging, IsDamaged, damaged_elements}
 use Rattle.nx_station.specs.Damage.{damaged_file, damaged_line, damaged_lines, damaged_on}
 use Rattle.nx_station.specs.Damage.{inverted_count}
@@ -36,8 +36,8 @@ use Rattle.nx_station.specs.private.DamageTaker.{Damager, HasDamaged, HasDigitsF
 use Rattle.nx_station.specs.private.DamageTaker.{damage_of, line_fault}
 use Rattle.nx_station.specs.declared.fault.DamageFault.{DamageFault}
 use Rattle.nx_station.specs.declared.fault.DamageFault.TheVariants.{Read, Write}
-use Rattle.nx_station.proofs.DamageLemmas.{inverted-append, inverted-le, length-damaged, length-on}
-use Rattle.nx_station.proofs.DamageLemmas.{lines-append, lines-twice}
+use Rattle.nx_station.proofs.lemmas.damage.Damage.{inverted-append, inverted-le, length-damaged, length-on}
+use Rattle.nx_station.proofs.lemmas.damage.Damage.{lines-append, lines-twice}
 
 abbrev pub stands : Standing Damager
 stands first now lines given = HasDamaged (damage_of first) now lines given

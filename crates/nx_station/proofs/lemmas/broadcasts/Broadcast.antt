@@ -11,15 +11,15 @@ use Rattle.std.proofs.lemmas.List.{take_more, take_all, take-append-drop, map-ap
 use Rattle.std.proofs.lemmas.List.Quantifiers.{position-Some}
 use Rattle.std.proofs.lemmas.List.Folds.{list_all_at}
 use Rattle.nx_code.specs.declared.spelling.Extent.{Extent}
-use Rattle.nx_code.proofs.SpellingLemmas.{Spells-append, spells_newline, shift_after_all-map_append}
+use Rattle.nx_code.proofs.lemmas.Spelling.{Spells-append, spells_newline, shift_after_all-map_append}
 use Rattle.nx_envelope.specs.declared.identity.Identity.{Identity}
 use Rattle.nx_code.specs.Reading.{is_in_code, characters, combination, shift_after_all}
 use Rattle.nx_code.specs.Spelling.{Spells}
 use Rattle.nx_code.specs.declared.shifts.Shift.{Shift}
 use Rattle.nx_code.specs.declared.shifts.Shift.TheVariants.{Letters, Figures}
-use Rattle.nx_code.proofs.OneSpelling.{spelling-exists, spelling-one}
+use Rattle.nx_code.proofs.lemmas.OneSpelling.{spelling-exists, spelling-one}
 use Rattle.nx_envelope.specs.Message.{AreLines, IsMessageLine, IsLineByte, text_of, MessageView}
-use Rattle.nx_fec.specs.Emission.{SentPosition, phasing_position, traffic_position, end_position}
+use Rattle.nx_fec.specs.emissions.Emission.{SentPosition, phasing_position, traffic_position, end_position}
 use Rattle.nx_station.specs.Sendable.{HavePositions}
 use Rattle.nx_station.specs.private.MessageParts.{IsExtent}
 use Rattle.nx_station.specs.Broadcast.{IsSpelled, AreSpelled, IsBroadcast, head, ending}

@@ -5,10 +5,10 @@ use Rattle.nx_code.specs.Signal.{number_of_signal}
 use Rattle.nx_code.specs.declared.signals.Comb.{Comb}
 use Rattle.nx_code.specs.declared.signals.Signal.{Signal}
 use Rattle.nx_code.specs.declared.signals.Signal.TheVariants.{Traffic, Alpha, Beta, Repeat}
-use Rattle.nx_code.proofs.TableLemmas.{traffic_word-is}
-use Rattle.nx_fec.specs.Emission.{SentPosition, IsInCode, phasing_position, traffic_position}
-use Rattle.nx_fec.specs.Emission.{end_position, dx_word, rx_word}
-use Rattle.nx_fec.proofs.EmissionLemmas.{phasing_1-words, phasing_2-words}
+use Rattle.nx_code.proofs.lemmas.Table.{traffic_word-is}
+use Rattle.nx_fec.specs.emissions.Emission.{SentPosition, IsInCode, phasing_position, traffic_position}
+use Rattle.nx_fec.specs.emissions.Emission.{end_position, dx_word, rx_word}
+use Rattle.nx_fec.proofs.lemmas.emissions.Emission.{phasing_1-words, phasing_2-words}
 use Rattle.nx_station.specs.StrictReading.{IsPair}
 
 -- whatever signal stands for the word, it is the one that was found

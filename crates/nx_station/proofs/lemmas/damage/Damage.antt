@@ -4,14 +4,14 @@ use Rattle.std.proofs.Common.{List, [], ◌∷◌, ◌++◌, length, get_or, set
 use Rattle.std.proofs.Common.{ap, ◌∙◌, arith, length-append}
 use Rattle.std.specs.List.{flat_map}
 use Rattle.nx_code.specs.Word.{value_of}
-use Rattle.nx_code.proofs.WordLemmas.{value_of-le}
-use Rattle.nx_fec.specs.AirFile.{Line, moment, elements, refuse_station, accept_station}
-use Rattle.nx_fec.specs.AirFile.{refuse_subject, accept_subject}
-use Rattle.nx_fec.specs.Channels.{channel_of}
-use Rattle.nx_fec.specs.Lines.{elements_on}
-use Rattle.nx_fec.specs.Scanner.{kind_of}
-use Rattle.nx_fec.specs.declared.channel.Channel.{Channel}
-use Rattle.nx_fec.specs.declared.channel.Channel.TheVariants.{Zero, One, Two}
+use Rattle.nx_code.proofs.lemmas.Word.{value_of-le}
+use Rattle.nx_fec.specs.air_files.AirFile.{Line, moment, elements, refuse_station, accept_station}
+use Rattle.nx_fec.specs.air_files.AirFile.{refuse_subject, accept_subject}
+use Rattle.nx_fec.specs.air_files.Channels.{channel_of}
+use Rattle.nx_fec.specs.air_files.Lines.{elements_on}
+use Rattle.nx_fec.specs.air_files.Scanner.{kind_of}
+use Rattle.nx_fec.specs.declared.air_files.channel.Channel.{Channel}
+use Rattle.nx_fec.specs.declared.air_files.channel.Channel.TheVariants.{Zero, One, Two}
 use Rattle.nx_station.specs.private.DamageWalk.{front, front_count}
 use Rattle.nx_station.specs.Damage.{Damage, damaged_elements, damaged_element, damaged_line}
 use Rattle.nx_station.specs.Damage.{damaged_lines, damaged_on, inverted_count, inverts}
