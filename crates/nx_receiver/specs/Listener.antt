@@ -4,10 +4,10 @@ use Rattle.std.specs.Prelude.{◌≡◌, ℕ, ◌-◌, ◌^◌, ◌≤◌, Bool,
 use Rattle.std.specs.Prelude.{map, min, IfSome}
 use Rattle.std.specs.List.{flat_map}
 use Rattle.nx_envelope.specs.Moment.{last_moment}
-use Rattle.nx_fec.specs.declared.channel.Channel.{Channel}
-use Rattle.nx_fec.specs.declared.channel.Channel.TheVariants.{Zero, One, Two}
+use Rattle.nx_fec.specs.declared.air_files.channel.Channel.{Channel}
+use Rattle.nx_fec.specs.declared.air_files.channel.Channel.TheVariants.{Zero, One, Two}
 use Rattle.nx_memory.specs.Ring.{RingMemory}
-use Rattle.nx_memory.specs.declared.entry.MemoryEntry.{MemoryEntry}
+use Rattle.nx_memory.specs.declared.memories.entry.MemoryEntry.{MemoryEntry}
 use Rattle.nx_receiver.specs.Events as events
 use Rattle.nx_receiver.specs.Events.{Event, elements_among}
 use Rattle.nx_receiver.specs.FoundCopies.{TaggedCopy}
@@ -84,10 +84,10 @@ moment_in_force first [] = first
 moment_in_force first (to_all n ∷ given) = moment_in_force n given
 moment_in_force first (to_one channel events ∷ given) = moment_in_force first given
 
--- After it was given this, with what it started, a listener printed these copies: the receiver of
--- each channel stands after the channel's share, with the copies of that channel, and has the moment
--- in force; the copies are in the order in which they ended; the listener counted the elements and
--- the entries; and no element ended more than one copy.
+-- After it was given this, with what it started, a listener printed these copies. The receiver of
+-- each channel stands after the channel's share, with the copies of that channel, and has the
+-- moment in force. The copies are in the order in which they ended. The listener counted the
+-- elements and the entries, and no element ended more than one copy.
 pub record HearsGiven (starts : Starts) (listener : Listening) (given : List Given)
     (copies : List MarkedCopy)
     : Type 0 where

@@ -1,16 +1,17 @@
 -- The text of a lock (ITU-R M.625, mode B: each position is sent as DX, and again as RX five words
--- later; M.476 and M.625 for what is printed; that each lock has a text of its own, from letters,
--- is this profile's). `first` is the role of word 0 of the lock, and `words` gives each word's
+-- later; M.476 and M.625 for what is printed). That each lock has a text of its own, from letters,
+-- is this profile's. `first` is the role of word 0 of the lock, and `words` gives each word's
 -- number.
 use Rattle.std.specs.Prelude.{ℕ, zero, suc, ◌+◌, ◌*◌, if◌then◌else◌, Bool, List, [], ◌∷◌, ◌++◌, map}
 use Rattle.nx_code.specs.Reading.{Reception, shift_after_all, text}
 use Rattle.nx_code.specs.declared.shifts.Shift.TheVariants.{Letters}
-use Rattle.nx_fec.specs.Pairing.{five_before, counts_as, pairing}
+use Rattle.nx_fec.specs.emissions.Pairing.{five_before, counts_as, pairing}
 use Rattle.nx_sync.specs.Words.{word_of_lock, first_role, role_of, is_dx}
 use Rattle.nx_sync.specs.declared.step.Role.{Role}
 
--- the position that word k completes: an RX word is paired with the word five before it, or with
--- nothing where k < 5, since the words before the lock are no words of it; a DX word completes none
+-- The position that word k completes. An RX word is paired with the word five before it, or with
+-- nothing where k < 5, since the words before the lock are no words of it. A DX word completes
+-- none.
 unfoldable pub taken_at : Role → (ℕ → ℕ) → ℕ → List Reception
 taken_at first words k =
     if is_dx (role_of first k) then [] else pairing (five_before words k) (counts_as (words k)) ∷ []

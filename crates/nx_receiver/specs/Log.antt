@@ -6,11 +6,11 @@ use Rattle.std.specs.Option.{option_map}
 use Rattle.nx_envelope.specs.Copies.{errors_of}
 use Rattle.nx_envelope.specs.Identity.{identity_bytes}
 use Rattle.nx_envelope.specs.Moment.{IsShownAs}
-use Rattle.nx_envelope.specs.Header.{newline}
+use Rattle.nx_code.specs.Reading.{newline}
 use Rattle.nx_envelope.specs.declared.found.How.{How}
 use Rattle.nx_envelope.specs.declared.found.How.TheVariants.{Full, Cut, Long}
-use Rattle.nx_fec.specs.declared.channel.Channel.{Channel}
-use Rattle.nx_fec.specs.declared.channel.Channel.TheVariants.{Zero, One, Two}
+use Rattle.nx_fec.specs.declared.air_files.channel.Channel.{Channel}
+use Rattle.nx_fec.specs.declared.air_files.channel.Channel.TheVariants.{Zero, One, Two}
 use Rattle.nx_sync.specs.Locks.{Lock, Now, IsNow}
 use Rattle.nx_receiver.specs.Events.{Event, Start, elements_among, first_setting}
 use Rattle.nx_receiver.specs.FoundCopies.{FoundCopy, ended_so_far, found_to_end, TaggedCopy}
@@ -31,13 +31,12 @@ channel_mark One = codes "/1"
 channel_mark Two = codes "/2"
 
 -- The line that heads an entry: `[`, the identity, the mark of the channel, the civil time, how the
--- copy ended, its errors, `/`, its characters, `]` and a newline, where 91 is the bracket, 32 a
--- space and 47 the slash.
+-- copy ended, its errors, `/`, its characters, `]` and a newline.
 unfoldable pub entry_head : Channel → TaggedCopy → List ℕ → List ℕ
 entry_head channel copy civil =
-    91 ∷ identity_bytes copy.identity ++ channel_mark channel ++ 32 ∷ civil
-    ++ 32 ∷ how_name copy.how ++ 32 ∷ decimal (errors_of copy.text)
-    ++ 47 ∷ decimal (length copy.text) ++ codes "]\n"
+    codes "[" ++ identity_bytes copy.identity ++ channel_mark channel ++ (codes " " ++ civil)
+    ++ (codes " " ++ how_name copy.how) ++ (codes " " ++ decimal (errors_of copy.text))
+    ++ (codes "/" ++ decimal (length copy.text)) ++ codes "]\n"
 
 -- the text is empty or ends with a newline
 unfoldable pub is_of_lines : List ℕ → Bool

@@ -1,5 +1,6 @@
--- Good, printed and entered: which copies are printed, and which of them the memory keeps (ITU-R
--- M.540 for the number 00, which is printed each time; all else is this profile's).
+-- Good, printed and entered: which copies are printed, and which of them the memory keeps. The
+-- number 00, which is printed each time, and the share of 4 per cent are of ITU-R M.540; all else
+-- is this profile's.
 use Rattle.std.specs.Prelude.{◌*◌, ◌==◌, nat_lt, max, Bool, true, false, not, ◌&&◌, ◌||◌}
 use Rattle.std.specs.Prelude.{if◌then◌else◌, List, [], ◌∷◌, ◌++◌, length, filter}
 use Rattle.nx_code.specs.Lists.{last_of}
@@ -8,7 +9,7 @@ use Rattle.nx_envelope.specs.declared.found.How.{How}
 use Rattle.nx_envelope.specs.declared.found.How.TheVariants.{Full}
 use Rattle.nx_envelope.specs.declared.identity.Identity.{Identity}
 use Rattle.nx_envelope.specs.Identity.{same_identity}
-use Rattle.nx_memory.specs.declared.entry.MemoryEntry.{MemoryEntry}
+use Rattle.nx_memory.specs.declared.memories.entry.MemoryEntry.{MemoryEntry}
 use Rattle.nx_memory.specs.Memory.{is_known, most_entries}
 use Rattle.nx_receiver.specs.FoundCopies.{TaggedCopy}
 
@@ -16,8 +17,9 @@ abbrev pub is_full : How → Bool
 is_full Full = true
 is_full _ = false
 
--- a copy is good where it is full, and 25 times its errors is less than the larger of 1 and its
--- characters: fewer than 4 per cent are lost
+-- A copy is good where it is full and fewer than 4 per cent of its characters are errors, the share
+-- that ITU-R M.540 names: 25 times its errors is less than its characters. An empty text counts as
+-- one character.
 abbrev pub is_good : TaggedCopy → Bool
 is_good copy =
     is_full copy.how && nat_lt (25 * errors_of copy.text) (max 1 (length copy.text))

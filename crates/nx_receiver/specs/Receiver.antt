@@ -4,7 +4,7 @@ use Rattle.std.specs.Prelude.{None}
 use Rattle.nx_code.specs.Lists.{last_of}
 use Rattle.nx_envelope.specs.Moment.{last_moment}
 use Rattle.nx_memory.specs.Memory.{most_entries}
-use Rattle.nx_memory.specs.declared.entry.MemoryEntry.{MemoryEntry}
+use Rattle.nx_memory.specs.declared.memories.entry.MemoryEntry.{MemoryEntry}
 use Rattle.nx_receiver.specs.declared.entry.Entry.{Entry}
 use Rattle.nx_receiver.specs.declared.fault.ReceiverFault.{ReceiverFault}
 use Rattle.nx_receiver.specs.declared.fault.ReceiverFault.TheVariants.{MomentRange, Memory}
@@ -22,8 +22,8 @@ pub record Receiving (M : Type 0) : Type 0 where
   pub memory : M
 
 -- The receiver stands after these events, which begin with this start, and this is the log of what
--- it handed out: its watch stands after the elements, with what is in force at each; what is in
--- force is so after all events; the log is what is printed of the copies that have ended; and the
+-- it handed out. Its watch stands after the elements, with what is in force at each, and what is in
+-- force now is so after all events. The log is what is printed of the copies that have ended. The
 -- memory, whose content this function tells, holds the last of all entries made.
 pub record StandsOver {M : Type 0} (content : M → List MemoryEntry) (start : Start)
     (receiver : Receiving M) (bits : List Bool) (settings : List Setting) (now : Setting)

@@ -2,12 +2,12 @@
 -- they print (this profile).
 use Rattle.std.specs.Prelude.{ℕ, if◌then◌else◌, List, [], ◌∷◌, filter, map, unwrap_or}
 use Rattle.std.specs.List.{flat_map}
-use Rattle.nx_fec.specs.Channels.{same_channel}
-use Rattle.nx_fec.specs.declared.channel.Channel.{Channel}
-use Rattle.nx_fec.specs.declared.channel.Channel.TheVariants.{Zero, One, Two}
+use Rattle.nx_fec.specs.air_files.Channels.{same_channel}
+use Rattle.nx_fec.specs.declared.air_files.channel.Channel.{Channel}
+use Rattle.nx_fec.specs.declared.air_files.channel.Channel.TheVariants.{Zero, One, Two}
 use Rattle.nx_memory.specs.Saved.{SavedState, SavedStates, newest_of_all, nothing_saved}
 use Rattle.nx_memory.specs.Selection.{Refused}
-use Rattle.nx_memory.specs.declared.entry.MemoryEntry.{MemoryEntry}
+use Rattle.nx_memory.specs.declared.memories.entry.MemoryEntry.{MemoryEntry}
 use Rattle.nx_receiver.specs.Events.{Event, Start, at_moment, none_refused}
 use Rattle.nx_receiver.specs.FoundCopies.{TaggedCopy}
 

@@ -2,7 +2,7 @@
 -- profile).
 use Rattle.std.specs.Prelude.{ℕ}
 use Rattle.nx_code.specs.declared.printing.Printer.{Printer}
-use Rattle.nx_fec.specs.declared.diversity.Diversity.{Diversity}
+use Rattle.nx_fec.specs.declared.emissions.diversity.Diversity.{Diversity}
 use Rattle.nx_sync.specs.Synchroniser.{Held}
 use Rattle.nx_envelope.specs.declared.finder.Finder.{Finder}
 use Rattle.nx_memory.specs.Selection.{Refused}

@@ -1,7 +1,7 @@
 //! Whether a copy is printed, and entered.
 
 ghost use Rattle.std.specs.Prelude.{◌≡◌, ◌≤◌, ◌==◌, ◌&&◌, ◌||◌, ◌++◌, List, not};
-ghost use Rattle.nx_memory.specs.declared.entry.MemoryEntry.{MemoryEntry};
+ghost use Rattle.nx_memory.specs.declared.memories.entry.MemoryEntry.{MemoryEntry};
 ghost use Rattle.nx_code.specs.Lists.{last_of};
 ghost use Rattle.nx_memory.specs.Memory.{is_known, most_entries, newest_moment};
 ghost use Rattle.nx_receiver.specs.Printing as spec;

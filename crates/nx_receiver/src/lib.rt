@@ -1,32 +1,27 @@
 //! The receiver: what is printed of all the elements, moments and commands that it was given.
 #![tactic(auto)]
 
+mod air_file_runs;
 mod entry;
 mod fault;
 mod judging;
 pub mod laws;
-mod listen_fault;
 mod listener;
-mod listening;
 mod lock_reader;
 mod over;
 mod receiver;
-mod resume_fault;
-mod resuming;
-mod state;
-mod state_fault;
 mod watch;
 mod writing;
 
+pub use air_file_runs::listen_fault::ListenFault;
+pub use air_file_runs::listening::{Report, listen, listen_from};
+pub use air_file_runs::resume_fault::{ResumeFault, Want};
+pub use air_file_runs::resuming::resume;
+pub use air_file_runs::state::{read_state, write_state};
+pub use air_file_runs::state_fault::StateFault;
 pub use entry::Entry;
 pub use fault::{MomentFault, ReceiverFault};
 pub use judging::judge;
-pub use listen_fault::ListenFault;
 pub use listener::{LastEntries, Listener};
-pub use listening::{Report, listen, listen_from};
 pub use receiver::Receiver;
-pub use resume_fault::{ResumeFault, Want};
-pub use resuming::resume;
-pub use state::{read_state, write_state};
-pub use state_fault::StateFault;
 pub use writing::{MAX_ENTRY, entry_bytes, entry_text, entry_text_on};

@@ -5,7 +5,7 @@ ghost use Rattle.nx_envelope.specs.Moment.{last_moment};
 ghost use Rattle.nx_memory.specs.Memory.{newest_moment};
 ghost use Rattle.nx_memory.specs.Saved.{AreSavedEntries};
 ghost use Rattle.nx_memory.specs.Selection.{is_vital};
-ghost use Rattle.nx_receiver.specs.Chain.{Leaves};
+ghost use Rattle.nx_receiver.specs.air_file_runs.Chain.{Leaves};
 ghost use Rattle.nx_receiver.specs.Events as events;
 ghost use Rattle.nx_receiver.specs.Events.{Refuses, Start, at_moment, command};
 ghost use Rattle.nx_receiver.specs.FoundCopies.{TaggedCopy, copy_of};
@@ -88,8 +88,8 @@ pub struct LastEntries {
 }
 
 impl LastEntries {
-    /// Hands out the first of those that are left, by channel, and the channel; `None` where none is
-    /// left.
+    /// Hands out the first of those that are left, by channel, and the channel; `None` where none
+    /// is left.
     pub fn take_next(&mut self) -> Option<(Channel, Entry)>
         ensures next { MatchOption result (last_copies self.old ≡ []) (λ next.
             last_copies self.old ≡ marked next.0 (copy_of next.1) ∷ last_copies self.new) }
@@ -110,10 +110,10 @@ impl LastEntries {
 }
 
 impl Listener {
-    /// A listener that has heard nothing, and starts with what is saved: the receiver of each channel
-    /// with the saved entries and the saved selection of the channel, and all three at the greatest
-    /// moment of an entry, or 0 where there is none. Takes all memory that it ever needs, and fails
-    /// where there is none.
+    /// A listener that has heard nothing, and starts with what is saved: the receiver of each
+    /// channel with the saved entries and the saved selection of the channel, and all three at the
+    /// greatest moment of an entry, or 0 where there is none. Takes all memory that it ever needs,
+    /// and fails where there is none.
     pub fn starting(alloc: Global, saved: &SavedSet) -> Result<Listener, AllocError>
         ensures heard { IfOk result (λ listener.
             HearsGiven (starts_from saved.now) listener [] []) }
@@ -150,9 +150,9 @@ impl Listener {
         SavedSet::of(self.on_0.saved(), self.on_1.saved(), self.on_2.saved())
     }
 
-    /// Sets the moment of all channels, in whole seconds since 1970-01-01 00:00:00 UTC. `Range` where
-    /// it is past 2999-12-31 23:59:59, else `Back` where it is before the one in force; the listener
-    /// then stays as it was.
+    /// Sets the moment of all channels, in whole seconds since 1970-01-01 00:00:00 UTC. `Range`
+    /// where it is past 2999-12-31 23:59:59, else `Back` where it is before the one in force; the
+    /// listener then stays as it was.
     pub fn set_moment(&mut self, moment: u64) -> Result<(), MomentFault>
         ensures heard { (starts : Starts) (given : List Given) (copies : List MarkedCopy)
             → HearsGiven starts self.old given copies → MatchResult result
@@ -257,8 +257,9 @@ impl Listener {
         }
     }
 
-    /// Hears elements of a channel, from a place on, up to and with the one that ends the first copy
-    /// that is printed; says how many it heard, and hands out the entry. With `None` it heard all.
+    /// Hears elements of a channel, from a place on, up to and with the one that ends the first
+    /// copy that is printed; says how many it heard, and hands out the entry. With `None` it heard
+    /// all.
     ///
     /// An answer has room for an entry, which is cleared at each call: `hear_spelled` is faster.
     pub fn hear(
@@ -313,9 +314,9 @@ impl Listener {
         }
     }
 
-    /// Hears elements of a channel as `hear` does, and spells the entry: where it says true, `entry`
-    /// has the bytes of the entry of the copy that ended, with the mark of the channel, in place of
-    /// what it had. With false it heard all, and `entry` is as it was.
+    /// Hears elements of a channel as `hear` does, and spells the entry: where it says true,
+    /// `entry` has the bytes of the entry of the copy that ended, with the mark of the channel, in
+    /// place of what it had. With false it heard all, and `entry` is as it was.
     // Inlined always: it runs for each line of elements.
     #[inline(always)]
     pub fn hear_spelled(
@@ -400,8 +401,8 @@ impl Listener {
         }
     }
 
-    /// Ends the elements of all channels, and hands out what their end prints: the entry of the copy
-    /// that stands open on each channel, where it is printed.
+    /// Ends the elements of all channels, and hands out what their end prints: the entry of the
+    /// copy that stands open on each channel, where it is printed.
     pub fn close(self) -> LastEntries
         ensures printed { (starts : Starts) (given : List Given) (copies : List MarkedCopy)
             → HearsGiven starts self given copies

@@ -19,7 +19,8 @@ use std::marker::Model;
 ///
 /// It holds the latest three DX words, the shift in force, and what the finder holds. Of an earlier
 /// lock it holds nothing but the bytes of its last copy, which nothing reads. No field can be added
-/// whose meaning contracts see (`inverse`); that no field's own type forgets, the proved size shows.
+/// whose meaning contracts see (`inverse`); that no field's own type forgets, the proved size
+/// shows.
 #[derive(Drop)]
 pub(crate) struct LockReader {
     diversity: Diversity,
@@ -91,9 +92,9 @@ impl LockReader {
         }
     }
 
-    /// Hears the next eight words of the lock at once, of which the first is a DX word, where surely
-    /// none of them begins or ends a copy: `true` where it did. Else nothing changed, and they have
-    /// to be heard one by one.
+    /// Hears the next eight words of the lock at once, of which the first is a DX word, where
+    /// surely none of them begins or ends a copy: `true` where it did. Else nothing changed, and
+    /// they have to be heard one by one.
     // Inlined, as `take_word`.
     #[inline(always)]
     pub(crate) fn hear_eight(&mut self, words: &[Word; WORDS_AT_ONCE]) -> bool

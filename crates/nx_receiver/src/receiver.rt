@@ -4,9 +4,9 @@ ghost use Rattle.std.specs.Prelude.{◌≡◌, ◌≢◌, ◌↔◌, ℕ, Option
 ghost use Rattle.nx_envelope.specs.Moment.{last_moment};
 ghost use Rattle.nx_code.specs.Lists.{last_of};
 ghost use Rattle.nx_memory.specs.Memory.{most_entries, newest_moment};
-ghost use Rattle.nx_memory.specs.declared.entry.MemoryEntry.{MemoryEntry};
+ghost use Rattle.nx_memory.specs.declared.memories.entry.MemoryEntry.{MemoryEntry};
 ghost use Rattle.nx_memory.specs.Selection.{admits, is_vital};
-ghost use Rattle.nx_receiver.specs.Chain.{Leaves};
+ghost use Rattle.nx_receiver.specs.air_file_runs.Chain.{Leaves};
 ghost use Rattle.nx_receiver.specs.Events as events;
 ghost use Rattle.nx_receiver.specs.Events.{Event, Start, at_moment, command, first_setting, none_refused, setting_after_all, Refuses, elements};
 ghost use Rattle.nx_receiver.specs.Listener.{IsSpelled};
@@ -22,8 +22,8 @@ ghost use Rattle.nx_receiver.specs.declared.over.Over.TheVariants.{CopyAndLock, 
 ghost use Rattle.nx_envelope.specs.Copies.{Copy};
 ghost use Rattle.nx_envelope.specs.Finder.{HasReady};
 ghost use Rattle.nx_envelope.specs.Found.{IsHeadOf};
-ghost use Rattle.nx_fec.specs.LineRuns.{HasGiven};
-ghost use Rattle.nx_fec.specs.declared.channel.Channel.{Channel};
+ghost use Rattle.nx_fec.specs.air_files.LineRuns.{HasGiven};
+ghost use Rattle.nx_fec.specs.declared.air_files.channel.Channel.{Channel};
 ghost use Rattle.nx_fec.specs.Transfers.{FailsOnce, WroteSome};
 
 use crate::entry::Entry;
@@ -183,9 +183,9 @@ impl<M: Recall> Receiver<M> {
         self.watch.accept_subject(subject);
     }
 
-    /// Whether a copy whose header came now would be selected: neither the station nor the subject of
-    /// its identity is refused (ITU-R M.540; that a station is refused for all its subjects is this
-    /// profile).
+    /// Whether a copy whose header came now would be selected: neither the station nor the subject
+    /// of its identity is refused (ITU-R M.540; that a station is refused for all its subjects is
+    /// this profile).
     pub fn admits(&self, identity: &Identity) -> bool
         ensures { (start : Start) (history : List Event) (log : List TaggedCopy) →
             Stands M.content start self.now history log
@@ -223,8 +223,8 @@ impl<M: Recall> Receiver<M> {
         (at, None)
     }
 
-    /// Hears packed elements from a place on, up to and with the one that ends the first copy that is
-    /// printed, as `feed` does.
+    /// Hears packed elements from a place on, up to and with the one that ends the first copy that
+    /// is printed, as `feed` does.
     // Inlined always, as `hear`.
     #[inline(always)]
     pub(crate) fn next_entry(
@@ -258,8 +258,8 @@ impl<M: Recall> Receiver<M> {
         (heard, None)
     }
 
-    /// Hears packed elements as `next_entry` does, and spells the entry on a channel in place of what
-    /// `spelled` had: says whether there is one.
+    /// Hears packed elements as `next_entry` does, and spells the entry on a channel in place of
+    /// what `spelled` had: says whether there is one.
     // Inlined always, as `hear`.
     #[inline(always)]
     pub(crate) fn next_spelled(
@@ -295,8 +295,9 @@ impl<M: Recall> Receiver<M> {
         (heard, false)
     }
 
-    /// Finishes what is over, and spells the entry that it brings on a channel, if it brings one, in
-    /// place of what `spelled` had: says whether it does. The text goes from the finder to its place.
+    /// Finishes what is over, and spells the entry that it brings on a channel, if it brings one,
+    /// in place of what `spelled` had: says whether it does. The text goes from the finder to its
+    /// place.
     // Not inlined, so that no loop over elements has a place for the head of an entry.
     #[inline(never)]
     fn spell(&mut self, over: Over, channel: Channel, spelled: &mut ArrayVec<u8, MAX_ENTRY>) -> bool
@@ -405,8 +406,8 @@ impl<M: Recall> Receiver<M> {
         print_copy(found, tag, &mut self.memory)
     }
 
-    /// Finishes what is over, and gives the entry that it brings on a channel, if it brings one: says
-    /// whether it does. The text goes from the finder to the batch.
+    /// Finishes what is over, and gives the entry that it brings on a channel, if it brings one:
+    /// says whether it does. The text goes from the finder to the batch.
     // Not inlined, so that no loop over elements has a place for the head of an entry.
     #[inline(never)]
     pub(crate) fn give<W: Write>(
@@ -477,8 +478,8 @@ impl<M: Recall> Receiver<M> {
         self.finish(over).is_some()
     }
 
-    /// Judges the copy that is over, where one is: its head where it is printed. The copy stays with
-    /// the watch.
+    /// Judges the copy that is over, where one is: its head where it is printed. The copy stays
+    /// with the watch.
     fn judge_ready(&mut self, over: Over) -> Option<FoundHead>
         ensures stands { (start : Start) (history : List Event) (log : List TaggedCopy)
             → Awaits M.content start self.old history log over

@@ -268,8 +268,8 @@ impl Watch {
     }
 
     /// Hears the next eight words of the lock at once, where surely nothing is over with any of
-    /// them and no copy begins: `true` where it did. Else nothing changed, and they have to be heard
-    /// one by one.
+    /// them and no copy begins: `true` where it did. Else nothing changed, and they have to be
+    /// heard one by one.
     // Inlined, as `hear_some_words`.
     #[inline(always)]
     fn hear_eight(

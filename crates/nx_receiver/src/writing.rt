@@ -4,11 +4,11 @@ ghost use Rattle.std.specs.Prelude.{◌≡◌, ◌+◌, ◌≤◌, ℕ, true, Li
 ghost use Rattle.std.specs.Io.KnownBytes.{Appends};
 ghost use Rattle.arrayvec.specs.ArrayVec.{array_vec_len};
 ghost use Rattle.nx_envelope.specs.Copies.{errors_of};
-ghost use Rattle.nx_envelope.specs.Header.{newline};
+ghost use Rattle.nx_code.specs.Reading.{newline};
 ghost use Rattle.nx_envelope.specs.Moment.{IsShownAs, last_moment};
-ghost use Rattle.nx_fec.specs.LineRuns.{HasGiven};
+ghost use Rattle.nx_fec.specs.air_files.LineRuns.{HasGiven};
 ghost use Rattle.nx_fec.specs.Transfers.{FailsOnce, WroteSome};
-ghost use Rattle.nx_fec.specs.declared.channel.Channel.TheVariants.{Zero};
+ghost use Rattle.nx_fec.specs.declared.air_files.channel.Channel.TheVariants.{Zero};
 ghost use Rattle.nx_receiver.specs.Log.{IsEntry, channel_mark, entry_head, how_name, missing_newline};
 ghost use Rattle.nx_receiver.specs.FoundCopies.{copy_of};
 ghost use Rattle.nx_receiver.specs.Shares.{marked};
@@ -94,8 +94,8 @@ pub(crate) fn give_entry<W: Write>(
     batch.give(writer, end_of(text))
 }
 
-/// The bytes of an entry as it stands in the log of its channel. The moment is at most the last one,
-/// as that of every copy is.
+/// The bytes of an entry as it stands in the log of its channel. The moment is at most the last
+/// one, as that of every copy is.
 pub fn entry_bytes(entry: &Entry, channel: Channel) -> ArrayVec<u8, MAX_ENTRY>
     requires { entry.now.moment ≤ last_moment }
     ensures { IsEntry (marked channel (copy_of entry.now)) result.items }
@@ -110,8 +110,8 @@ pub fn entry_bytes(entry: &Entry, channel: Channel) -> ArrayVec<u8, MAX_ENTRY>
     bytes
 }
 
-/// Puts the bytes of the entry of a copy that is printed, by its head and its text, in place of those
-/// that were there. The moment is at most the last one.
+/// Puts the bytes of the entry of a copy that is printed, by its head and its text, in place of
+/// those that were there. The moment is at most the last one.
 pub(crate) fn spell_entry(
     head: &FoundHead,
     text: &[u8],
@@ -182,8 +182,8 @@ fn how_text(how: How) -> &'static str
     }
 }
 
-/// What stands behind the text of an entry: a newline where the text isn't empty and doesn't end with
-/// one, and a newline.
+/// What stands behind the text of an entry: a newline where the text isn't empty and doesn't end
+/// with one, and a newline.
 #[tactic(auto, unfolding(crate::specs::Log::missing_newline, crate::specs::Log::is_of_lines))]
 fn end_of(text: &[u8]) -> &'static [u8]
     ensures end { result.now ≡ missing_newline text.now ++ newline ∷ [] }

@@ -4,7 +4,7 @@ use Rattle.std.specs.Prelude.{◌≡◌, ℕ, ◌≤◌, Bool, if◌then◌else�
 use Rattle.nx_code.specs.Lists.{last_of}
 use Rattle.nx_envelope.specs.Moment.{last_moment}
 use Rattle.nx_memory.specs.Memory.{most_entries}
-use Rattle.nx_memory.specs.declared.entry.MemoryEntry.{MemoryEntry}
+use Rattle.nx_memory.specs.declared.memories.entry.MemoryEntry.{MemoryEntry}
 use Rattle.nx_receiver.specs.Events.{Event, Start, Setting, elements_among, first_setting, settings}
 use Rattle.nx_receiver.specs.Events.{setting_after_all, elements}
 use Rattle.nx_receiver.specs.FoundCopies.{TaggedCopy}
@@ -14,7 +14,7 @@ use Rattle.nx_receiver.specs.declared.over.Over.{Over}
 use Rattle.nx_receiver.specs.declared.over.Over.TheVariants as over
 use Rattle.nx_receiver.specs.Log.{IsLog}
 use Rattle.nx_receiver.specs.Shares.{marked}
-use Rattle.nx_fec.specs.declared.channel.Channel.{Channel}
+use Rattle.nx_fec.specs.declared.air_files.channel.Channel.{Channel}
 use Rattle.nx_receiver.specs.private.Watch.{IsOver}
 use Rattle.nx_receiver.specs.Watching.{in_force}
 

@@ -3,18 +3,17 @@ use Rattle.std.specs.Prelude.{◌≡◌, ℕ, ◌+◌, ◌-◌, ◌^◌, ◌≤�
 use Rattle.std.specs.Prelude.{map, take, Option, IsTrue}
 use Rattle.std.specs.Io.KnownBytes.{Appends}
 use Rattle.nx_envelope.specs.declared.letter.Letter.{Letter}
-use Rattle.nx_fec.specs.AirFile.{Line, moment, elements, refuse_subject}
-use Rattle.nx_fec.specs.Channels.{same_channel}
+use Rattle.nx_fec.specs.air_files.AirFile.{Line, moment, elements, refuse_subject}
+use Rattle.nx_fec.specs.air_files.Channels.{same_channel}
 use Rattle.nx_fec.specs.Transfers.{WroteSome}
-use Rattle.nx_fec.specs.declared.channel.Channel.{Channel}
-use Rattle.nx_fec.specs.declared.fault.LineFault.TheVariants as file
-use Rattle.nx_fec.specs.declared.line_run.LinesFault.{LinesFault}
-use Rattle.nx_fec.specs.declared.line_run.LinesFault.TheVariants as run
+use Rattle.nx_fec.specs.declared.air_files.channel.Channel.{Channel}
+use Rattle.nx_fec.specs.declared.air_files.line_taking.LinesFault.{LinesFault}
+use Rattle.nx_fec.specs.declared.air_files.line_taking.LinesFault.TheVariants as run
 use Rattle.nx_memory.specs.Selection.{is_vital}
 use Rattle.nx_receiver.specs.Events as events
 use Rattle.nx_receiver.specs.Events.{Event, Start, elements_among, Refuses}
 use Rattle.nx_receiver.specs.InTurn.{PrintAllToEnd, PrintsInTurn}
-use Rattle.nx_receiver.specs.Listen.{AreTaken, given_by, has_moment, moment_after}
+use Rattle.nx_receiver.specs.air_file_runs.Listen.{AreTaken, file_fault, given_by, has_moment, moment_after}
 use Rattle.nx_receiver.specs.Log.{IsLog}
 use Rattle.nx_receiver.specs.Listener.{HearsGiven, Listening, content, count_of, elements_given, receiver_on, starts_of}
 use Rattle.nx_receiver.specs.Receiver.{HandsOutNoneBefore, Stands}
@@ -22,15 +21,15 @@ use Rattle.nx_receiver.specs.Shares.{Given, MarkedCopy, Starts, marked}
 use Rattle.nx_receiver.specs.private.Awaiting.{Awaits}
 use Rattle.nx_receiver.specs.FoundCopies.{TaggedCopy}
 use Rattle.nx_receiver.specs.declared.fault.MomentFault.{MomentFault}
-use Rattle.nx_receiver.specs.declared.listening.Report.{Report}
-use Rattle.nx_receiver.specs.declared.listening.LineRefusal.{LineRefusal}
-use Rattle.nx_receiver.specs.declared.listening.LineRefusal.TheVariants.{NoMoment, Moment, Vital}
-use Rattle.nx_receiver.specs.declared.listen_fault.ListenFault.{ListenFault}
-use Rattle.nx_receiver.specs.declared.listen_fault.ListenFault.TheVariants as listen
+use Rattle.nx_receiver.specs.declared.air_file_runs.listening.Report.{Report}
+use Rattle.nx_receiver.specs.declared.air_file_runs.listening.LineRefusal.{LineRefusal}
+use Rattle.nx_receiver.specs.declared.air_file_runs.listening.LineRefusal.TheVariants.{NoMoment, Moment, Vital}
+use Rattle.nx_receiver.specs.declared.air_file_runs.listen_fault.ListenFault.{ListenFault}
+use Rattle.nx_receiver.specs.declared.air_file_runs.listen_fault.ListenFault.TheVariants as listen
 use Rattle.nx_receiver.specs.declared.over.Over.{Over}
 
--- The receiver of a channel, whatever it was given before, hears so many of these elements, and hands
--- out these copies with the last of them, and none before.
+-- The receiver of a channel, whatever it was given before, hears so many of these elements, and
+-- hands out these copies with the last of them, and none before.
 pub record HearsTo (channel : Channel) (old new : Listening) (bits : List Bool) (count : ℕ)
     (copies : List TaggedCopy) : Type 0 where
   pub stands : (start : Start) (history : List Event) (log : List TaggedCopy)
@@ -165,8 +164,5 @@ refusal_fault line (Vital subject) = listen.Vital line subject
 abbrev pub lines_fault : LinesFault LineRefusal → ListenFault
 lines_fault run.Read = listen.Read
 lines_fault (run.Write written) = listen.Write written
-lines_fault (run.Line file.TooLong) = listen.AirTooLong
-lines_fault (run.Line (file.LineLong line)) = listen.LineLong line
-lines_fault (run.Line (file.LineCut line)) = listen.LineCut line
-lines_fault (run.Line (file.BadLine line)) = listen.BadLine line
+lines_fault (run.Line why) = file_fault why
 lines_fault (run.Refused line why) = refusal_fault line why

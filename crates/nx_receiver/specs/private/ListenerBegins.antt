@@ -1,12 +1,12 @@
 -- What a listener gave for lines is the log of the first copies of them: of all of them.
 use Rattle.std.specs.Prelude.{◌≡◌, ℕ, List, [], refl}
 use Rattle.std.proofs.Common.{◌∙◌, ap, sym, subst, append-nil}
-use Rattle.nx_fec.specs.AirFile.{Line}
-use Rattle.nx_memory.specs.declared.entry.MemoryEntry.{MemoryEntry}
+use Rattle.nx_fec.specs.air_files.AirFile.{Line}
+use Rattle.nx_memory.specs.declared.memories.entry.MemoryEntry.{MemoryEntry}
 use Rattle.nx_receiver.specs.Events.{Event, Setting, Start, first_setting, settings}
 use Rattle.nx_receiver.specs.FoundCopies.{FoundCopy, TaggedCopy, tagged_copies}
 use Rattle.nx_receiver.specs.InTurn.{PrintsInTurn}
-use Rattle.nx_receiver.specs.Listen.{given_by}
+use Rattle.nx_receiver.specs.air_file_runs.Listen.{given_by}
 use Rattle.nx_receiver.specs.Log.{HasPrinted}
 use Rattle.nx_receiver.specs.Printing.{printed_copies}
 use Rattle.nx_receiver.specs.Receiver.{Receiving, Stands}

@@ -1,12 +1,12 @@
 -- A reader of the text of a lock, which is given its words one by one, and after which words it
--- stands (ITU-R M.625, mode B, and M.476 for what is printed; that each lock has a text of its own,
--- from letters, is this profile's). `first` is the role of word 0 of the lock, and `words` gives
--- each word's number.
+-- stands (ITU-R M.625, mode B, and M.476 for what is printed). That each lock has a text of its
+-- own, from letters, is this profile's. `first` is the role of word 0 of the lock, and `words`
+-- gives each word's number.
 use Rattle.std.specs.Prelude.{◌≡◌, ◌⊎◌, ◌<◌, ℕ, Bool, true, false, ◌+◌, ◌*◌, zero, suc}
 use Rattle.std.specs.Prelude.{if◌then◌else◌, List, [], ◌∷◌, ◌++◌, length, slice_index}
 use Rattle.nx_code.specs.Reading.{shift_after_all, text}
 use Rattle.nx_code.specs.declared.shifts.Shift.TheVariants.{Letters}
-use Rattle.nx_fec.specs.Pairing.{Counted, IsLatest, counts_as}
+use Rattle.nx_fec.specs.emissions.Pairing.{Counted, IsLatest, counts_as}
 use Rattle.nx_sync.specs.Words.{role_of, is_dx}
 use Rattle.nx_sync.specs.declared.step.Role.{Role}
 use Rattle.nx_sync.specs.declared.step.Role.TheVariants.{Dx}

@@ -1,13 +1,13 @@
 -- What the parts of reading the text of a state give: one byte, and one line.
 use Rattle.std.specs.Prelude.{◌≡◌, ◌≢◌, ℕ, List, [], ◌∷◌, ◌++◌, length, Option}
 use Rattle.std.specs.Io.KnownBytes.{Consumes, IsAtEnd}
-use Rattle.nx_fec.specs.Lines.{line_end}
+use Rattle.nx_fec.specs.air_files.Lines.{line_end}
 use Rattle.nx_fec.specs.Transfers.{CountedDevice}
 use Rattle.nx_memory.specs.StateText.{IsShortLine}
-use Rattle.nx_receiver.specs.declared.state.LineRead.{LineRead}
-use Rattle.nx_receiver.specs.declared.state.LineRead.TheVariants.{Whole, Long, Cut, Failed}
-use Rattle.nx_receiver.specs.declared.state.NextByte.{NextByte}
-use Rattle.nx_receiver.specs.declared.state.NextByte.TheVariants as next
+use Rattle.nx_receiver.specs.declared.air_file_runs.state.LineRead.{LineRead}
+use Rattle.nx_receiver.specs.declared.air_file_runs.state.LineRead.TheVariants.{Whole, Long, Cut, Failed}
+use Rattle.nx_receiver.specs.declared.air_file_runs.state.NextByte.{NextByte}
+use Rattle.nx_receiver.specs.declared.air_file_runs.state.NextByte.TheVariants as next
 
 -- what reading one byte gave
 abbrev pub IsNextByte : {R : Type 0} → (R → Option (List ℕ)) → CountedDevice R → CountedDevice R

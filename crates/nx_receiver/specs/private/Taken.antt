@@ -1,9 +1,9 @@
 -- Lines that are taken, told line by line (this profile).
 use Rattle.std.specs.Prelude.{◌≡◌, ◌≤◌, false, List, [], ◌∷◌, ◌++◌, IsTrue, ⊤}
 use Rattle.nx_envelope.specs.Moment.{last_moment}
-use Rattle.nx_fec.specs.AirFile.{Line, moment, elements, refuse_subject}
+use Rattle.nx_fec.specs.air_files.AirFile.{Line, moment, elements, refuse_subject}
 use Rattle.nx_memory.specs.Selection.{is_vital}
-use Rattle.nx_receiver.specs.Listen.{has_moment, moment_after}
+use Rattle.nx_receiver.specs.air_file_runs.Listen.{has_moment, moment_after}
 use Rattle.nx_receiver.specs.Shares.{Starts}
 
 -- A line is taken after these lines: a moment in range, and not before the one in force; elements

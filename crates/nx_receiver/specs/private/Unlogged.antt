@@ -1,22 +1,22 @@
--- A run that listens and goes on from what is saved, and writes no log; and how its listener stands:
--- nothing is said of the log but that there is one (this profile).
+-- A run that listens and goes on from what is saved, and writes no log; and how its listener
+-- stands: nothing is said of the log but that there is one (this profile).
 use Rattle.std.specs.Prelude.{◌≡◌, ℕ, List, [], None, Option, Result, IfOk, ⊤}
 use Rattle.std.specs.Io.KnownBytes.{IsAtEnd}
-use Rattle.nx_fec.specs.AirFile.{Line}
+use Rattle.nx_fec.specs.air_files.AirFile.{Line}
 use Rattle.nx_fec.specs.Transfers.{CountedDevice, Reads}
-use Rattle.nx_fec.specs.declared.line_hearing.HearFault.{HearFault}
-use Rattle.nx_fec.specs.declared.line_hearing.HearFault.TheVariants as hear
-use Rattle.nx_fec.specs.declared.line_run.LinesFault.{LinesFault}
-use Rattle.nx_fec.specs.declared.line_run.LinesFault.TheVariants as run
+use Rattle.nx_fec.specs.declared.air_files.line_hearing.HearFault.{HearFault}
+use Rattle.nx_fec.specs.declared.air_files.line_hearing.HearFault.TheVariants as hear
+use Rattle.nx_fec.specs.declared.air_files.line_taking.LinesFault.{LinesFault}
+use Rattle.nx_fec.specs.declared.air_files.line_taking.LinesFault.TheVariants as run
 use Rattle.nx_memory.specs.Saved.{SavedStates}
-use Rattle.nx_receiver.specs.Chain.{HasGoneOn}
-use Rattle.nx_receiver.specs.Listen.{AnswersUnlogged}
-use Rattle.nx_receiver.specs.ListenFrom.{reported}
+use Rattle.nx_receiver.specs.air_file_runs.Chain.{HasGoneOn}
+use Rattle.nx_receiver.specs.air_file_runs.Listen.{AnswersUnlogged}
+use Rattle.nx_receiver.specs.air_file_runs.ListenFrom.{reported}
 use Rattle.nx_receiver.specs.Shares.{Given, Starts, starts_from}
-use Rattle.nx_receiver.specs.declared.listen_fault.ListenFault.{ListenFault}
-use Rattle.nx_receiver.specs.declared.listen_fault.ListenFault.TheVariants.{Read}
-use Rattle.nx_receiver.specs.declared.listening.LineRefusal.{LineRefusal}
-use Rattle.nx_receiver.specs.declared.listening.Report.{Report}
+use Rattle.nx_receiver.specs.declared.air_file_runs.listen_fault.ListenFault.{ListenFault}
+use Rattle.nx_receiver.specs.declared.air_file_runs.listen_fault.ListenFault.TheVariants.{Read}
+use Rattle.nx_receiver.specs.declared.air_file_runs.listening.LineRefusal.{LineRefusal}
+use Rattle.nx_receiver.specs.declared.air_file_runs.listening.Report.{Report}
 use Rattle.nx_receiver.specs.Listener.{Listening, starts_of}
 use Rattle.nx_receiver.specs.private.Listener.{HearsLog, IsListening}
 
@@ -50,5 +50,6 @@ abbrev pub ListensUnlogged : {R : Type 0} → SavedStates → (R → Option (Lis
     → CountedDevice R → Result (Report × SavedStates) ListenFault → Type 0
 ListensUnlogged saved remaining old new outcome =
     Reads remaining old new Read (λ _. ⊥) outcome (λ _. ⊤)
-    (λ bytes. AnswersLeaving saved (IsAtEnd (remaining new.inner)) (λ more. more ≡ []) outcome bytes)
+    (λ bytes. AnswersLeaving saved (IsAtEnd (remaining new.inner)) (λ more. more ≡ []) outcome
+    bytes)
     (λ bytes. AnswersLeaving saved (Unit {0}) (λ more. Unit {0}) outcome bytes)

@@ -4,32 +4,32 @@
 ghost use Rattle.std.specs.Prelude.{◌≡◌, ℕ, ◌≤◌, All, List, ◌++◌, length, Option};
 ghost use Rattle.nx_code.specs.Lists.{last_of};
 ghost use Rattle.nx_envelope.specs.Message.{MessageView};
-ghost use Rattle.nx_fec.specs.AirFile.{Line};
-ghost use Rattle.nx_fec.specs.declared.channel.Channel.{Channel};
-ghost use Rattle.nx_fec.specs.Lines.{file_of};
-ghost use Rattle.nx_fec.specs.declared.channel.Channel.TheVariants.{One, Zero};
+ghost use Rattle.nx_fec.specs.air_files.AirFile.{Line};
+ghost use Rattle.nx_fec.specs.declared.air_files.channel.Channel.{Channel};
+ghost use Rattle.nx_fec.specs.air_files.Lines.{file_of};
+ghost use Rattle.nx_fec.specs.declared.air_files.channel.Channel.TheVariants.{One, Zero};
 ghost use Rattle.nx_memory.specs.Saved.{AreSavedStates, SavedState, SavedStates};
 ghost use Rattle.nx_memory.specs.Memory.{most_entries, newest_moment};
-ghost use Rattle.nx_memory.specs.declared.entry.MemoryEntry.{MemoryEntry};
+ghost use Rattle.nx_memory.specs.declared.memories.entry.MemoryEntry.{MemoryEntry};
 ghost use Rattle.nx_station.specs.ChannelExample.{example_message};
 ghost use Rattle.nx_sync.specs.Locks.{IsNow, Lock, Now};
-ghost use Rattle.nx_receiver.specs.AgainExample.{saved_long_ago};
-ghost use Rattle.nx_receiver.specs.ChannelsExample.{two_channels};
-ghost use Rattle.nx_receiver.specs.ListenOnce.{IsHeardInTimeOn};
-ghost use Rattle.nx_receiver.specs.Chain.{AgreeInLast, GoesOn, HasGoneOn, IsChain, Leaves, Run, all_copies, all_events, all_logs, all_printed, copies_in, files};
-ghost use Rattle.nx_receiver.specs.ChainExample.{example_runs, saved_after};
-ghost use Rattle.nx_receiver.specs.ChainOnce.{IsHeardInTimeOver};
+ghost use Rattle.nx_receiver.specs.examples.Again.{saved_long_ago};
+ghost use Rattle.nx_receiver.specs.examples.Channels.{two_channels};
+ghost use Rattle.nx_receiver.specs.laws.ListenOnce.{IsHeardInTimeOn};
+ghost use Rattle.nx_receiver.specs.air_file_runs.Chain.{AgreeInLast, GoesOn, HasGoneOn, IsChain, Leaves, Run, all_copies, all_events, all_logs, all_printed, copies_in, files};
+ghost use Rattle.nx_receiver.specs.examples.Chain.{example_runs, saved_after};
+ghost use Rattle.nx_receiver.specs.laws.ChainOnce.{IsHeardInTimeOver};
 ghost use Rattle.nx_receiver.specs.Events.{Event, Start, elements_among, first_setting, setting_after_all};
 ghost use Rattle.nx_receiver.specs.FoundCopies.{ended_so_far, TaggedCopy, tagged_copies};
-ghost use Rattle.nx_receiver.specs.Once.{IsUnknownAtFirst, IsPrintedOnce};
-ghost use Rattle.nx_receiver.specs.Listen.{HasListened, IsLogOf, IsLogOfFile, events_on};
+ghost use Rattle.nx_receiver.specs.laws.Once.{IsUnknownAtFirst, IsPrintedOnce};
+ghost use Rattle.nx_receiver.specs.air_file_runs.Listen.{HasListened, IsLogOf, IsLogOfFile, events_on};
 ghost use Rattle.nx_receiver.specs.Log.{IsLog};
 ghost use Rattle.nx_receiver.specs.Printing.{entries_after, entries_made, printed_copies};
 ghost use Rattle.nx_receiver.specs.Receiver.{Receiving, Stands};
 ghost use Rattle.nx_receiver.specs.Shares.{MarkedCopy, copies_on, none_saved, saved_of, start_on, starts_from};
 ghost use Rattle.nx_receiver.specs.Watching.{in_force};
-ghost use Rattle.nx_receiver.specs.Worked.{worked_log};
-ghost use Rattle.nx_receiver.specs.declared.listening.Report.{Report};
+ghost use Rattle.nx_receiver.specs.examples.Emission.{worked_log};
+ghost use Rattle.nx_receiver.specs.declared.air_file_runs.listening.Report.{Report};
 
 use nx_memory::Recall;
 
@@ -161,8 +161,8 @@ pub fn there_is_a_chain_with_a_message_heard_in_time()
     ensures logs { all_logs example_runs ≡ worked_log }
 {}
 
-/// What has to be met can be met where a receiver goes on from an entry of the message: of channel 1
-/// an entry of EA01 is saved, and EA01 is heard there again when the entry is 66 hours old. The
+/// What has to be met can be met where a receiver goes on from an entry of the message: of channel
+/// 1 an entry of EA01 is saved, and EA01 is heard there again when the entry is 66 hours old. The
 /// file has a log with that start.
 pub fn there_is_a_message_heard_again_after_66_hours()
     ensures saved { AreSavedStates saved_long_ago }

@@ -2,15 +2,15 @@
 
 ghost use Rattle.std.specs.Prelude.{◌≡◌, ℕ, List, None, map};
 ghost use Rattle.std.specs.List.{AllByRecursion, flat_map};
-ghost use Rattle.nx_fec.specs.AirFile.{Line};
-ghost use Rattle.nx_fec.specs.Lines.{file_of};
-ghost use Rattle.nx_fec.specs.declared.channel.Channel.{Channel};
-ghost use Rattle.nx_fec.specs.declared.channel.Channel.TheVariants.{Zero};
-ghost use Rattle.nx_receiver.specs.ChannelsExample.{two_channels, two_channels_log};
+ghost use Rattle.nx_fec.specs.air_files.AirFile.{Line};
+ghost use Rattle.nx_fec.specs.air_files.Lines.{file_of};
+ghost use Rattle.nx_fec.specs.declared.air_files.channel.Channel.{Channel};
+ghost use Rattle.nx_fec.specs.declared.air_files.channel.Channel.TheVariants.{Zero};
+ghost use Rattle.nx_receiver.specs.examples.Channels.{two_channels, two_channels_log};
 ghost use Rattle.nx_receiver.specs.FoundCopies.{TaggedCopy};
 ghost use Rattle.nx_receiver.specs.InTurn.{PrintAllToEnd, PrintsInTurn};
-ghost use Rattle.nx_receiver.specs.LawTerms.{events_said, named_by};
-ghost use Rattle.nx_receiver.specs.Listen.{IsLogOf, IsLogOfFile, events_on};
+ghost use Rattle.nx_receiver.specs.laws.LawTerms.{events_said, named_by};
+ghost use Rattle.nx_receiver.specs.air_file_runs.Listen.{IsLogOf, IsLogOfFile, events_on};
 ghost use Rattle.nx_receiver.specs.Log.{PrintsToEnd};
 ghost use Rattle.nx_receiver.specs.Shares.{Given, MarkedCopy, Starts, all_at_zero, copies_on, marked, share, start_on};
 
@@ -51,9 +51,9 @@ pub fn a_file_without_channels_has_the_log_of_one_receiver()
         × PrintsToEnd (start_on starts Zero) (flat_map events_said lines) printed }
 {}
 
-/// The definitions on a worked air file of two channels: EA01 with the line TEST is heard on channel
-/// 0 and on channel 1, line by line. The log is the entry of channel 0, and then the same with the
-/// mark of channel 1.
+/// The definitions on a worked air file of two channels: EA01 with the line TEST is heard on
+/// channel 0 and on channel 1, line by line. The log is the entry of channel 0, and then the same
+/// with the mark of channel 1.
 pub fn two_channels_are_logged()
     ensures { IsLogOf all_at_zero (file_of two_channels) two_channels_log }
 {}

@@ -6,7 +6,7 @@ ghost use Rattle.std.specs.List.{AllByRecursion, flat_map};
 ghost use Rattle.nx_envelope.specs.Copies.{headers, errors_of};
 ghost use Rattle.nx_envelope.specs.Header.{Header};
 ghost use Rattle.nx_envelope.specs.Message.{AreLines, text_of, MessageView};
-ghost use Rattle.nx_fec.specs.Emission.{bits_of};
+ghost use Rattle.nx_fec.specs.emissions.Emission.{bits_of};
 ghost use Rattle.nx_station.specs.Broadcast.{printed_text};
 ghost use Rattle.nx_station.specs.ChannelExample.{example_message, example_parts};
 ghost use Rattle.nx_station.specs.Sendings.{IsCut, IsReceived, IsSending, Part, ReceivedEmission, Sending};
@@ -14,9 +14,9 @@ ghost use Rattle.nx_sync.specs.Locks.{IsNow, Lock, Now};
 ghost use Rattle.nx_receiver.specs.Events.{Event, Start};
 ghost use Rattle.nx_receiver.specs.FoundCopies.{ended_so_far, found_to_end, TaggedCopy};
 ghost use Rattle.nx_receiver.specs.Log.{PrintsToEnd};
-ghost use Rattle.nx_receiver.specs.Once.{IsHeardInTime, IsPrintedOnce};
-ghost use Rattle.nx_receiver.specs.Emissions.{HoldsThrough, IsHeaderOf, copies_at, copy_of_sending};
-ghost use Rattle.nx_receiver.specs.Worked.{at_its_slot, damaged_words, heard_elements};
+ghost use Rattle.nx_receiver.specs.laws.Once.{IsHeardInTime, IsPrintedOnce};
+ghost use Rattle.nx_receiver.specs.laws.Emissions.{HoldsThrough, IsHeaderOf, copies_at, copy_of_sending};
+ghost use Rattle.nx_receiver.specs.examples.Emission.{at_its_slot, damaged_words, heard_elements};
 
 /// Under the channel a lock holds: whatever bits came before, the lock that the last 48 phasing
 /// words before the first message leave stands to the last bit of a received emission, and so to

@@ -2,23 +2,23 @@
 //! the one before it wrote. Each function does nothing; its contract is the law.
 
 ghost use Rattle.std.specs.Prelude.{◌≡◌, ◌≢◌, ℕ, List, [], ◌++◌, Some, Result, Ok, Err};
-ghost use Rattle.nx_fec.specs.declared.channel.Channel.{Channel};
+ghost use Rattle.nx_fec.specs.declared.air_files.channel.Channel.{Channel};
 ghost use Rattle.nx_memory.specs.Saved.{AreSavedStates, SavedStates};
 ghost use Rattle.nx_memory.specs.StateText.{IsText1, IsText2};
-ghost use Rattle.nx_receiver.specs.Chain.{all_copies, all_printed};
+ghost use Rattle.nx_receiver.specs.air_file_runs.Chain.{all_copies, all_printed};
 ghost use Rattle.nx_receiver.specs.Log.{IsLog};
 ghost use Rattle.nx_receiver.specs.Printing.{printed_copies};
-ghost use Rattle.nx_receiver.specs.Resume.{AnswersResuming, HasChain, IsTextChain, TextRun, WritesLog, WritesState, text_logs};
+ghost use Rattle.nx_receiver.specs.air_file_runs.Resume.{AnswersResuming, HasChain, IsTextChain, TextRun, WritesLog, WritesState, text_logs};
 ghost use Rattle.nx_receiver.specs.Shares.{copies_on, saved_of};
-ghost use Rattle.nx_receiver.specs.State.{AnswersState, BeginsWithState, IsStateBytes, ended_lines, state_bytes};
-ghost use Rattle.nx_receiver.specs.declared.listening.Report.{Report};
-ghost use Rattle.nx_receiver.specs.declared.resume_fault.Want.TheVariants.{Log, State};
-ghost use Rattle.nx_receiver.specs.declared.state_fault.StateFault.{StateFault};
-ghost use Rattle.nx_receiver.specs.declared.state_fault.StateFault.TheVariants.{Read};
+ghost use Rattle.nx_receiver.specs.air_file_runs.State.{AnswersState, BeginsWithState, IsStateBytes, ended_lines, state_bytes};
+ghost use Rattle.nx_receiver.specs.declared.air_file_runs.listening.Report.{Report};
+ghost use Rattle.nx_receiver.specs.declared.air_file_runs.resume_fault.Want.TheVariants.{Log, State};
+ghost use Rattle.nx_receiver.specs.declared.air_file_runs.state_fault.StateFault.{StateFault};
+ghost use Rattle.nx_receiver.specs.declared.air_file_runs.state_fault.StateFault.TheVariants.{Read};
 
-/// The bytes of a text of a state stand for one state, and of one version a state has one text. What
-/// is written of a state is a text of it, and is read back as the same, whatever follows it. No text
-/// begins another.
+/// The bytes of a text of a state stand for one state, and of one version a state has one text.
+/// What is written of a state is a text of it, and is read back as the same, whatever follows it.
+/// No text begins another.
 pub fn a_state_is_told_by_its_bytes()
     ensures one_state { (text : List ℕ) (states others : SavedStates)
         → IsStateBytes text states → IsStateBytes text others → states ≡ others }
@@ -46,8 +46,8 @@ pub fn an_input_has_one_state()
 /// Runs that each begin with the text that the one before it wrote are a chain, though nothing but
 /// texts is handed on: a chain of runs reads the same files and has the same logs, where it begins
 /// with what the first text stands for; and the last text stands for what it leaves. So all that is
-/// said of the log of a chain holds of the joined logs: on each channel, they are what is printed of
-/// all copies of the runs, in order.
+/// said of the log of a chain holds of the joined logs: on each channel, they are what is printed
+/// of all copies of the runs, in order.
 pub fn texts_make_a_chain()
     ensures chain { (first last : List ℕ) (saved : SavedStates) (runs : List TextRun)
         → IsStateBytes first saved → IsTextChain first runs last → HasChain saved runs last }
@@ -61,7 +61,8 @@ pub fn texts_make_a_chain()
 
 /// What a run that resumes writes of its whole input is such a log: where it answers a report to
 /// `Want::Log`, the input is the text of a state and an air file, and what it wrote is the log of
-/// the two. And where it answers one to `Want::State`, what it wrote is the text of what they leave.
+/// the two. And where it answers one to `Want::State`, what it wrote is the text of what they
+/// leave.
 pub fn a_run_writes_its_log_or_its_state()
     ensures log { (input old new : List ℕ) (report : Report)
         → AnswersResuming Log (Unit {0}) (λ more. Unit {0}) (Some old) (Some new) (Ok report) input

@@ -3,18 +3,18 @@
 
 ghost use Rattle.std.specs.Prelude.{◌≡◌, ℕ, ◌<◌, List, [], map};
 ghost use Rattle.nx_envelope.specs.Message.{MessageView};
-ghost use Rattle.nx_fec.specs.AirFile.{Line};
-ghost use Rattle.nx_fec.specs.declared.channel.Channel.TheVariants.{Zero};
+ghost use Rattle.nx_fec.specs.air_files.AirFile.{Line};
+ghost use Rattle.nx_fec.specs.declared.air_files.channel.Channel.TheVariants.{Zero};
 ghost use Rattle.nx_station.specs.Broadcast.{AreSpelled};
 ghost use Rattle.nx_station.specs.FileSending.{IsTransmission};
 ghost use Rattle.nx_station.specs.Sendable.{IsSendable};
 ghost use Rattle.nx_station.specs.declared.sending.Sent.{Sent};
 ghost use Rattle.nx_receiver.specs.Events.{at_zero};
-ghost use Rattle.nx_receiver.specs.Listen.{IsLogOf, IsLogOfFile};
-ghost use Rattle.nx_receiver.specs.ListenOnce.{IsHeardInTimeOn};
-ghost use Rattle.nx_receiver.specs.Once.{IsHeardInTime, IsPrintedOnce};
+ghost use Rattle.nx_receiver.specs.air_file_runs.Listen.{IsLogOf, IsLogOfFile};
+ghost use Rattle.nx_receiver.specs.laws.ListenOnce.{IsHeardInTimeOn};
+ghost use Rattle.nx_receiver.specs.laws.Once.{IsHeardInTime, IsPrintedOnce};
 ghost use Rattle.nx_receiver.specs.Printing.{printed_copies};
-ghost use Rattle.nx_receiver.specs.FromSend.{AreDifferent, BearsAlone, copy_as_sent, events_as_sent, parts_as_sent};
+ghost use Rattle.nx_receiver.specs.laws.FromSend.{AreDifferent, BearsAlone, copy_as_sent, events_as_sent, parts_as_sent};
 ghost use Rattle.nx_receiver.specs.Shares.{MarkedCopy, all_at_zero, copies_on, marked};
 
 /// An emission that is heard as it is sent: each of its messages that isn't numbered 00, and that

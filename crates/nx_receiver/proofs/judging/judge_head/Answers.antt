@@ -2,8 +2,8 @@ use Rattle.std.proofs.Common.{◌≡◌, ◌==◌, ◌&&◌, ◌||◌, false, no
 use Rattle.nx_memory.specs.Memory.{is_known}
 use Rattle.nx_receiver.specs.Printing.{is_good}
 use Rattle.nx_receiver.specs.private.Heads.{headed_copy}
-use Rattle.nx_receiver.proofs.receiving.Judging.{content_grows, content_stays, entered, made_false}
-use Rattle.nx_receiver.proofs.receiving.Judging.{newest_is_last, printed_as}
+use Rattle.nx_receiver.proofs.lemmas.receiver.Judging.{content_grows, content_stays, entered, made_false}
+use Rattle.nx_receiver.proofs.lemmas.receiver.Judging.{newest_is_last, printed_as}
 use Rattle.nx_receiver.proofs.judging.judge_head.Goals as goal
 
 pub returns-then-number-ne0-clause-printed : goal.returns-then-number-ne0-clause-printed
@@ -12,7 +12,8 @@ returns-then-number-ne0-clause-printed g c entries h =
     let known = is_known head.identity c.args.moment (g.M.Recall.content c.args.memory.now) in
     let printed : c.if-selected.printed
     ≡ (c.args.selected && ((head.identity.number == 0) || not known)) = search rules in
-    printed_as entries _ (headed_copy head c.args.text.now c.args.moment c.args.selected) _ h printed
+    printed_as entries _ (headed_copy head c.args.text.now c.args.moment c.args.selected) _ h
+    printed
 
 pub returns-then-number-ne0-clause-entered : goal.returns-then-number-ne0-clause-entered
 returns-then-number-ne0-clause-entered g c entries h =
@@ -39,7 +40,8 @@ returns-else-printed-clause-printed g c entries h =
     let known = is_known head.identity c.args.moment (g.M.Recall.content c.args.memory.now) in
     let printed : c.if-selected.printed
     ≡ (c.args.selected && ((head.identity.number == 0) || not known)) = search rules in
-    printed_as entries _ (headed_copy head c.args.text.now c.args.moment c.args.selected) _ h printed
+    printed_as entries _ (headed_copy head c.args.text.now c.args.moment c.args.selected) _ h
+    printed
 
 pub returns-else-printed-clause-entered : goal.returns-else-printed-clause-entered
 returns-else-printed-clause-entered g c entries h =

@@ -1,6 +1,6 @@
 use Rattle.nx_sync.specs.Words.{word_of_lock, first_role}
-use Rattle.nx_receiver.proofs.locks.Texts.{bytes_are_reading}
-use Rattle.nx_receiver.proofs.locks.Words.{positions-told}
+use Rattle.nx_receiver.proofs.lemmas.locks.Texts.{bytes_are_reading}
+use Rattle.nx_receiver.proofs.lemmas.locks.Words.{positions-told}
 use Rattle.nx_receiver.proofs.laws.a_text_is_read_of_positions.Goals as goal
 
 pub returns : goal.returns

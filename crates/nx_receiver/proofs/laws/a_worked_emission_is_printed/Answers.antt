@@ -1,7 +1,7 @@
 use Rattle.std.proofs.Common.{refl}
-use Rattle.nx_receiver.specs.Worked.{worked_words, damaged_words}
-use Rattle.nx_receiver.proofs.examples.Worked.{sent_computed, damaged_computed}
-use Rattle.nx_receiver.proofs.examples.WorkedLog.{printed_to_end, log_is}
+use Rattle.nx_receiver.specs.examples.Emission.{worked_words, damaged_words}
+use Rattle.nx_receiver.proofs.lemmas.examples.Worked.{sent_computed, damaged_computed}
+use Rattle.nx_receiver.proofs.lemmas.examples.WorkedLog.{printed_to_end, log_is}
 use Rattle.nx_receiver.proofs.laws.a_worked_emission_is_printed.Goals as goal
 
 pub returns : goal.returns

@@ -1,13 +1,13 @@
 use Rattle.std.proofs.Common.{◌≡◌, List, [], ◌∷◌, ◌++◌, Bool, refl, sym, ap, ◌∙◌, subst}
 use Rattle.std.proofs.lemmas.List.{map-append}
-use Rattle.nx_memory.specs.declared.entry.MemoryEntry.{MemoryEntry}
+use Rattle.nx_memory.specs.declared.memories.entry.MemoryEntry.{MemoryEntry}
 use Rattle.nx_receiver.specs.Events.{Event, Start, element, elements}
 use Rattle.nx_receiver.specs.Log.{HasPrinted}
 use Rattle.nx_receiver.specs.Receiver.{Receiving, Stands, events_of_pieces, elements_of_pieces}
 use Rattle.nx_receiver.specs.FoundCopies.{TaggedCopy}
-use Rattle.nx_receiver.proofs.receiving.Logged.{one_printed}
-use Rattle.nx_receiver.proofs.receiving.Printing.{has_printed}
-use Rattle.nx_receiver.proofs.watching.Hears.{has_ended}
+use Rattle.nx_receiver.proofs.lemmas.receiver.Logged.{one_printed}
+use Rattle.nx_receiver.proofs.lemmas.receiver.Printing.{has_printed}
+use Rattle.nx_receiver.proofs.lemmas.watch.Hears.{has_ended}
 use Rattle.nx_receiver.proofs.laws.cuttings_print_the_same.Goals as goal
 
 events-of_elements : (pieces : List (List Bool))

@@ -1,6 +1,6 @@
 use Rattle.nx_sync.specs.Words.{word_of_lock, first_role}
-use Rattle.nx_receiver.proofs.locks.Apart.{own_text, apart, apart_now}
-use Rattle.nx_receiver.proofs.locks.Found.{text_placed}
+use Rattle.nx_receiver.proofs.lemmas.locks.Apart.{own_text, apart, apart_now}
+use Rattle.nx_receiver.proofs.lemmas.locks.Found.{text_placed}
 use Rattle.nx_receiver.proofs.laws.locks_share_nothing.Goals as goal
 
 pub returns : goal.returns

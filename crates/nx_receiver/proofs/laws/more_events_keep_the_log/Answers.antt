@@ -1,5 +1,5 @@
-use Rattle.nx_receiver.proofs.locks.Growing.{ended_go_on}
-use Rattle.nx_receiver.proofs.receiving.Logged.{has_printed_on, prints_to_end_on}
+use Rattle.nx_receiver.proofs.lemmas.locks.Growing.{ended_go_on}
+use Rattle.nx_receiver.proofs.lemmas.receiver.Logged.{has_printed_on, prints_to_end_on}
 use Rattle.nx_receiver.proofs.laws.more_events_keep_the_log.Goals as goal
 
 pub returns : goal.returns

@@ -1,4 +1,4 @@
-use Rattle.nx_receiver.proofs.examples.Repeats.{example}
+use Rattle.nx_receiver.proofs.lemmas.examples.Repeats.{example}
 use Rattle.nx_receiver.proofs.laws.there_are_repeats.Goals as goal
 
 pub returns : goal.returns

@@ -1,5 +1,5 @@
-use Rattle.nx_receiver.proofs.receiving.Log.{one_log, some_log}
-use Rattle.nx_receiver.proofs.receiving.Logged.{one_printed, one_to_end, some_printed, some_to_end}
+use Rattle.nx_receiver.proofs.lemmas.receiver.Log.{one_log, some_log}
+use Rattle.nx_receiver.proofs.lemmas.receiver.Logged.{one_printed, one_to_end, some_printed, some_to_end}
 use Rattle.nx_receiver.proofs.laws.there_is_one_log.Goals as goal
 
 pub returns : goal.returns

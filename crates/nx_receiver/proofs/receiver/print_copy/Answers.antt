@@ -2,8 +2,8 @@ use Rattle.std.proofs.Common.{sym, ap, ◌∙◌, cond, [], ◌∷◌}
 use Rattle.nx_code.specs.Lists.{last_of}
 use Rattle.nx_memory.specs.Memory.{most_entries}
 use Rattle.nx_receiver.specs.Receiver.{entry_list}
-use Rattle.nx_receiver.proofs.receiving.Printing.{enter_none, enter_some, print_none, print_some}
-use Rattle.nx_receiver.proofs.receiving.Printing.{selected, with_tag}
+use Rattle.nx_receiver.proofs.lemmas.receiver.Printing.{enter_none, enter_some, print_none, print_some}
+use Rattle.nx_receiver.proofs.lemmas.receiver.Printing.{selected, with_tag}
 use Rattle.nx_receiver.proofs.receiver.print_copy.Goals as goal
 
 pub returns-in_err-found-clause-printed : goal.returns-in_err-found-clause-printed

@@ -1,12 +1,12 @@
 use Rattle.std.proofs.Common.{◌≡◌, ◌∷◌, ◌++◌, [], ℕ, List, refl, subst, ◌∙◌, append_assoc}
 use Rattle.std.specs.Prelude.{MatchResult}
 use Rattle.std.proofs.lemmas.Result.{err_from_is_err_and}
-use Rattle.nx_envelope.specs.Header.{newline}
-use Rattle.nx_fec.specs.LineRuns.{HasGiven}
+use Rattle.nx_code.specs.Reading.{newline}
+use Rattle.nx_fec.specs.air_files.LineRuns.{HasGiven}
 use Rattle.nx_fec.specs.Transfers.{WroteSome}
-use Rattle.nx_fec.proofs.WritingLaws.{WroteSome-front}
+use Rattle.nx_fec.proofs.lemmas.devices.WritingLaws.{WroteSome-front}
 use Rattle.nx_receiver.specs.Log.{missing_newline}
-use Rattle.nx_receiver.proofs.receiving.Log.{entry_of_parts}
+use Rattle.nx_receiver.proofs.lemmas.receiver.Log.{entry_of_parts}
 use Rattle.nx_receiver.proofs.writing.give_entry.Goals as goal
 
 joined : (a b c d : List ℕ) → ((a ++ b) ++ c) ++ d ≡ a ++ ((b ++ c) ++ d)

@@ -1,4 +1,4 @@
-use Rattle.nx_receiver.proofs.chain.Runs.{files_decide}
+use Rattle.nx_receiver.proofs.lemmas.chain.Runs.{files_decide}
 use Rattle.nx_receiver.proofs.laws.chain.a_chain_is_told_by_its_files.Goals as goal
 
 pub returns : goal.returns

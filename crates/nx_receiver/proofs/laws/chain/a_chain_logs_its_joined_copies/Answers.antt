@@ -1,6 +1,6 @@
 use Rattle.std.proofs.Common.{refl}
 use Rattle.nx_receiver.specs.Shares.{saved_of}
-use Rattle.nx_receiver.proofs.chain.Runs.{chain_leaves, chain_logs, chain_prints, chain_refuses}
+use Rattle.nx_receiver.proofs.lemmas.chain.Runs.{chain_leaves, chain_logs, chain_prints, chain_refuses}
 use Rattle.nx_receiver.proofs.laws.chain.a_chain_logs_its_joined_copies.Goals as goal
 
 pub returns : goal.returns

@@ -1,5 +1,5 @@
-use Rattle.nx_receiver.proofs.chain.Once.{chain_once, unknown_from_nothing}
-use Rattle.nx_receiver.proofs.chain.Runs.{chain_logs}
+use Rattle.nx_receiver.proofs.lemmas.chain.Once.{chain_once, unknown_from_nothing}
+use Rattle.nx_receiver.proofs.lemmas.chain.Runs.{chain_logs}
 use Rattle.nx_receiver.proofs.laws.chain.a_message_heard_over_runs_has_one_entry.Goals as goal
 
 pub returns : goal.returns

@@ -1,4 +1,4 @@
-use Rattle.nx_receiver.proofs.chain.Left.{held-left, left-of_ended}
+use Rattle.nx_receiver.proofs.lemmas.chain.Left.{held-left, left-of_ended}
 use Rattle.nx_receiver.proofs.laws.chain.a_receiver_holds_what_it_leaves.Goals as goal
 
 pub returns : goal.returns

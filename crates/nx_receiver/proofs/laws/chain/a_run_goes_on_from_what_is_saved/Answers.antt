@@ -1,6 +1,6 @@
-use Rattle.nx_receiver.proofs.chain.Moments.{copies-from}
-use Rattle.nx_receiver.proofs.chain.Runs.{chains_join, few_left, goes_on, one_left, some_gone_on}
-use Rattle.nx_receiver.proofs.chain.Runs.{some_left}
+use Rattle.nx_receiver.proofs.lemmas.chain.Moments.{copies-from}
+use Rattle.nx_receiver.proofs.lemmas.chain.Runs.{chains_join, few_left, goes_on, one_left, some_gone_on}
+use Rattle.nx_receiver.proofs.lemmas.chain.Runs.{some_left}
 use Rattle.nx_receiver.proofs.laws.chain.a_run_goes_on_from_what_is_saved.Goals as goal
 
 pub returns : goal.returns

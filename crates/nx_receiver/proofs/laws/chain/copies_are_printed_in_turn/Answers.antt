@@ -1,4 +1,4 @@
-use Rattle.nx_receiver.proofs.receiving.Logged.{entries_after-append, printed_copies-append}
+use Rattle.nx_receiver.proofs.lemmas.receiver.Logged.{entries_after-append, printed_copies-append}
 use Rattle.nx_receiver.proofs.laws.chain.copies_are_printed_in_turn.Goals as goal
 
 pub returns : goal.returns

@@ -1,4 +1,4 @@
-use Rattle.nx_receiver.proofs.examples.Chain.{heard-in-time, is-chain, logs-are}
+use Rattle.nx_receiver.proofs.lemmas.examples.Chain.{heard-in-time, is-chain, logs-are}
 use Rattle.nx_receiver.proofs.laws.chain.there_is_a_chain_with_a_message_heard_in_time.Goals as goal
 
 pub returns : goal.returns

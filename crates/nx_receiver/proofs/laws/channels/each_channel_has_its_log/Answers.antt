@@ -1,6 +1,6 @@
-use Rattle.nx_receiver.proofs.Shares.{to_end-on}
-use Rattle.nx_receiver.proofs.turns.One.{one-in_turn, one-to_end}
-use Rattle.nx_receiver.proofs.turns.Some.{some-in_turn, some-to_end}
+use Rattle.nx_receiver.proofs.lemmas.channels.Shares.{to_end-on}
+use Rattle.nx_receiver.proofs.lemmas.channels.One.{one-in_turn, one-to_end}
+use Rattle.nx_receiver.proofs.lemmas.channels.Some.{some-in_turn, some-to_end}
 use Rattle.nx_receiver.proofs.laws.channels.each_channel_has_its_log.Goals as goal
 
 pub returns : goal.returns

@@ -1,4 +1,4 @@
-use Rattle.nx_receiver.proofs.listens.Moments.{one-closed, one-open, some-closed, some-open}
+use Rattle.nx_receiver.proofs.lemmas.listening.Moments.{one-closed, one-open, some-closed, some-open}
 use Rattle.nx_receiver.proofs.laws.listening.an_air_file_has_one_log.Goals as goal
 
 pub returns : goal.returns

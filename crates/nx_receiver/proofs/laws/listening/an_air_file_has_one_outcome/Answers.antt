@@ -1,4 +1,4 @@
-use Rattle.nx_receiver.proofs.listens.Outcomes.{first_fault-taken, no-first_fault, one-first_fault}
+use Rattle.nx_receiver.proofs.lemmas.listening.Outcomes.{first_fault-taken, no-first_fault, one-first_fault}
 use Rattle.nx_receiver.proofs.laws.listening.an_air_file_has_one_outcome.Goals as goal
 
 pub returns : goal.returns

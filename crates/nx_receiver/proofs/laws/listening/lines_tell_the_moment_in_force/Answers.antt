@@ -1,4 +1,4 @@
-use Rattle.nx_receiver.proofs.listens.Listener.{in_force-lines}
+use Rattle.nx_receiver.proofs.lemmas.listening.Listener.{in_force-lines}
 use Rattle.nx_receiver.proofs.laws.listening.lines_tell_the_moment_in_force.Goals as goal
 
 pub returns : goal.returns

@@ -1,4 +1,4 @@
-use Rattle.nx_receiver.proofs.examples.AirFile.{heard-in-time, logged}
+use Rattle.nx_receiver.proofs.lemmas.examples.AirFile.{heard-in-time, logged}
 use Rattle.nx_receiver.proofs.laws.listening.there_is_an_air_file_with_a_message_heard_in_time.Goals as goal
 
 pub returns : goal.returns

@@ -1,4 +1,4 @@
-use Rattle.nx_receiver.proofs.once.Found.{printed_once}
+use Rattle.nx_receiver.proofs.lemmas.once.Found.{printed_once}
 use Rattle.nx_receiver.proofs.laws.once.a_message_is_printed_once.Goals as goal
 
 pub returns : goal.returns

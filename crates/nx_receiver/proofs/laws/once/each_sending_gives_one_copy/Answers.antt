@@ -1,4 +1,4 @@
-use Rattle.nx_receiver.proofs.emissions.Found.{one_found, one_ended, sending_errors}
+use Rattle.nx_receiver.proofs.lemmas.emissions.Found.{one_found, one_ended, sending_errors}
 use Rattle.nx_receiver.proofs.laws.once.each_sending_gives_one_copy.Goals as goal
 
 pub returns : goal.returns

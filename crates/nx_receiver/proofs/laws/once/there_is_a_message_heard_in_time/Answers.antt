@@ -1,4 +1,4 @@
-use Rattle.nx_receiver.proofs.examples.Emission.{heard_in_time}
+use Rattle.nx_receiver.proofs.lemmas.examples.Emission.{heard_in_time}
 use Rattle.nx_receiver.proofs.laws.once.there_is_a_message_heard_in_time.Goals as goal
 
 pub returns : goal.returns

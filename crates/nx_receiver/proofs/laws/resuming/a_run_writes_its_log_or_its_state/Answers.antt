@@ -1,5 +1,5 @@
 use Rattle.std.proofs.Common.{refl}
-use Rattle.nx_receiver.specs.State.{state_bytes}
+use Rattle.nx_receiver.specs.air_file_runs.State.{state_bytes}
 use Rattle.nx_receiver.proofs.laws.resuming.a_run_writes_its_log_or_its_state.Goals as goal
 
 pub returns : goal.returns

@@ -1,7 +1,7 @@
 use Rattle.std.proofs.Common.{ap, refl}
-use Rattle.nx_memory.proofs.StateLaws.{one_text}
-use Rattle.nx_receiver.specs.State.{ended_lines, state_bytes}
-use Rattle.nx_receiver.proofs.states.Answers.{no_text_begins, one_state_bytes, written_stands}
+use Rattle.nx_memory.proofs.lemmas.StateLaws.{one_text}
+use Rattle.nx_receiver.specs.air_file_runs.State.{ended_lines, state_bytes}
+use Rattle.nx_receiver.proofs.lemmas.state.Answers.{no_text_begins, one_state_bytes, written_stands}
 use Rattle.nx_receiver.proofs.laws.resuming.a_state_is_told_by_its_bytes.Goals as goal
 
 pub returns : goal.returns

@@ -1,4 +1,4 @@
-use Rattle.nx_receiver.proofs.states.Answers.{one_answer}
+use Rattle.nx_receiver.proofs.lemmas.state.Answers.{one_answer}
 use Rattle.nx_receiver.proofs.laws.resuming.an_input_has_one_state.Goals as goal
 
 pub returns : goal.returns

@@ -1,4 +1,4 @@
-use Rattle.nx_receiver.proofs.from_send.Heard.{heard_in_time}
+use Rattle.nx_receiver.proofs.lemmas.from_send.Heard.{heard_in_time}
 use Rattle.nx_receiver.proofs.laws.sending.an_emission_as_sent_is_heard_in_time.Goals as goal
 
 pub returns : goal.returns

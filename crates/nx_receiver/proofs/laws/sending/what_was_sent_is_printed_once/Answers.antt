@@ -1,4 +1,4 @@
-use Rattle.nx_receiver.proofs.from_send.Files.{sent_in_time, sent_once}
+use Rattle.nx_receiver.proofs.lemmas.from_send.Files.{sent_in_time, sent_once}
 use Rattle.nx_receiver.proofs.laws.sending.what_was_sent_is_printed_once.Goals as goal
 
 pub returns : goal.returns

@@ -1,6 +1,6 @@
 use Rattle.std.proofs.Common.{refl}
-use Rattle.nx_fec.specs.declared.channel.Channel.TheVariants.{Zero, One, Two}
-use Rattle.nx_receiver.proofs.listens.Listener.{commanded}
+use Rattle.nx_fec.specs.declared.air_files.channel.Channel.TheVariants.{Zero, One, Two}
+use Rattle.nx_receiver.proofs.lemmas.listening.Listener.{commanded}
 use Rattle.nx_receiver.proofs.listener.Listener.accept_subject.Goals as goal
 
 pub returns-in-Zero-clause-heard : goal.returns-in-Zero-clause-heard

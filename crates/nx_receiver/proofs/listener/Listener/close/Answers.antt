@@ -1,4 +1,4 @@
-use Rattle.nx_receiver.proofs.listens.Ends.{closes-all, prints-last}
+use Rattle.nx_receiver.proofs.lemmas.listening.Ends.{closes-all, prints-last}
 use Rattle.nx_receiver.proofs.listener.Listener.close.Goals as goal
 
 pub returns-clause-printed : goal.returns-clause-printed

@@ -1,8 +1,8 @@
 use Rattle.std.proofs.Common.{◌++◌, ap}
 use Rattle.std.proofs.lemmas.Result.{err_from_is_err_and}
 use Rattle.nx_receiver.specs.Listener.{Listening}
-use Rattle.nx_receiver.proofs.listens.Ends.{closed-all, closed-part-0, closed-part-1}
-use Rattle.nx_receiver.proofs.listens.Ends.{closed-part-2, closes-all}
+use Rattle.nx_receiver.proofs.lemmas.listening.Ends.{closed-all, closed-part-0, closed-part-1}
+use Rattle.nx_receiver.proofs.lemmas.listening.Ends.{closed-part-2, closes-all}
 use Rattle.nx_receiver.proofs.listener.Listener.close_log.Goals as goal
 
 pub returns-in_err-at_end-clause-closed : goal.returns-in_err-at_end-clause-closed

@@ -1,7 +1,7 @@
 use Rattle.std.proofs.Common.{◌+◌, ◌∙◌, None, ap}
-use Rattle.nx_fec.specs.declared.channel.Channel.TheVariants.{Zero, One, Two}
+use Rattle.nx_fec.specs.declared.air_files.channel.Channel.TheVariants.{Zero, One, Two}
 use Rattle.nx_receiver.specs.Listener.{Listening, count_of}
-use Rattle.nx_receiver.proofs.listens.Ends.{bool-counted, closed-all, closes-all, log-of}
+use Rattle.nx_receiver.proofs.lemmas.listening.Ends.{bool-counted, closed-all, closes-all, log-of}
 use Rattle.nx_receiver.proofs.listener.Listener.close_unlogged.Goals as goal
 
 pub returns-clause-closed : goal.returns-clause-closed

@@ -1,8 +1,8 @@
 use Rattle.std.proofs.Common.{◌+◌, ◌∙◌, ap, arith, drop, length-drop}
 use Rattle.nx_receiver.specs.Listener.{count_of}
 use Rattle.nx_receiver.specs.Receiver.{entry_list}
-use Rattle.nx_receiver.proofs.listens.Ends.{bool-counted}
-use Rattle.nx_receiver.proofs.listens.Listener.{entry-few, heard-to, none-before}
+use Rattle.nx_receiver.proofs.lemmas.listening.Ends.{bool-counted}
+use Rattle.nx_receiver.proofs.lemmas.listening.Listener.{entry-few, heard-to, none-before}
 use Rattle.nx_receiver.proofs.listener.Listener.hear.Goals as goal
 
 pub returns-clause-heard : goal.returns-clause-heard

@@ -1,13 +1,13 @@
 use Rattle.std.proofs.Common.{◌≡◌, ◌++◌, arith, drop, length-drop, rules, subst, take}
 use Rattle.std.specs.Prelude.{MatchResult}
 use Rattle.std.proofs.lemmas.Result.{err_from_is_err_and}
-use Rattle.nx_fec.specs.LineRuns.{HasGiven}
+use Rattle.nx_fec.specs.air_files.LineRuns.{HasGiven}
 use Rattle.nx_fec.specs.Transfers.{WroteSome}
 use Rattle.nx_receiver.specs.declared.over.Over.TheVariants.{Nothing}
 use Rattle.nx_receiver.specs.Listener.{then_elements}
 use Rattle.nx_receiver.specs.private.Listener.{BeginsLog}
-use Rattle.nx_receiver.proofs.listens.Listener.{begins-more, finishes, heard-no-over, heard-over}
-use Rattle.nx_receiver.proofs.listens.Listener.{hears-until, whole-part}
+use Rattle.nx_receiver.proofs.lemmas.listening.Listener.{begins-more, finishes, heard-no-over, heard-over}
+use Rattle.nx_receiver.proofs.lemmas.listening.Listener.{hears-until, whole-part}
 use Rattle.nx_receiver.proofs.listener.Listener.hear_next.Goals as goal
 
 pub returns-then-eq-clause-heard : goal.returns-then-eq-clause-heard

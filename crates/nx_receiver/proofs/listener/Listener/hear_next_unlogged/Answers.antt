@@ -1,6 +1,6 @@
 use Rattle.std.proofs.Common.{◌≡◌, ◌++◌, arith, drop, length-drop, rules, take}
 use Rattle.nx_receiver.specs.declared.over.Over.TheVariants.{Nothing}
-use Rattle.nx_receiver.proofs.listens.Listener.{finishes, heard-no-over, heard-over, hears-until}
+use Rattle.nx_receiver.proofs.lemmas.listening.Listener.{finishes, heard-no-over, heard-over, hears-until}
 use Rattle.nx_receiver.proofs.listener.Listener.hear_next_unlogged.Goals as goal
 
 pub returns-then-eq-clause-heard : goal.returns-then-eq-clause-heard
@@ -33,7 +33,8 @@ returns-clause-heard c = λ starts given part h.
     c.finish_unlogged-is_printed.result _ _ out.0 out.1 c.finish_unlogged-is_printed.ensures.only
     c.self-2.view_is c.from.ensures c.saturating_add-self-inside-2.ensures in (
       h.0 ++ out.0,
-      heard-over starts c.args.self.now _ _ given channel part bits count h.0 out.0 over finished h.1
+      heard-over starts c.args.self.now _ _ given channel part bits count h.0 out.0 over finished
+          h.1
           (omega (arith, c.hear_on-count.ensures.within, length-drop c.args.from c.args.packed.now))
           (c.hear_on-count.ensures.some c.requires) until,
     )

@@ -1,7 +1,7 @@
 use Rattle.std.proofs.Common.{◌+◌, ◌∙◌, ap, arith, drop, length-drop}
 use Rattle.nx_receiver.specs.Listener.{count_of}
-use Rattle.nx_receiver.proofs.listens.Listener.{heard-to, none-before, spelled-counted}
-use Rattle.nx_receiver.proofs.listens.Listener.{spelled-few}
+use Rattle.nx_receiver.proofs.lemmas.listening.Listener.{heard-to, none-before, spelled-counted}
+use Rattle.nx_receiver.proofs.lemmas.listening.Listener.{spelled-few}
 use Rattle.nx_receiver.proofs.listener.Listener.hear_spelled.Goals as goal
 
 pub returns-clause-heard : goal.returns-clause-heard

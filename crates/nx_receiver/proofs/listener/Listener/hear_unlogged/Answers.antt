@@ -2,7 +2,7 @@ use Rattle.std.proofs.Common.{◌≡◌, ◌∙◌, sym, ap, take, subst, arith,
 use Rattle.std.proofs.lemmas.List.{take_all}
 use Rattle.nx_receiver.specs.Listener.{Listening, then_elements}
 use Rattle.nx_receiver.specs.private.Unlogged.{HasHeardGiven}
-use Rattle.nx_receiver.proofs.listens.Listener.{elements-next}
+use Rattle.nx_receiver.proofs.lemmas.listening.Listener.{elements-next}
 use Rattle.nx_receiver.proofs.listener.Listener.hear_unlogged.Goals as goal
 
 pub loop-at-preserved : goal.loop-at-preserved

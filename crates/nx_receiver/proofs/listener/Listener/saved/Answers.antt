@@ -1,8 +1,8 @@
 use Rattle.std.proofs.Common.{subst, sym}
-use Rattle.nx_fec.specs.declared.channel.Channel.TheVariants.{Zero, One, Two}
-use Rattle.nx_receiver.specs.Chain.{Leaves}
+use Rattle.nx_fec.specs.declared.air_files.channel.Channel.TheVariants.{Zero, One, Two}
+use Rattle.nx_receiver.specs.air_file_runs.Chain.{Leaves}
 use Rattle.nx_receiver.specs.Shares.{share, start_on}
-use Rattle.nx_receiver.proofs.listens.Listener.{on-all}
+use Rattle.nx_receiver.proofs.lemmas.listening.Listener.{on-all}
 use Rattle.nx_receiver.proofs.listener.Listener.saved.Goals as goal
 
 pub returns : goal.returns

@@ -1,10 +1,10 @@
 use Rattle.std.proofs.Common.{◌≤◌, ◌∙◌, true, ap, subst, sym}
 use Rattle.std.proofs.lemmas.Result.{err_from_is_err_and}
-use Rattle.nx_fec.specs.declared.channel.Channel.TheVariants.{Zero, One, Two}
+use Rattle.nx_fec.specs.declared.air_files.channel.Channel.TheVariants.{Zero, One, Two}
 use Rattle.nx_receiver.specs.Events.{Refuses, at_moment}
 use Rattle.nx_receiver.specs.Listener.{Listening, content, receiver_on}
 use Rattle.nx_receiver.specs.Receiver.{TakesEvent}
-use Rattle.nx_receiver.proofs.listens.Listener.{same-receivers, set-all}
+use Rattle.nx_receiver.proofs.lemmas.listening.Listener.{same-receivers, set-all}
 use Rattle.nx_receiver.proofs.listener.Listener.set_moment.Goals as goal
 
 pub returns-clause-heard : goal.returns-clause-heard

@@ -2,14 +2,14 @@ use Rattle.std.proofs.lemmas.Grind.{common_steps}
 use Rattle.std.proofs.Common.{◌≡◌, ◌≤◌, ℕ, false, [], Option, Some, None, unwrap_or, refl, sym, ap}
 use Rattle.std.proofs.Common.{◌∙◌, arith}
 use Rattle.nx_envelope.specs.Moment.{last_moment}
-use Rattle.nx_fec.specs.declared.channel.Channel.{Channel}
-use Rattle.nx_fec.specs.declared.channel.Channel.TheVariants.{Zero, One, Two}
+use Rattle.nx_fec.specs.declared.air_files.channel.Channel.{Channel}
+use Rattle.nx_fec.specs.declared.air_files.channel.Channel.TheVariants.{Zero, One, Two}
 use Rattle.nx_memory.specs.Memory.{newest_of}
 use Rattle.nx_memory.specs.Saved.{SavedState, later_of}
 use Rattle.nx_receiver.specs.Receiver.{Stands}
 use Rattle.nx_receiver.specs.Shares.{start_on, starts_from}
 use Rattle.nx_receiver.specs.Listener.{Listening, content, receiver_on}
-use Rattle.nx_receiver.proofs.listens.Listener.{heard-nothing, on-all, starts-is}
+use Rattle.nx_receiver.proofs.lemmas.listening.Listener.{heard-nothing, on-all, starts-is}
 use Rattle.nx_receiver.proofs.listener.Listener.starting.Goals as goal
 
 -- the later of two moments is in range where both are

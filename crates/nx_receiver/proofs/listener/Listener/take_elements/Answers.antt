@@ -1,13 +1,13 @@
 use Rattle.std.proofs.Common.{◌≡◌, ◌∙◌, true, sym, ap, take, subst, arith}
 use Rattle.std.proofs.Common.{rules}
 use Rattle.std.proofs.lemmas.List.{take_all}
-use Rattle.nx_fec.specs.LineRuns.{HasGiven}
-use Rattle.nx_receiver.specs.Listen.{given_by, has_moment}
+use Rattle.nx_fec.specs.air_files.LineRuns.{HasGiven}
+use Rattle.nx_receiver.specs.air_file_runs.Listen.{given_by, has_moment}
 use Rattle.nx_receiver.specs.Listener.{Listening, starts_of}
 use Rattle.nx_receiver.specs.private.Listener.{HeardSome, HearsLog, IsHearing}
 use Rattle.nx_receiver.specs.Listener.{then_elements}
-use Rattle.nx_receiver.proofs.listens.Listener.{begins-line, elements-next, elements-rest}
-use Rattle.nx_receiver.proofs.listens.Listener.{heard-line, none-heard}
+use Rattle.nx_receiver.proofs.lemmas.listening.Listener.{begins-line, elements-next, elements-rest}
+use Rattle.nx_receiver.proofs.lemmas.listening.Listener.{heard-line, none-heard}
 use Rattle.nx_receiver.proofs.listener.Listener.take_elements.Goals as goal
 
 pub loop-at-preserved : goal.loop-at-preserved
@@ -18,7 +18,8 @@ loop-at-preserved g c =
       within = omega (arith, c.in-Ok.ensures.within.1);
       moment = c.hear_next.ensures.moment ∙ c.loop-at.invariant.moment;
       heard = λ starts old given h.
-          subst (λ bs. IsHearing starts c.hear_next.new.self (then_elements given c.of-channel.result bs)
+          subst (λ bs. IsHearing starts c.hear_next.new.self
+          (then_elements given c.of-channel.result bs)
           (HasGiven old (g.W.Write.contents c.hear_next.new.writer.inner) c.hear_next.new.batch))
           (elements-next bits c.loop-at.at c.in-Ok.count)
           (c.in-Ok.ensures.heard starts old given (take c.loop-at.at bits)
@@ -34,7 +35,8 @@ returns-clause-taken g c = λ first old lines h.
     ∙ c.if-not-self.false in
     let heard = c.loop-at.invariant.heard (starts_of first) old (given_by lines) (record {
       bytes = h.given;
-      hears = none-heard (starts_of first) c.args.self.now (given_by lines) c.of-channel.result h.given
+      hears = none-heard (starts_of first) c.args.self.now (given_by lines) c.of-channel.result
+          h.given
           h.stood.hears;
       here = h.here;
     }) in
@@ -54,13 +56,15 @@ returns-in-Err-clause-taken g c = λ first old lines h.
     let some : has_moment lines ≡ true =
     sym h.stood.moment ∙ sym (ap (λ (l : Listening). l.has_moment) c.self.view_is)
     ∙ c.if-not-self.false in
-    let heard = subst (λ bs. HeardSome (starts_of first) (then_elements (given_by lines) c.of-channel.result bs)
+    let heard = subst
+    (λ bs. HeardSome (starts_of first) (then_elements (given_by lines) c.of-channel.result bs)
     old (g.W.Write.contents c.hear_next.new.writer.inner) c.in-Err.fault.written)
     (elements-rest bits c.loop-at.at)
     (c.in-Err.ensures.heard (starts_of first) old (given_by lines) (take c.loop-at.at bits)
     (c.loop-at.invariant.heard (starts_of first) old (given_by lines) (record {
       bytes = h.given;
-      hears = none-heard (starts_of first) c.args.self.now (given_by lines) c.of-channel.result h.given
+      hears = none-heard (starts_of first) c.args.self.now (given_by lines) c.of-channel.result
+          h.given
           h.stood.hears;
       here = h.here;
     }))) in

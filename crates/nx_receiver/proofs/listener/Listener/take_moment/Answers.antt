@@ -1,8 +1,8 @@
 use Rattle.std.proofs.Common.{◌≤◌, ◌∙◌, subst}
-use Rattle.nx_fec.specs.AirFile.{moment}
+use Rattle.nx_fec.specs.air_files.AirFile.{moment}
 use Rattle.nx_receiver.specs.Events.{Refuses}
-use Rattle.nx_receiver.specs.Listen.{given_by}
-use Rattle.nx_receiver.proofs.listens.Listener.{in_force-lines, moment-one, takes-line}
+use Rattle.nx_receiver.specs.air_file_runs.Listen.{given_by}
+use Rattle.nx_receiver.proofs.lemmas.listening.Listener.{in_force-lines, moment-one, takes-line}
 use Rattle.nx_receiver.proofs.listener.Listener.take_moment.Goals as goal
 
 pub returns-in-Ok : goal.returns-in-Ok

@@ -1,12 +1,12 @@
 use Rattle.std.proofs.Common.{Ok, [], ◌∷◌, ap, ap₂, refl, sym}
-use Rattle.nx_fec.specs.AirFile.{moment, elements, refuse_station, accept_station, refuse_subject}
-use Rattle.nx_fec.specs.AirFile.{accept_subject}
+use Rattle.nx_fec.specs.air_files.AirFile.{moment, elements, refuse_station, accept_station, refuse_subject}
+use Rattle.nx_fec.specs.air_files.AirFile.{accept_subject}
 use Rattle.nx_receiver.specs.Events as events
 use Rattle.nx_receiver.specs.Events.{command}
 use Rattle.nx_receiver.specs.Shares.{to_one}
-use Rattle.nx_receiver.proofs.listens.Listener.{commanded-on}
-use Rattle.nx_receiver.proofs.listens.Lines.{heard-as, heard-elements, heard-same}
-use Rattle.nx_receiver.proofs.listens.Lines.{said, said-elements, subject-taken}
+use Rattle.nx_receiver.proofs.lemmas.listening.Listener.{commanded-on}
+use Rattle.nx_receiver.proofs.lemmas.listening.Lines.{heard-as, heard-elements, heard-same}
+use Rattle.nx_receiver.proofs.lemmas.listening.Lines.{said, said-elements, subject-taken}
 use Rattle.nx_receiver.proofs.listener.Listener.take_unlogged.Goals as goal
 
 pub returns-in-Moment : goal.returns-in-Moment
@@ -44,7 +44,7 @@ returns-in-RefuseStation c = λ starts lines line latest h.
     let byte = c.in-RefuseStation.byte in
     let is = refuse_station c.in-RefuseStation.mark byte in
     let made = c.refuse_station in
-    let letter = c.letter in
+    let letter = c.of_capital in
     let on = c.of-in-RefuseStation in
     heard-as starts c.args.self.now made.new.self lines line is h.0 (Ok tt)
     (said _ _ _ _ line latest c.latest.ensures c.in-Some.is c.in-RefuseStation.is)
@@ -59,7 +59,7 @@ returns-in-AcceptStation c = λ starts lines line latest h.
     let byte = c.in-AcceptStation.byte in
     let is = accept_station c.in-AcceptStation.mark byte in
     let made = c.accept_station in
-    let letter = c.letter-in-AcceptStation in
+    let letter = c.of_capital-in-AcceptStation in
     let on = c.of-in-AcceptStation in
     heard-as starts c.args.self.now made.new.self lines line is h.0 (Ok tt)
     (said _ _ _ _ line latest c.latest.ensures c.in-Some.is c.in-AcceptStation.is)
@@ -74,7 +74,7 @@ returns-in-AcceptSubject c = λ starts lines line latest h.
     let byte = c.in-AcceptSubject.byte in
     let is = accept_subject c.in-AcceptSubject.mark byte in
     let made = c.accept_subject in
-    let letter = c.letter-in-AcceptSubject in
+    let letter = c.of_capital-in-AcceptSubject in
     let on = c.of-in-AcceptSubject in
     heard-as starts c.args.self.now made.new.self lines line is h.0 (Ok tt)
     (said _ _ _ _ line latest c.latest.ensures c.in-Some.is c.in-AcceptSubject.is)

@@ -1,5 +1,5 @@
 use Rattle.std.proofs.Common.{ap, ◌∙◌, is_some}
-use Rattle.nx_receiver.proofs.locks.ReaderWords.{held_ready}
+use Rattle.nx_receiver.proofs.lemmas.locks.ReaderWords.{held_ready}
 use Rattle.nx_receiver.proofs.lock_reader.LockReader.close.Goals as goal
 
 pub returns-clause-ready : goal.returns-clause-ready

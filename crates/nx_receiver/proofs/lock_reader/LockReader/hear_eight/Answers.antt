@@ -1,7 +1,7 @@
 use Rattle.std.proofs.Common.{◌≡◌, take, length, rules, sym, subst}
 use Rattle.std.specs.Prelude.{IsTrue}
 use Rattle.nx_receiver.specs.private.LockReader.{ReadsLock}
-use Rattle.nx_receiver.proofs.locks.EightWords.{has_read_eight}
+use Rattle.nx_receiver.proofs.lemmas.locks.EightWords.{has_read_eight}
 use Rattle.nx_receiver.proofs.lock_reader.LockReader.hear_eight.Goals as goal
 
 pub returns-clause-stands : goal.returns-clause-stands

@@ -1,5 +1,5 @@
 use Rattle.nx_receiver.specs.private.LockReader.{text_after}
-use Rattle.nx_receiver.proofs.locks.ReaderWords.{not_open}
+use Rattle.nx_receiver.proofs.lemmas.locks.ReaderWords.{not_open}
 use Rattle.nx_receiver.proofs.lock_reader.LockReader.restart.Goals as goal
 
 pub returns-clause-none : goal.returns-clause-none

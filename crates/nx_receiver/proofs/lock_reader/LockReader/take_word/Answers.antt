@@ -3,10 +3,10 @@ use Rattle.std.proofs.Common.{append-nil, ℕ, List, None, Option}
 use Rattle.std.specs.Option.{option_to_list}
 use Rattle.nx_code.specs.Reading.{shift_after_all, text}
 use Rattle.nx_code.specs.declared.shifts.Shift.TheVariants.{Letters}
-use Rattle.nx_fec.specs.Pairing.{IsLatest, counts_as}
+use Rattle.nx_fec.specs.emissions.Pairing.{IsLatest, counts_as}
 use Rattle.nx_envelope.specs.Finder.{StandsAfter}
 use Rattle.nx_receiver.specs.private.LockReader.{ReadsLock, dx_words, text_after}
-use Rattle.nx_receiver.proofs.locks.ReaderWords.{has_read_dx, has_read_rx, positions-dx}
+use Rattle.nx_receiver.proofs.lemmas.locks.ReaderWords.{has_read_dx, has_read_rx, positions-dx}
 use Rattle.nx_receiver.proofs.lock_reader.LockReader.take_word.Goals as goal
 
 -- a text that grows by nothing stays

@@ -1,6 +1,6 @@
 use Rattle.std.proofs.Common.{sym, subst}
 use Rattle.nx_receiver.specs.Receiver.{Stands}
-use Rattle.nx_receiver.proofs.receiving.Events.{stands_after, a_command}
+use Rattle.nx_receiver.proofs.lemmas.receiver.Events.{stands_after, a_command}
 use Rattle.nx_receiver.proofs.receiver.Receiver.accept_subject.Goals as goal
 
 pub returns : goal.returns

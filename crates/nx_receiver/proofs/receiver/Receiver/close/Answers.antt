@@ -2,7 +2,7 @@ use Rattle.std.proofs.Common.{sym, subst, ◌++◌}
 use Rattle.nx_receiver.specs.Events.{elements_among, first_setting, settings}
 use Rattle.nx_receiver.specs.Receiver.{Stands, entry_list}
 use Rattle.nx_receiver.specs.private.Watch.{HasEndedAll, handed_out}
-use Rattle.nx_receiver.proofs.receiving.Printing.{prints_to_end}
+use Rattle.nx_receiver.proofs.lemmas.receiver.Printing.{prints_to_end}
 use Rattle.nx_receiver.proofs.receiver.Receiver.close.Goals as goal
 
 pub returns-clause-stands : goal.returns-clause-stands

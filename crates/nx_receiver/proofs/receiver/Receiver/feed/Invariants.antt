@@ -1,5 +1,5 @@
 use Rattle.std.proofs.Common.{◌-◌, length}
-use Rattle.nx_receiver.proofs.receiving.Feeds.{Fed}
+use Rattle.nx_receiver.proofs.lemmas.receiver.Feeds.{Fed}
 use Rattle.nx_receiver.proofs.receiver.Receiver.feed.Given as goal
 
 abbrev pub invariant-loop-at : goal.invariant-loop-at

@@ -3,9 +3,9 @@ use Rattle.nx_receiver.specs.Events.{elements_among, first_setting, setting_afte
 use Rattle.nx_receiver.specs.Receiver.{entry_list}
 use Rattle.nx_receiver.specs.private.Watch.{IsOver, WatchStands, handed_out}
 use Rattle.nx_receiver.specs.Watching.{in_force}
-use Rattle.nx_receiver.proofs.receiving.Over.{Handed, apart-nothing, apart-nothing-lock}
-use Rattle.nx_receiver.proofs.receiving.Over.{apart-nothing-both, both_ended, handed, none_handed}
-use Rattle.nx_receiver.proofs.receiving.Printing.{stands_with}
+use Rattle.nx_receiver.proofs.lemmas.receiver.Over.{Handed, apart-nothing, apart-nothing-lock}
+use Rattle.nx_receiver.proofs.lemmas.receiver.Over.{apart-nothing-both, both_ended, handed, none_handed}
+use Rattle.nx_receiver.proofs.lemmas.receiver.Printing.{stands_with}
 use Rattle.nx_receiver.proofs.receiver.Receiver.finish.Goals as goal
 use Rattle.nx_receiver.proofs.receiver.Receiver.finish.Goals.{in-Nothing, in-Copy, in-Lock}
 use Rattle.nx_receiver.proofs.receiver.Receiver.finish.Goals.{in-CopyAndLock}

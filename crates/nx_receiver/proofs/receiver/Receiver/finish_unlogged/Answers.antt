@@ -1,6 +1,6 @@
 use Rattle.std.proofs.Common.{◌∙◌, ap, cond, sym}
 use Rattle.nx_receiver.specs.Receiver.{entry_list}
-use Rattle.nx_receiver.proofs.listens.Ends.{entries-counted, log-of}
+use Rattle.nx_receiver.proofs.lemmas.listening.Ends.{entries-counted, log-of}
 use Rattle.nx_receiver.proofs.receiver.Receiver.finish_unlogged.Goals as goal
 
 pub returns : goal.returns

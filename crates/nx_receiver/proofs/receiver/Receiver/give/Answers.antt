@@ -6,7 +6,7 @@ use Rattle.nx_envelope.specs.Copies.{Copy}
 use Rattle.nx_envelope.specs.Finder.{HasReady}
 use Rattle.nx_envelope.specs.Found.{IsHeadOf}
 use Rattle.nx_envelope.specs.declared.finder.Finder.{Finder}
-use Rattle.nx_fec.specs.LineRuns.{HasGiven}
+use Rattle.nx_fec.specs.air_files.LineRuns.{HasGiven}
 use Rattle.nx_fec.specs.Transfers.{WroteSome}
 use Rattle.nx_receiver.specs.Events.{elements_among, first_setting, setting_after_all, settings}
 use Rattle.nx_receiver.specs.Log.{IsEntry, IsLog}
@@ -16,8 +16,8 @@ use Rattle.nx_receiver.specs.Watching.{Watching}
 use Rattle.nx_receiver.specs.declared.over.CopyTag.{CopyTag}
 use Rattle.nx_receiver.specs.private.Heads.{headed_copy, headed_list}
 use Rattle.nx_receiver.specs.private.LockReader.{is_open}
-use Rattle.nx_receiver.proofs.receiving.Given.{heads_counted, over_not_open}
-use Rattle.nx_receiver.proofs.receiving.Log.{no-log, one-log}
+use Rattle.nx_receiver.proofs.lemmas.receiver.Given.{heads_counted, over_not_open}
+use Rattle.nx_receiver.proofs.lemmas.receiver.Log.{no-log, one-log}
 use Rattle.nx_receiver.proofs.receiver.Receiver.give.Goals.{in-None, in-Some}
 use Rattle.nx_receiver.proofs.receiver.Receiver.give.Goals as goal
 

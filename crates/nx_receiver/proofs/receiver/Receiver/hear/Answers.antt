@@ -1,6 +1,6 @@
 use Rattle.std.proofs.Common.{arith, drop, length-drop, subst, sym, take}
 use Rattle.nx_receiver.specs.Receiver.{Receiving, Stands}
-use Rattle.nx_receiver.proofs.receiving.Feeds.{awaits_on, printed_before, prints_none_of}
+use Rattle.nx_receiver.proofs.lemmas.receiver.Feeds.{awaits_on, printed_before, prints_none_of}
 use Rattle.nx_receiver.proofs.receiver.Receiver.hear.Goals as goal
 
 pub returns-clause-stands : goal.returns-clause-stands

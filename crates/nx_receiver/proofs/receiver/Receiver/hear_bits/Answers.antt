@@ -1,8 +1,8 @@
 use Rattle.std.proofs.Common.{◌≡◌, List, Bool, take, drop, length, refl, rules, ◌-◌}
 use Rattle.nx_receiver.specs.declared.over.Over.TheVariants.{Nothing}
-use Rattle.nx_receiver.proofs.receiving.Feeds.{awaits_nothing, awaits_to, fed_before, fed_none}
-use Rattle.nx_receiver.proofs.receiving.Feeds.{fed_on, none_finished, piece_is, piece_within}
-use Rattle.nx_receiver.proofs.receiving.Feeds.{prints_none}
+use Rattle.nx_receiver.proofs.lemmas.receiver.Feeds.{awaits_nothing, awaits_to, fed_before, fed_none}
+use Rattle.nx_receiver.proofs.lemmas.receiver.Feeds.{fed_on, none_finished, piece_is, piece_within}
+use Rattle.nx_receiver.proofs.lemmas.receiver.Feeds.{prints_none}
 use Rattle.nx_receiver.proofs.receiver.Receiver.hear_bits.Goals as goal
 
 pub loop-at-init : goal.loop-at-init

@@ -10,7 +10,7 @@ use Rattle.nx_receiver.specs.Receiver.{Receiving}
 use Rattle.nx_receiver.specs.declared.over.CopyTag.{CopyTag}
 use Rattle.nx_receiver.specs.private.Awaiting.{Awaits, AwaitsOver, behind_copy}
 use Rattle.nx_receiver.specs.private.Heads.{headed_copy}
-use Rattle.nx_receiver.proofs.receiving.Given.{IsJudged, has_head, ready_judged}
+use Rattle.nx_receiver.proofs.lemmas.receiver.Given.{IsJudged, has_head, ready_judged}
 use Rattle.nx_receiver.proofs.receiver.Receiver.judge_ready.Goals as goal
 
 pub judge_head-requires-clause-errors : goal.judge_head-requires-clause-errors

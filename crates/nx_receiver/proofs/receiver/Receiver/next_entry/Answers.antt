@@ -1,7 +1,7 @@
 use Rattle.std.proofs.Common.{◌≡◌, ◌+◌, ◌≤◌, List, Bool, None, arith, take, drop, length, length-drop, rules}
 use Rattle.nx_receiver.specs.declared.over.Over.TheVariants.{Nothing}
-use Rattle.nx_receiver.proofs.receiving.Feeds.{Finished, fed_before, fed_none, fed_on, fed_to}
-use Rattle.nx_receiver.proofs.receiving.Feeds.{is_none, none_finished, packed_piece, prints_none}
+use Rattle.nx_receiver.proofs.lemmas.receiver.Feeds.{Finished, fed_before, fed_none, fed_on, fed_to}
+use Rattle.nx_receiver.proofs.lemmas.receiver.Feeds.{is_none, none_finished, packed_piece, prints_none}
 use Rattle.nx_receiver.proofs.receiver.Receiver.next_entry.Goals as goal
 
 pub loop-heard-init : goal.loop-heard-init
@@ -27,7 +27,8 @@ returns-then-is_some-clause-stands g c start history log stands =
       before = prints_none content c.loop-heard.self rest n within c.hear-count.ensures.first;
     } in
     fed_to content c.args.self.now c.loop-heard.self c.finish-entry.new.self bits (take n rest) at n
-    entry c.loop-heard.invariant (packed_piece packed c.args.from at n) done start history log stands
+    entry c.loop-heard.invariant (packed_piece packed c.args.from at n) done start history log
+    stands
 
 pub returns-then-is_some-clause-first : goal.returns-then-is_some-clause-first
 returns-then-is_some-clause-first g c start history log stands k lt =

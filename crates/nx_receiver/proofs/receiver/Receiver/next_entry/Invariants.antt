@@ -1,5 +1,5 @@
 use Rattle.std.proofs.Common.{◌-◌, drop, length}
-use Rattle.nx_receiver.proofs.receiving.Feeds.{Fed}
+use Rattle.nx_receiver.proofs.lemmas.receiver.Feeds.{Fed}
 use Rattle.nx_receiver.proofs.receiver.Receiver.next_entry.Given as goal
 
 abbrev pub invariant-loop-heard : goal.invariant-loop-heard

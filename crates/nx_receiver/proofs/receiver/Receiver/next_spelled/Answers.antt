@@ -4,8 +4,8 @@ use Rattle.nx_receiver.specs.Events.{elements}
 use Rattle.nx_receiver.specs.Listener.{IsSpelled}
 use Rattle.nx_receiver.specs.Receiver.{Stands}
 use Rattle.nx_receiver.specs.declared.over.Over.TheVariants.{Nothing}
-use Rattle.nx_receiver.proofs.receiving.Feeds.{Finished, fed_before, fed_by, fed_none, fed_on}
-use Rattle.nx_receiver.proofs.receiving.Feeds.{fed_to, none_finished, packed_piece, prints_none}
+use Rattle.nx_receiver.proofs.lemmas.receiver.Feeds.{Finished, fed_before, fed_by, fed_none, fed_on}
+use Rattle.nx_receiver.proofs.lemmas.receiver.Feeds.{fed_to, none_finished, packed_piece, prints_none}
 use Rattle.nx_receiver.proofs.receiver.Receiver.next_spelled.Goals as goal
 
 pub loop-heard-init : goal.loop-heard-init
@@ -50,7 +50,8 @@ returns-then-spell-clause-first g c start history log stands k lt =
     let all : at + n ≤ length bits =
     omega (arith, c.hear-count.ensures.within, length-drop c.args.from packed) in
     fed_before content c.args.self.now c.loop-heard.self bits (take n rest) at n
-    c.loop-heard.invariant.fed (packed_piece packed c.args.from at n) all none start history log stands
+    c.loop-heard.invariant.fed (packed_piece packed c.args.from at n) all none start history log
+    stands
     k lt
 
 pub loop-heard-preserved : goal.loop-heard-preserved
@@ -132,5 +133,6 @@ returns-then-eq-clause-first g c start history log stands k lt =
     let all : at + n ≤ length bits =
     omega (arith, c.hear-count.ensures.within, length-drop c.args.from packed) in
     fed_before content c.args.self.now c.loop-heard.self bits (take n rest) at n
-    c.loop-heard.invariant.fed (packed_piece packed c.args.from at n) all none start history log stands
+    c.loop-heard.invariant.fed (packed_piece packed c.args.from at n) all none start history log
+    stands
     k lt

@@ -2,7 +2,7 @@ use Rattle.std.proofs.Common.{rules}
 use Rattle.std.proofs.Common.{sym, subst}
 use Rattle.std.proofs.lemmas.Result.{on_ok_weaker}
 use Rattle.nx_receiver.specs.Receiver.{Stands}
-use Rattle.nx_receiver.proofs.receiving.Events.{stands_after, a_command}
+use Rattle.nx_receiver.proofs.lemmas.receiver.Events.{stands_after, a_command}
 use Rattle.nx_receiver.proofs.receiver.Receiver.refuse_subject.Goals as goal
 
 pub returns-clause-stands : goal.returns-clause-stands

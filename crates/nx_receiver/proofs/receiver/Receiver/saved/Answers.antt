@@ -1,6 +1,6 @@
 use Rattle.std.proofs.Common.{rules}
 use Rattle.std.proofs.Common.{◌∙◌}
-use Rattle.nx_receiver.proofs.chain.Left.{held-left}
+use Rattle.nx_receiver.proofs.lemmas.chain.Left.{held-left}
 use Rattle.nx_receiver.proofs.receiver.Receiver.saved.Goals as goal
 
 pub returns-clause-leaves : goal.returns-clause-leaves

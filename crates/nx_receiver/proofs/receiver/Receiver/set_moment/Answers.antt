@@ -1,7 +1,7 @@
 use Rattle.std.proofs.Common.{rules}
 use Rattle.std.proofs.Common.{sym, subst}
 use Rattle.nx_receiver.specs.Receiver.{Stands}
-use Rattle.nx_receiver.proofs.receiving.Events.{stands_after, a_moment}
+use Rattle.nx_receiver.proofs.lemmas.receiver.Events.{stands_after, a_moment}
 use Rattle.nx_receiver.proofs.receiver.Receiver.set_moment.Goals as goal
 
 pub returns-clause-stands : goal.returns-clause-stands

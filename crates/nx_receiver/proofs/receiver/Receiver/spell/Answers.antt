@@ -14,7 +14,7 @@ use Rattle.nx_receiver.specs.Watching.{Watching}
 use Rattle.nx_receiver.specs.declared.over.CopyTag.{CopyTag}
 use Rattle.nx_receiver.specs.private.Heads.{headed_copy, headed_list}
 use Rattle.nx_receiver.specs.private.LockReader.{is_open}
-use Rattle.nx_receiver.proofs.receiving.Given.{over_not_open}
+use Rattle.nx_receiver.proofs.lemmas.receiver.Given.{over_not_open}
 use Rattle.nx_receiver.proofs.receiver.Receiver.spell.Goals.{in-Some, in_default}
 use Rattle.nx_receiver.proofs.receiver.Receiver.spell.Goals as goal
 

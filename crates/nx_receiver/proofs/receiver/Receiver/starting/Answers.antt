@@ -3,7 +3,7 @@ use Rattle.nx_receiver.specs.Events.{Setting, first_setting}
 use Rattle.nx_receiver.specs.private.Watch.{WatchStands}
 use Rattle.nx_receiver.specs.Watching.{in_force}
 use Rattle.std.proofs.Common.{◌≡◌, []}
-use Rattle.nx_receiver.proofs.receiving.Printing.{begins, made}
+use Rattle.nx_receiver.proofs.lemmas.receiver.Printing.{begins, made}
 use Rattle.nx_receiver.proofs.receiver.Receiver.starting.Goals as goal
 
 pub returns-clause-stands : goal.returns-clause-stands

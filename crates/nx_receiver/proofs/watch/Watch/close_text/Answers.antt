@@ -1,7 +1,7 @@
 use Rattle.std.proofs.Common.{sym, subst, ◌∙◌}
 use Rattle.nx_receiver.specs.Watching.{Watching}
 use Rattle.nx_receiver.specs.private.Watch.{IsOver, LockIsOver}
-use Rattle.nx_receiver.proofs.watching.Takes.{closed_over, lock_closed}
+use Rattle.nx_receiver.proofs.lemmas.watch.Takes.{closed_over, lock_closed}
 use Rattle.nx_receiver.proofs.watch.Watch.close_text.Goals as goal
 
 pub returns-clause-lock : goal.returns-clause-lock

@@ -1,6 +1,6 @@
 use Rattle.std.proofs.Common.{sym, subst}
 use Rattle.nx_receiver.specs.private.Watch.{LockIsOver, WatchStands}
-use Rattle.nx_receiver.proofs.watching.Takes.{all_ended, lock_ended}
+use Rattle.nx_receiver.proofs.lemmas.watch.Takes.{all_ended, lock_ended}
 use Rattle.nx_receiver.proofs.watch.Watch.end_text.Goals as goal
 
 pub returns-clause-lock : goal.returns-clause-lock

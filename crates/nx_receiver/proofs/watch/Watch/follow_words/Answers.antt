@@ -2,9 +2,9 @@ use Rattle.std.proofs.Common.{◌≡◌, ◌+◌, ◌≤◌, Bool, List, drop, t
 use Rattle.std.proofs.Common.{rules, subst}
 use Rattle.nx_receiver.specs.private.Watch.{HearsAll, at_words}
 use Rattle.nx_receiver.specs.declared.over.Over.TheVariants.{Nothing}
-use Rattle.nx_receiver.proofs.watching.Hears.{tag_by_words}
-use Rattle.nx_receiver.proofs.watching.Loops.{goes_first, goes_on, goes_to}
-use Rattle.nx_receiver.proofs.watching.Packed.{behind}
+use Rattle.nx_receiver.proofs.lemmas.watch.Hears.{tag_by_words}
+use Rattle.nx_receiver.proofs.lemmas.watch.Loops.{goes_first, goes_on, goes_to}
+use Rattle.nx_receiver.proofs.lemmas.watch.Packed.{behind}
 use Rattle.nx_receiver.proofs.watch.Watch.follow_words.Goals as goal
 
 pub loop-heard-init : goal.loop-heard-init

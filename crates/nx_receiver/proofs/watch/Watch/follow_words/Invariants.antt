@@ -2,7 +2,7 @@ use Rattle.std.proofs.Common.{◌-◌, drop, length}
 use Rattle.std.specs.Prelude.{IsTrue}
 use Rattle.nx_sync.specs.Synchroniser.{is_between_words}
 use Rattle.nx_receiver.specs.private.Watch.{at_words}
-use Rattle.nx_receiver.proofs.watching.Loops.{Goes}
+use Rattle.nx_receiver.proofs.lemmas.watch.Loops.{Goes}
 use Rattle.nx_receiver.proofs.watch.Watch.follow_words.Given as goal
 
 abbrev pub invariant-loop-heard : goal.invariant-loop-heard

@@ -5,7 +5,7 @@ use Rattle.nx_code.specs.Word.{elements}
 use Rattle.nx_receiver.specs.Watching.{Watching}
 use Rattle.nx_receiver.specs.declared.over.Over.TheVariants.{Nothing}
 use Rattle.nx_receiver.specs.private.Watch.{HearsAll, at_words}
-use Rattle.nx_receiver.proofs.watching.EightWords.{eight_heard}
+use Rattle.nx_receiver.proofs.lemmas.watch.EightWords.{eight_heard}
 use Rattle.nx_receiver.proofs.watch.Watch.hear_eight.Goals as goal
 
 pub returns-clause-hears : goal.returns-clause-hears

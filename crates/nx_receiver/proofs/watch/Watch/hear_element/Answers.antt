@@ -1,7 +1,7 @@
 use Rattle.std.proofs.Common.{[], ◌∷◌, ◌∙◌, ap, subst}
 use Rattle.nx_receiver.specs.private.Watch.{HearsBits, WatchStands}
 use Rattle.nx_receiver.specs.Watching.{in_force}
-use Rattle.nx_receiver.proofs.watching.Hears.{element_heard, force_on}
+use Rattle.nx_receiver.proofs.lemmas.watch.Hears.{element_heard, force_on}
 use Rattle.nx_receiver.proofs.watch.Watch.hear_element.Goals as goal
 
 pub returns-clause-hears : goal.returns-clause-hears

@@ -2,7 +2,7 @@ use Rattle.std.proofs.Common.{◌≡◌, [], ◌∷◌, ◌∙◌, ap, false, is
 use Rattle.nx_receiver.specs.private.Watch.{HearsBits, WatchStands}
 use Rattle.nx_receiver.specs.Watching.{Watching, in_force}
 use Rattle.nx_receiver.specs.declared.over.Over.TheVariants.{Nothing}
-use Rattle.nx_receiver.proofs.watching.Hears.{element_heard, force_on, unread}
+use Rattle.nx_receiver.proofs.lemmas.watch.Hears.{element_heard, force_on, unread}
 use Rattle.nx_receiver.proofs.watch.Watch.hear_one.Goals as goal
 
 pub returns-then-is_none-clause-hears : goal.returns-then-is_none-clause-hears

@@ -2,8 +2,8 @@ use Rattle.std.proofs.Common.{◌≡◌, ◌+◌, ◌≤◌, List, Bool, take, d
 use Rattle.std.proofs.Common.{rules, subst}
 use Rattle.nx_receiver.specs.private.Watch.{HearsAll}
 use Rattle.nx_receiver.specs.declared.over.Over.TheVariants.{Nothing}
-use Rattle.nx_receiver.proofs.watching.Loops.{goes_first, goes_on, goes_to}
-use Rattle.nx_receiver.proofs.watching.Packed.{behind}
+use Rattle.nx_receiver.proofs.lemmas.watch.Loops.{goes_first, goes_on, goes_to}
+use Rattle.nx_receiver.proofs.lemmas.watch.Packed.{behind}
 use Rattle.nx_receiver.proofs.watch.Watch.hear_parts.Goals as goal
 
 pub loop-heard-init : goal.loop-heard-init

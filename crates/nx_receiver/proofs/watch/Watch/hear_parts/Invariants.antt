@@ -1,5 +1,5 @@
 use Rattle.std.proofs.Common.{◌-◌, drop, length}
-use Rattle.nx_receiver.proofs.watching.Loops.{Goes}
+use Rattle.nx_receiver.proofs.lemmas.watch.Loops.{Goes}
 use Rattle.nx_receiver.proofs.watch.Watch.hear_parts.Given as goal
 
 abbrev pub invariant-loop-heard : goal.invariant-loop-heard

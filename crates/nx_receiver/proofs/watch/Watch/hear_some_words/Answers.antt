@@ -1,9 +1,9 @@
 use Rattle.std.proofs.Common.{◌≡◌, ◌∙◌, ap, rules, subst, subst₂}
 use Rattle.nx_code.specs.Word.{elements}
-use Rattle.nx_code.proofs.PackedLemmas.{length-elements}
+use Rattle.nx_code.proofs.lemmas.Packed.{length-elements}
 use Rattle.nx_receiver.specs.Watching.{in_force}
 use Rattle.nx_receiver.specs.private.Watch.{HearsAll, at_words}
-use Rattle.nx_receiver.proofs.watching.Hears.{word_heard_by, force_on, reads_by}
+use Rattle.nx_receiver.proofs.lemmas.watch.Hears.{word_heard_by, force_on, reads_by}
 use Rattle.nx_receiver.proofs.watch.Watch.hear_some_words.Goals as goal
 use Rattle.nx_receiver.proofs.watch.Watch.hear_some_words.Goals.{else-len-from-ge-EIGHT_WORDS}
 use Rattle.nx_receiver.proofs.watch.Watch.hear_some_words.Goals.{then-len-from-ge-EIGHT_WORDS+else-hear_eight}

@@ -6,8 +6,8 @@ use Rattle.nx_sync.specs.Synchroniser.{StandsAfter}
 use Rattle.nx_receiver.specs.private.Watch.{HearsAll}
 use Rattle.nx_receiver.specs.Watching.{Watching}
 use Rattle.nx_receiver.specs.declared.over.Over.TheVariants.{Nothing}
-use Rattle.nx_receiver.proofs.watching.Loops.{goes_to, hunt_goes}
-use Rattle.nx_receiver.proofs.watching.Packed.{all_is, behind}
+use Rattle.nx_receiver.proofs.lemmas.watch.Loops.{goes_to, hunt_goes}
+use Rattle.nx_receiver.proofs.lemmas.watch.Packed.{all_is, behind}
 use Rattle.nx_receiver.proofs.watch.Watch.hunt.Goals as goal
 
 pub returns-then-count-left-clause-hears : goal.returns-then-count-left-clause-hears

@@ -1,4 +1,4 @@
-use Rattle.nx_receiver.proofs.watching.Hears.{nothing_heard}
+use Rattle.nx_receiver.proofs.lemmas.watch.Hears.{nothing_heard}
 use Rattle.nx_receiver.proofs.watch.Watch.new.Goals as goal
 
 pub returns-clause-stands : goal.returns-clause-stands

@@ -1,6 +1,6 @@
 use Rattle.std.proofs.Common.{sym, subst}
 use Rattle.nx_receiver.specs.private.Watch.{BothAreOver, CopyIsOver}
-use Rattle.nx_receiver.proofs.watching.Takes.{both_taken, copy_taken}
+use Rattle.nx_receiver.proofs.lemmas.watch.Takes.{both_taken, copy_taken}
 use Rattle.nx_receiver.proofs.watch.Watch.take_copy.Goals as goal
 
 pub returns-clause-copy : goal.returns-clause-copy

@@ -1,6 +1,0 @@
-pub mod Alone
-pub mod Left
-pub mod Moments
-pub mod Once
-pub mod Printing
-pub mod Runs

@@ -1,8 +1,0 @@
-pub mod Again
-pub mod AirFile
-pub mod Chain
-pub mod Channels
-pub mod Emission
-pub mod Repeats
-pub mod Worked
-pub mod WorkedLog

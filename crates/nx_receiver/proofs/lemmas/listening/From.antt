@@ -1,0 +1,134 @@
+-- What a run that goes on from what is saved answers and leaves.
+use Rattle.std.proofs.Common.{◌≡◌, ℕ, List, [], Option, Result, Ok, Err, IsErr, IsErrAnd, sym, subst}
+use Rattle.std.specs.Prelude.{⊤}
+use Rattle.std.specs.Io.KnownBytes.{Appends, IsAtEnd}
+use Rattle.nx_fec.specs.air_files.AirFile.{Line}
+use Rattle.nx_fec.specs.Transfers.{CountedDevice, Devices, HasWritten, Reads, devices}
+use Rattle.nx_fec.proofs.lemmas.devices.TransferLaws.{Ok-not_err, Reads-on, Writes-none}
+use Rattle.nx_fec.specs.declared.air_files.line_taking.LinesFault.TheVariants as run
+use Rattle.nx_fec.specs.air_files.LineRuns.{HasTakenAll, RunsLines}
+use Rattle.nx_fec.specs.air_files.Lines.{air_limit}
+use Rattle.nx_fec.specs.declared.air_files.line_taking.LinesRead.{LinesRead}
+use Rattle.nx_memory.specs.Saved.{SavedStates}
+use Rattle.nx_receiver.specs.air_file_runs.Chain.{HasGoneOn}
+use Rattle.nx_receiver.specs.air_file_runs.Listen.{AnswersListening, IsLogOfFile, Listens, given_by}
+use Rattle.nx_receiver.specs.air_file_runs.ListenFrom.{GoesOnBy, reported}
+use Rattle.nx_receiver.specs.Listener.{Listening}
+use Rattle.nx_receiver.specs.private.Listener.{BeginsFrom, HasClosed, IsListening}
+use Rattle.nx_receiver.specs.Listener.{starts_of}
+use Rattle.nx_receiver.specs.private.Listener.{RefusesFrom, StandsFrom}
+use Rattle.nx_receiver.specs.Shares.{Starts, starts_from}
+use Rattle.nx_receiver.specs.declared.air_file_runs.listen_fault.ListenFault.{ListenFault}
+use Rattle.nx_receiver.specs.declared.air_file_runs.listen_fault.ListenFault.TheVariants.{Read, Write}
+use Rattle.nx_receiver.specs.declared.air_file_runs.listening.Report.{Report}
+use Rattle.nx_receiver.proofs.lemmas.chain.Runs.{LeavesEach, goes_on}
+use Rattle.nx_receiver.proofs.lemmas.listening.Runs.{listened}
+use Rattle.nx_receiver.proofs.lemmas.once.Listen.{listens-once, on-some, printed-once}
+
+-- an outcome that is this fault
+pub err-is : (outcome : Result (Report × SavedStates) ListenFault) (fault : ListenFault)
+    → IsErr outcome → IsErrAnd outcome (λ made. made ≡ fault) → reported outcome ≡ Err fault
+err-is (Ok x) fault h e = cc
+err-is (Err made) fault h e = cc
+
+-- the whole file was read, and its end printed
+pub gone : (saved left : SavedStates) (first now : Listening) (old mid new : Option (List ℕ))
+    (bytes : List ℕ) (read : LinesRead) (report : Report) → starts_of first ≡ starts_from saved
+    → HasTakenAll StandsFrom first now old mid air_limit bytes read
+    → ((lines : List Line) (given : List ℕ) → IsListening (starts_of first) now lines given
+    → HasWritten old mid given read.written
+    → HasClosed (starts_of first) old new (given_by lines) report)
+    → ((lines : List Line) (given : List ℕ) → IsListening (starts_of first) now lines given
+    → LeavesEach (starts_of first) lines left) → HasGoneOn saved old new bytes left
+gone saved left first now old mid new bytes read report begins h closed leaves =
+    let t = h.taken in
+    let e = closed h.lines t.given t.stood t.here in
+    let log : IsLogOfFile (starts_of first) bytes h.lines e.copies e.log =
+    record { file = h.file; taken = t.stood.taken; printed = e.printed; spelled = e.spelled } in
+    let run = goes_on saved left bytes h.lines e.copies e.log
+    (subst (λ (starts : Starts). IsLogOfFile starts bytes h.lines e.copies e.log) begins log)
+    (subst (λ (starts : Starts). LeavesEach starts h.lines left) begins
+    (leaves h.lines t.given t.stood)) in
+    record {
+      run = run.0;
+      read = run.1;
+      written =
+          subst (Appends old new) (sym run.2) e.written;
+      goes = run.3;
+    }
+
+-- a run over lines that read its file to the end, and what the end prints, go on by what the
+-- listener leaves
+pub goes-on : {R W : Type 0} (remaining : R → Option (List ℕ)) (contents : W → Option (List ℕ))
+    (saved left : SavedStates) (first now : Listening) (reader reader_after : CountedDevice R)
+    (writer mid new : CountedDevice W) (read : LinesRead) (report : Report)
+    → starts_of first ≡ starts_from saved
+    → RunsLines StandsFrom BeginsFrom RefusesFrom air_limit first now
+    (devices remaining contents reader reader_after writer mid) (Ok read)
+    → ((lines : List Line) (given : List ℕ) → IsListening (starts_of first) now lines given
+    → HasWritten (contents writer.inner) (contents mid.inner) given read.written
+    → HasClosed (starts_of first) (contents writer.inner) (contents new.inner) (given_by lines)
+    report)
+    → ((lines : List Line) (given : List ℕ) → IsListening (starts_of first) now lines given
+    → LeavesEach (starts_of first) lines left)
+    → report.lines ≡ read.lines → new.failures ≡ 0
+    → GoesOnBy saved (devices remaining contents reader reader_after writer new)
+    (Ok (report, left))
+goes-on remaining contents saved left first now' reader reader_after writer mid new read report
+    begins h closed leaves counted none =
+    let d = devices remaining contents reader reader_after writer new in
+    let old = contents writer.inner in
+    let now = contents new.inner in
+    let heard : (AtEnd : Type 0) (IsLeft : List ℕ → Type 0) (bytes : List ℕ)
+    → AtEnd × HasTakenAll StandsFrom first now' old (contents mid.inner) air_limit bytes read
+    → AnswersListening (starts_of first) AtEnd IsLeft old now (Ok report) bytes
+    × HasGoneOn saved old now bytes left = λ AtEnd IsLeft bytes k. (
+      (k.0, listened first now' _ _ _ bytes read report k.1 closed counted),
+      gone saved left first now' _ _ _ bytes read report begins k.1 closed leaves,
+    ) in
+    let r : Reads remaining reader reader_after Read (λ _. ⊥) (Ok report) (λ _. ⊤)
+    (λ bytes. AnswersListening (starts_of first) (IsAtEnd (remaining reader_after.inner))
+    (λ more. more ≡ []) old now (Ok report) bytes × HasGoneOn saved old now bytes left)
+    (λ bytes. AnswersListening (starts_of first) (Unit {0}) (λ more. Unit {0}) old now (Ok report)
+    bytes × HasGoneOn saved old now bytes left) =
+    Reads-on remaining reader reader_after run.Read Read (Ok read) (Ok report) _ _ _ _ h.reads
+    (λ bytes k. heard (IsAtEnd (remaining reader_after.inner)) (λ more. more ≡ []) bytes k)
+    (λ bytes k. heard (Unit {0}) (λ more. Unit {0}) bytes k)
+    (λ bytes k h. h) (λ e. absurd (Ok-not_err _ _ e)) (λ e. absurd (Ok-not_err _ _ e)) in
+    let writes = Writes-none new (λ written. Write written) (Ok report)
+    (λ written. Ok-not_err _ _) none in
+    let P : Starts → Type 0 = λ starts. (run : Listens starts d (Ok report))
+    × HasGoneOn saved old now run.bytes left in
+    let here : P (starts_of first) = (
+      record {
+        bytes = r.bytes;
+        consumed = r.consumed;
+        answer = r.answer.0;
+        file = on-some (remaining reader.inner) _ _ (λ file k. k.0) r.file;
+        unread = r.failed;
+        read_once = r.once;
+        unwritten = writes.failed;
+        write_once = writes.once;
+      },
+      r.answer.1,
+    ) in
+    let there = subst P begins here in
+    record {
+      listens = record {
+        run = there.0;
+        once = printed-once (starts_from saved) old now there.0.bytes report there.0.answer.1;
+      };
+      left = there.1;
+    }
+
+-- and so does one that ended early, which leaves nothing
+pub goes-nowhere : {R W : Type 0} (saved : SavedStates) (d : Devices R W)
+    (outcome : Result (Report × SavedStates) ListenFault) (fault : ListenFault) → IsErr outcome
+    → reported outcome ≡ Err fault → Listens (starts_from saved) d (Err fault)
+    → GoesOnBy saved d outcome
+goes-nowhere saved d (Ok answer) fault h e run = absurd (cc)
+goes-nowhere saved d (Err made) fault h e run = record {
+  listens = listens-once (starts_from saved) d (Err made)
+      (subst (Listens (starts_from saved) d) (sym e) run);
+  left = tt;
+}

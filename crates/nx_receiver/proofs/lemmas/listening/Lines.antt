@@ -1,0 +1,175 @@
+-- What the taking of a line by a listener answers, by what the line says.
+use Rattle.std.proofs.Common.{◌≡◌, ℕ, List, [], ◌∷◌, ◌++◌, Option, Some, Result, Ok, Err}
+use Rattle.std.proofs.Common.{Bool, IfOk, MatchResult, OnOk, false, true, refl, sym, ap, ◌∙◌, subst}
+use Rattle.nx_fec.specs.air_files.AirFile.{Line, moment, elements, refuse_station, accept_station}
+use Rattle.nx_fec.specs.air_files.AirFile.{refuse_subject, accept_subject}
+use Rattle.nx_fec.specs.air_files.LineRuns.{ExplainsTaking, HasGiven, HasTaken, Waiting}
+use Rattle.nx_fec.specs.air_files.Lines.{elements_of}
+use Rattle.nx_fec.specs.air_files.Channels.{channel_of}
+use Rattle.nx_fec.specs.air_files.Scanner.{elements_kept, kind_kept, kind_of, line_with}
+use Rattle.nx_fec.specs.declared.air_files.lines.LineKind.{LineKind}
+use Rattle.nx_fec.specs.declared.air_files.lines.LineKind.TheVariants.{Elements}
+use Rattle.nx_fec.specs.declared.air_files.line_taking.TakeFault.{TakeFault}
+use Rattle.nx_fec.specs.declared.air_files.line_taking.TakeFault.TheVariants as take
+use Rattle.nx_fec.specs.declared.air_files.channel.Channel.{Channel}
+use Rattle.nx_memory.specs.Selection.{is_vital}
+use Rattle.nx_receiver.specs.Events.{command}
+use Rattle.nx_receiver.specs.Events as fed
+use Rattle.nx_receiver.specs.air_file_runs.Listen.{given_by, given_of}
+use Rattle.nx_receiver.specs.Receiver.{TakesEvent}
+use Rattle.nx_receiver.specs.Shares.{Given, Starts, to_one}
+use Rattle.nx_receiver.specs.Listener.{Listening}
+use Rattle.nx_receiver.specs.private.Listener.{BeginsFrom, IsListening, RefusesFrom}
+use Rattle.nx_receiver.specs.Listener.{content, receiver_on}
+use Rattle.nx_receiver.specs.private.Listener.{RefusesLine, StandsFrom}
+use Rattle.nx_receiver.specs.Listener.{starts_of, then_elements, with_receiver}
+use Rattle.nx_receiver.specs.private.Unlogged.{HasHeard, HasHeardGiven}
+use Rattle.nx_receiver.specs.declared.air_file_runs.listening.LineRefusal.{LineRefusal}
+use Rattle.nx_receiver.specs.declared.air_file_runs.listening.LineRefusal.TheVariants.{NoMoment}
+use Rattle.nx_receiver.proofs.lemmas.listening.Listener.{commanded-on, heard-line, none-heard}
+
+line-is : (line : Line) → line ≡ line_with (kind_of line) (elements_of line)
+line-is (moment n) = refl
+line-is (elements mark bits) = refl
+line-is (refuse_station mark letter) = refl
+line-is (accept_station mark letter) = refl
+line-is (refuse_subject mark letter) = refl
+line-is (accept_subject mark letter) = refl
+
+-- the line is the one that its kind says
+pub said : (latest : Option Line) (found : Option LineKind) (kind is : LineKind) (line : Line)
+    → latest ≡ Some line → found ≡ kind_kept latest → found ≡ Some kind → kind ≡ is
+    → line ≡ line_with is (elements_of line)
+said latest found kind is line e f g h =
+    let kinds : Some kind ≡ Some (kind_of line) = sym g ∙ f ∙ ap kind_kept e in
+    let same : kind_of line ≡ is = cc in
+    line-is line ∙ ap (λ k. line_with k (elements_of line)) same
+
+-- the same of a line of elements
+pub said-elements : (latest : Option Line) (found : Option LineKind) (kind : LineKind)
+    (mark : Option Channel) (bits : List Bool) (line : Line) → latest ≡ Some line
+    → found ≡ kind_kept latest → found ≡ Some kind → kind ≡ Elements mark
+    → bits ≡ elements_kept latest → line ≡ elements mark bits
+said-elements latest found kind mark bits line e f g h same =
+    said latest found kind (Elements mark) line e f g h
+    ∙ ap (λ (bits : List Bool). elements mark bits) (sym (same ∙ ap elements_kept e))
+
+-- a line that may be refused
+pub taken-line : (first before after : Listening) (old new : Option (List ℕ)) (batch : Waiting)
+    (lines : List Line) (line is : Line)
+    (taken : Result (Unit {0}) LineRefusal) (result : Result (Unit {0}) (TakeFault LineRefusal))
+    → line ≡ is
+    → HasTaken StandsFrom first before lines (HasGiven old new batch)
+    → MatchResult taken (λ _. result ≡ Ok tt) (λ why. result ≡ Err (take.Refused why))
+    → ((bytes : List ℕ) → IsListening (starts_of first) before lines bytes
+    → MatchResult taken (λ _. IsListening (starts_of first) after (lines ++ is ∷ []) bytes)
+    (λ why. RefusesLine (starts_of first) lines is why × (after ≡ before)))
+    → MatchResult result (λ _. HasTaken StandsFrom first after (lines ++ line ∷ [])
+    (HasGiven old new batch))
+    (λ fault. ExplainsTaking StandsFrom BeginsFrom RefusesFrom first after old new batch lines line
+    fault)
+taken-line first before after old new batch lines line is (Ok x) result same h answer takes =
+    subst (λ r. MatchResult r
+    (λ _. HasTaken StandsFrom first after (lines ++ line ∷ []) (HasGiven old new batch))
+    (λ fault. ExplainsTaking StandsFrom BeginsFrom RefusesFrom first after old new batch lines line
+    fault)) (sym answer) (record {
+      given = h.given;
+      stood = subst (λ l. IsListening (starts_of first) after (lines ++ l ∷ []) h.given) (sym same)
+          (takes h.given h.stood);
+      here = h.here;
+    })
+taken-line first before after old new batch lines line is (Err why) result same h answer takes =
+    subst (λ r. MatchResult r
+    (λ _. HasTaken StandsFrom first after (lines ++ line ∷ []) (HasGiven old new batch))
+    (λ fault. ExplainsTaking StandsFrom BeginsFrom RefusesFrom first after old new batch lines line
+    fault)) (sym answer) (
+      subst (λ l. RefusesLine (starts_of first) lines l why) (sym same) (takes h.given h.stood).0,
+      record {
+        given = h.given;
+        stood = subst (λ n. IsListening (starts_of first) n lines h.given)
+            (sym (takes h.given h.stood).1) h.stood;
+        here = h.here;
+      },
+    )
+
+-- a line that is taken always
+pub taken-always : (first before after : Listening) (old new : Option (List ℕ)) (batch : Waiting)
+    (lines : List Line) (line is : Line) → line ≡ is
+    → HasTaken StandsFrom first before lines (HasGiven old new batch)
+    → ((bytes : List ℕ) → IsListening (starts_of first) before lines bytes
+    → IsListening (starts_of first) after (lines ++ is ∷ []) bytes)
+    → HasTaken StandsFrom first after (lines ++ line ∷ []) (HasGiven old new batch)
+taken-always first before after old new batch lines line is same h takes = record {
+  given = h.given;
+  stood = subst (λ l. IsListening (starts_of first) after (lines ++ l ∷ []) h.given) (sym same)
+      (takes h.given h.stood);
+  here = h.here;
+}
+
+-- a line for which nothing is given: there is a log
+pub heard-same : (starts : Starts) (old new : Listening) (lines : List Line) (line is : Line)
+    (result : Result (Unit {0}) LineRefusal) → line ≡ is
+    → MatchResult result (λ _. HasHeard starts new (lines ++ is ∷ []))
+    (λ why. RefusesLine starts lines is why × (new ≡ old))
+    → MatchResult result (λ _. HasHeard starts new (lines ++ line ∷ []))
+    (λ why. RefusesLine starts lines line why × (new ≡ old))
+heard-same starts old new lines line is (Ok x) e h =
+    subst (λ l. HasHeard starts new (lines ++ l ∷ [])) (sym e) h
+heard-same starts old new lines line is (Err why) e h =
+    (subst (λ l. RefusesLine starts lines l why) (sym e) h.0, h.1)
+
+pub heard-as : (starts : Starts) (old new : Listening) (lines : List Line) (line is : Line)
+    (log : List ℕ) (result : Result (Unit {0}) LineRefusal) → line ≡ is
+    → MatchResult result (λ _. IsListening starts new (lines ++ is ∷ []) log)
+    (λ why. RefusesLine starts lines is why × (new ≡ old))
+    → MatchResult result (λ _. HasHeard starts new (lines ++ line ∷ []))
+    (λ why. RefusesLine starts lines line why × (new ≡ old))
+heard-as starts old new lines line is log (Ok x) e h =
+    heard-same starts old new lines line is (Ok x) e (log, h)
+heard-as starts old new lines line is log (Err why) e h =
+    heard-same starts old new lines line is (Err why) e h
+
+-- a line of elements is heard, or refused where there was no moment
+pub heard-elements : (starts : Starts) (old new : Listening) (lines : List Line)
+    (mark : Option Channel) (channel : Channel) (bits : List Bool) (log : List ℕ)
+    (result : Result (Unit {0}) LineRefusal) → channel ≡ channel_of mark
+    → IsListening starts old lines log
+    → IfOk result (λ _. (starts : Starts) (given : List Given)
+    → HasHeardGiven starts old (then_elements given channel [])
+    → HasHeardGiven starts new (then_elements given channel bits))
+    → MatchResult result (λ _. (old.has_moment ≡ true) × (new.has_moment ≡ old.has_moment))
+    (λ why. (old.has_moment ≡ false) × (why ≡ NoMoment) × (new ≡ old))
+    → MatchResult result (λ _. HasHeard starts new (lines ++ elements mark bits ∷ []))
+    (λ why. RefusesLine starts lines (elements mark bits) why × (new ≡ old))
+heard-elements starts old new lines mark channel bits log (Ok x) e h heard some =
+    let more = heard starts (given_by lines)
+    (log, none-heard starts old (given_by lines) channel log h.hears) in (
+      more.0,
+      heard-line starts old new lines mark channel bits log more.0 e h (sym h.moment ∙ some.0)
+          some.1 more.1,
+    )
+heard-elements starts old new lines mark channel bits log (Err why) e h heard none = (
+  subst (RefusesLine starts lines (elements mark bits)) (sym none.1) (sym h.moment ∙ none.0),
+  none.2,
+)
+
+-- a command to refuse a subject on a channel
+pub subject-taken : (starts : Starts) (old new : Listening) (lines : List Line)
+    (mark : Option Channel) (channel : Channel) (byte : ℕ) (bytes : List ℕ)
+    (result : Result (Unit {0}) LineRefusal)
+    → given_of (refuse_subject mark byte) ≡ to_one channel (command (fed.refuse_subject byte) ∷ [])
+    → new ≡ with_receiver old channel (receiver_on new channel)
+    → OnOk result (TakesEvent content (receiver_on old channel) (receiver_on new channel)
+    (command (fed.refuse_subject byte)))
+    → MatchResult result (λ _. is_vital byte ≡ false)
+    (λ why. RefusesLine starts lines (refuse_subject mark byte) why × (new ≡ old))
+    → IsListening starts old lines bytes
+    → MatchResult result
+    (λ _. IsListening starts new (lines ++ refuse_subject mark byte ∷ []) bytes)
+    (λ why. RefusesLine starts lines (refuse_subject mark byte) why × (new ≡ old))
+subject-taken starts old new lines mark channel byte bytes (Ok x) gives only stands refused h =
+    commanded-on starts old new lines (refuse_subject mark byte) channel
+    (fed.refuse_subject byte) bytes
+    h refused gives refl only stands
+subject-taken starts old new lines mark channel byte bytes (Err why) gives only stands refused h =
+    refused

@@ -1,0 +1,895 @@
+-- What a line does to a listener: how it stands after one more line, after some more elements, and
+-- after the end.
+use Rattle.std.proofs.Common.{◌≡◌, ◌||◌, ℕ, ◌+◌, ◌<◌, ◌≤◌, Bool, true, false, cond, List}
+use Rattle.std.proofs.Common.{[], ◌∷◌, ◌++◌, map, Option, Some, None, length, take}
+use Rattle.std.proofs.Common.{take-append-drop, drop, refl, sym, ap, ap₂, ◌∙◌, subst, append-nil}
+use Rattle.std.proofs.Common.{append_assoc, arith, length-append}
+use lib.Seq.{take-add}
+use mir.Val.{bool_byte}
+use Rattle.std.proofs.Math.Path.{fun_ext}
+use Rattle.std.proofs.lemmas.List.{length-map, length-take-le, map-append}
+use Rattle.std.proofs.lemmas.List.Concat.{flat_map-append}
+use Rattle.std.proofs.lemmas.List.Folds.{list_any-append}
+use Rattle.nx_fec.specs.air_files.AirFile.{Line, moment, elements, refuse_station, accept_station}
+use Rattle.nx_fec.specs.air_files.AirFile.{refuse_subject, accept_subject}
+use Rattle.nx_fec.specs.air_files.Channels.{channel_of, same_channel}
+use Rattle.nx_fec.specs.declared.air_files.channel.Channel.{Channel}
+use Rattle.nx_fec.specs.declared.air_files.channel.Channel.TheVariants.{Zero, One, Two}
+use Rattle.nx_envelope.specs.Moment.{last_moment}
+use Rattle.nx_receiver.specs.Events.{Event, Setting, Start, element, first_setting}
+use Rattle.nx_receiver.specs.Events.{setting_after_all}
+use Rattle.nx_receiver.specs.Events as fed
+use Rattle.nx_receiver.specs.InTurn.{HavePrinted, PrintsInTurn}
+use Rattle.nx_receiver.specs.air_file_runs.Listen.{AreTaken, events_on, given_by, given_of, has_moment}
+use Rattle.nx_receiver.specs.air_file_runs.Listen.{is_moment_line, moment_after}
+use Rattle.nx_receiver.specs.private.Taken.{AreTakenAfter, IsTakenAfter}
+use Rattle.nx_receiver.proofs.lemmas.listening.Taken.{are-taken, taken-each}
+use Rattle.nx_receiver.specs.Listener.{HearsGiven, IsSpelled, Listening, content, count_of}
+use Rattle.nx_receiver.specs.Listener.{elements_given, elements_in, moment_in_force, receiver_on}
+use Rattle.nx_receiver.specs.Listener.{starts_of, then_command, then_elements, then_moment}
+use Rattle.nx_receiver.specs.Listener.{with_receiver}
+use Rattle.nx_receiver.specs.private.Listener.{BeginsListening, BeginsLog, HasFinished, HearsTo}
+use Rattle.nx_receiver.specs.private.Listener.{HearsLog, IsListening}
+use Rattle.nx_receiver.specs.private.ListenerBegins.{printed-so_far}
+use Rattle.nx_receiver.specs.Log.{HasPrinted}
+use Rattle.nx_memory.specs.Ring.{RingMemory}
+use Rattle.nx_receiver.specs.Receiver.{Receiving, Stands, TakesEvent, entry_list}
+use Rattle.nx_receiver.specs.declared.entry.Entry.{Entry}
+use Rattle.std.specs.Prelude.{Result, Ok, Err, OnOk, IsSome}
+use Rattle.nx_receiver.specs.Shares.{Given, MarkedCopy, Starts, copies_on, events_for, marked}
+use Rattle.nx_receiver.specs.Shares.{share, start_on, to_all, to_one}
+use Rattle.nx_receiver.specs.private.Awaiting.{Awaits, HandsOut, HearsUpTo}
+use Rattle.nx_receiver.specs.FoundCopies.{TaggedCopy}
+use Rattle.nx_receiver.specs.declared.over.Over.{Over}
+use Rattle.nx_receiver.specs.declared.over.Over.TheVariants as overs
+use Rattle.nx_receiver.proofs.lemmas.channels.Shares.{copies_on-append, copies_on-marked, copies_on-other}
+use Rattle.nx_receiver.proofs.lemmas.channels.Shares.{in_turn-more, in_turn-none, in_turn-other, same_channel-refl}
+use Rattle.nx_receiver.proofs.lemmas.channels.Shares.{share-one}
+use Rattle.nx_receiver.proofs.lemmas.receiver.Feeds.{nothing_awaited}
+use Rattle.nx_receiver.proofs.lemmas.receiver.Log.{logs_join, no-log}
+use Rattle.nx_receiver.proofs.lemmas.receiver.Logged.{has_printed_on, some_printed}
+use Rattle.nx_receiver.proofs.lemmas.receiver.Events.{bits_of-more, force-append, force-more}
+
+-- what one more line gives
+pub given_by-one : (lines : List Line) (line : Line)
+    → given_by (lines ++ line ∷ []) ≡ given_by lines ++ given_of line ∷ []
+given_by-one lines line = map-append given_of lines (line ∷ [])
+
+-- the elements of one more that is given
+elements-one : (given : List Given) (one : Given)
+    → elements_given (given ++ one ∷ []) ≡ elements_given given ++ elements_in one
+elements-one given one =
+    flat_map-append elements_in given (one ∷ [])
+    ∙ ap (λ bits. elements_given given ++ bits) (append-nil (elements_in one))
+
+elements-then : (given : List Given) (channel : Channel) (bits : List Bool)
+    → elements_given (then_elements given channel bits) ≡ elements_given given ++ bits
+unfolding fed.elements_among
+elements-then given channel bits =
+    elements-one given (to_one channel (fed.elements bits))
+    ∙ ap (λ bs. elements_given given ++ bs) (bits_of-more [] bits)
+
+-- what holds on the three channels holds on each
+pub on-all : (P : Channel → Type 0) → P Zero → P One → P Two → (channel : Channel) → P channel
+on-all P zero one two Zero = zero
+on-all P zero one two One = one
+on-all P zero one two Two = two
+
+-- what holds on a channel and on each other one holds on each
+on-each : (P : Channel → Type 0) (channel : Channel) → P channel
+    → ((other : Channel) → same_channel channel other ≡ false → P other) → (other : Channel)
+    → P other
+on-each P Zero here others Zero = here
+on-each P Zero here others One = others One refl
+on-each P Zero here others Two = others Two refl
+on-each P One here others Zero = others Zero refl
+on-each P One here others One = here
+on-each P One here others Two = others Two refl
+on-each P Two here others Zero = others Zero refl
+on-each P Two here others One = others One refl
+on-each P Two here others Two = here
+
+-- two listeners with the same receivers have the same on each channel
+pub same-receivers : (old new : Listening) → old.on_0 ≡ new.on_0 → old.on_1 ≡ new.on_1
+    → old.on_2 ≡ new.on_2 → (channel : Channel)
+    → receiver_on old channel ≡ receiver_on new channel
+same-receivers old new e f g Zero = e
+same-receivers old new e f g One = f
+same-receivers old new e f g Two = g
+
+-- another receiver on a channel leaves those of the others, and all else
+with-other : (listener : Listening) (channel other : Channel) (new : Listening)
+    → new ≡ with_receiver listener channel (receiver_on new channel)
+    → same_channel channel other ≡ false → receiver_on new other ≡ receiver_on listener other
+with-other listener Zero Zero new e h = cc
+with-other listener Zero One new e h = ap (λ (l : Listening). l.on_1) e
+with-other listener Zero Two new e h = ap (λ (l : Listening). l.on_2) e
+with-other listener One Zero new e h = ap (λ (l : Listening). l.on_0) e
+with-other listener One One new e h = cc
+with-other listener One Two new e h = ap (λ (l : Listening). l.on_2) e
+with-other listener Two Zero new e h = ap (λ (l : Listening). l.on_0) e
+with-other listener Two One new e h = ap (λ (l : Listening). l.on_1) e
+with-other listener Two Two new e h = cc
+
+-- a listener of which only the receiver of a channel is another
+pub record DiffersOn (channel : Channel) (old new : Listening) : Type 0 where
+  pub others : (other : Channel) → same_channel channel other ≡ false
+      → receiver_on new other ≡ receiver_on old other
+  pub moment : new.has_moment ≡ old.has_moment
+  pub elements : new.elements ≡ old.elements
+  pub entries : new.entries ≡ old.entries
+
+pub differs-on : (channel : Channel) (old new : Listening)
+    → new ≡ with_receiver old channel (receiver_on new channel) → DiffersOn channel old new
+differs-on Zero old new e = record {
+  others = λ other h. with-other old Zero other new e h;
+  moment = ap (λ (l : Listening). l.has_moment) e;
+  elements = ap (λ (l : Listening). l.elements) e;
+  entries = ap (λ (l : Listening). l.entries) e;
+}
+differs-on One old new e = record {
+  others = λ other h. with-other old One other new e h;
+  moment = ap (λ (l : Listening). l.has_moment) e;
+  elements = ap (λ (l : Listening). l.elements) e;
+  entries = ap (λ (l : Listening). l.entries) e;
+}
+differs-on Two old new e = record {
+  others = λ other h. with-other old Two other new e h;
+  moment = ap (λ (l : Listening). l.has_moment) e;
+  elements = ap (λ (l : Listening). l.elements) e;
+  entries = ap (λ (l : Listening). l.entries) e;
+}
+
+one-after : (starts : Starts) (first lines : List Line) (line : Line)
+    → AreTakenAfter starts first lines → IsTakenAfter starts (first ++ lines) line
+    → AreTakenAfter starts first (lines ++ line ∷ [])
+unfolding AreTakenAfter
+one-after starts first [] line h k =
+    (subst (λ l. IsTakenAfter starts l line) (append-nil first) k, tt)
+one-after starts first (x ∷ xs) line h k = (
+  h.0,
+  one-after starts (first ++ x ∷ []) xs line h.1
+      (subst (λ l. IsTakenAfter starts l line) (sym (append_assoc first (x ∷ []) xs)) k),
+)
+
+-- one more line is taken
+pub taken-one : (starts : Starts) (lines : List Line) (line : Line) → AreTaken starts lines
+    → IsTakenAfter starts lines line → AreTaken starts (lines ++ line ∷ [])
+taken-one starts lines line h k =
+    are-taken starts (lines ++ line ∷ []) h.in_range
+    (one-after starts [] lines line (taken-each starts lines h) k)
+
+or-none : (c d : Bool) → d ≡ false → (c || (d || false)) ≡ c
+or-none true d e = refl
+or-none false d e = ap (λ x. x || false) e
+
+or-true : (c : Bool) → (c || true) ≡ true
+or-true true = refl
+or-true false = refl
+
+-- one more line is no moment, or is one
+pub moment-other : (lines : List Line) (line : Line) (b : Bool) → b ≡ has_moment lines
+    → is_moment_line line ≡ false → b ≡ has_moment (lines ++ line ∷ [])
+moment-other lines line b h none =
+    h ∙ sym (list_any-append is_moment_line lines (line ∷ [])
+    ∙ or-none (has_moment lines) (is_moment_line line) none)
+
+pub moment-one : (lines : List Line) (n : ℕ) → true ≡ has_moment (lines ++ moment n ∷ [])
+moment-one lines n = sym (list_any-append is_moment_line lines (moment n ∷ [])
+    ∙ or-true (has_moment lines))
+
+-- elements or a command change no moment, whether they belong to a channel or not
+elements-keep : (b : Bool) (setting : Setting) (bits : List Bool)
+    → (setting_after_all setting (cond b (fed.elements bits) [])).moment ≡ setting.moment
+unfolding setting_after_all
+elements-keep true setting bits = ap (λ (s : Setting). s.moment) (force-more setting [] bits)
+elements-keep false setting bits = refl
+
+command-keeps : (b : Bool) (setting : Setting) (c : fed.Command)
+    → (setting_after_all setting (cond b (fed.command c ∷ []) [])).moment ≡ setting.moment
+unfolding setting_after_all
+command-keeps true setting c = refl
+command-keeps false setting c = refl
+
+-- on each channel the moment in force is that after the lines
+next-moment : (channel : Channel) (line : Line) (lines : List Line) (setting : Setting)
+    → ((after : Setting)
+    → (setting_after_all after (events_on channel lines)).moment
+    ≡ moment_after after.moment lines)
+    → (setting_after_all setting (events_for channel (given_of line))).moment ≡ setting.moment
+    → (setting_after_all setting (events_on channel (line ∷ lines))).moment
+    ≡ moment_after setting.moment lines
+next-moment channel line lines setting rest keeps =
+    ap (λ (s : Setting). s.moment)
+    (force-append setting (events_for channel (given_of line)) (events_on channel lines))
+    ∙ rest (setting_after_all setting (events_for channel (given_of line)))
+    ∙ ap (λ n. moment_after n lines) keeps
+
+pub moment-on : (channel : Channel) (setting : Setting) (lines : List Line)
+    → (setting_after_all setting (events_on channel lines)).moment
+    ≡ moment_after setting.moment lines
+unfolding setting_after_all
+moment-on channel setting [] = refl
+moment-on channel setting (moment n ∷ lines) =
+    moment-on channel (record setting { moment = n }) lines
+moment-on channel setting (elements mark bits ∷ lines) =
+    next-moment channel (elements mark bits) lines setting (λ after. moment-on channel after lines)
+    (elements-keep (same_channel (channel_of mark) channel) setting bits)
+moment-on channel setting (refuse_station mark letter ∷ lines) =
+    next-moment channel (refuse_station mark letter) lines setting
+    (λ after. moment-on channel after lines)
+    (command-keeps (same_channel (channel_of mark) channel) setting (fed.refuse_station letter))
+moment-on channel setting (accept_station mark letter ∷ lines) =
+    next-moment channel (accept_station mark letter) lines setting
+    (λ after. moment-on channel after lines)
+    (command-keeps (same_channel (channel_of mark) channel) setting (fed.accept_station letter))
+moment-on channel setting (refuse_subject mark letter ∷ lines) =
+    next-moment channel (refuse_subject mark letter) lines setting
+    (λ after. moment-on channel after lines)
+    (command-keeps (same_channel (channel_of mark) channel) setting (fed.refuse_subject letter))
+moment-on channel setting (accept_subject mark letter ∷ lines) =
+    next-moment channel (accept_subject mark letter) lines setting
+    (λ after. moment-on channel after lines)
+    (command-keeps (same_channel (channel_of mark) channel) setting (fed.accept_subject letter))
+
+-- the receivers of all channels have that moment in force
+pub force-now : (starts : Starts) (listener : Listening) (lines : List Line) (bytes : List ℕ)
+    → IsListening starts listener lines bytes → (channel : Channel)
+    → (receiver_on listener channel).watch.moment ≡ moment_after starts.moment lines
+force-now starts listener lines bytes h channel =
+    ap (λ (s : Setting). s.moment) (h.hears.hears.receivers channel).force
+    ∙ moment-on channel (first_setting (start_on starts channel)) lines
+
+-- the moment in force after what is given in two parts
+pub in_force-append : (first : ℕ) (given more : List Given)
+    → moment_in_force first (given ++ more) ≡ moment_in_force (moment_in_force first given) more
+in_force-append first [] more = refl
+in_force-append first (to_all n ∷ given) more = in_force-append n given more
+in_force-append first (to_one channel events ∷ given) more = in_force-append first given more
+
+-- that after lines is that after what they give
+pub in_force-lines : (first : ℕ) (lines : List Line)
+    → moment_in_force first (given_by lines) ≡ moment_after first lines
+in_force-lines first [] = refl
+in_force-lines first (moment n ∷ lines) = in_force-lines n lines
+in_force-lines first (elements mark bits ∷ lines) = in_force-lines first lines
+in_force-lines first (refuse_station mark letter ∷ lines) = in_force-lines first lines
+in_force-lines first (accept_station mark letter ∷ lines) = in_force-lines first lines
+in_force-lines first (refuse_subject mark letter ∷ lines) = in_force-lines first lines
+in_force-lines first (accept_subject mark letter ∷ lines) = in_force-lines first lines
+
+-- what is given sets the moment of a channel as it sets the one in force
+abbrev pub SetsMoment : Given → Type 0
+SetsMoment one =
+    (channel : Channel) (setting : Setting)
+    → (setting_after_all setting (events_for channel one)).moment
+    ≡ moment_in_force setting.moment (one ∷ [])
+
+pub moment-sets : (n : ℕ) → SetsMoment (to_all n)
+unfolding setting_after_all
+moment-sets n channel setting = refl
+
+pub command-sets : (channel : Channel) (command : fed.Command)
+    → SetsMoment (to_one channel (fed.command command ∷ []))
+command-sets channel command on setting =
+    command-keeps (same_channel channel on) setting command
+
+elements-set : (channel : Channel) (bits : List Bool)
+    → SetsMoment (to_one channel (fed.elements bits))
+elements-set channel bits on setting = elements-keep (same_channel channel on) setting bits
+
+pub line-sets : (line : Line) → SetsMoment (given_of line)
+line-sets (moment n) = moment-sets n
+line-sets (elements mark bits) = elements-set (channel_of mark) bits
+line-sets (refuse_station mark letter) =
+    command-sets (channel_of mark) (fed.refuse_station letter)
+line-sets (accept_station mark letter) =
+    command-sets (channel_of mark) (fed.accept_station letter)
+line-sets (refuse_subject mark letter) =
+    command-sets (channel_of mark) (fed.refuse_subject letter)
+line-sets (accept_subject mark letter) =
+    command-sets (channel_of mark) (fed.accept_subject letter)
+
+-- a receiver has the moment in force after one more
+moment-next : (first was now : Setting) (events more : List Event) (given : List Given)
+    (one : Given) → was ≡ setting_after_all first events
+    → now ≡ setting_after_all first (events ++ more)
+    → was.moment ≡ moment_in_force first.moment given
+    → (setting_after_all (setting_after_all first events) more).moment
+    ≡ moment_in_force (setting_after_all first events).moment (one ∷ [])
+    → now.moment ≡ moment_in_force first.moment (given ++ one ∷ [])
+moment-next first was now events more given one e f same sets =
+    ap (λ (s : Setting). s.moment) (f ∙ force-append first events more) ∙ sets
+    ∙ ap (λ n. moment_in_force n (one ∷ [])) (ap (λ (s : Setting). s.moment) (sym e) ∙ same)
+    ∙ sym (in_force-append first.moment given (one ∷ []))
+
+-- what is printed of the share of each channel, by how its receiver stands
+have-printed : (starts : Starts) (listener : Listening) (given : List Given)
+    (copies : List MarkedCopy)
+    → ((channel : Channel) → Stands content (start_on starts channel)
+    (receiver_on listener channel) (share channel given) (copies_on channel copies))
+    → HavePrinted starts given copies
+have-printed starts listener given copies stands channel =
+    printed-so_far content (start_on starts channel) (receiver_on listener channel)
+    (share channel given) (copies_on channel copies) (stands channel)
+
+-- one more is given, which has no elements and brings no copies
+pub hears-next : (starts : Starts) (old new : Listening) (given : List Given) (one : Given)
+    (copies : List MarkedCopy) → HearsGiven starts old given copies → elements_in one ≡ []
+    → SetsMoment one → new.elements ≡ old.elements → new.entries ≡ old.entries
+    → ((channel : Channel) (log : List TaggedCopy)
+    → Stands content (start_on starts channel) (receiver_on old channel) (share channel given) log
+    → Stands content (start_on starts channel) (receiver_on new channel)
+    (share channel given ++ events_for channel one) log)
+    → HearsGiven starts new (given ++ one ∷ []) copies
+hears-next starts old new given one copies h none sets heard printed stands =
+    let all = given ++ one ∷ [] in
+    let next : (channel : Channel) → Stands content (start_on starts channel)
+    (receiver_on new channel) (share channel given ++ events_for channel one)
+    (copies_on channel copies) =
+    λ channel. stands channel (copies_on channel copies) (h.receivers channel) in
+    let each : (channel : Channel) → Stands content (start_on starts channel)
+    (receiver_on new channel) (share channel all) (copies_on channel copies) =
+    λ channel. subst (λ es. Stands content (start_on starts channel) (receiver_on new channel) es
+    (copies_on channel copies)) (sym (share-one channel given one)) (next channel) in
+    let same : elements_given all ≡ elements_given given =
+    elements-one given one ∙ ap (λ bits. elements_given given ++ bits) none
+    ∙ append-nil (elements_given given) in
+    record {
+      receivers = each;
+      moments = λ channel.
+          let first = first_setting (start_on starts channel) in
+          moment-next first _ _ (share channel given) (events_for channel one) given one
+          (h.receivers channel).force (next channel).force (h.moments channel)
+          (sets channel (setting_after_all first (share channel given)));
+      in_turn = subst (PrintsInTurn starts all) (append-nil copies)
+          (in_turn-more starts given one copies [] h.in_turn
+          (subst (HavePrinted starts all) (sym (append-nil copies))
+          (have-printed starts new all copies each)));
+      elements = heard ∙ h.elements ∙ ap (λ bits. count_of (length bits)) (sym same);
+      entries = printed ∙ h.entries;
+      few = subst (λ bits. length copies ≤ length bits) (sym same) h.few;
+    }
+
+own-events : (channel : Channel) (events : List Event)
+    → events_for channel (to_one channel events) ≡ events
+own-events channel events = ap (λ b. cond b events []) (same_channel-refl channel)
+
+others-events : (channel other : Channel) (events : List Event)
+    → same_channel channel other ≡ false → events_for other (to_one channel events) ≡ []
+others-events channel other events h = ap (λ b. cond b events []) h
+
+-- a command for a channel
+pub commanded : (starts : Starts) (old new : Listening) (given : List Given)
+    (copies : List MarkedCopy) (channel : Channel) (command : fed.Command)
+    → HearsGiven starts old given copies
+    → new ≡ with_receiver old channel (receiver_on new channel)
+    → TakesEvent content (receiver_on old channel) (receiver_on new channel) (fed.command command)
+    → HearsGiven starts new (then_command given channel command) copies
+unfolding fed.elements_among
+commanded starts old new given copies channel command h only takes =
+    let differs = differs-on channel old new only in
+    let one = to_one channel (fed.command command ∷ []) in
+    hears-next starts old new given one copies h refl (command-sets channel command)
+    differs.elements differs.entries
+    (on-each (λ on. (log : List TaggedCopy)
+    → Stands content (start_on starts on) (receiver_on old on) (share on given) log
+    → Stands content (start_on starts on) (receiver_on new on)
+    (share on given ++ events_for on one) log) channel
+    (λ log s. subst (λ es. Stands content (start_on starts channel) (receiver_on new channel)
+    (share channel given ++ es) log) (sym (own-events channel (fed.command command ∷ [])))
+    (takes (start_on starts channel) (share channel given) log s))
+    (λ on not log s.
+    let none : share on given ++ events_for on one ≡ share on given =
+    ap (λ es. share on given ++ es) (others-events channel on (fed.command command ∷ []) not)
+    ∙ append-nil (share on given) in
+    subst (λ es. Stands content (start_on starts on) (receiver_on new on) es log) (sym none)
+    (subst (λ r. Stands content (start_on starts on) r (share on given) log)
+    (sym (differs.others on not)) s)))
+
+-- one more line is taken, as what it gives is
+pub takes-line : (starts : Starts) (old new : Listening) (lines : List Line) (line : Line)
+    (bytes : List ℕ) → IsListening starts old lines bytes → IsTakenAfter starts lines line
+    → new.has_moment ≡ has_moment (lines ++ line ∷ [])
+    → ((copies : List MarkedCopy) → HearsGiven starts old (given_by lines) copies
+    → HearsGiven starts new (given_by lines ++ given_of line ∷ []) copies)
+    → IsListening starts new (lines ++ line ∷ []) bytes
+takes-line starts old new lines line bytes h taken said hears = record {
+  taken = taken-one starts lines line h.taken taken;
+  moment = said;
+  hears = record {
+    log = h.hears.log;
+    hears = subst (λ given. HearsGiven starts new given h.hears.log)
+        (sym (given_by-one lines line)) (hears h.hears.log h.hears.hears);
+    spelled = h.hears.spelled;
+  };
+}
+
+-- a command for a channel, as a line says it
+pub commanded-on : (starts : Starts) (old new : Listening) (lines : List Line) (line : Line)
+    (channel : Channel) (command : fed.Command) (bytes : List ℕ)
+    → IsListening starts old lines bytes → IsTakenAfter starts lines line
+    → given_of line ≡ to_one channel (fed.command command ∷ [])
+    → is_moment_line line ≡ false → new ≡ with_receiver old channel (receiver_on new channel)
+    → TakesEvent content (receiver_on old channel) (receiver_on new channel) (fed.command command)
+    → IsListening starts new (lines ++ line ∷ []) bytes
+commanded-on starts old new lines line channel command bytes h taken gives other only takes =
+    takes-line starts old new lines line bytes h taken
+    (moment-other lines line new.has_moment ((differs-on channel old new only).moment ∙ h.moment)
+    other)
+    (λ copies heard. subst (λ one. HearsGiven starts new (given_by lines ++ one ∷ []) copies)
+    (sym gives) (commanded starts old new (given_by lines) copies channel command heard only takes))
+
+-- a moment for all channels
+pub set-all : (starts : Starts) (old new : Listening) (given : List Given)
+    (copies : List MarkedCopy) (n : ℕ) → HearsGiven starts old given copies
+    → new.elements ≡ old.elements → new.entries ≡ old.entries
+    → ((channel : Channel) → TakesEvent content (receiver_on old channel)
+    (receiver_on new channel) (fed.at_moment n))
+    → HearsGiven starts new (then_moment given n) copies
+set-all starts old new given copies n h heard printed takes =
+    hears-next starts old new given (to_all n) copies h refl (moment-sets n) heard printed
+    (λ channel log s. takes channel (start_on starts channel) (share channel given) log s)
+
+-- Share of a channel, where elements of one are given last
+share-own : (given : List Given) (channel : Channel) (bits : List Bool)
+    → share channel (then_elements given channel bits) ≡ share channel given ++ fed.elements bits
+share-own given channel bits =
+    share-one channel given (to_one channel (fed.elements bits))
+    ∙ ap (λ es. share channel given ++ es) (own-events channel (fed.elements bits))
+
+share-others : (given : List Given) (channel other : Channel) (bits : List Bool)
+    → same_channel channel other ≡ false
+    → share other (then_elements given channel bits) ≡ share other given
+share-others given channel other bits h =
+    share-one other given (to_one channel (fed.elements bits))
+    ∙ ap (λ es. share other given ++ es) (others-events channel other (fed.elements bits) h)
+    ∙ append-nil (share other given)
+
+share-grows : (given : List Given) (channel : Channel) (part more : List Bool)
+    → share channel (then_elements given channel (part ++ more))
+    ≡ share channel (then_elements given channel part) ++ fed.elements more
+share-grows given channel part more =
+    share-own given channel (part ++ more)
+    ∙ ap (λ es. share channel given ++ es) (map-append element part more)
+    ∙ sym (append_assoc (share channel given) (fed.elements part) (fed.elements more))
+    ∙ ap (λ es. es ++ fed.elements more) (sym (share-own given channel part))
+
+share-stays : (given : List Given) (channel other : Channel) (part more : List Bool)
+    → same_channel channel other ≡ false
+    → share other (then_elements given channel (part ++ more))
+    ≡ share other (then_elements given channel part)
+share-stays given channel other part more h =
+    share-others given channel other (part ++ more) h
+    ∙ sym (share-others given channel other part h)
+
+-- the copies of a channel, where those of one come last
+copies-own : (copies : List MarkedCopy) (channel : Channel) (more : List TaggedCopy)
+    → copies_on channel (copies ++ map (marked channel) more) ≡ copies_on channel copies ++ more
+copies-own copies channel more =
+    copies_on-append channel copies (map (marked channel) more)
+    ∙ ap (λ cs. copies_on channel copies ++ cs) (copies_on-marked channel more)
+
+copies-others : (copies : List MarkedCopy) (channel other : Channel) (more : List TaggedCopy)
+    → same_channel channel other ≡ false
+    → copies_on other (copies ++ map (marked channel) more) ≡ copies_on other copies
+copies-others copies channel other more h =
+    copies_on-append other copies (map (marked channel) more)
+    ∙ ap (λ cs. copies_on other copies ++ cs) (copies_on-other channel other more h)
+    ∙ append-nil (copies_on other copies)
+
+-- what holds of the shares and copies of each channel holds still, where it holds of those of the
+-- channel that was given more elements
+grows-on : (P : Channel → List Event → List TaggedCopy → Type 0) (given : List Given)
+    (channel : Channel) (part more : List Bool) (copies : List MarkedCopy)
+    (later : List TaggedCopy)
+    → P channel (share channel (then_elements given channel part) ++ fed.elements more)
+    (copies_on channel copies ++ later)
+    → ((other : Channel) → same_channel channel other ≡ false
+    → P other (share other (then_elements given channel part)) (copies_on other copies))
+    → (other : Channel) → P other (share other (then_elements given channel (part ++ more)))
+    (copies_on other (copies ++ map (marked channel) later))
+grows-on P given channel part more copies later here others =
+    on-each (λ other. P other (share other (then_elements given channel (part ++ more)))
+    (copies_on other (copies ++ map (marked channel) later))) channel
+    (subst (λ es. P channel es (copies_on channel (copies ++ map (marked channel) later)))
+    (sym (share-grows given channel part more))
+    (subst (λ cs. P channel
+    (share channel (then_elements given channel part) ++ fed.elements more) cs)
+    (sym (copies-own copies channel later)) here))
+    (λ other not. subst (λ es. P other es
+    (copies_on other (copies ++ map (marked channel) later)))
+    (sym (share-stays given channel other part more not))
+    (subst (λ cs. P other (share other (then_elements given channel part)) cs)
+    (sym (copies-others copies channel other later not)) (others other not)))
+
+-- elements change no moment, however many they are
+in_force-elements : (first : ℕ) (given : List Given) (channel : Channel) (bits more : List Bool)
+    → moment_in_force first (then_elements given channel bits)
+    ≡ moment_in_force first (then_elements given channel more)
+in_force-elements first given channel bits more =
+    in_force-append first given (to_one channel (fed.elements bits) ∷ [])
+    ∙ sym (in_force-append first given (to_one channel (fed.elements more) ∷ []))
+
+pub counts-on : (old new m n all : ℕ) → old ≡ count_of m → new ≡ count_of (old + n) → all ≡ m + n
+    → new ≡ count_of all
+counts-on old new m n all h k e = omega arith
+
+-- More elements of a channel were heard, and these copies were handed out with the last of them.
+pub hears-more : (starts : Starts) (old new : Listening) (given : List Given) (channel : Channel)
+    (part more : List Bool) (copies : List MarkedCopy) (next : List TaggedCopy)
+    → HearsGiven starts old (then_elements given channel part) copies
+    → length next ≤ length more
+    → ((start : Start) (events : List Event) (log : List TaggedCopy)
+    → Stands content start (receiver_on old channel) events log
+    → Stands content start (receiver_on new channel) (events ++ fed.elements more)
+    (log ++ next))
+    → ((other : Channel) → same_channel channel other ≡ false
+    → receiver_on new other ≡ receiver_on old other)
+    → new.elements ≡ count_of (old.elements + length more)
+    → new.entries ≡ count_of (old.entries + length next)
+    → HearsGiven starts new (then_elements given channel (part ++ more))
+    (copies ++ map (marked channel) next)
+hears-more starts old new given channel part more copies next h few stands others heard printed =
+    let was = then_elements given channel part in
+    let later = map (marked channel) next in
+    let all : length (elements_given (then_elements given channel (part ++ more)))
+    ≡ length (elements_given was) + length more =
+    ap length (elements-then given channel (part ++ more) ∙ sym (append_assoc _ part more)
+    ∙ ap (λ bits. bits ++ more) (sym (elements-then given channel part)))
+    ∙ length-append (elements_given was) more in
+    let longer : length (copies ++ later) ≡ length copies + length next =
+    length-append copies later
+    ∙ ap (λ n. length copies + n) (length-map next (marked channel)) in
+    let each = grows-on
+    (λ other es log. Stands content (start_on starts other) (receiver_on new other) es log) given
+    channel part more copies next
+    (stands (start_on starts channel) (share channel was) (copies_on channel copies)
+    (h.receivers channel))
+    (λ other not. subst (λ r. Stands content (start_on starts other) r (share other was)
+    (copies_on other copies)) (sym (others other not)) (h.receivers other)) in
+    let first = first_setting (start_on starts channel) in
+    let own = stands (start_on starts channel) (share channel was) (copies_on channel copies)
+    (h.receivers channel) in
+    let kept : (other : Channel) → (receiver_on new other).watch.moment
+    ≡ (receiver_on old other).watch.moment =
+    on-each (λ other. (receiver_on new other).watch.moment ≡ (receiver_on old other).watch.moment)
+    channel
+    (ap (λ (s : Setting). s.moment) (own.force ∙ force-more first (share channel was) more
+    ∙ sym (h.receivers channel).force))
+    (λ other not. ap (λ (r : Receiving RingMemory). r.watch.moment) (others other not)) in
+    record {
+      receivers = each;
+      moments = λ other. kept other ∙ h.moments other
+          ∙ in_force-elements starts.moment given channel part (part ++ more);
+      in_turn = in_turn-other starts given (to_one channel (fed.elements part))
+          (to_one channel (fed.elements (part ++ more))) copies later h.in_turn
+          (have-printed starts new _ (copies ++ later) each);
+      elements = counts-on old.elements new.elements (length (elements_given was)) (length more) _
+          h.elements heard all;
+      entries = counts-on old.entries new.entries (length copies) (length next) _
+          h.entries printed longer;
+      few = omega (arith, all, longer, few, h.few);
+    }
+
+-- The receiver of the channel heard so many of these elements, and handed out these copies with the
+-- last of them; and then the listener counted both.
+pub heard-to : (starts : Starts) (old mid now : Listening) (given : List Given) (channel : Channel)
+    (part bits : List Bool) (n m k : ℕ) (copies : List MarkedCopy) (next : List TaggedCopy)
+    → HearsGiven starts old (then_elements given channel part) copies
+    → HearsTo channel old mid bits n next
+    → mid ≡ with_receiver old channel (receiver_on mid channel) → now ≡ mid
+    → n ≤ length bits → length next ≤ n
+    → m ≡ count_of (now.elements + n) → k ≡ count_of (now.entries + length next)
+    → HearsGiven starts (record now { elements = m; entries = k })
+    (then_elements given channel (part ++ take n bits)) (copies ++ map (marked channel) next)
+heard-to starts old mid now given channel part bits n m k copies next h hears only e within few
+    counted printed =
+    let new = record now { elements = m; entries = k } in
+    let same = same-receivers mid new (sym (ap (λ (l : Listening). l.on_0) e))
+    (sym (ap (λ (l : Listening). l.on_1) e)) (sym (ap (λ (l : Listening). l.on_2) e)) in
+    let differs = differs-on channel old mid only in
+    let many : length (take n bits) ≡ n = length-take-le n bits within in
+    hears-more starts old new given channel part (take n bits) copies next h
+    (omega (arith, many, few))
+    (λ start events log s. subst (λ r. Stands content start r (events ++ fed.elements (take n bits))
+    (log ++ next)) (same channel) (hears.stands start events log s))
+    (λ other not. sym (same other) ∙ differs.others other not)
+    (counted ∙ ap₂ (λ a b. count_of (a + b))
+    (ap (λ (l : Listening). l.elements) e ∙ differs.elements) (sym many))
+    (printed ∙ ap (λ a. count_of (a + length next))
+    (ap (λ (l : Listening). l.entries) e ∙ differs.entries))
+
+-- nothing more is printed before the last of them
+pub none-before : (starts : Starts) (old mid : Listening) (given : List Given) (channel : Channel)
+    (part bits : List Bool) (n : ℕ) (copies : List MarkedCopy) (next : List TaggedCopy)
+    → HearsGiven starts old (then_elements given channel part) copies
+    → HearsTo channel old mid bits n next → (k : ℕ) → k < n
+    → PrintsInTurn starts (then_elements given channel (part ++ take k bits)) copies
+none-before starts old mid given channel part bits n copies next h hears k lt =
+    let start = start_on starts channel in
+    let was = share channel (then_elements given channel part) in
+    let mine = copies_on channel copies in
+    subst (PrintsInTurn starts (then_elements given channel (part ++ take k bits)))
+    (append-nil copies)
+    (in_turn-other starts given (to_one channel (fed.elements part))
+    (to_one channel (fed.elements (part ++ take k bits))) copies [] h.in_turn
+    (grows-on (λ other es log. HasPrinted (start_on starts other) es log) given channel part
+    (take k bits) copies []
+    (subst (HasPrinted start (was ++ fed.elements (take k bits))) (sym (append-nil mine))
+    (hears.first start was mine (h.receivers channel) k lt))
+    (λ other not. h.in_turn.each other)))
+
+-- These elements of a channel were heard, and so many counted; this is over with the last of them,
+-- and not yet finished.
+pub record HearsUntil (old new : Listening) (channel : Channel) (bits : List Bool) (n : ℕ)
+    (over : Over) : Type 0 where
+  pub awaits : HearsUpTo content (receiver_on old channel) (receiver_on new channel) bits over
+  pub others : (other : Channel) → same_channel channel other ≡ false
+      → receiver_on new other ≡ receiver_on old other
+  pub elements : new.elements ≡ count_of (old.elements + n)
+  pub entries : new.entries ≡ old.entries
+
+-- the receiver of the channel heard them, and then the listener counted them
+pub hears-until : (old heard now : Listening) (channel : Channel) (bits : List Bool) (n m : ℕ)
+    (over : Over) → heard ≡ with_receiver old channel (receiver_on heard channel)
+    → HearsUpTo content (receiver_on old channel) (receiver_on heard channel) bits over
+    → now ≡ heard → m ≡ count_of (now.elements + n)
+    → HearsUntil old (record now { elements = m }) channel bits n over
+hears-until old heard now channel bits n m over only hears e counted =
+    let new = record now { elements = m } in
+    let same = same-receivers heard new (sym (ap (λ (l : Listening). l.on_0) e))
+    (sym (ap (λ (l : Listening). l.on_1) e)) (sym (ap (λ (l : Listening). l.on_2) e)) in
+    let differs = differs-on channel old heard only in
+    record {
+      awaits = λ start events log stands.
+          subst (λ r. Awaits content start r (events ++ fed.elements bits) log over) (same channel)
+          (hears start events log stands);
+      others = λ other not. sym (same other) ∙ differs.others other not;
+      elements = counted ∙ ap (λ k. count_of (k + n))
+          (ap (λ (l : Listening). l.elements) e ∙ differs.elements);
+      entries = ap (λ (l : Listening). l.entries) e ∙ differs.entries;
+    }
+
+-- What was over with the last of these elements was finished, and these are the bytes of the entry,
+-- if one was made.
+pub heard-over : (starts : Starts) (old mid new : Listening) (given : List Given)
+    (channel : Channel) (part bits : List Bool) (n : ℕ) (bytes more : List ℕ) (over : Over)
+    → HasFinished mid new channel over more
+    → HearsLog starts old (then_elements given channel part) bytes → n ≤ length bits → 0 < n
+    → HearsUntil old mid channel (take n bits) n over
+    → HearsLog starts new (then_elements given channel (part ++ take n bits)) (bytes ++ more)
+heard-over starts old mid new given channel part bits n bytes more over f h within least u =
+    let next = f.copies in
+    let few : length next ≤ 1 = f.one in
+    let many : length (take n bits) ≡ n = length-take-le n bits within in
+    record {
+      log = h.log ++ map (marked channel) next;
+      hears = hears-more starts old new given channel part (take n bits) h.log next h.hears
+          (omega (arith, few, many))
+          (λ start events log s. f.stands start (events ++ fed.elements (take n bits)) log
+          (u.awaits start events log s))
+          (λ other not. f.others other not ∙ u.others other not)
+          (f.elements ∙ u.elements ∙ ap (λ k. count_of (old.elements + k)) (sym many))
+          (f.entries (omega (arith, h.hears.entries, u.entries))
+          ∙ ap (λ k. count_of (k + length next)) u.entries);
+      spelled = logs_join h.log (map (marked channel) next) bytes more h.spelled
+          f.spelled;
+    }
+
+-- nothing was over with these elements
+pub heard-no-over : (starts : Starts) (old new : Listening) (given : List Given)
+    (channel : Channel) (part bits : List Bool) (n : ℕ) (bytes : List ℕ) (over : Over)
+    → over ≡ overs.Nothing
+    → HearsLog starts old (then_elements given channel part) bytes → n ≤ length bits
+    → HearsUntil old new channel (take n bits) n over
+    → HearsLog starts new (then_elements given channel (part ++ take n bits)) bytes
+heard-no-over starts old new given channel part bits n bytes over nothing h within u =
+    let many : length (take n bits) ≡ n = length-take-le n bits within in
+    let more = hears-more starts old new given channel part (take n bits) h.log [] h.hears
+    (omega arith)
+    (λ start events log s. subst (λ l. Stands content start (receiver_on new channel)
+    (events ++ fed.elements (take n bits)) l) (sym (append-nil log))
+    (nothing_awaited content start (receiver_on new channel) _ _ _ log over nothing
+    (u.awaits start events log s)))
+    u.others (u.elements ∙ ap (λ k. count_of (old.elements + k)) (sym many))
+    (omega (arith, u.entries, h.hears.entries)) in
+    record {
+      log = h.log;
+      hears = subst (λ log. HearsGiven starts new
+          (then_elements given channel (part ++ take n bits)) log) (append-nil h.log) more;
+      spelled = h.spelled;
+    }
+
+-- a log so far is that of the first copies of more
+pub begins-more : (starts : Starts) (listener : Listening) (given : List Given)
+    (channel : Channel) (part more : List Bool) (bytes : List ℕ)
+    → HearsLog starts listener (then_elements given channel part) bytes
+    → BeginsLog starts (then_elements given channel (part ++ more)) bytes
+begins-more starts listener given channel part more bytes h =
+    let start = start_on starts channel in
+    let was = share channel (then_elements given channel part) in
+    let all = some_printed start (was ++ fed.elements more) in
+    let on = has_printed_on start was (fed.elements more) (copies_on channel h.log) all.0
+    (h.hears.in_turn.each channel) all.1 in
+    record {
+      first = h.log;
+      rest = map (marked channel) on.rest;
+      printed = in_turn-other starts given (to_one channel (fed.elements part))
+          (to_one channel (fed.elements (part ++ more))) h.log (map (marked channel) on.rest)
+          h.hears.in_turn
+          (grows-on (λ other es log. HasPrinted (start_on starts other) es log) given channel part
+          more h.log on.rest
+          (subst (HasPrinted start (was ++ fed.elements more)) on.whole all.1)
+          (λ other not. h.hears.in_turn.each other));
+      spelled = h.spelled;
+    }
+
+-- the elements before and after a place are all
+pub whole-part : (part bits : List Bool) (n : ℕ)
+    → (part ++ take n bits) ++ drop n bits ≡ part ++ bits
+whole-part part bits n =
+    append_assoc part (take n bits) (drop n bits)
+    ∙ ap (λ bs. part ++ bs) (take-append-drop n bits)
+
+-- the next of these elements, and all that are left
+pub elements-next : (bits : List Bool) (at count : ℕ)
+    → take at bits ++ take count (drop at bits) ≡ take (at + count) bits
+elements-next bits at count = sym (take-add at count bits)
+
+pub elements-rest : (bits : List Bool) (at : ℕ)
+    → take at bits ++ drop at bits ≡ bits
+elements-rest bits at = take-append-drop at bits
+
+-- before the first element of a line
+if-empty : (b : Bool) → cond b (fed.elements []) [] ≡ []
+if-empty true = refl
+if-empty false = refl
+
+pub none-heard : (starts : Starts) (listener : Listening) (given : List Given)
+    (channel : Channel) (bytes : List ℕ) → HearsLog starts listener given bytes
+    → HearsLog starts listener (then_elements given channel []) bytes
+unfolding fed.elements_among
+none-heard starts listener given channel bytes h = record {
+  log = h.log;
+  hears = hears-next starts listener listener given (to_one channel []) h.log h.hears refl
+      (elements-set channel []) refl refl
+      (λ other log s. subst (λ es. Stands content (start_on starts other)
+      (receiver_on listener other) es log)
+      (sym (ap (λ es. share other given ++ es) (if-empty (same_channel channel other))
+      ∙ append-nil (share other given))) s);
+  spelled = h.spelled;
+}
+
+-- with what a listener starts, by what its receivers have
+pub starts-is : (starts : Starts) (listener : Listening)
+    → ((channel : Channel) → Stands content (start_on starts channel)
+    (receiver_on listener channel) [] [])
+    → ((channel : Channel) → content (receiver_on listener channel).memory
+    ≡ starts.entries channel)
+    → starts_of listener ≡ starts
+unfolding setting_after_all
+starts-is starts listener stands same =
+    ap₂ (λ n es. record { moment = n; entries = es; refused = (starts_of listener).refused })
+    (ap (λ (s : Setting). s.moment) (stands Zero).force) (fun_ext same)
+    ∙ ap (λ r. record { moment = starts.moment; entries = starts.entries; refused = r })
+    (fun_ext (λ channel. ap (λ (s : Setting). s.refused) (stands channel).force))
+
+-- a listener that was made has heard nothing
+pub heard-nothing : (starts : Starts) (listener : Listening)
+    → ((channel : Channel) → Stands content (start_on starts channel)
+    (receiver_on listener channel) [] [])
+    → listener.elements ≡ 0 → listener.entries ≡ 0 → HearsGiven starts listener [] []
+unfolding setting_after_all
+heard-nothing starts listener stands elements' entries' = record {
+  receivers = stands;
+  moments = λ channel. ap (λ (s : Setting). s.moment) (stands channel).force;
+  in_turn = in_turn-none starts (have-printed starts listener [] [] stands);
+  elements = elements';
+  entries = entries';
+  few = omega arith;
+}
+
+-- and took no line
+pub took-nothing : (starts : Starts) (listener : Listening) → starts.moment ≤ last_moment
+    → HearsGiven starts listener [] [] → listener.has_moment ≡ false
+    → IsListening starts listener [] []
+unfolding AreTakenAfter
+took-nothing starts listener within heard none = record {
+  taken = are-taken starts [] within tt;
+  moment = none;
+  hears = record { log = []; hears = heard; spelled = no-log };
+}
+
+-- after the elements of a line, of the channel that it names
+elements-of : (lines : List Line) (mark : Option Channel) (channel : Channel) (bits : List Bool)
+    → channel ≡ channel_of mark
+    → then_elements (given_by lines) channel bits ≡ given_by (lines ++ elements mark bits ∷ [])
+elements-of lines mark channel bits e =
+    ap (λ on. then_elements (given_by lines) on bits) e
+    ∙ sym (given_by-one lines (elements mark bits))
+
+pub heard-line : (starts : Starts) (old new : Listening) (lines : List Line)
+    (mark : Option Channel) (channel : Channel) (bits : List Bool) (bytes more : List ℕ)
+    → channel ≡ channel_of mark
+    → IsListening starts old lines bytes → has_moment lines ≡ true
+    → new.has_moment ≡ old.has_moment
+    → HearsLog starts new (then_elements (given_by lines) channel bits) more
+    → IsListening starts new (lines ++ elements mark bits ∷ []) more
+heard-line starts old new lines mark channel bits bytes more e h some same heard = record {
+  taken = taken-one starts lines (elements mark bits) h.taken some;
+  moment = moment-other lines (elements mark bits) _ (same ∙ h.moment) refl;
+  hears = subst (λ given. HearsLog starts new given more) (elements-of lines mark channel bits e)
+      heard;
+}
+
+pub begins-line : (starts : Starts) (lines : List Line) (mark : Option Channel)
+    (channel : Channel) (bits : List Bool) (bytes : List ℕ) → channel ≡ channel_of mark
+    → AreTaken starts lines → has_moment lines ≡ true
+    → BeginsLog starts (then_elements (given_by lines) channel bits) bytes
+    → BeginsListening starts (lines ++ elements mark bits ∷ []) bytes
+begins-line starts lines mark channel bits bytes e taken some h = record {
+  taken = taken-one starts lines (elements mark bits) taken some;
+  begun = subst (λ given. BeginsLog starts given bytes) (elements-of lines mark channel bits e) h;
+}
+
+pub none-left : {A : Type 0} (o : Option A) → ((x : A) → o ≡ Some x → ⊥) → o ≡ None
+none-left None h = refl
+none-left (Some x) h = absurd (h x refl)
+
+as_count : (is : Bool) → bool_byte is ≡ cond is 1 0
+as_count true = refl
+as_count false = refl
+
+at_most_one : (is : Bool) (n : ℕ) → n ≡ cond is 1 0 → n ≤ 1
+at_most_one true n e = omega (arith, e)
+at_most_one false n e = omega (arith, e)
+
+-- The receiver of the channel handed out what was over with it, and then the listener counted this:
+-- so it was finished.
+pub finishes : (old last now : Listening) (channel : Channel) (over : Over) (is : Bool) (k n : ℕ)
+    (bytes : List ℕ)
+    → HandsOut content (receiver_on old channel) (receiver_on last channel) channel over is bytes
+    → last ≡ with_receiver old channel (receiver_on last channel) → now ≡ last
+    → k ≡ bool_byte is → n ≡ count_of (now.entries + k)
+    → HasFinished old (record now { entries = n }) channel over bytes
+finishes old last now channel over is k n bytes hands only e one counted =
+    let new = record now { entries = n } in
+    let same = same-receivers last new (sym (ap (λ (l : Listening). l.on_0) e))
+    (sym (ap (λ (l : Listening). l.on_1) e)) (sym (ap (λ (l : Listening). l.on_2) e)) in
+    let differs = differs-on channel old last only in
+    record {
+      copies = hands.copies;
+      one = at_most_one is (length hands.copies) hands.counted;
+      stands = λ start events log awaits.
+          subst (λ r. Stands content start r events (log ++ hands.copies)) (same channel)
+          (hands.stands start events log awaits);
+      others = λ other not. sym (same other) ∙ differs.others other not;
+      spelled = hands.spelled;
+      elements = ap (λ (l : Listening). l.elements) e ∙ differs.elements;
+      entries = λ fits. counted ∙ ap₂ (λ m n. count_of (m + n))
+          (ap (λ (l : Listening). l.entries) e ∙ differs.entries)
+          (one ∙ as_count is ∙ sym hands.counted);
+    }
+
+-- what follows on Ok
+pub on_ok-map : {A B : Type 0} {P Q : Type 0} (result : Result A B) → OnOk result P → (P → Q)
+    → OnOk result Q
+on_ok-map (Ok x) p f = f p
+on_ok-map (Err x) p f = tt
+
+-- an entry is one copy, and so is what is spelled
+pub entry-few : (entry : Option Entry) (n : ℕ) → (IsSome entry → 0 < n)
+    → length (entry_list entry) ≤ n
+entry-few None n some = omega arith
+entry-few (Some entry) n some = omega (arith, some refl)
+
+pub spelled-few : (channel : Channel) (is : Bool) (copies : List TaggedCopy) (bytes : List ℕ)
+    (n : ℕ) → IsSpelled channel is copies bytes → (is ≡ true → 0 < n) → length copies ≤ n
+spelled-few channel false copies bytes n h some = omega (arith, ap length h)
+spelled-few channel true copies bytes n h some = omega (arith, ap length h.1, some refl)
+
+pub spelled-counted : (channel : Channel) (is : Bool) (copies : List TaggedCopy) (bytes : List ℕ)
+    (k : ℕ) → IsSpelled channel is copies bytes → k ≡ bool_byte is → k ≡ length copies
+spelled-counted channel false copies bytes k h e = e ∙ sym (ap length h)
+spelled-counted channel true copies bytes k h e = e ∙ sym (ap length h.1)

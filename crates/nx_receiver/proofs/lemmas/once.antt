@@ -1,0 +1,5 @@
+-- A message is printed once.
+pub mod Found
+pub mod Listen
+pub mod Repeats
+pub mod Rising

@@ -1,0 +1,9 @@
+-- What a receiver stands after, and what it prints.
+pub mod Events
+pub mod Feeds
+pub mod Given
+pub mod Judging
+pub mod Log
+pub mod Logged
+pub mod Over
+pub mod Printing

@@ -1,0 +1,9 @@
+-- What a watch stands after, by elements and by words.
+pub mod Bits
+pub mod EightWords
+pub mod Hears
+pub mod Loops
+pub mod Packed
+pub mod Takes
+pub mod Texts
+pub mod Words

@@ -1,4 +1,0 @@
-pub mod Found
-pub mod Listen
-pub mod Repeats
-pub mod Rising

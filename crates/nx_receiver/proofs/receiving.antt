@@ -1,8 +1,0 @@
-pub mod Events
-pub mod Feeds
-pub mod Given
-pub mod Judging
-pub mod Log
-pub mod Logged
-pub mod Over
-pub mod Printing

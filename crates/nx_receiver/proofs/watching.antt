@@ -1,8 +1,0 @@
-pub mod Bits
-pub mod EightWords
-pub mod Hears
-pub mod Loops
-pub mod Packed
-pub mod Takes
-pub mod Texts
-pub mod Words

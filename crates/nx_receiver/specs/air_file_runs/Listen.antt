@@ -1,0 +1,204 @@
+-- What three receivers that listen make of an air file, with whatever they start: the log of its
+-- lines, and its first fault (this profile).
+use Rattle.std.specs.Prelude.{◌≡◌, ◌⊎◌, ◌↔◌, ℕ, ◌+◌, ◌≤◌, Bool, true, false, List, [], ◌∷◌, ◌++◌}
+use Rattle.std.specs.Prelude.{length, map, Option, None, Result, Ok, Err, IfSome, IsErrOf, IsTrue, ⊤}
+use Rattle.std.specs.List.{flat_map, list_any}
+use Rattle.std.specs.Io.KnownBytes.{Appends, Consumes}
+use Rattle.nx_envelope.specs.Moment.{last_moment}
+use Rattle.nx_fec.specs.air_files.AirFile.{Line, moment, elements, refuse_station, accept_station}
+use Rattle.nx_fec.specs.air_files.AirFile.{refuse_subject, accept_subject}
+use Rattle.nx_fec.specs.air_files.Channels.{channel_of}
+use Rattle.nx_fec.specs.declared.air_files.channel.Channel.{Channel}
+use Rattle.nx_fec.specs.Transfers.{Devices, IsReadOut, WroteSome}
+use Rattle.nx_fec.specs.air_files.Lines.{StopsAt, air_limit, IsAirFile, IsCause, IsLineRefused, elements_of}
+use Rattle.nx_fec.specs.air_files.Lines.{file_of}
+use Rattle.nx_fec.specs.declared.fault.LineFault.{LineFault}
+use Rattle.nx_fec.specs.declared.fault.LineFault.TheVariants as file
+use Rattle.nx_memory.specs.Selection.{is_vital}
+use Rattle.nx_receiver.specs.Events as events
+use Rattle.nx_receiver.specs.Events.{Command, Event, element, command, Refuses}
+use Rattle.nx_receiver.specs.InTurn.{PrintAllToEnd, PrintsInTurn}
+use Rattle.nx_receiver.specs.Log.{IsLog}
+use Rattle.nx_receiver.specs.Shares.{Given, MarkedCopy, Starts, share, to_all, to_one}
+use Rattle.nx_receiver.specs.declared.air_file_runs.listen_fault.ListenFault.{ListenFault}
+use Rattle.nx_receiver.specs.declared.air_file_runs.listen_fault.ListenFault.TheVariants.{Memory, Read, Write}
+use Rattle.nx_receiver.specs.declared.air_file_runs.listen_fault.ListenFault.TheVariants.{AirTooLong, LineLong}
+use Rattle.nx_receiver.specs.declared.air_file_runs.listen_fault.ListenFault.TheVariants.{LineCut, BadLine}
+use Rattle.nx_receiver.specs.declared.air_file_runs.listen_fault.ListenFault.TheVariants.{NoMoment, Moment, Vital}
+use Rattle.nx_receiver.specs.declared.air_file_runs.listening.Report.{Report}
+
+-- a command, for the channel that its line names
+abbrev pub commanded : Option Channel → Command → Given
+commanded mark c = to_one (channel_of mark) (command c ∷ [])
+
+-- what a line gives
+abbrev pub given_of : Line → Given
+given_of (moment n) = to_all n
+given_of (elements mark bits) = to_one (channel_of mark) (map element bits)
+given_of (refuse_station mark letter) = commanded mark (events.refuse_station letter)
+given_of (accept_station mark letter) = commanded mark (events.accept_station letter)
+given_of (refuse_subject mark letter) = commanded mark (events.refuse_subject letter)
+given_of (accept_subject mark letter) = commanded mark (events.accept_subject letter)
+
+-- what lines give, in order
+abbrev pub given_by : List Line → List Given
+given_by lines = map given_of lines
+
+-- Share of a channel, of lines: what they give to its receiver
+abbrev pub events_on : Channel → List Line → List Event
+events_on channel lines = share channel (given_by lines)
+
+-- the moment in force after these lines, which is one for all channels: that of the last line that
+-- says one, or else the first moment
+abbrev pub moment_after : ℕ → List Line → ℕ
+moment_after first [] = first
+moment_after first (moment n ∷ lines) = moment_after n lines
+moment_after first (line ∷ lines) = moment_after first lines
+
+abbrev pub is_moment_line : Line → Bool
+is_moment_line (moment n) = true
+is_moment_line _ = false
+
+-- one of these lines is a moment
+abbrev pub has_moment : List Line → Bool
+has_moment lines = list_any is_moment_line lines
+
+-- Why a line is refused after these lines, as a fault says it. It is of elements, and there was no
+-- moment yet; or a moment that is out of range or goes back; or the refusal of a vital subject
+-- (ITU-R M.540). Lines count from 1.
+abbrev pub RefusesAfter : Starts → ListenFault → List Line → Line → Type 0
+RefusesAfter starts (NoMoment number) lines (elements mark bits) =
+    (number ≡ length lines + 1) × (has_moment lines ≡ false)
+RefusesAfter starts (Moment number why) lines (moment n) =
+    (number ≡ length lines + 1) × Refuses (moment_after starts.moment lines) n why
+RefusesAfter starts (Vital number subject) lines (refuse_subject mark letter) =
+    (number ≡ length lines + 1) × IsTrue (is_vital letter) × (subject.byte ≡ letter)
+RefusesAfter starts _ lines _ = ⊥
+
+-- Lines are taken where none of them is refused after those before it; and the first moment is in
+-- range too.
+pub record AreTaken (starts : Starts) (lines : List Line) : Type 0 where
+  pub in_range : starts.moment ≤ last_moment
+  pub each : (before after : List Line) (line : Line) (fault : ListenFault)
+      → lines ≡ before ++ line ∷ after → ¬ RefusesAfter starts fault before line
+
+-- The log of an air file that is read to its end. Its lines, each taken after those before it,
+-- print these copies, where the end closes the copies that stand open; and these are the bytes of
+-- their entries.
+pub record IsLogOfFile (starts : Starts) (bytes : List ℕ) (lines : List Line)
+    (copies : List MarkedCopy) (log : List ℕ) : Type 0 where
+  pub file : IsAirFile air_limit bytes lines
+  pub taken : AreTaken starts lines
+  pub printed : PrintAllToEnd starts (given_by lines) copies
+  pub spelled : IsLog copies log
+
+-- the first half of the headline: the air file of these bytes has this log
+abbrev pub IsLogOf : Starts → List ℕ → List ℕ → Type 0
+IsLogOf starts bytes log =
+    (lines : List Line) × (copies : List MarkedCopy) × IsLogOfFile starts bytes lines copies log
+
+-- the log of these lines, of which each is taken after those before it, where nothing is closed:
+-- only copies that have ended count
+pub record IsLogOfLines (starts : Starts) (lines : List Line) (log : List ℕ) : Type 0 where
+  pub taken : AreTaken starts lines
+  pub copies : List MarkedCopy
+  pub printed : PrintsInTurn starts (given_by lines) copies
+  pub spelled : IsLog copies log
+
+-- the log of the whole file was written, and the report counts its lines, its elements and its
+-- entries
+pub record HasListened (starts : Starts) (old new : Option (List ℕ)) (bytes : List ℕ)
+    (report : Report) : Type 0 where
+  pub lines : List Line
+  pub copies : List MarkedCopy
+  pub log : List ℕ
+  pub heard : IsLogOfFile starts bytes lines copies log
+  pub written : Appends old new log
+  pub lines_counted : report.lines ≡ length lines
+  pub bits_counted : report.bits ≡ length (flat_map elements_of lines)
+  pub printed_counted : report.printed ≡ length copies
+
+-- the log of these lines was written
+abbrev pub HasLogged : Starts → Option (List ℕ) → Option (List ℕ) → List Line → Type 0
+HasLogged starts old new lines =
+    (log : List ℕ) × IsLogOfLines starts lines log × Appends old new log
+
+-- a write failed, before which the writer took the first `written` bytes of the log, of which this
+-- holds
+abbrev pub HasLoggedSome : (List ℕ → Type 0) → Option (List ℕ) → Option (List ℕ) → ℕ → Type 0
+HasLoggedSome IsLogged old new written =
+    (log : List ℕ) × IsLogged log × WroteSome old new log written
+
+-- the fault of a run that stands for the fault of its file
+abbrev pub file_fault : LineFault → ListenFault
+file_fault file.TooLong = AirTooLong
+file_fault (file.LineLong line) = LineLong line
+file_fault (file.LineCut line) = LineCut line
+file_fault (file.BadLine line) = BadLine line
+
+-- Good lines and the beginning of one more stand before a fault of the file, of which this is the
+-- cause; and this holds of the lines.
+abbrev pub HasFaultAfter : (List Line → Type 0) → List ℕ → LineFault → Type 0
+HasFaultAfter holds bytes why = StopsAt bytes (λ lines rest more.
+    IsCause air_limit (length (file_of lines ++ rest)) lines rest more why × holds lines)
+
+-- The first fault of an air file, by its bytes alone: a fault of the file, or the next line is
+-- refused; and this holds of the whole lines before it. Those of devices and of memory are none of
+-- bytes.
+abbrev pub HasListenFault : Starts → (List Line → Type 0) → List ℕ → ListenFault → Type 0
+HasListenFault starts holds bytes AirTooLong = HasFaultAfter holds bytes file.TooLong
+HasListenFault starts holds bytes (LineLong line) = HasFaultAfter holds bytes (file.LineLong line)
+HasListenFault starts holds bytes (LineCut line) = HasFaultAfter holds bytes (file.LineCut line)
+HasListenFault starts holds bytes (BadLine line) = HasFaultAfter holds bytes (file.BadLine line)
+HasListenFault starts holds bytes fault = StopsAt bytes (λ lines rest more.
+    IsLineRefused (RefusesAfter starts fault) air_limit lines rest more (length lines + 1)
+    × holds lines)
+
+-- What a run that listens answers of the bytes that were read: a report, where the log of the file
+-- was written; or a fault. Before a fault the log of the whole lines before it was written, and
+-- nothing is closed. A failed read comes behind whole lines and the beginning of one more. `IsLeft`
+-- says what may come behind these: nothing in the bytes that were read, anything in the bytes of
+-- the whole file. After a failed write the first bytes of the log of the lines that were read whole
+-- are written, closed if the file had ended. A want of memory says nothing of them. Each other
+-- fault is the first of the file; that of its end comes at its end.
+abbrev pub AnswersListening : Starts → Type 0 → (List ℕ → Type 0) → Option (List ℕ)
+    → Option (List ℕ) → Result Report ListenFault → List ℕ → Type 0
+AnswersListening starts AtEnd IsLeft old new (Ok report) bytes =
+    AtEnd × HasListened starts old new bytes report
+AnswersListening starts AtEnd IsLeft old new (Err (Memory error)) bytes = ⊤
+AnswersListening starts AtEnd IsLeft old new (Err Read) bytes = StopsAt bytes (λ lines rest more.
+    (length (file_of lines ++ rest) ≤ air_limit) × IsLeft more × HasLogged starts old new lines)
+AnswersListening starts AtEnd IsLeft old new (Err (Write written)) bytes =
+    (log : List ℕ) × WroteSome old new log written
+    × (StopsAt bytes (λ lines rest more. IsLogOfLines starts lines log)
+    ⊎ (AtEnd × (lines : List Line) × (copies : List MarkedCopy)
+    × IsLogOfFile starts bytes lines copies log))
+AnswersListening starts AtEnd IsLeft old new (Err (LineCut line)) bytes =
+    AtEnd × HasListenFault starts (HasLogged starts old new) bytes (LineCut line)
+AnswersListening starts AtEnd IsLeft old new (Err fault) bytes =
+    HasListenFault starts (HasLogged starts old new) bytes fault
+
+-- What such a run answers whose log isn't written: no write fails, and nothing is known of the log
+-- but that there is one.
+abbrev pub AnswersUnlogged : Starts → Type 0 → (List ℕ → Type 0) → Result Report ListenFault
+    → List ℕ → Type 0
+AnswersUnlogged starts AtEnd IsLeft (Err (Write written)) bytes = ⊥
+AnswersUnlogged starts AtEnd IsLeft outcome bytes =
+    AnswersListening starts AtEnd IsLeft None None outcome bytes
+
+-- A run that listens, with this start. It answers so to the bytes that it read, and to the whole
+-- file, however it came; and it writes the log of the lines that it read before each further read.
+-- A read failed, at most one, exactly where the outcome is `Read`, and a write where it is `Write`.
+pub record Listens {R W : Type 0} (starts : Starts) (d : Devices R W)
+    (outcome : Result Report ListenFault) : Type 0 where
+  pub bytes : List ℕ
+  pub consumed : Consumes (d.remaining d.reader.inner) (d.remaining d.reader_after.inner) bytes
+  pub answer : AnswersListening starts (IsReadOut d) (λ more. more ≡ [])
+      (d.contents d.writer.inner) (d.contents d.writer_after.inner) outcome bytes
+  pub file : IfSome (d.remaining d.reader.inner) (AnswersListening starts (Unit {0})
+      (λ more. Unit {0}) (d.contents d.writer.inner) (d.contents d.writer_after.inner) outcome)
+  pub unread : IsErrOf outcome Read ↔ (d.reader_after.failures ≡ 1)
+  pub read_once : d.reader_after.failures ≤ 1
+  pub unwritten : ((written : ℕ) × (outcome ≡ Err (Write written)))
+      ↔ (d.writer_after.failures ≡ 1)
+  pub write_once : d.writer_after.failures ≤ 1

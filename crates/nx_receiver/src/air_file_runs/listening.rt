@@ -1,0 +1,429 @@
+//! Listening to an air file: the log of its lines, written while it is read.
+
+ghost use Rattle.std.specs.Prelude.{◌≡◌, ◌+◌, ◌-◌, ◌^◌, ◌<◌, ◌≤◌, ℕ, Bool, false, List, [], ◌∷◌, ◌++◌, length, map, take, drop, Option, Some, IfOk, IfSome, MatchResult, OnOk};
+ghost use Rattle.nx_code.specs.Reading.{IsCapital};
+ghost use Rattle.nx_envelope.specs.Moment.{last_moment};
+ghost use Rattle.nx_fec.specs.air_files.AirFile.{Line};
+ghost use Rattle.nx_fec.specs.air_files.AirFile as line;
+ghost use Rattle.nx_fec.specs.Transfers.{FailsOnce, HasWritten, WroteSome, Writes, devices};
+ghost use Rattle.nx_fec.specs.air_files.LineRuns.{ExplainsTaking, HasGiven, HasTaken};
+ghost use Rattle.nx_memory.specs.Selection.{is_vital};
+ghost use Rattle.nx_receiver.specs.Events.{command};
+ghost use Rattle.nx_receiver.specs.Events as events;
+ghost use Rattle.nx_receiver.specs.air_file_runs.ListenFrom.{GoesOnBy};
+ghost use Rattle.nx_receiver.specs.laws.ListenOnce.{ListensOnce};
+ghost use Rattle.nx_receiver.specs.Log.{IsLog};
+ghost use Rattle.nx_receiver.specs.Receiver.{TakesEvent, entry_list};
+ghost use Rattle.nx_receiver.specs.Shares.{Given, Starts, all_at_zero, marked, starts_from};
+ghost use Rattle.nx_receiver.specs.private.Awaiting.{HandsOut};
+ghost use Rattle.nx_receiver.specs.Listener.{Listening, content, count_of, receiver_on, starts_of, then_elements, with_receiver};
+ghost use Rattle.nx_receiver.specs.private.Listener.{BeginsFrom, HasClosed, HasClosedSome, HeardSome, HearsLog, IsHearing, IsListening, RefusesFrom, RefusesLine, StandsFrom, lines_fault, refusal_fault};
+ghost use Rattle.nx_receiver.specs.declared.air_file_runs.listen_fault.ListenFault.TheVariants.{Memory};
+
+mod unlogged;
+
+use crate::air_file_runs::listen_fault::ListenFault;
+use crate::entry::Entry;
+use crate::fault::MomentFault;
+use crate::listener::Listener;
+use crate::over::Over;
+use crate::writing::entry_bytes;
+use nx_envelope::Letter;
+use nx_fec::{
+    Batch, Channel, Counting, LineKind, LineTaker, LinesFault, LinesRead, PackedElements, Scanner,
+    TakeFault, WriteFault, run_lines, taking_of, write_on,
+};
+use nx_memory::SavedSet;
+use std::alloc::{AllocError, Global};
+use std::io::{Read, Write};
+pub(crate) use unlogged::listen_unlogged;
+
+/// What a run that listened to an air file read and printed.
+#[derive(Clone, Copy, Debug, Drop, PartialEq, Eq)]
+pub struct Report {
+    /// How many lines the file has.
+    pub lines: u64,
+    /// How many elements its lines have, over all channels.
+    pub bits: u64,
+    /// How many entries were printed, over all channels.
+    pub printed: u64,
+}
+
+/// Listens to an air file of at most 268,435,456 bytes to its end, and writes its log: an entry for
+/// each copy that is printed, all that the lines so far print before each further read. Three
+/// receivers hear it, one for each channel; each starts with an empty memory, at moment 0, and
+/// everything is selected. Their entries stand in the log in the order in which their copies end;
+/// the end of the file closes the channels 0, 1 and 2 in order. All memory is taken before the
+/// first read.
+///
+/// Where it answers Ok, each message that is heard in time on a channel of the file has exactly one
+/// entry of that channel in the log, full, with 0 errors and its text letter for letter: a message
+/// not numbered 00 that is selected whenever it is sent, whose sendings all lie within 66 hours and
+/// pass the channel while 200 identities suffice, and of whose identity nothing else is found on
+/// it.
+///
+/// The first fault in the order of the bytes ends the run; the line that has it has no effect.
+/// After a fault of a line, `AirTooLong` and `Read`, the log of the whole lines before it is
+/// written, and an open copy isn't closed. After `Write` the first `written` bytes of the log of
+/// the lines read whole by then are written, closed if the file had ended. After `Memory` nothing
+/// was read.
+pub fn listen<R: Read, W: Write>(
+    alloc: Global,
+    reader: &mut Counting<R>,
+    writer: &mut Counting<W>,
+) -> Result<Report, ListenFault>
+    requires reader { reader.old.failures ≡ 0 }
+    requires writer { writer.old.failures ≡ 0 }
+    ensures listens { ListensOnce all_at_zero
+        (devices R.remaining W.contents reader.old reader.new writer.old writer.new) result }
+    ensures memory { (error : AllocError) → result ≡ Err (Memory error)
+        → (reader.new ≡ reader.old) × (writer.new ≡ writer.old) }
+{
+    let (report, _) = listen_from(alloc, &SavedSet::new(), reader, writer)?;
+    Ok(report)
+}
+
+/// Listens as `listen` does, and goes on from what is saved: the receiver of each channel starts
+/// with the saved entries and the saved selection of the channel, and all three at the greatest
+/// moment of an entry, or 0 where there is none. Answers also what it leaves of each channel: the
+/// last 200 of all entries, the saved ones and those that the run made, and what is selected after
+/// the file. A copy that stands open at its end is no part of it. All memory is taken before the
+/// first read.
+///
+/// Where it answers Ok, each message that is heard in time on a channel of the file has exactly one
+/// entry of that channel in the log, as with `listen`, where no saved entry of its identity on that
+/// channel is live when it is first heard.
+///
+/// Faults are those of `listen`. After one there is nothing to go on from but what was saved
+/// before.
+pub fn listen_from<R: Read, W: Write>(
+    alloc: Global,
+    saved: &SavedSet,
+    reader: &mut Counting<R>,
+    writer: &mut Counting<W>,
+) -> Result<(Report, SavedSet), ListenFault>
+    requires reader { reader.old.failures ≡ 0 }
+    requires writer { writer.old.failures ≡ 0 }
+    ensures listens { GoesOnBy saved.now
+        (devices R.remaining W.contents reader.old reader.new writer.old writer.new) result }
+    ensures memory { (error : AllocError) → result ≡ Err (Memory error)
+        → (reader.new ≡ reader.old) × (writer.new ≡ writer.old) }
+{
+    let mut listener = line_listener(alloc, saved)?;
+    let read = match run_lines(reader, writer, &mut listener) {
+        Ok(read) => read,
+        Err(fault) => return Err(run_fault(fault)),
+    };
+    // Before the end: the copy that the end closes is cut, and makes no entry.
+    let left = listener.saved();
+    let report = listener.close_log(writer, read)?;
+    Ok((report, left))
+}
+
+/// A listener that has taken no line, and starts with what is saved.
+fn line_listener(alloc: Global, saved: &SavedSet) -> Result<Listener, AllocError>
+    ensures listens { IfOk result (λ listener.
+        IsListening (starts_from saved.now) listener [] []) }
+    ensures start { IfOk result (λ listener. starts_of listener ≡ starts_from saved.now) }
+{
+    Listener::starting(alloc, saved)
+}
+
+/// The fault of the run that stands for one of its lines.
+fn run_fault(fault: LinesFault<LineRefusal>) -> ListenFault
+    ensures { result ≡ lines_fault fault }
+{
+    match fault {
+        LinesFault::Read => ListenFault::Read,
+        LinesFault::Write(written) => ListenFault::Write { written },
+        LinesFault::Line(fault) => ListenFault::from(fault),
+        LinesFault::Refused { line, why } => refused_line(line, why),
+    }
+}
+
+/// The fault of a line that isn't taken.
+fn refused_line(line: u64, why: LineRefusal) -> ListenFault
+    ensures { result ≡ refusal_fault line why }
+{
+    match why {
+        LineRefusal::NoMoment => ListenFault::NoMoment { line },
+        LineRefusal::Moment(fault) => ListenFault::Moment { line, fault },
+        LineRefusal::Vital { subject } => ListenFault::Vital { line, subject },
+    }
+}
+
+/// Why a line of an air file isn't taken.
+#[derive(Clone, Copy, Debug, Drop, PartialEq, Eq)]
+pub enum LineRefusal {
+    /// Elements come before any moment.
+    NoMoment,
+    /// The moment is out of range, or before the last one.
+    Moment(MomentFault),
+    /// The subject can't be refused.
+    Vital { subject: Letter },
+}
+
+impl Listener {
+    /// Takes a moment, which belongs to all channels.
+    fn take_moment(&mut self, moment: u64) -> Result<(), LineRefusal>
+        ensures { (starts : Starts) (lines : List Line) (bytes : List ℕ)
+            → IsListening starts self.old lines bytes
+            → MatchResult result
+            (λ _. IsListening starts self.new (lines ++ line.moment moment ∷ []) bytes)
+            (λ why. RefusesLine starts lines (line.moment moment) why × (self.new ≡ self.old)) }
+    {
+        match self.set_moment(moment) {
+            Ok(()) => Ok(()),
+            Err(fault) => Err(LineRefusal::Moment(fault)),
+        }
+    }
+
+    /// Takes a command to refuse a subject on a channel.
+    fn take_refusal(&mut self, channel: Channel, byte: u8) -> Result<(), LineRefusal>
+        requires { IsCapital byte }
+        ensures stands { OnOk result
+            (TakesEvent content (receiver_on self.old channel) (receiver_on self.new channel)
+            (command (events.refuse_subject byte))) }
+        ensures only { self.new
+            ≡ with_receiver self.old channel (receiver_on self.new channel) }
+        ensures refused { (starts : Starts) (lines : List Line) (mark : Option Channel)
+            → MatchResult result (λ _. is_vital byte ≡ false)
+            (λ why. RefusesLine starts lines (line.refuse_subject mark byte) why
+            × (self.new ≡ self.old)) }
+    {
+        match self.refuse_subject(channel, Letter::of_capital(byte)) {
+            Ok(()) => Ok(()),
+            Err(vital) => Err(LineRefusal::Vital {
+                subject: vital.subject,
+            }),
+        }
+    }
+
+    /// Finishes what is over on a channel, and gives the entry that it brings, if it brings one:
+    /// says whether it does.
+    fn finish_on<W: Write>(
+        &mut self,
+        channel: Channel,
+        over: Over,
+        writer: &mut Counting<W>,
+        batch: &mut Batch,
+    ) -> (bool, Result<(), WriteFault>)
+        requires { writer.old.failures ≡ 0 }
+        ensures given { (bytes : List ℕ)
+            × HandsOut content (receiver_on self.old channel) (receiver_on self.new channel)
+            channel over result.0 bytes
+            × ((old : Option (List ℕ)) (before : List ℕ)
+            → HasGiven old (W.contents writer.old.inner) batch.old before
+            → MatchResult result.1
+            (λ _. HasGiven old (W.contents writer.new.inner) batch.new (before ++ bytes))
+            (λ fault. WroteSome old (W.contents writer.new.inner) (before ++ bytes)
+            fault.written)) }
+        ensures only { self.new ≡ with_receiver self.old channel (receiver_on self.new channel) }
+        ensures counts { FailsOnce writer.new result.1 }
+    {
+        match channel {
+            Channel::Zero => self.on_0.give(over, channel, writer, batch),
+            Channel::One => self.on_1.give(over, channel, writer, batch),
+            Channel::Two => self.on_2.give(over, channel, writer, batch),
+        }
+    }
+
+    /// Hears elements of a channel up to and with the one that ends the first copy that is printed,
+    /// and gives its entry. Answers how many it heard.
+    fn hear_next<W: Write>(
+        &mut self,
+        channel: Channel,
+        packed: &PackedElements,
+        from: usize,
+        writer: &mut Counting<W>,
+        batch: &mut Batch,
+    ) -> Result<usize, WriteFault>
+        requires some { from < length packed.now }
+        requires none { writer.old.failures ≡ 0 }
+        ensures heard { (starts : Starts) (old : Option (List ℕ)) (given : List Given)
+            (part : List Bool) → IsHearing starts self.old (then_elements given channel part)
+            (HasGiven old (W.contents writer.old.inner) batch.old)
+            → MatchResult result
+            (λ count. IsHearing starts self.new
+            (then_elements given channel (part ++ take count (drop from packed.now)))
+            (HasGiven old (W.contents writer.new.inner) batch.new))
+            (λ fault. HeardSome starts
+            (then_elements given channel (part ++ drop from packed.now)) old
+            (W.contents writer.new.inner) fault.written) }
+        ensures within { IfOk result (λ count. (0 < count)
+            × (from + count ≤ length packed.now)) }
+        ensures moment { self.new.has_moment ≡ self.old.has_moment }
+        ensures counts { FailsOnce writer.new result }
+    {
+        let (count, over) = self.hear_on(channel, packed, from);
+        self.elements = self.elements.saturating_add(count as u64);
+        if over == Over::Nothing {
+            return Ok(count);
+        }
+        let (is_printed, given) = self.finish_on(channel, over, writer, batch);
+        self.entries = self.entries.saturating_add(u64::from(is_printed));
+        given?;
+        Ok(count)
+    }
+
+    /// Takes the elements of a line, for the channel that it names: hears them, and gives the
+    /// entries of the copies that they end.
+    fn take_elements<W: Write>(
+        &mut self,
+        mark: Option<Channel>,
+        packed: &PackedElements,
+        writer: &mut Counting<W>,
+        batch: &mut Batch,
+    ) -> Result<(), TakeFault<LineRefusal>>
+        requires { writer.old.failures ≡ 0 }
+        ensures taken { (first : Listening) (old : Option (List ℕ)) (lines : List Line)
+            → HasTaken StandsFrom first self.old lines
+            (HasGiven old (W.contents writer.old.inner) batch.old) → MatchResult result
+            (λ _. HasTaken StandsFrom first self.new (lines ++ line.elements mark packed.now ∷ [])
+            (HasGiven old (W.contents writer.new.inner) batch.new))
+            (λ fault. ExplainsTaking StandsFrom BeginsFrom RefusesFrom first self.new old
+            (W.contents writer.new.inner) batch.new lines (line.elements mark packed.now) fault) }
+        ensures writes { Writes writer.new TakeFault.Write result }
+    {
+        if !self.has_moment {
+            return Err(TakeFault::Refused(LineRefusal::NoMoment));
+        }
+        let channel = Channel::of(mark);
+        let mut at = 0;
+        while at < packed.len() {
+            match self.hear_next(channel, packed, at, writer, batch) {
+                Ok(count) => at += count,
+                Err(fault) => return Err(TakeFault::Write(fault.written)),
+            }
+        }
+        Ok(())
+    }
+
+    /// Ends the file: writes, channel by channel, the entry of the copy that its end closes, where
+    /// that is printed, and counts.
+    fn close_log<W: Write>(
+        self,
+        writer: &mut Counting<W>,
+        read: LinesRead,
+    ) -> Result<Report, WriteFault>
+        requires { writer.old.failures ≡ 0 }
+        ensures closed { (starts : Starts) (old : Option (List ℕ)) (given : List Given)
+            (bytes : List ℕ) → HearsLog starts self given bytes
+            → HasWritten old (W.contents writer.old.inner) bytes read.written → MatchResult result
+            (λ report. HasClosed starts old (W.contents writer.new.inner) given report)
+            (λ fault. HasClosedSome starts old (W.contents writer.new.inner) given fault.written) }
+        ensures lines { IfOk result (λ report. report.lines ≡ read.lines) }
+        ensures counts { FailsOnce writer.new result }
+    {
+        let Listener {
+            on_0,
+            on_1,
+            on_2,
+            has_moment: _,
+            elements,
+            entries,
+        } = self;
+        let at_end = Ending {
+            written: read.written,
+            entries,
+        };
+        let (end_0, end_1, end_2) = (on_0.close(), on_1.close(), on_2.close());
+        let at_end = at_end.with(&end_0, Channel::Zero, writer)?;
+        let at_end = at_end.with(&end_1, Channel::One, writer)?;
+        let at_end = at_end.with(&end_2, Channel::Two, writer)?;
+        Ok(Report {
+            lines: read.lines,
+            bits: elements,
+            printed: at_end.entries,
+        })
+    }
+}
+
+/// How many bytes of the log are written at the end of a file, and how many entries were given.
+#[derive(Clone, Copy)]
+struct Ending {
+    written: u64,
+    entries: u64,
+}
+
+impl Ending {
+    /// Writes the entry that the end prints on a channel, where it prints one, and counts.
+    fn with<W: Write>(
+        self,
+        entry: &Option<Entry>,
+        channel: Channel,
+        writer: &mut Counting<W>,
+    ) -> Result<Ending, WriteFault>
+        requires none { writer.old.failures ≡ 0 }
+        requires moment { IfSome entry.now (λ entry. entry.moment ≤ last_moment) }
+        ensures bytes { (bytes : List ℕ) × IsLog (map (marked channel) (entry_list entry.now)) bytes
+            × ((old : Option (List ℕ)) (before : List ℕ)
+            → HasWritten old (W.contents writer.old.inner) before self.written
+            → MatchResult result
+            (λ next. HasWritten old (W.contents writer.new.inner) (before ++ bytes) next.written)
+            (λ fault. WroteSome old (W.contents writer.new.inner) (before ++ bytes)
+            fault.written)) }
+        ensures entries { IfOk result (λ next. self.entries ≤ 2 ^ 64 - 1
+            → next.entries ≡ count_of (self.entries + length (entry_list entry.now))) }
+        ensures counts { FailsOnce writer.new result }
+    {
+        let Some(entry) = entry else {
+            return Ok(self);
+        };
+        let written = write_on(writer, self.written, &entry_bytes(entry, channel))?;
+        Ok(Ending {
+            written,
+            entries: self.entries.saturating_add(1),
+        })
+    }
+}
+
+impl LineTaker for Listener {
+    ghost use Rattle.nx_receiver.specs.Listener.{starts_of};
+    ghost use Rattle.nx_receiver.specs.private.Listener.{BeginsFrom, RefusesFrom, StandsFrom};
+    ghost use Rattle.nx_receiver.specs.private.ListenerBegins.{begins-listening};
+
+    type Refusal = LineRefusal;
+
+    ghost stands = { StandsFrom };
+
+    ghost begins = { BeginsFrom };
+
+    ghost refuses = { RefusesFrom };
+
+    fn take<W: Write>(
+        &mut self,
+        scanner: &Scanner,
+        writer: &mut Counting<W>,
+        batch: &mut Batch,
+    ) -> Result<(), TakeFault<LineRefusal>> {
+        let Some(kind) = scanner.latest() else {
+            return Ok(());
+        };
+        match kind {
+            LineKind::Moment(moment) => return taking_of(self.take_moment(moment)),
+            LineKind::Elements(mark) => {
+                return self.take_elements(mark, scanner.elements(), writer, batch);
+            }
+            LineKind::RefuseStation(mark, byte) => self.refuse_station(
+                Channel::of(mark),
+                Letter::of_capital(byte),
+            ),
+            LineKind::AcceptStation(mark, byte) => self.accept_station(
+                Channel::of(mark),
+                Letter::of_capital(byte),
+            ),
+            LineKind::RefuseSubject(mark, byte) => {
+                return taking_of(self.take_refusal(Channel::of(mark), byte));
+            }
+            LineKind::AcceptSubject(mark, byte) => self.accept_subject(
+                Channel::of(mark),
+                Letter::of_capital(byte),
+            ),
+        }
+        Ok(())
+    }
+
+    ghost whole = { λ first now lines bytes h.
+        begins-listening (starts_of first) now lines bytes h };
+}
