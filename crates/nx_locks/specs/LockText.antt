@@ -1,5 +1,5 @@
--- What is counted of a lock, and its text, by the bits (this profile; the words of a lock are of
--- seven elements, and a word is wrong where not four of them are B: ITU-R M.476, M.625).
+-- What is counted of a lock, and its text, by the bits (this profile). The words of a lock are of
+-- seven elements, and a word is wrong where not four of them are B (ITU-R M.476, M.625).
 use Rattle.std.specs.Prelude.{ℕ, Bool, List, length}
 use Rattle.nx_envelope.specs.Copies.{headers}
 use Rattle.nx_sync.specs.Words.{word_of_lock}

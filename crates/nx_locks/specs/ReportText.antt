@@ -1,5 +1,5 @@
 -- The lines of a report of locks (this profile).
-use Rattle.std.specs.Prelude.{ℕ, List, ◌∷◌, ◌++◌, codes, decimal}
+use Rattle.std.specs.Prelude.{ℕ, List, ◌++◌, codes, decimal}
 use Rattle.nx_sync.specs.declared.step.Change.{Change}
 use Rattle.nx_sync.specs.declared.step.Change.TheVariants.{Locked, Ended, LostLock}
 
@@ -11,16 +11,16 @@ how_name LostLock = codes "lost"
 how_name Locked = codes "open"
 
 -- The line before the text of a lock: `[`, the civil time, the count of elements up to and with the
--- last one of the pattern, `]` and a newline, where 91 is the bracket.
+-- last one of the pattern, `]` and a newline.
 unfoldable pub opening_line : List ℕ → ℕ → List ℕ
-opening_line civil t = 91 ∷ civil ++ codes " lock " ++ decimal t ++ codes "]\n"
+opening_line civil t = codes "[" ++ civil ++ codes " lock " ++ decimal t ++ codes "]\n"
 
--- The line behind the text: `[`, the civil time, what came of the lock, how many whole words it
--- has, how many of them have the wrong weight, how many headers stand in its text, `]` and a
--- newline, where 32 is a space; and an empty line.
+-- The line behind the text, and an empty line. The line is `[`, the civil time, what came of the
+-- lock, its whole words, those of them that have the wrong weight, the headers that stand in its
+-- text, `]` and a newline.
 unfoldable pub closing_lines : List ℕ → Change → ℕ → ℕ → ℕ → List ℕ
 closing_lines civil how words wrong copies =
-    91 ∷ civil ++ 32 ∷ how_name how ++ codes " words " ++ decimal words
+    codes "[" ++ civil ++ (codes " " ++ how_name how) ++ codes " words " ++ decimal words
     ++ codes " wrong " ++ decimal wrong ++ codes " copies " ++ decimal copies ++ codes "]\n\n"
 
 -- The last line: how many elements the file has, how many locks, and how many headers stand in

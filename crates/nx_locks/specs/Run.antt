@@ -4,20 +4,20 @@
 use Rattle.std.specs.Prelude.{◌≡◌, ◌⊎◌, ℕ, ◌+◌, ◌≤◌, Bool, List, [], ◌++◌, length, map, Option}
 use Rattle.std.specs.Prelude.{Result, Ok, Err, ⊤}
 use Rattle.std.specs.Io.KnownBytes.{Appends}
-use Rattle.nx_fec.specs.AirFile.{Line}
-use Rattle.nx_fec.specs.Lines.{StopsAt, air_limit}
-use Rattle.nx_fec.specs.Lines.{IsAirFile, file_of}
-use Rattle.nx_fec.specs.declared.channel.Channel.TheVariants.{Zero}
+use Rattle.nx_fec.specs.air_files.AirFile.{Line}
+use Rattle.nx_fec.specs.air_files.Lines.{StopsAt, air_limit}
+use Rattle.nx_fec.specs.air_files.Lines.{IsAirFile, file_of}
+use Rattle.nx_fec.specs.declared.air_files.channel.Channel.TheVariants.{Zero}
 use Rattle.nx_fec.specs.Transfers.{Devices, IsReadOut, Transfers, on_the_way}
 use Rattle.nx_receiver.specs.Events.{elements_among, first_setting, settings}
-use Rattle.nx_receiver.specs.Listen.{AreTaken, HasListenFault, HasLoggedSome, events_on}
-use Rattle.nx_receiver.specs.Listen.{moment_after}
+use Rattle.nx_receiver.specs.air_file_runs.Listen.{AreTaken, HasListenFault, HasLoggedSome, events_on}
+use Rattle.nx_receiver.specs.air_file_runs.Listen.{moment_after}
 use Rattle.nx_receiver.specs.Shares.{all_at_zero, start_on}
-use Rattle.nx_receiver.specs.declared.listen_fault.ListenFault.{ListenFault}
-use Rattle.nx_receiver.specs.declared.listen_fault.ListenFault.TheVariants.{Memory, Read, Write}
-use Rattle.nx_receiver.specs.declared.listen_fault.ListenFault.TheVariants.{LineCut}
+use Rattle.nx_receiver.specs.declared.air_file_runs.listen_fault.ListenFault.{ListenFault}
+use Rattle.nx_receiver.specs.declared.air_file_runs.listen_fault.ListenFault.TheVariants.{Memory, Read, Write}
+use Rattle.nx_receiver.specs.declared.air_file_runs.listen_fault.ListenFault.TheVariants.{LineCut}
 use Rattle.nx_locks.specs.Report.{IsReport, IsReportSoFar, now_headers, now_locks, past_headers}
-use Rattle.nx_locks.specs.declared.run.LocksReport.{LocksReport}
+use Rattle.nx_locks.specs.declared.lock_report.LocksReport.{LocksReport}
 
 -- the elements of lines on channel 0, in order
 abbrev pub elements_on_0 : List Line → List Bool
@@ -69,11 +69,12 @@ pub record HasShownAll (old new : Option (List ℕ)) (file : List ℕ) (answer :
       + now_headers (elements_on_0 lines) report.report.now
 
 -- What a fault of a run that shows locks says of the bytes that were read. The report so far of the
--- whole lines before it was written, and nothing is closed but what was released. After a failed
--- read no byte is left of which `IsLeft` doesn't hold. After a failed write the first bytes of the
--- report of the lines that were read whole are written, closed if the file had ended. A want of
--- memory says nothing of them. Each other fault is the first of the file; that of its end comes at
--- its end.
+-- whole lines before it was written, and nothing is closed but what was released. A failed read
+-- comes behind whole lines and the beginning of one more. `IsLeft` says what may come behind these:
+-- nothing in the bytes that were read, anything in the bytes of the whole file. After a failed
+-- write the first bytes of the report of the lines that were read whole are written, closed if the
+-- file had ended. A want of memory says nothing of them. Each other fault is the first of the file;
+-- that of its end comes at its end.
 abbrev pub ExplainsShowing : Type 0 → (List ℕ → Type 0) → Option (List ℕ) → Option (List ℕ)
     → List ℕ → ListenFault → Type 0
 ExplainsShowing AtEnd IsLeft old new bytes (Memory error) = ⊤
@@ -97,7 +98,7 @@ AnswersShowing AtEnd IsLeft old new (Err fault) bytes =
     ExplainsShowing AtEnd IsLeft old new bytes fault
 
 -- A run that shows locks: it answers so to the bytes that it read, and to the whole file, however
--- it came; and it writes what the lines that it read give before each further read.
+-- it came. It writes what the lines that it read give before each further read.
 abbrev pub ShowsLocks : {R W : Type 0} → Devices R W → Result LocksReport ListenFault → Type 0
 ShowsLocks d outcome =
     Transfers Read (λ _. ⊥) (λ written. Write written) on_the_way d outcome (λ _. ⊤)

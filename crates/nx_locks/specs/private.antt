@@ -1,4 +1,4 @@
 pub mod Reader
-pub mod Shower
-pub mod ShowerBegins
+pub mod ReportWriter
+pub mod ReportWriterBegins
 pub mod Watch

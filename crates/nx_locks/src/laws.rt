@@ -2,13 +2,13 @@
 //! the law.
 
 ghost use Rattle.std.specs.Prelude.{◌≡◌, ℕ, Bool, List, Contains};
-ghost use Rattle.nx_fec.specs.AirFile.{Line};
-ghost use Rattle.nx_fec.specs.declared.channel.Channel.TheVariants.{Zero};
+ghost use Rattle.nx_fec.specs.air_files.AirFile.{Line};
+ghost use Rattle.nx_fec.specs.declared.air_files.channel.Channel.TheVariants.{Zero};
 ghost use Rattle.nx_locks.specs.Found.{IsCopyAmong, StandsIn, shown_texts};
 ghost use Rattle.nx_locks.specs.Report.{IsReport};
 ghost use Rattle.nx_locks.specs.Run.{IsReportOf, IsReportOfFile, IsReportOfLines, elements_on_0};
 ghost use Rattle.nx_receiver.specs.FoundCopies.{TaggedCopy};
-ghost use Rattle.nx_receiver.specs.Listen.{IsLogOfFile};
+ghost use Rattle.nx_receiver.specs.air_file_runs.Listen.{IsLogOfFile};
 ghost use Rattle.nx_receiver.specs.Shares.{MarkedCopy, Starts, copies_on};
 
 /// An air file has one report, and so have lines after which nothing is closed.

@@ -3,10 +3,10 @@
 #![tactic(auto)]
 
 pub mod laws;
+mod lock_report;
 mod reader;
 mod report_text;
-mod run;
-mod shower;
+mod report_writer;
 mod watch;
 
-pub use run::{LocksReport, locks};
+pub use lock_report::{LocksReport, locks};

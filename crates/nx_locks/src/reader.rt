@@ -4,7 +4,7 @@ ghost use Rattle.std.specs.Prelude.{◌≡◌, ◌+◌, ◌≤◌, ◌==◌, ◌
 ghost use Rattle.arrayvec.specs.ArrayVec.{array_vec_len};
 ghost use Rattle.nx_code.specs.Word.{is_wrong, wrong_in};
 ghost use Rattle.nx_envelope.specs.Finder.{StandsAfter};
-ghost use Rattle.nx_envelope.specs.Header.{newline};
+ghost use Rattle.nx_code.specs.Reading.{newline};
 ghost use Rattle.nx_locks.specs.private.Reader.{HearsWord, IsFresh, ShowsWord, ShowsWords, TakesByte, counted};
 ghost use Rattle.nx_receiver.specs.Log.{is_of_lines};
 ghost use Rattle.nx_sync.specs.declared.step.Role.TheVariants.{Dx as DxRole};
@@ -134,8 +134,8 @@ impl LockReader {
         }
     }
 
-    /// Hears the next eight words of the lock, of which the first is a DX word, and appends the bytes
-    /// that they print.
+    /// Hears the next eight words of the lock, of which the first is a DX word, and appends the
+    /// bytes that they print.
     // Inlined, as `take_word`.
     #[inline(always)]
     pub(crate) fn hear_eight(&mut self, words: &[Word; WORDS_AT_ONCE], shown: &mut Shown)
@@ -195,8 +195,8 @@ impl LockReader {
         self.show(words[7], Role::Rx, shown);
     }
 
-    /// Hears the next word of the lock, which has that role, and appends the byte that it prints, if
-    /// it prints one.
+    /// Hears the next word of the lock, which has that role, and appends the byte that it prints,
+    /// if it prints one.
     // Inlined, as `take_word`.
     #[inline(always)]
     fn show(&mut self, word: Word, role: Role, shown: &mut Shown)

@@ -23,9 +23,9 @@ const BLOCK: usize = WORDS_AT_ONCE * ELEMENTS;
 
 /// A watch over the elements that arrive, which shows their locks.
 ///
-/// It holds what the synchroniser and the reader of a lock hold, the moment in force, and counts. No
-/// field can be added whose meaning contracts see (`inverse`); that no field's own type forgets, the
-/// proved size shows.
+/// It holds what the synchroniser and the reader of a lock hold, the moment in force, and counts.
+/// No field can be added whose meaning contracts see (`inverse`); that no field's own type forgets,
+/// the proved size shows.
 #[derive(Drop)]
 pub(crate) struct LockWatch {
     synchroniser: Synchroniser,
@@ -183,8 +183,8 @@ impl LockWatch {
         count
     }
 
-    /// Hears whole words from a place on by a synchroniser that is at work on these, in place of the
-    /// one that the watch has; as many as there are up to the first that ends the lock.
+    /// Hears whole words from a place on by a synchroniser that is at work on these, in place of
+    /// the one that the watch has; as many as there are up to the first that ends the lock.
     // Inlined, so that what the synchroniser holds stays in registers.
     #[inline(always)]
     fn follow_words(

@@ -7,7 +7,7 @@ use Rattle.nx_code.specs.declared.printing.Printer.{Printer}
 use Rattle.nx_envelope.specs.Copies.{headers}
 use Rattle.nx_envelope.specs.Finder as finders
 use Rattle.nx_envelope.specs.declared.finder.Finder.{Finder}
-use Rattle.nx_fec.specs.declared.diversity.Diversity.{Diversity}
+use Rattle.nx_fec.specs.declared.emissions.diversity.Diversity.{Diversity}
 use Rattle.nx_code.specs.Word.{is_wrong, wrong_in}
 use Rattle.nx_sync.specs.Words.{role_of}
 use Rattle.nx_sync.specs.declared.step.Role.{Role}

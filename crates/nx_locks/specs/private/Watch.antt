@@ -4,7 +4,7 @@ use Rattle.std.specs.Prelude.{◌≡◌, ℕ, ◌+◌, ◌-◌, ◌^◌, ◌<◌
 use Rattle.std.specs.Prelude.{◌++◌, length, map, min, Option, Some, None}
 use Rattle.std.specs.Option.{option_to_list}
 use Rattle.nx_envelope.specs.Moment.{IsShownAs}
-use Rattle.nx_envelope.specs.Header.{newline}
+use Rattle.nx_code.specs.Reading.{newline}
 use Rattle.nx_sync.specs.Synchroniser.{Held, StandsAfter}
 use Rattle.nx_sync.specs.Locks.{Lock, Now, hunting, locked, IsNow}
 use Rattle.nx_sync.specs.Words.{word_of_lock, first_role, whole_words}

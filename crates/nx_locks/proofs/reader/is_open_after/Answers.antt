@@ -1,6 +1,6 @@
 use Rattle.std.proofs.Common.{◌<◌, not, inl, inr, sym, ap, ◌∙◌, arith}
 use Rattle.std.proofs.lemmas.Bool.{cases_lt}
-use Rattle.nx_locks.proofs.PlainWords.{line_ends, no_more_lines}
+use Rattle.nx_locks.proofs.lemmas.PlainWords.{line_ends, no_more_lines}
 use Rattle.nx_locks.proofs.reader.is_open_after.Goals as goal
 
 pub returns : goal.returns

@@ -1,5 +1,5 @@
 use Rattle.std.proofs.Common.{◌∙◌, arith}
-use Rattle.nx_locks.proofs.PlainWords.{sum_of_wrong, wrong_at}
+use Rattle.nx_locks.proofs.lemmas.PlainWords.{sum_of_wrong, wrong_at}
 use Rattle.nx_locks.proofs.reader.wrong_among.Goals as goal
 
 pub returns : goal.returns

@@ -1,5 +1,5 @@
 use Rattle.std.proofs.Common.{arith}
-use Rattle.nx_locks.proofs.EightWords.{eight_shown, shown_at}
+use Rattle.nx_locks.proofs.lemmas.EightWords.{eight_shown, shown_at}
 use Rattle.nx_locks.proofs.reader.LockReader.hear_each.Goals as goal
 
 pub returns-clause-shows : goal.returns-clause-shows

@@ -2,7 +2,7 @@ use Rattle.std.proofs.Common.{◌≡◌, ◌+◌, ◌-◌, ◌^◌, ◌∙◌, a
 use Rattle.std.specs.Prelude.{IsTrue, min}
 use Rattle.nx_sync.specs.declared.step.Role.TheVariants.{Dx}
 use Rattle.nx_locks.specs.private.Reader.{Reading, ShowsWords}
-use Rattle.nx_locks.proofs.PlainWords.{plain_shown}
+use Rattle.nx_locks.proofs.lemmas.PlainWords.{plain_shown}
 use Rattle.nx_locks.proofs.reader.LockReader.hear_plain.Goals as goal
 
 pub returns-clause-shows : goal.returns-clause-shows

@@ -1,4 +1,4 @@
-use Rattle.nx_locks.proofs.ReaderWords.{fresh_reader}
+use Rattle.nx_locks.proofs.lemmas.ReaderWords.{fresh_reader}
 use Rattle.nx_locks.proofs.reader.LockReader.new.Goals as goal
 
 pub returns-clause-fresh : goal.returns-clause-fresh

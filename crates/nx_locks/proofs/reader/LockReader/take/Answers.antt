@@ -1,6 +1,6 @@
 use Rattle.std.proofs.lemmas.Grind.{common_steps}
 use Rattle.std.proofs.Common.{refl, ap, arith, length}
-use Rattle.nx_locks.proofs.ReaderWords.{headers_kept}
+use Rattle.nx_locks.proofs.lemmas.ReaderWords.{headers_kept}
 use Rattle.nx_locks.proofs.reader.LockReader.take.Goals as goal
 
 pub returns-in_default : goal.returns-in_default

@@ -1,8 +1,8 @@
 use Rattle.std.proofs.Common.{refl, sym, ap, ◌∙◌, arith}
-use Rattle.nx_fec.specs.Pairing.{counts_as}
-use Rattle.nx_receiver.proofs.locks.ReaderWords.{has_read_rx}
+use Rattle.nx_fec.specs.emissions.Pairing.{counts_as}
+use Rattle.nx_receiver.proofs.lemmas.locks.ReaderWords.{has_read_rx}
 use Rattle.nx_locks.specs.private.Reader.{Reading}
-use Rattle.nx_locks.proofs.ReaderWords.{heard_dx, heard_none, heard_some, is_counted}
+use Rattle.nx_locks.proofs.lemmas.ReaderWords.{heard_dx, heard_none, heard_some, is_counted}
 use Rattle.nx_locks.proofs.reader.LockReader.take_word.Goals as goal
 
 pub returns-in-Dx : goal.returns-in-Dx

@@ -4,7 +4,7 @@ use Rattle.nx_envelope.specs.Moment.{IsShownAs}
 use Rattle.nx_sync.specs.declared.step.Change.TheVariants.{Locked}
 use Rattle.nx_locks.specs.private.Watch.{Watching, closing_of}
 use Rattle.nx_locks.specs.ReportText.{last_line}
-use Rattle.nx_locks.proofs.Ends.{ended_hunting, ended_locked}
+use Rattle.nx_locks.proofs.lemmas.Ends.{ended_hunting, ended_locked}
 use Rattle.nx_locks.proofs.watch.LockWatch.end.Goals as goal
 use Rattle.nx_locks.proofs.watch.LockWatch.end.Goals.{then-is_locked, else-is_locked}
 

@@ -1,7 +1,7 @@
 use Rattle.std.proofs.Common.{◌+◌, ◌≤◌, drop, length, length-drop, arith, rules}
-use Rattle.nx_receiver.proofs.watching.Packed.{behind}
+use Rattle.nx_receiver.proofs.lemmas.watch.Packed.{behind}
 use Rattle.nx_locks.specs.private.Watch.{at_words}
-use Rattle.nx_locks.proofs.Hears.{goes_first, goes_on}
+use Rattle.nx_locks.proofs.lemmas.Hears.{goes_first, goes_on}
 use Rattle.nx_locks.proofs.watch.LockWatch.follow_words.Goals as goal
 
 pub loop-count-init : goal.loop-count-init

@@ -3,7 +3,7 @@ use Rattle.std.specs.Prelude.{IsTrue}
 use Rattle.arrayvec.specs.ArrayVec.{array_vec_len}
 use Rattle.nx_sync.specs.Synchroniser.{is_between_words}
 use Rattle.nx_locks.specs.private.Watch.{at_words}
-use Rattle.nx_locks.proofs.Hears.{Goes}
+use Rattle.nx_locks.proofs.lemmas.Hears.{Goes}
 use Rattle.nx_locks.proofs.watch.LockWatch.follow_words.Given as goal
 
 abbrev pub invariant-loop-count : goal.invariant-loop-count

@@ -1,6 +1,6 @@
 use Rattle.std.proofs.Common.{take_all, arith, subst}
 use Rattle.nx_locks.specs.private.Watch.{HearsAll}
-use Rattle.nx_locks.proofs.Hears.{goes_first, goes_on}
+use Rattle.nx_locks.proofs.lemmas.Hears.{goes_first, goes_on}
 use Rattle.nx_locks.proofs.watch.LockWatch.hear.Goals as goal
 use Rattle.std.proofs.Common.{refl, take, ◌≡◌}
 

@@ -1,6 +1,6 @@
 use Rattle.std.proofs.Common.{◌-◌, ◌+◌, ◌*◌, ◌≤◌, length}
 use Rattle.arrayvec.specs.ArrayVec.{array_vec_len}
-use Rattle.nx_locks.proofs.Hears.{Goes}
+use Rattle.nx_locks.proofs.lemmas.Hears.{Goes}
 use Rattle.nx_locks.proofs.watch.LockWatch.hear.Given as goal
 
 abbrev pub invariant-loop-at : goal.invariant-loop-at

@@ -3,7 +3,7 @@ use Rattle.std.specs.Prelude.{min}
 use Rattle.std.specs.List.{flat_map}
 use Rattle.nx_code.specs.Word.{elements}
 use Rattle.nx_sync.specs.declared.step.Role.TheVariants.{Dx}
-use Rattle.nx_locks.proofs.EightWords.{words_heard}
+use Rattle.nx_locks.proofs.lemmas.EightWords.{words_heard}
 use Rattle.nx_locks.specs.private.Watch.{HearsAll, Watching, at_words}
 use Rattle.nx_locks.proofs.watch.LockWatch.hear_block.Goals as goal
 

@@ -1,5 +1,5 @@
 use Rattle.std.proofs.Common.{◌∷◌, [], subst}
-use Rattle.nx_locks.proofs.Hears.{element_heard}
+use Rattle.nx_locks.proofs.lemmas.Hears.{element_heard}
 use Rattle.nx_locks.specs.private.Watch.{HearsAll}
 use Rattle.nx_locks.proofs.watch.LockWatch.hear_element.Goals as goal
 

@@ -1,7 +1,7 @@
 use Rattle.std.proofs.Common.{subst}
 use Rattle.nx_code.specs.Word.{elements}
-use Rattle.nx_code.proofs.PackedLemmas.{length-elements}
-use Rattle.nx_locks.proofs.Hears.{shows_by, word_heard}
+use Rattle.nx_code.proofs.lemmas.Packed.{length-elements}
+use Rattle.nx_locks.proofs.lemmas.Hears.{shows_by, word_heard}
 use Rattle.nx_locks.specs.private.Watch.{HearsAll, Watching, at_words}
 use Rattle.nx_locks.proofs.watch.LockWatch.hear_word.Goals as goal
 

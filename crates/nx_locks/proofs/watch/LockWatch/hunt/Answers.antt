@@ -4,9 +4,9 @@ use Rattle.std.specs.Prelude.{min, ◌-◌, ◌^◌}
 use Rattle.nx_code.specs.Packed.{packed_part}
 use Rattle.nx_sync.specs.Steps.{HuntsThrough}
 use Rattle.nx_sync.specs.Synchroniser.{Held, StandsAfter}
-use Rattle.nx_receiver.proofs.watching.Packed.{all_is, behind}
+use Rattle.nx_receiver.proofs.lemmas.watch.Packed.{all_is, behind}
 use Rattle.nx_locks.specs.private.Watch.{HearsAll, Watching}
-use Rattle.nx_locks.proofs.Hears.{Goes, goes_on, hunt_heard}
+use Rattle.nx_locks.proofs.lemmas.Hears.{Goes, goes_on, hunt_heard}
 use Rattle.nx_locks.proofs.watch.LockWatch.hunt.Goals as goal
 
 -- a hunt through packed elements is one through the elements that they are

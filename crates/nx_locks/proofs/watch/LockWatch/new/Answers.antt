@@ -1,5 +1,5 @@
 use Rattle.std.proofs.Common.{refl}
-use Rattle.nx_locks.proofs.Ends.{nothing_shown}
+use Rattle.nx_locks.proofs.lemmas.Ends.{nothing_shown}
 use Rattle.nx_locks.proofs.watch.LockWatch.new.Goals as goal
 
 pub returns-clause-shows : goal.returns-clause-shows

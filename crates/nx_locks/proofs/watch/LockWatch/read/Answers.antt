@@ -3,7 +3,7 @@ use Rattle.std.proofs.Common.{append-nil}
 use Rattle.std.specs.Prelude.{min}
 use Rattle.std.specs.Option.{option_to_list}
 use Rattle.nx_sync.specs.declared.step.Change.{Change}
-use Rattle.nx_receiver.proofs.listens.Listener.{none-left}
+use Rattle.nx_receiver.proofs.lemmas.listening.Listener.{none-left}
 use Rattle.nx_locks.specs.private.Watch.{ReadsTo, Watching, closing_of}
 use Rattle.nx_locks.proofs.watch.LockWatch.read.Goals as goal
 use Rattle.nx_locks.proofs.watch.LockWatch.read.Goals.{in-Some, in_default}

@@ -1,0 +1,12 @@
+-- Lemmas that several proofs cite.
+pub mod Bits
+pub mod EightWords
+pub mod Ends
+pub mod FoundCopies
+pub mod Growing
+pub mod Hears
+pub mod OneReport
+pub mod PlainWords
+pub mod ReaderWords
+pub mod Runs
+pub mod Taking

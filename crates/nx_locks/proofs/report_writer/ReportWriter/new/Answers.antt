@@ -1,0 +1,6 @@
+use Rattle.std.proofs.Common.{refl}
+use Rattle.nx_locks.proofs.lemmas.Taking.{nothing_taken}
+use Rattle.nx_locks.proofs.report_writer.ReportWriter.new.Goals as goal
+
+pub returns : goal.returns
+returns c = nothing_taken _ c.in_ok-watch.ensures.shows c.in_ok-watch.ensures.moment refl

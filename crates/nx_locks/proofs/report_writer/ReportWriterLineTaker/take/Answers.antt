@@ -1,0 +1,50 @@
+use Rattle.std.proofs.Common.{inl, inr, ◌∷◌, ◌++◌, [], refl, subst, sym, ap, ◌∙◌, ◌≡◌, false, ℕ}
+use Rattle.nx_fec.specs.air_files.AirFile.{moment, refuse_station, accept_station, refuse_subject}
+use Rattle.nx_fec.specs.air_files.AirFile.{accept_subject}
+use Rattle.nx_memory.specs.Selection.{is_vital}
+use Rattle.nx_receiver.proofs.lemmas.listening.Lines.{said}
+use Rattle.nx_locks.specs.private.ReportWriter.{IsShowing, RefusesLine}
+use Rattle.nx_locks.proofs.lemmas.Taking.{accept_station_line, accept_subject_line, match-map, on-err}
+use Rattle.nx_locks.proofs.lemmas.Taking.{refuse_station_line, refuse_subject_line, taken-always}
+use Rattle.nx_locks.proofs.lemmas.Taking.{taken-line}
+use Rattle.nx_locks.proofs.report_writer.ReportWriterLineTaker.take.Goals as goal
+
+pub returns-in-Moment-clause-taken : goal.returns-in-Moment-clause-taken
+returns-in-Moment-clause-taken g c = λ first old lines line latest h.
+    taken-line first c.args.self.now c.take_moment.new.self old _ c.args.batch.now lines line
+    (moment c.in-Moment.moment) c.take_moment.result c.taking_of.result
+    (said _ _ _ _ line latest c.latest.ensures c.in-Some.is c.in-Moment.is) h c.taking_of.ensures
+    (λ given s. c.take_moment.ensures.taken lines given s) c.take_moment.ensures.unchanged
+
+pub returns-in-RefuseSubject-clause-taken : goal.returns-in-RefuseSubject-clause-taken
+returns-in-RefuseSubject-clause-taken g c = λ first old lines line latest h.
+    let mark = c.in-RefuseSubject.field-0 in
+    let byte = c.in-RefuseSubject.byte in
+    let taken = c.check_subject.result in
+    taken-line first c.args.self.now c.args.self.now old _ c.args.batch.now lines line
+    (refuse_subject mark byte) taken c.taking_of-in-RefuseSubject.result
+    (said _ _ _ _ line latest c.latest.ensures c.in-Some.is c.in-RefuseSubject.is) h
+    c.taking_of-in-RefuseSubject.ensures
+    (λ given s. match-map taken (λ _. is_vital c.of_capital.result.byte ≡ false)
+    (λ _. IsShowing c.args.self.now (lines ++ refuse_subject mark byte ∷ []) given)
+    (λ why. RefusesLine lines (refuse_subject mark c.of_capital.result.byte) why)
+    (λ why. RefusesLine lines (refuse_subject mark byte) why) (c.check_subject.ensures lines mark)
+    (λ x allowed. refuse_subject_line c.args.self.now lines mark byte given
+    (ap is_vital (sym c.of_capital.ensures) ∙ allowed) s)
+    (λ why refused. subst (λ (b : ℕ). RefusesLine lines (refuse_subject mark b) why)
+    c.of_capital.ensures refused))
+    (on-err taken (c.args.self.now ≡ c.args.self.now) refl)
+
+pub returns-in-RefuseStation-clause-taken : goal.returns-in-RefuseStation-clause-taken
+returns-in-RefuseStation-clause-taken g c = λ first old lines line latest h.
+    elim c.in-RefuseStation.is [
+      | inl is ↦ taken-always first c.args.self.now old _ c.args.batch.now lines line
+          (refuse_station is.0 is.1) (said _ _ _ _ line latest c.latest.ensures c.in-Some.is is.2) h
+          (λ given s. refuse_station_line c.args.self.now lines is.0 is.1 given s)
+      | inr (inl is) ↦ taken-always first c.args.self.now old _ c.args.batch.now lines line
+          (accept_station is.0 is.1) (said _ _ _ _ line latest c.latest.ensures c.in-Some.is is.2) h
+          (λ given s. accept_station_line c.args.self.now lines is.0 is.1 given s)
+      | inr (inr is) ↦ taken-always first c.args.self.now old _ c.args.batch.now lines line
+          (accept_subject is.0 is.1) (said _ _ _ _ line latest c.latest.ensures c.in-Some.is is.2) h
+          (λ given s. accept_subject_line c.args.self.now lines is.0 is.1 given s)
+    ]

@@ -1,6 +1,0 @@
-use Rattle.std.proofs.Common.{refl}
-use Rattle.nx_locks.proofs.Taking.{nothing_taken}
-use Rattle.nx_locks.proofs.shower.Shower.new.Goals as goal
-
-pub returns : goal.returns
-returns c = nothing_taken _ c.in_ok-watch.ensures.shows c.in_ok-watch.ensures.moment refl

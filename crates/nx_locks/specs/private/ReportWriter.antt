@@ -1,0 +1,89 @@
+-- How the taker of lines behind a run that shows locks stands after lines (this profile).
+use Rattle.std.specs.Prelude.{◌≡◌, ℕ, ◌+◌, ◌^◌, ◌≤◌, Bool, List, length, Option}
+use Rattle.std.specs.Io.KnownBytes.{Appends}
+use Rattle.nx_fec.specs.air_files.AirFile.{Line, elements}
+use Rattle.nx_fec.specs.Transfers.{WroteSome}
+use Rattle.nx_fec.specs.declared.air_files.line_taking.LinesFault.{LinesFault}
+use Rattle.nx_fec.specs.declared.air_files.line_taking.LinesFault.TheVariants as run
+use Rattle.nx_receiver.specs.air_file_runs.Listen.{AreTaken, file_fault, has_moment}
+use Rattle.nx_receiver.specs.Shares.{all_at_zero}
+use Rattle.nx_receiver.specs.private.Listener.{LacksMoment, RefusesMoment, RefusesVital}
+use Rattle.nx_receiver.specs.declared.air_file_runs.listen_fault.ListenFault.{ListenFault}
+use Rattle.nx_receiver.specs.declared.air_file_runs.listen_fault.ListenFault.TheVariants as listen
+use Rattle.nx_locks.specs.Report.{IsReport, now_headers, now_locks, past_headers}
+use Rattle.nx_locks.specs.Run.{IsReportOfLines, elements_on_0, ending_of, moments_on_0}
+use Rattle.nx_locks.specs.declared.report_writer.LineRefusal.{LineRefusal}
+use Rattle.nx_locks.specs.declared.report_writer.LineRefusal.TheVariants.{NoMoment, Moment, Vital, TooMany}
+use Rattle.nx_locks.specs.declared.lock_report.LocksReport.{LocksReport}
+use Rattle.nx_locks.specs.private.Watch.{Watching, WatchShows}
+
+-- what contracts see of a taker: its watch, whether there was a moment, and the bytes that the last
+-- line of elements gave
+pub record Showing : Type 0 where
+  pub watch : Watching
+  pub has_moment : Bool
+  pub shown : List ℕ
+
+-- The taker stands so after these lines, each taken after those before it; these bytes are their
+-- report so far.
+pub record IsShowing (report_writer : Showing) (lines : List Line) (given : List ℕ) : Type 0 where
+  pub taken : AreTaken all_at_zero lines
+  pub has_moment : report_writer.has_moment ≡ has_moment lines
+  pub moment : report_writer.watch.moment ≡ ending_of lines
+  pub shows : WatchShows report_writer.watch (elements_on_0 lines) (moments_on_0 lines) given
+
+-- there are more elements of channel 0, with those of the line, than a counter counts
+abbrev pub HasTooMany : List Line → Line → Type 0
+HasTooMany lines (elements mark bits) = 2 ^ 64 ≤ length (elements_on_0 lines) + length bits
+HasTooMany lines _ = ⊥
+
+-- why a line is not taken after these
+abbrev pub RefusesLine : List Line → Line → LineRefusal → Type 0
+RefusesLine lines line NoMoment = LacksMoment lines line
+RefusesLine lines line (Moment why) = RefusesMoment all_at_zero why lines line
+RefusesLine lines line (Vital subject) = RefusesVital subject lines line
+RefusesLine lines line TooMany = HasTooMany lines line
+
+-- the same for a taker of lines that stood so at first
+abbrev pub StandsFrom : Showing → Showing → List Line → List ℕ → Type 0
+StandsFrom first now lines given = IsShowing now lines given
+
+abbrev pub BeginsFrom : Showing → List Line → List ℕ → Type 0
+BeginsFrom first lines given = IsReportOfLines lines given
+
+abbrev pub RefusesFrom : Showing → List Line → Line → LineRefusal → Type 0
+RefusesFrom first lines line why = RefusesLine lines line why
+
+-- the report of the elements of these lines was ended and written, and the answer counts
+pub record HasClosed (old new : Option (List ℕ)) (lines : List Line) (answer : LocksReport)
+    : Type 0 where
+  pub bytes : List ℕ
+  pub report : IsReport (elements_on_0 lines) (moments_on_0 lines) (ending_of lines) bytes
+  pub written : Appends old new bytes
+  pub elements : answer.elements ≡ length (elements_on_0 lines)
+  pub locks : answer.locks ≡ length report.locks + now_locks report.now
+  pub copies : answer.copies
+      ≡ past_headers (elements_on_0 lines) report.locks
+      + now_headers (elements_on_0 lines) report.now
+
+-- and was written in part
+pub record HasClosedSome (old new : Option (List ℕ)) (lines : List Line) (written : ℕ)
+    : Type 0 where
+  pub bytes : List ℕ
+  pub report : IsReport (elements_on_0 lines) (moments_on_0 lines) (ending_of lines) bytes
+  pub some : WroteSome old new bytes written
+
+-- the fault of a run that stands for a line that is refused; a file of more elements than a counter
+-- counts is longer than an air file
+abbrev pub refusal_fault : ℕ → LineRefusal → ListenFault
+refusal_fault line NoMoment = listen.NoMoment line
+refusal_fault line (Moment why) = listen.Moment line why
+refusal_fault line (Vital subject) = listen.Vital line subject
+refusal_fault line TooMany = listen.AirTooLong
+
+-- the fault of a run that stands for that of its lines
+abbrev pub lines_fault : LinesFault LineRefusal → ListenFault
+lines_fault run.Read = listen.Read
+lines_fault (run.Write written) = listen.Write written
+lines_fault (run.Line why) = file_fault why
+lines_fault (run.Refused line why) = refusal_fault line why

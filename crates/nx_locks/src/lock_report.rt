@@ -1,0 +1,83 @@
+//! Showing the locks of an air file on channel 0: their report, written while the file is read.
+
+ghost use Rattle.std.specs.Prelude.{◌≡◌, Err};
+ghost use Rattle.nx_fec.specs.Transfers.{devices};
+ghost use Rattle.nx_locks.specs.Run.{ShowsLocks};
+ghost use Rattle.nx_locks.specs.private.ReportWriter.{lines_fault, refusal_fault};
+ghost use Rattle.nx_receiver.specs.declared.air_file_runs.listen_fault.ListenFault.TheVariants.{Memory};
+
+use crate::report_writer::{LineRefusal, ReportWriter};
+use nx_fec::{Counting, LinesFault, run_lines};
+use nx_receiver::ListenFault;
+use std::alloc::{AllocError, Global};
+use std::io::{Read, Write};
+
+/// What a run that showed the locks of an air file read and counted.
+#[derive(Clone, Copy, Debug, Drop, PartialEq, Eq)]
+pub struct LocksReport {
+    /// How many lines the file has.
+    pub lines: u64,
+    /// How many elements its lines have on channel 0.
+    pub elements: u64,
+    /// How many locks there are.
+    pub locks: u64,
+    /// How many headers stand in their texts.
+    pub copies: u64,
+}
+
+/// Shows the locks of an air file of at most 268,435,456 bytes to its end, and writes their report:
+/// for each lock a line that opens it, its running text, a line that closes it, and an empty line;
+/// and one last line. They are the locks in the elements of channel 0: elements of other channels
+/// change nothing. What the lines so far show is written before each further read. All memory is
+/// taken before the first read.
+///
+/// It reads the file as `listen` does, with the same faults, on whichever channel they stand; what
+/// is selected changes nothing. The first fault in the order of the bytes ends the run; the line
+/// that has it has no effect. After a fault of a line, `AirTooLong` and `Read`, what the whole
+/// lines before it show is written, and an open lock isn't closed. After `Write` the first
+/// `written` bytes of the report of the lines read whole by then are written, closed if the file
+/// had ended. After `Memory` nothing was read.
+pub fn locks<R: Read, W: Write>(
+    alloc: Global,
+    reader: &mut Counting<R>,
+    writer: &mut Counting<W>,
+) -> Result<LocksReport, ListenFault>
+    requires reader { reader.old.failures ≡ 0 }
+    requires writer { writer.old.failures ≡ 0 }
+    ensures shows { ShowsLocks
+        (devices R.remaining W.contents reader.old reader.new writer.old writer.new) result }
+    ensures memory { (error : AllocError) → result ≡ Err (Memory error)
+        → (reader.new ≡ reader.old) × (writer.new ≡ writer.old) }
+{
+    let mut report_writer = ReportWriter::new(alloc)?;
+    let read = match run_lines(reader, writer, &mut report_writer) {
+        Ok(read) => read,
+        Err(fault) => return Err(run_fault(fault)),
+    };
+    let report = report_writer.close(writer, read)?;
+    Ok(report)
+}
+
+/// The fault of the run that stands for one of its lines.
+fn run_fault(fault: LinesFault<LineRefusal>) -> ListenFault
+    ensures { result ≡ lines_fault fault }
+{
+    match fault {
+        LinesFault::Read => ListenFault::Read,
+        LinesFault::Write(written) => ListenFault::Write { written },
+        LinesFault::Line(fault) => ListenFault::from(fault),
+        LinesFault::Refused { line, why } => refused_line(line, why),
+    }
+}
+
+/// The fault of a line that isn't taken.
+fn refused_line(line: u64, why: LineRefusal) -> ListenFault
+    ensures { result ≡ refusal_fault line why }
+{
+    match why {
+        LineRefusal::NoMoment => ListenFault::NoMoment { line },
+        LineRefusal::Moment(fault) => ListenFault::Moment { line, fault },
+        LineRefusal::Vital { subject } => ListenFault::Vital { line, subject },
+        LineRefusal::TooMany => ListenFault::AirTooLong,
+    }
+}

@@ -1,0 +1,235 @@
+//! What takes the lines of an air file and shows the locks in their elements of channel 0.
+
+ghost use Rattle.std.specs.Prelude.{◌≡◌, ◌↔◌, ◌≤◌, ℕ, false, Option, List, [], ◌∷◌, ◌++◌, length, IfOk, IsErr, MatchResult, OnErr, OnOk};
+ghost use Rattle.nx_fec.specs.air_files.AirFile.{Line};
+ghost use Rattle.nx_fec.specs.air_files.AirFile as line;
+ghost use Rattle.nx_fec.specs.air_files.Channels.{channel_of, same_channel};
+ghost use Rattle.nx_fec.specs.declared.air_files.channel.Channel.{Channel};
+ghost use Rattle.nx_fec.specs.declared.air_files.channel.Channel.TheVariants.{Zero};
+ghost use Rattle.nx_fec.specs.Transfers.{HasWritten};
+ghost use Rattle.nx_fec.specs.air_files.LineRuns.{ExplainsTaking, HasGiven, HasTaken};
+ghost use Rattle.nx_fec.specs.Transfers.{Writes};
+ghost use Rattle.nx_memory.specs.Selection.{is_vital};
+ghost use Rattle.nx_locks.specs.private.ReportWriter.{BeginsFrom, HasClosed, HasClosedSome, IsShowing, RefusesFrom, RefusesLine, Showing, StandsFrom};
+
+use crate::lock_report::LocksReport;
+use crate::report_text::Shown;
+use crate::watch::LockWatch;
+use arrayvec::ArrayVec;
+use nx_envelope::{LAST_MOMENT, Letter};
+use nx_fec::{
+    Batch, Channel, Counting, LineKind, LineTaker, LinesRead, PackedElements, Scanner, TakeFault,
+    WriteFault, taking_of, write_on,
+};
+use nx_memory::Selection;
+use nx_receiver::MomentFault;
+use std::alloc::{AllocError, Global};
+use std::io::Write;
+use std::marker::Model;
+
+/// Why a line of an air file isn't taken.
+#[derive(Clone, Copy, Debug, Drop, PartialEq, Eq)]
+pub enum LineRefusal {
+    /// Elements come before any moment, on whichever channel.
+    NoMoment,
+    /// The moment is out of range, or before the last one.
+    Moment(MomentFault),
+    /// The subject can't be refused.
+    Vital { subject: Letter },
+    /// There are more elements of channel 0 than are counted, and so than an air file has.
+    TooMany,
+}
+
+/// A watch that takes the lines of an air file.
+///
+/// No field can be added whose meaning contracts see (`inverse`); that no field's own type forgets,
+/// the proved size shows.
+#[derive(Drop)]
+pub(crate) struct ReportWriter {
+    watch: LockWatch,
+    has_moment: bool,
+    /// What the last line of elements of channel 0 showed.
+    shown: Shown,
+}
+
+impl Model for ReportWriter {
+    ghost use Rattle.nx_locks.specs.private.ReportWriter.{Showing};
+
+    ghost Value = { Showing };
+
+    ghost view = { λ s. record {
+      watch = s.watch;
+      has_moment = s.has_moment;
+      shown = s.shown.items;
+    } };
+
+    // What contracts see gives every field back, so that no field for a history can stand beside
+    // them.
+    ghost inverse = { λ v. record {
+      watch = v.watch;
+      has_moment = v.has_moment;
+      shown = record { items = v.shown };
+    } };
+}
+
+impl ReportWriter {
+    /// A taker that has taken no line.
+    pub(crate) fn new(alloc: Global) -> Result<ReportWriter, AllocError>
+        ensures { IfOk result (λ report_writer. IsShowing report_writer [] []) }
+    {
+        // No room for a field of a type whose own model forgets what it holds.
+        prove!(size_of::<ReportWriter>() == size_of::<LockWatch>() + size_of::<Shown>() + 8);
+        let watch = LockWatch::new(alloc)?;
+        Ok(ReportWriter {
+            watch,
+            has_moment: false,
+            shown: ArrayVec::new(),
+        })
+    }
+
+    /// Takes a moment.
+    fn take_moment(&mut self, given: u64) -> Result<(), LineRefusal>
+        ensures taken { (lines : List Line) (bytes : List ℕ) → IsShowing self.old lines bytes
+            → MatchResult result
+            (λ _. IsShowing self.new (lines ++ line.moment given ∷ []) bytes)
+            (λ why. RefusesLine lines (line.moment given) why) }
+        ensures unchanged { OnErr result (self.new ≡ self.old) }
+    {
+        if given > LAST_MOMENT {
+            return Err(LineRefusal::Moment(MomentFault::Range { given }));
+        }
+        let last = self.watch.moment();
+        if given < last {
+            return Err(LineRefusal::Moment(MomentFault::Back { last, given }));
+        }
+        self.watch.set_moment(given);
+        self.has_moment = true;
+        Ok(())
+    }
+
+    /// Takes the elements of a line that names this channel, or none. Gives what they show where
+    /// they are of channel 0, and skips those of other channels.
+    fn take_elements<W: Write>(
+        &mut self,
+        mark: Option<Channel>,
+        elements: &PackedElements,
+        writer: &mut Counting<W>,
+        batch: &mut Batch,
+    ) -> Result<(), TakeFault<LineRefusal>>
+        requires none { writer.old.failures ≡ 0 }
+        requires few { length elements.now ≤ 512 }
+        ensures taken { (first : Showing) (old : Option (List ℕ)) (lines : List Line)
+            → HasTaken StandsFrom first self.old lines
+            (HasGiven old (W.contents writer.old.inner) batch.old) → MatchResult result
+            (λ _. HasTaken StandsFrom first self.new (lines ++ line.elements mark elements.now ∷ [])
+            (HasGiven old (W.contents writer.new.inner) batch.new))
+            (λ fault. ExplainsTaking StandsFrom BeginsFrom RefusesFrom first self.new old
+            (W.contents writer.new.inner) batch.new lines (line.elements mark elements.now) fault) }
+        ensures writes { Writes writer.new TakeFault.Write result }
+    {
+        if !self.has_moment {
+            return Err(TakeFault::Refused(LineRefusal::NoMoment));
+        }
+        // Only the locks of channel 0 are shown.
+        if !is_on_0(mark) {
+            return Ok(());
+        }
+        if elements.len() as u64 > u64::MAX - self.watch.elements() {
+            return Err(TakeFault::Refused(LineRefusal::TooMany));
+        }
+        self.shown.clear();
+        self.watch.hear(elements, &mut self.shown);
+        if let Err(fault) = batch.give(writer, &self.shown) {
+            return Err(TakeFault::Write(fault.written));
+        }
+        Ok(())
+    }
+
+    /// Ends the file: writes what its end shows, and counts.
+    pub(crate) fn close<W: Write>(
+        &mut self,
+        writer: &mut Counting<W>,
+        read: LinesRead,
+    ) -> Result<LocksReport, WriteFault>
+        requires { writer.old.failures ≡ 0 }
+        ensures closed { (old : Option (List ℕ)) (lines : List Line) (given : List ℕ)
+            → IsShowing self.old lines given
+            → HasWritten old (W.contents writer.old.inner) given read.written → MatchResult result
+            (λ report. HasClosed old (W.contents writer.new.inner) lines report)
+            (λ fault. HasClosedSome old (W.contents writer.new.inner) lines fault.written) }
+        ensures lines { IfOk result (λ report. report.lines ≡ read.lines) }
+        ensures failed { IsErr result ↔ (writer.new.failures ≡ 1) }
+        ensures once { writer.new.failures ≤ 1 }
+        ensures none { OnOk result (writer.new.failures ≡ 0) }
+    {
+        self.shown.clear();
+        let (locks, copies) = self.watch.end(&mut self.shown);
+        if let Err(fault) = write_on(writer, read.written, &self.shown) {
+            return Err(fault);
+        }
+        Ok(LocksReport {
+            lines: read.lines,
+            elements: self.watch.elements(),
+            locks,
+            copies,
+        })
+    }
+}
+
+impl LineTaker for ReportWriter {
+    ghost use Rattle.nx_locks.specs.private.ReportWriter.{BeginsFrom, RefusesFrom, StandsFrom};
+    ghost use Rattle.nx_locks.specs.private.ReportWriterBegins.{begins-report};
+
+    type Refusal = LineRefusal;
+
+    ghost stands = { StandsFrom };
+
+    ghost begins = { BeginsFrom };
+
+    ghost refuses = { RefusesFrom };
+
+    fn take<W: Write>(
+        &mut self,
+        scanner: &Scanner,
+        writer: &mut Counting<W>,
+        batch: &mut Batch,
+    ) -> Result<(), TakeFault<LineRefusal>> {
+        let Some(kind) = scanner.latest() else {
+            return Ok(());
+        };
+        match kind {
+            LineKind::Moment(moment) => taking_of(self.take_moment(moment)),
+            LineKind::Elements(mark) => self.take_elements(mark, scanner.elements(), writer, batch),
+            LineKind::RefuseSubject(_, byte) => taking_of(check_subject(Letter::of_capital(byte))),
+            // What is selected changes nothing here.
+            LineKind::RefuseStation(_, _)
+            | LineKind::AcceptStation(_, _)
+            | LineKind::AcceptSubject(_, _) => Ok(()),
+        }
+    }
+
+    ghost whole = { λ first now lines given h. begins-report now lines given h };
+}
+
+/// Whether a line that names this channel, or none, is of channel 0.
+fn is_on_0(mark: Option<Channel>) -> bool
+    ensures { result ≡ same_channel (channel_of mark) Zero }
+{
+    Channel::of(mark) == Channel::Zero
+}
+
+/// Whether a subject can be refused.
+fn check_subject(subject: Letter) -> Result<(), LineRefusal>
+    ensures { (lines : List Line) (mark : Option Channel) → MatchResult result
+        (λ _. is_vital subject.byte ≡ false)
+        (λ why. RefusesLine lines (line.refuse_subject mark subject.byte) why) }
+{
+    match Selection::all().refuse_subject(subject) {
+        Ok(()) => Ok(()),
+        Err(vital) => {
+            return Err(LineRefusal::Vital {
+                subject: vital.subject,
+            });
+        }
+    }
+}
