@@ -1,16 +1,24 @@
--- The calls of a file with their answers, and what follows from them, where the file had these bytes at first.
+-- The calls of a file with their answers, and what follows from them, where the file had these
+-- bytes at first.
 use Rattle.std.specs.Prelude.{◌≡◌, ◌⊎◌, ℕ, zero, suc, ◌+◌, ◌≤◌, ◌==◌, Bool, true, false, List, [], ◌∷◌, ◌++◌, length, take, drop, slice_index}
 use Rattle.std.proofs.Common.{inl, inr, arith}
 use Rattle.nx_kept.specs.Disk.{Torn, Cut}
 
--- Which call (0 reads, 1 writes, 2 cuts, 3 brings to the disk), a place or a size, the room of a read, whether it
--- succeeded, and the bytes that were read or written.
+-- Which call (0 reads, 1 writes, 2 cuts, 3 brings to the disk), a place or a size, the room of a
+-- read, whether it succeeded, and the bytes that were read or written.
 abbrev pub Event : Type 0
 Event = ℕ × ℕ × ℕ × Bool × List ℕ
 
 -- as it is noted: the numbers, of which the last is 1 for a success, and the bytes
 abbrev pub event_of : List ℕ → List ℕ → Event
-event_of numbers bytes = (slice_index numbers 0, slice_index numbers 1, slice_index numbers 2, slice_index numbers 3 == 1, bytes)
+event_of numbers bytes = (
+  slice_index numbers 0,
+  slice_index numbers 1,
+  slice_index numbers 2,
+  slice_index numbers 3 ==
+      1,
+  bytes,
+)
 
 -- what a read finds after a call
 abbrev pub seen_after : ℕ → ℕ → Bool → List ℕ → List ℕ → List ℕ
@@ -30,25 +38,30 @@ IsRead call at room ok bytes seen = Unit {0}
 
 abbrev pub Explains : List ℕ → List Event → Type 0
 Explains start [] = Unit {0}
-Explains start (event ∷ earlier) = IsRead event.0 event.1 event.2 event.3 event.4 (seen_of start earlier) × Explains start earlier
+Explains start (event ∷ earlier) = IsRead event.0 event.1 event.2 event.3 event.4
+    (seen_of start earlier) × Explains start earlier
 
 -- what a crash may leave after a call, or in it; a call that failed may have been made in part
 abbrev pub LeftAfter : ℕ → ℕ → Bool → List ℕ → List ℕ → (List ℕ → Type 0) → List ℕ → Type 0
 LeftAfter zero at ok bytes seen left c = left c
-LeftAfter (suc zero) at ok bytes seen left c = ((d : List ℕ) × left d × Torn at (length bytes) d c) ⊎ (c ≡ seen_after 1 at ok bytes seen)
+LeftAfter (suc zero) at ok bytes seen left c =
+    ((d : List ℕ) × left d × Torn at (length bytes) d c) ⊎ (c ≡ seen_after 1 at ok bytes seen)
 LeftAfter (suc (suc zero)) size ok bytes seen left c = (d : List ℕ) × left d × Cut size d c
 LeftAfter (suc (suc (suc more))) at true bytes seen left c = c ≡ seen
 LeftAfter (suc (suc (suc more))) at false bytes seen left c = left c
 
--- Before the first call it may leave anything, since an earlier program may have left writes that no sync followed.
+-- Before the first call it may leave anything, since an earlier program may have left writes that
+-- no sync followed.
 abbrev pub MayLeave : List ℕ → List Event → List ℕ → Type 0
 MayLeave start [] c = Unit {0}
-MayLeave start (event ∷ earlier) c = LeftAfter event.0 event.1 event.3 event.4 (seen_of start earlier) (MayLeave start earlier) c
+MayLeave start (event ∷ earlier) c = LeftAfter event.0 event.1 event.3 event.4
+    (seen_of start earlier) (MayLeave start earlier) c
 
 -- what a crash since so many calls may have left
 abbrev pub LeftSince : List ℕ → List Event → ℕ → List ℕ → Type 0
 LeftSince start [] t c = Unit {0}
-LeftSince start (event ∷ earlier) t c = MayLeave start (event ∷ earlier) c ⊎ ((t ≤ length earlier) × LeftSince start earlier t c)
+LeftSince start (event ∷ earlier) t c =
+    MayLeave start (event ∷ earlier) c ⊎ ((t ≤ length earlier) × LeftSince start earlier t c)
 
 abbrev pub one_for : Bool → ℕ
 one_for true = 0
@@ -71,12 +84,14 @@ abbrev pub Writes : ℕ → Type 0
 Writes call = 1 ≤ call
 
 -- this moment is one of those since an earlier one
-pub counts_now : (start : List ℕ) (events : List Event) (t : ℕ) (c : List ℕ) → t ≤ length events → MayLeave start events c → LeftSince start events t c
+pub counts_now : (start : List ℕ) (events : List Event) (t : ℕ) (c : List ℕ) → t ≤ length events
+    → MayLeave start events c → LeftSince start events t c
 counts_now start [] t c le now = tt
 counts_now start (event ∷ earlier) t c le now = inl now
 
 -- since this moment there is no other
-pub only_now : (start : List ℕ) (events : List Event) (c : List ℕ) → LeftSince start events (length events) c → MayLeave start events c
+pub only_now : (start : List ℕ) (events : List Event) (c : List ℕ)
+    → LeftSince start events (length events) c → MayLeave start events c
 only_now start [] c left = tt
 only_now start (event ∷ earlier) c (inl now) = now
 only_now start (event ∷ earlier) c (inr since) = absurd (omega (arith, since.0))

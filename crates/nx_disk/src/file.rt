@@ -57,8 +57,8 @@ pub struct LogFile<'a, R> {
 }
 
 /// Opens the regular file of that name, or makes it, and locks it. Its folder is brought to the
-/// disk, so that a crash doesn't lose a file that was made. Its own bytes are brought to the disk by
-/// the first call of a `KeptLog`. A link at the name is followed.
+/// disk, so that a crash doesn't lose a file that was made. Its own bytes are brought to the disk
+/// by the first call of a `KeptLog`. A link at the name is followed.
 pub fn open<'a, R: Files<File = File>>(
     alloc: Global,
     files: &'a R,

@@ -20,10 +20,12 @@ module _ (is_record : List ℕ → Type 0) where
   -- the records in order, each behind a gate that isn't closed
   abbrev pub IsBehindOpenGates : List (List ℕ) → List ℕ → Type 0
   IsBehindOpenGates [] bytes = bytes ≡ []
-  IsBehindOpenGates (first ∷ records) bytes = (gate : ℕ) × (rest : List ℕ) × (gate ≢ closed_gate) × is_record first
+  IsBehindOpenGates (first ∷ records) bytes = (gate : ℕ) × (rest : List ℕ) × (gate ≢ closed_gate)
+      × is_record first
       × (bytes ≡ gate ∷ (first ++ rest)) × IsBehindOpenGates records rest
 
--- Nothing, or one byte, or a closed gate and at most as many bytes as the longest record and its gate.
+-- Nothing, or one byte, or a closed gate and at most as many bytes as the longest record and its
+-- gate.
 abbrev pub IsTail : ℕ → List ℕ → Type 0
 IsTail longest [] = Unit {0}
 IsTail longest (gate ∷ []) = Unit {0}
@@ -46,19 +48,21 @@ module _ (is_record : List ℕ → Type 0) (longest : ℕ) where
   abbrev pub CanBeKeptLog : List ℕ → Type 0
   CanBeKeptLog bytes = (more : List ℕ) × IsKeptLog (bytes ++ more)
 
-  -- The bytes stand for no records. So many of them can begin a kept log, and with the next one they can't, whatever
-  -- comes behind it; or that is all of them, and they end too early.
+  -- The bytes stand for no records. So many of them can begin a kept log, and with the next one
+  -- they can't, whatever comes behind it; or that is all of them, and they end too early.
   pub record IsDamagedBehind (place : ℕ) (bytes : List ℕ) : Type 0 where
     pub within : place ≤ length bytes
     pub good_before : CanBeKeptLog (take place bytes)
     pub not_with_it : place < length bytes → CanBeKeptLog (take (place + 1) bytes) → ⊥
     pub not_as_they_are : IsKeptLog bytes → ⊥
 
-  -- They are damaged at this line: that of the first byte with which no bytes to come make them good; where they end
-  -- too early, the line whose line feed is missing. Lines count from 1.
+  -- They are damaged at this line: that of the first byte with which no bytes to come make them
+  -- good; where they end too early, the line whose line feed is missing. Lines count from 1.
   abbrev pub IsDamaged : ℕ → List ℕ → Type 0
-  IsDamaged line bytes = (place : ℕ) × IsDamagedBehind place bytes × (line ≡ line_behind (take place bytes))
+  IsDamaged line bytes = (place : ℕ) × IsDamagedBehind place bytes
+      × (line ≡ line_behind (take place bytes))
 
   -- the bytes stand for the records, with one more or without it
   abbrev pub WithOrWithout : List (List ℕ) → List ℕ → List ℕ → Type 0
-  WithOrWithout records one_more bytes = StandsFor records bytes ⊎ StandsFor (records ++ one_more ∷ []) bytes
+  WithOrWithout records one_more bytes =
+      StandsFor records bytes ⊎ StandsFor (records ++ one_more ∷ []) bytes

@@ -12,7 +12,8 @@ module _ {D G : Type 0} (seen : D → List ℕ) (may_leave : D → List ℕ → 
     pub durable : Only (seen log.device) (may_leave log.device)
 
   -- the file is these records behind open gates and a closed gate, and a crash leaves just that
-  pub record Keeps (is_record : List ℕ → Type 0) (records : List (List ℕ)) (log : KeptLog D G) : Type 0 where
+  pub record Keeps (is_record : List ℕ → Type 0) (records : List (List ℕ)) (log : KeptLog D G)
+      : Type 0 where
     pub front : List ℕ
     pub kept : IsBehindOpenGates is_record records front
     pub at_rest : IsAtRest front log

@@ -7,8 +7,8 @@ use Rattle.nx_kept.specs.declared.grammar.RecordStart.TheVariants.{Whole, Unfini
 abbrev pub IsUnfinished : (List ℕ → Type 0) → List ℕ → Type 0
 IsUnfinished is_record bytes = (more : List ℕ) × is_record (bytes ++ more) × (more ≢ [])
 
--- The first n bytes are a record; all of them are the beginning of one; or they begin one up to the byte at n,
--- with which they don't, whatever comes.
+-- The first n bytes are a record; all of them are the beginning of one; or they begin one up to the
+-- byte at n, with which they don't, whatever comes.
 abbrev pub Tells : (List ℕ → Type 0) → List ℕ → RecordStart → Type 0
 Tells is_record bytes (Whole n) = (n ≤ length bytes) × is_record (take n bytes)
 Tells is_record bytes Unfinished = IsUnfinished is_record bytes

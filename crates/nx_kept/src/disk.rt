@@ -47,10 +47,12 @@ pub trait DiskFile {
             take n room.new ≡ take (length room.old) (drop at (seen start self.old))) }
         ensures explained { (start : List ℕ) → explains start self.new → explains start self.old }
         ensures seen { (start : List ℕ) → seen start self.new ≡ seen start self.old }
-        ensures crash { (start c : List ℕ) → may_leave start self.new c → may_leave start self.old c }
+        ensures crash { (start c : List ℕ) → may_leave start self.new c
+            → may_leave start self.old c }
         ensures time { (start : List ℕ) → Elapses (moment self.old) (moment self.new)
             (left_since start self.old) (left_since start self.new) (may_leave start self.new) }
-        ensures faults { TellsFaults (faults self.old) (faults self.new) (has_failed_to_read self.new) result };
+        ensures faults { TellsFaults (faults self.old) (faults self.new)
+            (has_failed_to_read self.new) result };
 
     /// Writes bytes over what is there, and past the end. Until a sync, a crash may leave any bytes
     /// in their range.
@@ -59,11 +61,13 @@ pub trait DiskFile {
         ensures written { (start : List ℕ) → at ≤ length (seen start self.old) →
             OnOk result (Holds (seen start self.old) at bytes.now (seen start self.new)) }
         ensures crash { (start : List ℕ) → at ≤ length (seen start self.old) →
-            Follows (Torn at (length bytes.now)) (may_leave start self.old) (may_leave start self.new) }
+            Follows (Torn at (length bytes.now)) (may_leave start self.old)
+            (may_leave start self.new) }
         ensures explained { (start : List ℕ) → explains start self.new → explains start self.old }
         ensures time { (start : List ℕ) → Elapses (moment self.old) (moment self.new)
             (left_since start self.old) (left_since start self.new) (may_leave start self.new) }
-        ensures faults { TellsFaults (faults self.old) (faults self.new) (has_failed_to_write self.new) result };
+        ensures faults { TellsFaults (faults self.old) (faults self.new)
+            (has_failed_to_write self.new) result };
 
     /// Cuts the file to this many bytes.
     fn cut(&mut self, size: usize) -> Result<(), DiskFailed>
@@ -74,18 +78,21 @@ pub trait DiskFile {
         ensures explained { (start : List ℕ) → explains start self.new → explains start self.old }
         ensures time { (start : List ℕ) → Elapses (moment self.old) (moment self.new)
             (left_since start self.old) (left_since start self.new) (may_leave start self.new) }
-        ensures faults { TellsFaults (faults self.old) (faults self.new) (has_failed_to_write self.new) result };
+        ensures faults { TellsFaults (faults self.old) (faults self.new)
+            (has_failed_to_write self.new) result };
 
     /// Brings the file to the disk: after it, a crash leaves what a read finds.
     fn sync(&mut self) -> Result<(), DiskFailed>
         ensures durable { (start : List ℕ) →
             OnOk result (Only (seen start self.old) (may_leave start self.new)) }
         ensures seen { (start : List ℕ) → seen start self.new ≡ seen start self.old }
-        ensures crash { (start c : List ℕ) → may_leave start self.new c → may_leave start self.old c }
+        ensures crash { (start c : List ℕ) → may_leave start self.new c
+            → may_leave start self.old c }
         ensures explained { (start : List ℕ) → explains start self.new → explains start self.old }
         ensures time { (start : List ℕ) → Elapses (moment self.old) (moment self.new)
             (left_since start self.old) (left_since start self.new) (may_leave start self.new) }
-        ensures faults { TellsFaults (faults self.old) (faults self.new) (has_failed_to_write self.new) result };
+        ensures faults { TellsFaults (faults self.old) (faults self.new)
+            (has_failed_to_write self.new) result };
 
     /// This moment is one of those since an earlier one.
     ghost counts_now: { (start : List ℕ) (file : Self) (t : ℕ) (c : List ℕ) →

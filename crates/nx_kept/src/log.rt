@@ -51,9 +51,11 @@ impl<D: DiskFile, G: Grammar> KeptLog<D, G> {
         // A log whose last gate is closed, with nothing behind it, is only read.
         ensures only_read { IfOk result (λ log. (start : List ℕ) → D.explains start log.device →
             D.seen start log.device ≡ D.seen start device →
-            OnlyReads (D.seen start) (D.may_leave start) D.moment (D.left_since start) device log.device) }
+            OnlyReads (D.seen start) (D.may_leave start) D.moment (D.left_since start) device
+            log.device) }
 
-        // A crash at any moment leaves the same records, or what a crash before the call could leave.
+        // A crash at any moment leaves the same records, or what a crash before the call could
+        // leave.
         ensures any_moment { IfOk result (λ log. (start : List ℕ) (records : List (List ℕ)) →
             D.explains start log.device →
             StandsFor G.is_record G.LONGEST records (D.seen start device) →

@@ -27,7 +27,8 @@ fn repair<D: DiskFile>(device: &mut D, gate: usize) -> Result<(), DiskFailed>
         (IsCutThere gate (D.seen start device.old)) }
     ensures faults { TellsFaults (D.faults device.old) (D.faults device.new)
         (D.has_failed_to_write device.new) result }
-    ensures explained { (start : List ℕ) → D.explains start device.new → D.explains start device.old }
+    ensures explained { (start : List ℕ) → D.explains start device.new
+        → D.explains start device.old }
 {
     device.cut(gate)?;
     device.sync()?;
@@ -49,7 +50,8 @@ pub(crate) fn settle<D: DiskFile, G: Grammar, T: RecordTaker>(
     ensures in_range { IfOk result (λ gate. gate + 1 < 2 ^ 63) }
     ensures only_read { (start : List ℕ) → D.explains start device.new →
         OnOk result (D.seen start device.new ≡ D.seen start device.old →
-        OnlyReads (D.seen start) (D.may_leave start) D.moment (D.left_since start) device.old device.new) }
+        OnlyReads (D.seen start) (D.may_leave start) D.moment (D.left_since start) device.old
+        device.new) }
     ensures any_moment { (start : List ℕ) (records : List (List ℕ)) → D.explains start device.new →
         StandsFor G.is_record G.LONGEST records (D.seen start device.old) →
         KeepsRecords G.is_record G.LONGEST (D.may_leave start) D.moment (D.left_since start)
@@ -59,11 +61,13 @@ pub(crate) fn settle<D: DiskFile, G: Grammar, T: RecordTaker>(
         IsDamaged G.is_record G.LONGEST line (D.seen start device.old) }
     ensures only_read_err { (start : List ℕ) → D.explains start device.new →
         (IsKeptLog G.is_record G.LONGEST (D.seen start device.old) → ⊥) →
-        OnlyReads (D.seen start) (D.may_leave start) D.moment (D.left_since start) device.old device.new }
+        OnlyReads (D.seen start) (D.may_leave start) D.moment (D.left_since start) device.old
+        device.new }
     ensures faults { OnOk result (D.faults device.new ≡ D.faults device.old) }
     ensures cause { IfErr result (λ fault.
         HasCause D.faults D.has_failed_to_read D.has_failed_to_write fault device.old device.new) }
-    ensures explained { (start : List ℕ) → D.explains start device.new → D.explains start device.old }
+    ensures explained { (start : List ℕ) → D.explains start device.new
+        → D.explains start device.old }
 {
     let mut window = vec![in alloc; 0; G::LONGEST + 3]?;
     device.sync()?;

@@ -88,7 +88,8 @@ pub(crate) fn scan<D: DiskFile, G: Grammar, T: RecordTaker>(
     ensures damaged { (start : List ℕ) (line : ℕ) → D.explains start device.new →
         IsErrOf result (OpenFault.Damaged line) →
         IsDamaged G.is_record G.LONGEST line (D.seen start device.old) }
-    ensures explained { (start : List ℕ) → D.explains start device.new → D.explains start device.old }
+    ensures explained { (start : List ℕ) → D.explains start device.new
+        → D.explains start device.old }
     ensures only_reads { (start : List ℕ) → OnlyReads (D.seen start) (D.may_leave start) D.moment
         (D.left_since start) device.old device.new }
 {

@@ -2,7 +2,7 @@
 
 use super::grammar::{Count, Trial};
 use crate::{FileFault, open};
-use nx_kept::KeptLog;
+use nx_kept::{DiskFailed, KeptLog};
 use std::fs;
 use std::test::Fail;
 
@@ -18,21 +18,21 @@ fn a_file_is_locked_and_found_by_its_name(rt: HostRuntime) -> Result<(), Fail> {
         last: 0,
     };
     let file = open(rt.alloc(), &rt, path)?;
-    assert!(rt; matches!(open(rt.alloc(), &rt, path), Err(FileFault::Busy)));
-    assert!(rt; matches!(open(rt.alloc(), &rt, "."), Err(FileFault::Open)));
+    assert_eq!(rt; open(rt.alloc(), &rt, path).err(), Some(FileFault::Busy));
+    assert_eq!(rt; open(rt.alloc(), &rt, ".").err(), Some(FileFault::Open));
     match KeptLog::open(rt.alloc(), file, Trial, &mut count) {
         Ok(mut log) => {
-            assert!(rt; log.put(ENTRY).is_ok());
+            assert_eq!(rt; log.put(ENTRY), Ok(()));
             fs::rename(&rt, path, "nx_disk_test.old")?;
-            assert!(rt; log.put(ENTRY).is_err());
+            assert_eq!(rt; log.put(ENTRY), Err(DiskFailed));
         }
         Err(_refused) => assert!(rt; false, "opens"),
     }
     let kept = fs::read(&rt, "nx_disk_test.old")?;
-    assert!(rt; kept.len() > 44);
+    assert!(rt; kept.len() > 44, "{} bytes are kept", kept.len());
     let again = open(rt.alloc(), &rt, "nx_disk_test.old")?;
     assert!(rt; KeptLog::open(rt.alloc(), again, Trial, &mut count).is_ok());
-    assert!(rt; count.records >= 1);
+    assert!(rt; count.records >= 1, "no record is kept");
     fs::remove_file(&rt, "nx_disk_test.old")?;
     Ok(())
 }

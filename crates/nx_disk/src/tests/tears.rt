@@ -40,7 +40,7 @@ fn an_entry_is_put_behind_a_newline(rt: HostRuntime) -> Result<(), Fail> {
     let (mut log, count) = opened(alloc, b"")?;
     assert_eq!(rt; count.records, 0);
     assert_eq!(rt; log.device.file().bytes(), b" ".as_slice());
-    assert!(rt; log.put(ENTRY).is_ok());
+    assert_eq!(rt; log.put(ENTRY), Ok(()));
     assert_eq!(rt; log.device.file().bytes(), REST.as_slice());
     Ok(())
 }
@@ -85,7 +85,7 @@ fn refused(rt: &impl Abort, alloc: Global, bytes: &[u8], fault: OpenFault) -> Re
 fn a_damaged_log_is_refused(rt: HostRuntime) -> Result<(), Fail> {
     let alloc = rt.alloc();
     let mut damaged = REST.to_vec(alloc)?;
-    assert!(rt; damaged.len() == 44);
+    assert_eq!(rt; damaged.len(), 44);
     damaged[37] = 0;
     refused(&rt, alloc, &damaged, OpenFault::Damaged { line: 3 })
 }
@@ -105,7 +105,7 @@ fn stays(rt: &impl Abort, alloc: Global, bytes: &[u8]) -> Result<u64, Fail> {
             Ok(_log) => {}
             Err((_fault, device)) => {
                 for tear in Tear::ALL {
-                    stays_so(rt, alloc, &device.file().left(alloc, tear)?, count)?;
+                    stays_so(rt, alloc, device.file(), (call, tear), count)?;
                 }
             }
         }
@@ -113,10 +113,22 @@ fn stays(rt: &impl Abort, alloc: Global, bytes: &[u8]) -> Result<u64, Fail> {
     Ok(count.records)
 }
 
-fn stays_so(rt: &impl Abort, alloc: Global, bytes: &[u8], count: Count) -> Result<(), Fail> {
-    let (_log, again) = opened(alloc, bytes)?;
-    assert_eq!(rt; again.records, count.records);
-    assert_eq!(rt; again.last, count.last);
+// What is left behind a crash in a call of the opening stands for as many records.
+fn stays_so(
+    rt: &impl Abort,
+    alloc: Global,
+    file: &TornFile,
+    crash: (u64, Tear),
+    count: Count,
+) -> Result<(), Fail> {
+    let (call, tear) = crash;
+    let (_log, again) = opened(alloc, &file.left(alloc, tear)?)?;
+    let found = (again.records, again.last);
+    assert_eq!(rt;
+        found,
+        (count.records, count.last),
+        "call {call} of the opening, {tear:?}"
+    );
     Ok(())
 }
 
@@ -133,7 +145,10 @@ fn crashes_in(rt: &impl Abort, alloc: Global, call: u64) -> Result<(), Fail> {
         }
         for tear in Tear::ALL {
             let found = stays(rt, alloc, &log.device.file().left(alloc, tear)?)?;
-            assert!(rt; kept <= found && found <= 3 && found <= kept + 1);
+            assert!(rt;
+                kept <= found && found <= 3 && found <= kept + 1,
+                "call {call}, {tear:?}: {found} records of {kept} that were put"
+            );
         }
     }
     Ok(())

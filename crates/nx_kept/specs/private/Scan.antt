@@ -27,7 +27,8 @@ module _ (is_record : List ℕ → Type 0) (longest : ℕ) where
   Steps bytes (Damaged place) = IsDamagedBehind is_record longest place bytes
 
   -- the file is records behind open gates, which were taken, and a tail
-  pub record Ends {T : Type 0} (takes : T → List ℕ → T → Type 0) (file : List ℕ) (old new : T) (end : Rest) : Type 0 where
+  pub record Ends {T : Type 0} (takes : T → List ℕ → T → Type 0) (file : List ℕ) (old new : T)
+      (end : Rest) : Type 0 where
     pub records : List (List ℕ)
     pub front : List ℕ
     pub tail : List ℕ
@@ -38,15 +39,18 @@ module _ (is_record : List ℕ → Type 0) (longest : ℕ) where
     pub closed : IsTrue end.is_closed ↔ (tail ≡ closed_gate ∷ [])
     pub taken : Took takes old records new
 
--- the bytes are the file's up to the place, and then some more of it, or at most one byte of any kind
+-- the bytes are the file's up to the place, and then some more of it, or at most one byte of any
+-- kind
 pub record IsCutThere (place : ℕ) (file bytes : List ℕ) : Type 0 where
   pub rest : List ℕ
   pub split : bytes ≡ take place file ++ rest
   pub behind : ((n : ℕ) × (rest ≡ take n (drop place file))) ⊎ (length rest ≤ 1)
 
--- The file was records behind open gates, which were taken, and a tail. Now a closed gate is in the place of the tail, and
--- a crash leaves just that.
-pub record Settles {D T : Type 0} (is_record : List ℕ → Type 0) (longest : ℕ) (takes : T → List ℕ → T → Type 0) (seen : D → List ℕ) (may_leave : D → List ℕ → Type 0) (old new : D) (before after : T) (gate : ℕ) : Type 0 where
+-- The file was records behind open gates, which were taken, and a tail. Now a closed gate is in the
+-- place of the tail, and a crash leaves just that.
+pub record Settles {D T : Type 0} (is_record : List ℕ → Type 0) (longest : ℕ)
+    (takes : T → List ℕ → T → Type 0) (seen : D → List ℕ) (may_leave : D → List ℕ → Type 0)
+    (old new : D) (before after : T) (gate : ℕ) : Type 0 where
   pub records : List (List ℕ)
   pub front : List ℕ
   pub tail : List ℕ
@@ -59,7 +63,8 @@ pub record Settles {D T : Type 0} (is_record : List ℕ → Type 0) (longest : �
   pub taken : Took takes before records after
 
 -- why a reading failed: by its last call, or by the bytes alone
-abbrev pub ReadsUpTo : {D : Type 0} → (faults : D → ℕ) (has_failed_to_read : D → Type 0) → OpenFault → D → D → Type 0
+abbrev pub ReadsUpTo : {D : Type 0} → (faults : D → ℕ) (has_failed_to_read : D → Type 0) → OpenFault
+    → D → D → Type 0
 ReadsUpTo faults to_read Read old new = FailedOnce (faults old) (faults new) (to_read new)
 ReadsUpTo faults to_read (DamagedAt line) old new = faults new ≡ faults old
 ReadsUpTo faults to_read Disk old new = ⊥

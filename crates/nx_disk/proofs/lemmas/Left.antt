@@ -1,0 +1,86 @@
+-- What a read finds is among what a crash may leave.
+use Rattle.std.proofs.Common.{◌≡◌, inl, inr, ℕ, zero, suc, ◌+◌, ◌≤◌, Bool, true, false, List, [], ◌∷◌, ◌++◌, length, take, drop, refl, sym, ◌∙◌, ap, subst, arith, append_assoc, length-append, length-take, length-drop}
+use Rattle.std.proofs.lemmas.List.{take_at, take_all, drop_at}
+use Rattle.nx_kept.specs.Disk.{Torn, Cut, Follows}
+use Rattle.nx_disk.specs.Events.{Event, seen_after, seen_of, LeftAfter, MayLeave}
+
+-- a whole write is one that a crash may leave
+torn_whole : (at : ℕ) (bytes old : List ℕ) → at ≤ length old
+    → Torn at (length bytes) old (take at old ++ bytes ++ drop (at + length bytes) old)
+torn_whole at bytes old within =
+    let size : length (take at old) ≡ at = omega (arith, length-take at old) in
+    let both : length (take at old ++ bytes) ≡ at + length bytes =
+    omega (arith, size, length-append (take at old) bytes) in
+    let whole = length-append (take at old ++ bytes) (drop (at + length bytes) old) in
+    let behind = length-drop (at + length bytes) old in
+    record {
+      before = ap (λ (l : List ℕ). take at l)
+          (append_assoc (take at old) bytes (drop (at + length bytes) old))
+          ∙ take_at (take at old) (bytes ++ drop (at + length bytes) old) at size;
+      after = drop_at (take at old ++ bytes) (drop (at + length bytes) old) (at + length bytes)
+          both;
+      no_shorter = omega (arith, both, whole, behind);
+      no_longer = omega (arith, both, whole, behind);
+    }
+
+torn_none : (at n : ℕ) (old : List ℕ) → Torn at n old old
+torn_none at n old = record {
+  before = refl;
+  after = refl;
+  no_shorter = omega arith;
+  no_longer = omega arith;
+}
+
+cut_whole : (size : ℕ) (old : List ℕ) → Cut size old (take size old)
+cut_whole size old = record {
+  no_shorter = omega (arith, length-take size old);
+  front = cut_again size old;
+}
+  where
+    cut_again : (n : ℕ) (l : List ℕ) → take (length (take n l)) l ≡ take n l
+    cut_again zero l = refl
+    cut_again (suc n) [] = refl
+    cut_again (suc n) (x ∷ l) = ap (λ (r : List ℕ). x ∷ r) (cut_again n l)
+
+cut_none : (size : ℕ) (old : List ℕ) → Cut size old old
+cut_none size old =
+    record { no_shorter = omega arith; front = take_all (length old) old (omega arith) }
+
+left_after : (call at : ℕ) (ok : Bool) (bytes seen : List ℕ) (left : List ℕ → Type 0) → left seen
+    → LeftAfter call at ok bytes seen left (seen_after call at ok bytes seen)
+left_after zero at ok bytes seen left is = is
+left_after (suc zero) at true bytes seen left is = inr refl
+left_after (suc zero) at false bytes seen left is = inr refl
+left_after (suc (suc zero)) size true bytes seen left is = (seen, is, cut_whole size seen)
+left_after (suc (suc zero)) size false bytes seen left is = (seen, is, cut_none size seen)
+left_after (suc (suc (suc more))) at true bytes seen left is = refl
+left_after (suc (suc (suc more))) at false bytes seen left is = is
+
+pub seen_is_left : (start : List ℕ) (events : List Event)
+    → MayLeave start events (seen_of start events)
+seen_is_left start [] = tt
+seen_is_left start (event ∷ earlier) = left_after event.0 event.1 event.3 event.4
+    (seen_of start earlier) (MayLeave start earlier) (seen_is_left start earlier)
+
+-- each outcome of a write, whole or torn
+pub write_follows : (start : List ℕ) (events : List Event) (at : ℕ) (ok : Bool) (bytes : List ℕ)
+    → at ≤ length (seen_of start events)
+    → Follows (Torn at (length bytes)) (MayLeave start events)
+    (LeftAfter 1 at ok bytes (seen_of start events) (MayLeave start events))
+write_follows start events at ok bytes within c (inl torn) = torn
+write_follows start events at true bytes within c (inr is) = (
+  seen_of start events,
+  seen_is_left start events,
+  subst (Torn at (length bytes) (seen_of start events)) (sym is)
+      (torn_whole at bytes (seen_of start events) within),
+)
+write_follows start events at false bytes within c (inr is) = (
+  seen_of start events,
+  seen_is_left start events,
+  subst (Torn at (length bytes) (seen_of start events)) (sym is)
+      (torn_none at (length bytes) (seen_of start events)),
+)
+
+pub sync_follows : (start : List ℕ) (events : List Event) (c : List ℕ) → c ≡ seen_of start events
+    → MayLeave start events c
+sync_follows start events c is = subst (MayLeave start events) (sym is) (seen_is_left start events)

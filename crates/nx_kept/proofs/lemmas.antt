@@ -1,0 +1,8 @@
+-- Lemmas that several proofs cite.
+pub mod KeptLaws
+pub mod Pieces
+pub mod Putting
+pub mod Repairing
+pub mod Scanning
+pub mod Stages
+pub mod Steps

@@ -1,0 +1,137 @@
+-- How far a log has been read.
+use Rattle.std.proofs.Common.{◌≡◌, ℕ, suc, ◌+◌, ◌<◌, ◌≤◌, List, [], ◌∷◌, ◌++◌, length, take, drop, refl, sym, ◌∙◌, ap, subst, arith, append_assoc, length-append, length-take, count_by, ◌==◌}
+use Rattle.std.proofs.lemmas.List.{drop_at, drop-take, take_at, take-take}
+use Rattle.nx_kept.specs.Kept.{line_feed, line_behind, IsBehindOpenGates, IsDamaged, IsDamagedBehind}
+use Rattle.nx_kept.specs.Taker.{Took}
+use Rattle.nx_kept.specs.private.Scan.{IsAtRecord}
+use Rattle.nx_kept.proofs.lemmas.Pieces.{count_by-append, take_past}
+use Rattle.nx_kept.proofs.lemmas.KeptLaws.{one_behind, damaged_behind}
+
+-- one record more was taken
+pub took_one : {T : Type 0} (takes : T → List ℕ → T → Type 0) (records : List (List ℕ))
+    (last : List ℕ) (old mid new : T) → Took takes old records mid → takes mid last new
+    → Took takes old (records ++ last ∷ []) new
+took_one takes [] last old mid new took then_one =
+    (new, subst (λ t. takes t last new) took then_one, refl)
+took_one takes (first ∷ records) last old mid new took then_one =
+    (took.0, took.1, took_one takes records last took.0 mid new took.2 then_one)
+
+-- the gate and the record at the front
+first_of : (gate n : ℕ) (first rest : List ℕ) → n ≡ length first
+    → take (n + 1) (gate ∷ (first ++ rest)) ≡ gate ∷ first
+first_of gate n first rest size =
+    let next : n + 1 ≡ suc n = omega arith in
+    ap (λ (k : ℕ). take k (gate ∷ (first ++ rest))) next
+    ∙ ap (λ (l : List ℕ). gate ∷ l) (take_at first rest n (sym size))
+
+behind_first : (n : ℕ) (window : List ℕ) → drop 1 (take (n + 1) window) ≡ take n (drop 1 window)
+behind_first n window =
+    let turned : n + 1 ≡ 1 + n = omega arith in
+    ap (λ (k : ℕ). drop 1 (take k window)) turned ∙ drop-take 1 n window
+
+module _ (is_record : List ℕ → Type 0) {T : Type 0} (takes : T → List ℕ → T → Type 0) where
+  -- The file is read up to a gate: before it are records behind open gates, which were taken.
+  pub record Reached (file : List ℕ) (gate line : ℕ) (old now : T) : Type 0 where
+    pub records : List (List ℕ)
+    pub front : List ℕ
+    pub rest : List ℕ
+    pub kept : IsBehindOpenGates is_record records front
+    pub split : file ≡ front ++ rest
+    pub place : gate ≡ length front
+    pub at_line : line ≡ line_behind front
+    pub taken : Took takes old records now
+
+  pub reached_none : (file : List ℕ) (old : T) → Reached file 0 1 old old
+  reached_none file old = record {
+    records = [];
+    front = [];
+    rest = file;
+    kept = refl;
+    split = refl;
+    place = refl;
+    at_line = refl;
+    taken = refl;
+  }
+
+  -- what is left of the file
+  pub left_is : (file : List ℕ) (gate line : ℕ) (old now : T)
+      (reached : Reached file gate line old now) → drop gate file ≡ reached.rest
+  left_is file gate line old now reached = ap (λ (l : List ℕ). drop gate l) reached.split
+      ∙ drop_at reached.front reached.rest gate (sym reached.place)
+
+  module _ (longest : ℕ) (file : List ℕ) (gate line : ℕ) (old : T) where
+    -- a record behind an open gate is taken
+    pub reached_more : (now next : T) (n : ℕ) (window : List ℕ) (lines : ℕ)
+        → Reached file gate line old now → window ≡ take (longest + 3) (drop gate file)
+        → IsAtRecord is_record longest n (drop gate file) → n + 1 ≤ length window
+        → takes now (take n (drop 1 window)) next
+        → lines ≡ count_by (λ byte. byte == line_feed) (take (n + 1) window)
+        → Reached file (gate + (n + 1)) (line + lines) old next
+    reached_more now next n window lines reached shown at within took counted =
+        let rest_is = left_is file gate line old now reached in
+        let all = at.gate ∷ (at.first ++ at.rest) in
+        let window_is : window ≡ take (longest + 3) all = shown
+        ∙ ap (λ (l : List ℕ). take (longest + 3) l) at.split in
+        let inside : n + 1 ≤ longest + 3 =
+        omega (arith, within, ap length window_is, length-take (longest + 3) all) in
+        let shown_first : take (n + 1) window ≡ at.gate ∷ at.first =
+        ap (λ (l : List ℕ). take (n + 1) l) window_is ∙ take-take (n + 1) (longest + 3) all inside
+        ∙ first_of at.gate n at.first at.rest at.size in
+        let given : take n (drop 1 window) ≡ at.first = sym (behind_first n window)
+        ∙ ap (λ (l : List ℕ). drop 1 l) shown_first in
+        record {
+          records = reached.records ++ at.first ∷ [];
+          front = reached.front ++ at.gate ∷ at.first;
+          rest = at.rest;
+          kept = one_behind is_record longest reached.records reached.front at.gate at.first
+              reached.kept at.is_open at.is_one;
+          split = reached.split ∙ ap (λ (l : List ℕ). reached.front ++ l) (sym rest_is ∙ at.split)
+              ∙ sym (append_assoc reached.front (at.gate ∷ at.first) at.rest);
+          place = omega
+              (arith, reached.place, at.size, length-append reached.front (at.gate ∷ at.first));
+          at_line =
+              let count = counted
+              ∙ ap (λ (l : List ℕ). count_by (λ byte. byte == line_feed) l) shown_first in
+              omega (
+                arith,
+                reached.at_line,
+                count,
+                count_by-append (λ byte. byte == line_feed)
+                    reached.front (at.gate ∷ at.first),
+              );
+          taken = took_one takes reached.records at.first old now next reached.taken
+              (subst (λ (l : List ℕ). takes now l next) given took);
+        }
+
+    -- the bytes are damaged
+    pub reached_damage : (now : T) (place : ℕ) (window : List ℕ) (lines : ℕ)
+        (some : (bytes : List ℕ) → is_record bytes → 0 < length bytes)
+        (one : (bytes more : List ℕ) → is_record bytes → is_record (bytes ++ more) → more ≡ [])
+        → Reached file gate line old now → window ≡ take (longest + 3) (drop gate file)
+        → place ≤ length window → IsDamagedBehind is_record longest place (drop gate file)
+        → lines ≡ count_by (λ byte. byte == line_feed) (take place window)
+        → IsDamaged is_record longest (line + lines) file
+    reached_damage now place window lines some one reached shown within damage counted =
+        let rest_is = left_is file gate line old now reached in
+        let inside : place ≤ longest + 3 =
+        omega (arith, within, ap length shown, length-take (longest + 3) (drop gate file)) in
+        let shown_same : take place window ≡ take place reached.rest =
+        ap (λ (l : List ℕ). take place l) shown
+        ∙ take-take place (longest + 3) (drop gate file) inside
+        ∙ ap (λ (l : List ℕ). take place l) rest_is in
+        let whole = damaged_behind is_record longest some one reached.records reached.front
+        reached.rest place reached.kept
+        (subst (IsDamagedBehind is_record longest place) rest_is damage) in
+        let begin : take (length reached.front + place) file ≡ reached.front
+        ++ take place reached.rest =
+        ap (λ (l : List ℕ). take (length reached.front + place) l) reached.split
+        ∙ take_past reached.front reached.rest place in
+        let count = counted
+        ∙ ap (λ (l : List ℕ). count_by (λ byte. byte == line_feed) l) shown_same in
+        let both = ap (λ (l : List ℕ). count_by (λ byte. byte == line_feed) l) begin
+        ∙ count_by-append (λ byte. byte == line_feed) reached.front (take place reached.rest) in (
+          length reached.front + place,
+          subst (IsDamagedBehind is_record longest (length reached.front + place))
+              (sym reached.split) whole,
+          omega (arith, reached.at_line, count, both),
+        )
