@@ -3,9 +3,9 @@ use Rattle.std.specs.Prelude.{◌≡◌, ℕ, List, [], ◌∷◌, ◌++◌, cod
 use Rattle.serde_json.specs.Data.{Data, member, no_members, number, object, string, unsigned}
 use Rattle.serde_json.specs.Written.{compact_text}
 use Rattle.nx_envelope.specs.Copies.{errors_of}
-use Rattle.nx_envelope.specs.Header.{newline}
+use Rattle.nx_code.specs.Reading.{newline}
 use Rattle.nx_envelope.specs.Moment.{IsShownAs}
-use Rattle.nx_fec.specs.Channels.{channel_number}
+use Rattle.nx_fec.specs.air_files.Channels.{channel_number}
 use Rattle.nx_receiver.specs.Log.{how_name}
 use Rattle.nx_receiver.specs.Shares.{MarkedCopy}
 use Rattle.nx_log.specs.Times.{joined}
@@ -33,8 +33,8 @@ entry_data one time =
     (member (codes "time") (string time)
     no_members))))))))))
 
--- JSON line: the object of an entry with no space in it, and a newline. Its time is the civil time of
--- its moment as ISO 8601 writes it in UTC, with a `T` and a `Z`.
+-- JSON line: the object of an entry with no space in it, and a newline. Its time is the civil time
+-- of its moment as ISO 8601 writes it in UTC, with a `T` and a `Z`.
 pub record IsJsonLine (one : MarkedCopy) (line : List ℕ) : Type 0 where
   pub civil : List ℕ
   pub shown : IsShownAs one.copy.moment civil

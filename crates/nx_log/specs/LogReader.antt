@@ -3,9 +3,9 @@ use Rattle.std.specs.Prelude.{◌≡◌, ℕ, ◌≤◌, ◌-◌, ◌^◌, List,
 use Rattle.nx_receiver.specs.Shares.{MarkedCopy}
 use Rattle.nx_log.specs.Logged.{IsLoggedAs}
 use Rattle.nx_log.specs.Reading.{AreReadAs, CanGoOn, StopAtLine, StopAtLineToEnd, line_behind}
-use Rattle.nx_log.specs.declared.reader.BadLine.{BadLine}
-use Rattle.nx_log.specs.declared.reader.Pushed.{Pushed}
-use Rattle.nx_log.specs.declared.reader.Pushed.TheVariants.{All, Bad, Entry}
+use Rattle.nx_log.specs.declared.entries.reader.BadLine.{BadLine}
+use Rattle.nx_log.specs.declared.entries.reader.Pushed.{Pushed}
+use Rattle.nx_log.specs.declared.entries.reader.Pushed.TheVariants.{All, Bad, Entry}
 use Rattle.nx_log.specs.private.Standing.{LogReading, StandsFor}
 
 -- lines are counted up to this one
@@ -37,7 +37,7 @@ pub record EndEarlyAt (bytes : List ℕ) (entries : List MarkedCopy) (bad : BadL
   pub counted : bad.line ≡ min line most_lines
 
 -- What a piece brings to a reader that was given these bytes and handed out these entries. An entry
--- ends with the first `taken` bytes of the piece, and the reader shows it and is behind it; or no
+-- ends with the first `taken` bytes of the piece, and the reader shows it and is behind it. Or no
 -- entry ends in the piece; or the bytes stop being a log in it.
 abbrev pub Takes : List ℕ → List MarkedCopy → List ℕ → LogReading → Pushed → Type 0
 Takes bytes entries piece reader (Entry taken) = (taken ≤ length piece)

@@ -9,11 +9,11 @@ use Rattle.nx_log.specs.Json.{IsJsonLine}
 use Rattle.nx_log.specs.Logged.{IsLoggedAs}
 use Rattle.nx_log.specs.Query.{admitted}
 use Rattle.nx_log.specs.Reading.{HoldEntries, HoldEntriesToEnd, StopAtLine, StopAtLineToEnd}
-use Rattle.nx_log.specs.declared.form.Form.{Form}
-use Rattle.nx_log.specs.declared.form.Form.TheVariants.{Log, Json}
+use Rattle.nx_log.specs.declared.writing.form.Form.{Form}
+use Rattle.nx_log.specs.declared.writing.form.Form.TheVariants.{Log, Json}
 use Rattle.nx_log.specs.declared.log_fault.LogFault.{LogFault}
 use Rattle.nx_log.specs.declared.log_fault.LogFault.TheVariants.{Read, Write, BadLog, Memory}
-use Rattle.nx_log.specs.declared.query.Query.{Query}
+use Rattle.nx_log.specs.declared.queries.query.Query.{Query}
 
 -- the most bytes that are read; a reader that gives more is stopped there, as at an end
 abbrev pub most_read : ℕ

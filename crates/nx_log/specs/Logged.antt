@@ -6,9 +6,9 @@ use Rattle.nx_code.specs.Lists.{last_of}
 use Rattle.nx_code.specs.Reading.{asterisk, is_in_code}
 use Rattle.nx_envelope.specs.Copies.{most_found}
 use Rattle.nx_envelope.specs.Moment.{last_moment}
-use Rattle.nx_fec.specs.declared.channel.Channel.{Channel}
+use Rattle.nx_fec.specs.declared.air_files.channel.Channel.{Channel}
 use Rattle.nx_memory.specs.Memory.{most_entries}
-use Rattle.nx_memory.specs.declared.entry.MemoryEntry.{MemoryEntry}
+use Rattle.nx_memory.specs.declared.memories.entry.MemoryEntry.{MemoryEntry}
 use Rattle.nx_receiver.specs.FoundCopies.{TaggedCopy}
 use Rattle.nx_receiver.specs.Log.{IsEntry, IsLog}
 use Rattle.nx_receiver.specs.Printing.{entry_of, is_good, is_number_00}
@@ -18,8 +18,8 @@ use Rattle.nx_receiver.specs.Shares.{MarkedCopy, copies_on}
 unfoldable pub is_text_byte : ℕ → Bool
 is_text_byte byte = is_in_code byte || (byte == asterisk)
 
--- Logged entry: what one entry of a log says. It is a copy that was printed, so it was selected; its
--- moment is in range, and its text has at most 4,100 bytes, each a byte of a text.
+-- Logged entry: what one entry of a log says. It is a copy that was printed, so it was selected;
+-- its moment is in range, and its text has at most 4,100 bytes, each a byte of a text.
 pub record IsLogged (one : MarkedCopy) : Type 0 where
   pub in_range : one.copy.moment ≤ last_moment
   pub short : length one.copy.text ≤ most_found

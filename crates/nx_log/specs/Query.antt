@@ -5,9 +5,9 @@ use Rattle.std.specs.FinSet as set
 use Rattle.std.specs.List.{All, list_any}
 use Rattle.std.specs.Ordering.{nat_cmp}
 use Rattle.nx_code.specs.Reading.{IsCapital}
-use Rattle.nx_fec.specs.Channels.{same_channel}
-use Rattle.nx_fec.specs.declared.channel.Channel.{Channel}
-use Rattle.nx_log.specs.declared.query.Query.{Query}
+use Rattle.nx_fec.specs.air_files.Channels.{same_channel}
+use Rattle.nx_fec.specs.declared.air_files.channel.Channel.{Channel}
+use Rattle.nx_log.specs.declared.queries.query.Query.{Query}
 use Rattle.nx_receiver.specs.Printing.{is_good}
 use Rattle.nx_receiver.specs.Shares.{MarkedCopy}
 
@@ -41,8 +41,8 @@ abbrev pub is_until : Option ℕ → ℕ → Bool
 is_until None moment = true
 is_until (Some last) moment = nat_le moment last
 
--- Admitted: the query admits the entry, by its station, its subject, its channel and its moment, and
--- where good ones alone are asked for, it is good.
+-- Admitted: the query admits the entry, by its station, its subject, its channel and its moment,
+-- and where good ones alone are asked for, it is good.
 unfoldable pub admits : Query → MarkedCopy → Bool
 admits query one =
     is_among query.stations one.copy.identity.b1.byte

@@ -1,13 +1,10 @@
--- A log as it is read: entries behind gaps, what may stand behind the last, and where bytes stop being
--- a log (this profile).
+-- A log as it is read: entries behind gaps, what may stand behind the last, and where bytes stop
+-- being a log (this profile).
 use Rattle.std.specs.Prelude.{◌≡◌, ◌⊎◌, ℕ, ◌+◌, ◌-◌, ◌<◌, ◌≤◌, ◌==◌, List, [], ◌∷◌, ◌++◌, length, take, count_by}
 use Rattle.std.specs.List.{All}
-use Rattle.nx_envelope.specs.Header.{newline}
+use Rattle.nx_code.specs.Reading.{newline, space}
 use Rattle.nx_receiver.specs.Shares.{MarkedCopy}
 use Rattle.nx_log.specs.Logged.{IsLoggedAs}
-
-abbrev pub space : ℕ
-space = 32
 
 -- the most bytes that are passed over at an end: the longest entry, and its gate in a kept log
 abbrev pub most_torn : ℕ
@@ -16,7 +13,8 @@ most_torn = 4147
 abbrev pub IsBlank : ℕ → Type 0
 IsBlank byte = (byte ≡ newline) ⊎ (byte ≡ space)
 
--- Gap: what is passed over before an entry or the end, newlines and spaces, or one byte of any kind.
+-- Gap: what is passed over before an entry or the end, newlines and spaces, or one byte of any
+-- kind.
 abbrev pub IsGap : List ℕ → Type 0
 IsGap gap = All IsBlank gap ⊎ (length gap ≡ 1)
 
@@ -34,7 +32,8 @@ pub record HasNext (bytes : List ℕ) : Type 0 where
   pub rest : List ℕ
   pub next : NextIs one rest bytes
 
--- Read as: the bytes are these entries, each behind a gap, and the rest, in which no entry stands next.
+-- Read as: the bytes are these entries, each behind a gap, and the rest, in which no entry stands
+-- next.
 abbrev pub AreReadAs : List MarkedCopy → List ℕ → List ℕ → Type 0
 AreReadAs [] rest bytes = (bytes ≡ rest) × ¬ HasNext rest
 AreReadAs (one ∷ entries) rest bytes =
@@ -73,8 +72,8 @@ pub record HoldEntriesToEnd (bytes : List ℕ) (entries : List MarkedCopy) : Typ
   pub read : AreReadAs entries rest bytes
   pub end : IsEndOfLog rest
 
--- Behind these whole entries they stop being a log at this line: that of the first byte with which no
--- bytes to come make them good.
+-- Behind these whole entries they stop being a log at this line: that of the first byte with which
+-- no bytes to come make them good.
 pub record StopAtLine (bytes : List ℕ) (entries : List MarkedCopy) (line : ℕ) : Type 0 where
   pub rest : List ℕ
   pub place : ℕ

@@ -3,11 +3,11 @@ use Rattle.std.specs.Prelude.{ℕ, List, Option, Result, Ok, Err, ⊤}
 use Rattle.std.specs.Io.KnownBytes.{Appends}
 use Rattle.nx_fec.specs.Transfers.{WroteSome}
 use Rattle.nx_receiver.specs.Shares.{MarkedCopy}
-use Rattle.nx_receiver.specs.declared.listen_fault.ListenFault.{ListenFault}
-use Rattle.nx_receiver.specs.declared.listen_fault.ListenFault.TheVariants.{Memory, Write}
-use Rattle.nx_receiver.specs.declared.listening.Report.{Report}
-use Rattle.nx_receiver.specs.declared.resume_fault.ResumeFault.{ResumeFault}
-use Rattle.nx_receiver.specs.declared.resume_fault.ResumeFault.TheVariants as resume
+use Rattle.nx_receiver.specs.declared.air_file_runs.listen_fault.ListenFault.{ListenFault}
+use Rattle.nx_receiver.specs.declared.air_file_runs.listen_fault.ListenFault.TheVariants.{Memory, Write}
+use Rattle.nx_receiver.specs.declared.air_file_runs.listening.Report.{Report}
+use Rattle.nx_receiver.specs.declared.air_file_runs.resume_fault.ResumeFault.{ResumeFault}
+use Rattle.nx_receiver.specs.declared.air_file_runs.resume_fault.ResumeFault.TheVariants as resume
 use Rattle.nx_log.specs.Logged.{IsLogOfLogged}
 
 -- this holds of some log of logged entries

@@ -8,13 +8,21 @@ pub record WritesMoment (text : List ℕ) (moment : ℕ) : Type 0 where
   pub digits : IsNumeral 10 text
   pub value : moment ≡ digits_value 10 text
 
--- a civil time as ISO 8601 joins a date and a time of day: with a T (84) for its space, which stands
--- behind 10 bytes
-abbrev pub joined : List ℕ → List ℕ
-joined civil = slice_set civil 10 84
+-- how many bytes the date of a civil time has
+abbrev pub date_length : ℕ
+date_length = 10
 
--- the text is a date and a time of day, YYYY-MM-DDTHH:MM:SS, with or without a Z behind it: those that
--- show the moment
+-- the letter T, which ISO 8601 writes between a date and a time of day
+abbrev pub letter_t : ℕ
+letter_t = 84
+
+-- a civil time as ISO 8601 joins its date and its time of day: with a T for the space behind the
+-- date
+abbrev pub joined : List ℕ → List ℕ
+joined civil = slice_set civil date_length letter_t
+
+-- the text is a date and a time of day, YYYY-MM-DDTHH:MM:SS, with or without a Z behind it: those
+-- that show the moment
 pub record WritesSecond (text : List ℕ) (moment : ℕ) : Type 0 where
   pub civil : List ℕ
   pub shown : IsShownAs moment civil

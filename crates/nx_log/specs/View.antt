@@ -1,8 +1,8 @@
 -- What is seen of an entry at the beginning of bytes.
 use Rattle.std.specs.Prelude.{◌≡◌, ℕ, ◌≤◌, true, List, length, take}
 use Rattle.nx_envelope.specs.Copies.{errors_of}
-use Rattle.nx_log.specs.declared.head.LoggedHead.{LoggedHead}
-use Rattle.nx_log.specs.declared.entry.EntryView.{EntryView}
+use Rattle.nx_log.specs.declared.entries.head.LoggedHead.{LoggedHead}
+use Rattle.nx_log.specs.declared.entries.entry.EntryView.{EntryView}
 use Rattle.nx_receiver.specs.Shares.{MarkedCopy, marked}
 use Rattle.nx_log.specs.Logged.{IsLoggedAs}
 

@@ -7,8 +7,8 @@ ghost use Rattle.nx_log.specs.View.{IsViewOf, copy_said};
 ghost use Rattle.nx_receiver.specs.Printing.{entry_of};
 ghost use Rattle.nx_receiver.specs.Printing as spec;
 
-use crate::entry::EntryView;
-use crate::head::LoggedHead;
+use crate::entries::entry::EntryView;
+use crate::entries::head::LoggedHead;
 use nx_envelope::How;
 use nx_memory::MemoryEntry;
 

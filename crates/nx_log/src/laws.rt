@@ -4,22 +4,22 @@ ghost use Rattle.std.specs.Prelude.{◌≡◌, ℕ, ◌≤◌, List, [], ◌∷�
 ghost use Rattle.std.specs.Io.KnownBytes.{IsAtEnd};
 ghost use Rattle.nx_code.specs.Lists.{last_of};
 ghost use Rattle.nx_envelope.specs.Moment.{IsShownAs};
-ghost use Rattle.nx_fec.specs.AirFile.{Line};
-ghost use Rattle.nx_fec.specs.declared.channel.Channel.{Channel};
+ghost use Rattle.nx_fec.specs.air_files.AirFile.{Line};
+ghost use Rattle.nx_fec.specs.declared.air_files.channel.Channel.{Channel};
 ghost use Rattle.nx_memory.specs.Memory.{most_entries};
 ghost use Rattle.nx_memory.specs.Saved.{SavedStates};
-ghost use Rattle.nx_memory.specs.declared.entry.MemoryEntry.{MemoryEntry};
-ghost use Rattle.nx_receiver.specs.Chain.{GoesOn, Run};
+ghost use Rattle.nx_memory.specs.declared.memories.entry.MemoryEntry.{MemoryEntry};
+ghost use Rattle.nx_receiver.specs.air_file_runs.Chain.{GoesOn, Run};
 ghost use Rattle.nx_receiver.specs.FoundCopies.{TaggedCopy};
 ghost use Rattle.nx_receiver.specs.InTurn.{HavePrinted, PrintAllToEnd};
-ghost use Rattle.nx_receiver.specs.Listen.{AnswersListening, AreTaken, given_by};
+ghost use Rattle.nx_receiver.specs.air_file_runs.Listen.{AnswersListening, AreTaken, given_by};
 ghost use Rattle.nx_receiver.specs.Printing.{entries_made, printed_copies};
-ghost use Rattle.nx_receiver.specs.Resume.{AnswersResuming};
+ghost use Rattle.nx_receiver.specs.air_file_runs.Resume.{AnswersResuming};
 ghost use Rattle.nx_receiver.specs.Shares.{MarkedCopy, Starts, saved_of};
-ghost use Rattle.nx_receiver.specs.declared.listen_fault.ListenFault.{ListenFault};
-ghost use Rattle.nx_receiver.specs.declared.listening.Report.{Report};
-ghost use Rattle.nx_receiver.specs.declared.resume_fault.ResumeFault.{ResumeFault};
-ghost use Rattle.nx_receiver.specs.declared.resume_fault.Want.TheVariants.{Log};
+ghost use Rattle.nx_receiver.specs.declared.air_file_runs.listen_fault.ListenFault.{ListenFault};
+ghost use Rattle.nx_receiver.specs.declared.air_file_runs.listening.Report.{Report};
+ghost use Rattle.nx_receiver.specs.declared.air_file_runs.resume_fault.ResumeFault.{ResumeFault};
+ghost use Rattle.nx_receiver.specs.declared.air_file_runs.resume_fault.Want.TheVariants.{Log};
 ghost use Rattle.nx_log.specs.Logged.{IsLogged, IsLoggedAs, IsLogOfLogged, kept_entries, remembered_on};
 ghost use Rattle.nx_log.specs.Reading.{AreReadAs, HoldEntries, HoldEntriesToEnd, StopAtLine, StopAtLineToEnd};
 ghost use Rattle.nx_log.specs.Runs.{ResumedEntries, WroteEntries};
@@ -38,8 +38,8 @@ pub fn a_log_is_read_in_one_way()
         → length bytes ≤ 4146 }
 {}
 
-/// Bytes are read in one way: they have one list of whole entries, and behind these the same is left.
-/// Where they stop being a log, they do so at one line, and don't hold the entries of one.
+/// Bytes are read in one way: they have one list of whole entries, and behind these the same is
+/// left. Where they stop being a log, they do so at one line, and don't hold the entries of one.
 pub fn bytes_are_read_in_one_way()
     ensures one_reading { (entries others : List MarkedCopy) (rest left bytes : List ℕ)
         → AreReadAs entries rest bytes → AreReadAs others left bytes

@@ -1,35 +1,24 @@
 //! The log read back: its entries, what they remember, and those that a query admits.
 #![tactic(auto)]
 
-mod beginning;
-mod entry;
-mod form;
-mod gap;
-mod head;
-mod json_out;
-mod json_value;
+mod entries;
 mod kept;
 pub mod laws;
-mod letters;
 mod log_fault;
-mod moment;
-mod output;
-mod query;
-mod reader;
-mod run;
-mod start;
-mod time;
+mod log_runs;
+mod queries;
+mod writing;
 
-pub use entry::{EntryView, MAX_LOGGED, entry_at};
-pub use form::Form;
-pub use head::LoggedHead;
-pub use json_value::json_line;
+pub use entries::entry::{EntryView, MAX_LOGGED, entry_at};
+pub use entries::head::LoggedHead;
+pub use entries::moment::moment_of;
+pub use entries::reader::{BadLine, LogReader, Pushed};
+pub use entries::start::{EntryStart, entry_start};
 pub use kept::remembered_of;
-pub use letters::Letters;
 pub use log_fault::LogFault;
-pub use moment::moment_of;
-pub use query::Query;
-pub use reader::{BadLine, LogReader, Pushed};
-pub use run::log_run;
-pub use start::{EntryStart, entry_start};
-pub use time::{since_of, until_of};
+pub use log_runs::log_run;
+pub use queries::letters::Letters;
+pub use queries::query::Query;
+pub use queries::time::{since_of, until_of};
+pub use writing::form::Form;
+pub use writing::json_value::json_line;

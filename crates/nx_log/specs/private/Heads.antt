@@ -1,18 +1,17 @@
 -- The line that heads an entry, from left to right, with what stands behind it.
-use Rattle.std.specs.Prelude.{◌≡◌, ℕ, ◌≤◌, List, ◌∷◌, ◌++◌, decimal}
+use Rattle.std.specs.Prelude.{◌≡◌, ℕ, ◌≤◌, List, ◌++◌, codes, decimal}
 use Rattle.nx_envelope.specs.Copies.{most_found}
 use Rattle.nx_envelope.specs.Identity.{identity_bytes}
 use Rattle.nx_envelope.specs.Moment.{IsShownAs, last_moment}
-use Rattle.nx_log.specs.declared.head.LoggedHead.{LoggedHead}
+use Rattle.nx_log.specs.declared.entries.head.LoggedHead.{LoggedHead}
 use Rattle.nx_receiver.specs.Log.{channel_mark, how_name}
 
--- the head with this civil time, and more behind its newline (10): 91 and 93 are the brackets, 32 a
--- space and 47 the slash
+-- the head with this civil time, and more behind its newline
 abbrev pub head_and : LoggedHead → List ℕ → List ℕ → List ℕ
 head_and head civil more =
-    (91 ∷ identity_bytes head.identity) ++ (channel_mark head.channel ++ (32 ∷ (civil ++ (32
-    ∷ (how_name head.how ++ (32 ∷ (decimal head.errors ++ (47 ∷ (decimal head.characters ++ (93 ∷ 10
-    ∷ more))))))))))
+    (codes "[" ++ identity_bytes head.identity) ++ (channel_mark head.channel ++ (codes " "
+    ++ (civil ++ (codes " " ++ (how_name head.how ++ (codes " " ++ (decimal head.errors ++ (codes "/"
+    ++ (decimal head.characters ++ (codes "]\n" ++ more))))))))))
 
 -- the bytes begin with the head, and more stands behind it
 pub record BeginsWithHead (bytes : List ℕ) (head : LoggedHead) (more : List ℕ) : Type 0 where

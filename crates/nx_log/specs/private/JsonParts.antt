@@ -1,7 +1,8 @@
--- A line of JSON, before the text of its entry and behind it (RFC 8259; its keys are this profile's).
+-- A line of JSON, before the text of its entry and behind it (RFC 8259; its keys are this
+-- profile's).
 use Rattle.std.specs.Prelude.{ℕ, List, ◌∷◌, ◌++◌, codes, decimal}
-use Rattle.nx_fec.specs.Channels.{channel_number}
-use Rattle.nx_log.specs.declared.head.LoggedHead.{LoggedHead}
+use Rattle.nx_fec.specs.air_files.Channels.{channel_number}
+use Rattle.nx_log.specs.declared.entries.head.LoggedHead.{LoggedHead}
 use Rattle.nx_receiver.specs.Log.{how_name}
 
 -- up to the text

@@ -1,25 +1,26 @@
 -- How a run over a log stands, and how it ends.
 use Rattle.std.specs.Prelude.{◌≡◌, ℕ, ◌-◌, ◌^◌, List, length, min, Option}
-use Rattle.nx_fec.specs.LineRuns.{HasGiven}
+use Rattle.nx_fec.specs.air_files.LineRuns.{HasGiven}
 use Rattle.nx_receiver.specs.Shares.{MarkedCopy}
 use Rattle.nx_log.specs.LogReader.{EndEarlyAt, IsAt, StopAt}
 use Rattle.nx_log.specs.LogRun.{BeginWithEntries, IsOutput, WroteOutput, WrotePart}
 use Rattle.nx_log.specs.Query.{admitted}
 use Rattle.nx_log.specs.Reading.{HoldEntries, HoldEntriesToEnd}
-use Rattle.nx_log.specs.declared.form.Form.{Form}
+use Rattle.nx_log.specs.declared.writing.form.Form.{Form}
 use Rattle.nx_log.specs.declared.log_fault.LogFault.{LogFault}
 use Rattle.nx_log.specs.declared.log_fault.LogFault.TheVariants.{Read, Write, BadLog}
-use Rattle.nx_log.specs.declared.output.Output.{Output}
-use Rattle.nx_log.specs.declared.query.Query.{Query}
+use Rattle.nx_log.specs.declared.writing.output.Output.{Output}
+use Rattle.nx_log.specs.declared.queries.query.Query.{Query}
 use Rattle.nx_log.specs.private.Standing.{LogReading}
 
 -- the reader was given some bytes
 abbrev pub IsReading : LogReading → Type 0
 IsReading log = (bytes : List ℕ) × (entries : List MarkedCopy) × IsAt log bytes entries
 
--- The output of these entries was given: the first of it is written, and the rest waits. The entries
--- that the query admits are counted.
-pub record HasGivenOutput (query : Query) (form : Form) (old new : Option (List ℕ)) (output : Output)
+-- The output of these entries was given: the first of it is written, and the rest waits. The
+-- entries that the query admits are counted.
+pub record HasGivenOutput (query : Query) (form : Form) (old new : Option (List ℕ))
+    (output : Output)
     (entries : List MarkedCopy) : Type 0 where
   pub bytes : List ℕ
   pub is_output : IsOutput query form entries bytes

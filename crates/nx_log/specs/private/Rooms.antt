@@ -1,6 +1,7 @@
 -- How many more bytes can come and be of a torn end.
 use Rattle.std.specs.Prelude.{ℕ, ◌-◌, ◌==◌, nat_le, List, [], ◌∷◌, Option, None, Some, if◌then◌else◌}
-use Rattle.nx_log.specs.Reading.{most_torn, space}
+use Rattle.nx_log.specs.Reading.{most_torn}
+use Rattle.nx_code.specs.Reading.{space}
 
 -- the room that so many bytes leave
 abbrev pub room_less : Option ℕ → ℕ → Option ℕ

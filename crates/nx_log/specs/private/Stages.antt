@@ -1,12 +1,12 @@
 -- An entry piece by piece, from left to right, for bytes that end anywhere in one.
 use Rattle.std.specs.Prelude.{◌≡◌, ◌≢◌, ℕ, ◌≤◌, List, [], ◌∷◌, ◌++◌, length, All, IsTrue, decimal}
 use Rattle.nx_envelope.specs.Copies.{errors_of, most_found}
-use Rattle.nx_envelope.specs.Header.{newline}
+use Rattle.nx_code.specs.Reading.{newline, space}
 use Rattle.nx_envelope.specs.Identity.{identity_bytes}
 use Rattle.nx_envelope.specs.Moment.{IsShownAs, last_moment}
 use Rattle.nx_envelope.specs.declared.found.How.{How}
 use Rattle.nx_envelope.specs.declared.identity.Identity.{Identity}
-use Rattle.nx_fec.specs.declared.channel.Channel.{Channel}
+use Rattle.nx_fec.specs.declared.air_files.channel.Channel.{Channel}
 use Rattle.nx_receiver.specs.Log.{channel_mark, how_name, missing_newline}
 use Rattle.nx_log.specs.Logged.{is_text_byte}
 
@@ -32,13 +32,23 @@ pub record IsPartOf {A : Type 0} (piece_is : A → List ℕ → Type 0) (bytes :
   pub is_piece : piece_is piece (bytes ++ more)
   pub lacks : more ≢ []
 
--- the bracket (91) and the identity
-abbrev pub IsName : Identity → List ℕ → Type 0
-IsName identity spelled = spelled ≡ 91 ∷ identity_bytes identity
+-- the brackets before and behind a head, and the slash in it
+abbrev pub bracket : ℕ
+bracket = 91
 
--- the mark of the channel and a space (32)
+abbrev pub closing_bracket : ℕ
+closing_bracket = 93
+
+abbrev pub slash : ℕ
+slash = 47
+
+-- the bracket and the identity
+abbrev pub IsName : Identity → List ℕ → Type 0
+IsName identity spelled = spelled ≡ bracket ∷ identity_bytes identity
+
+-- the mark of the channel and a space
 abbrev pub IsMark : Channel → List ℕ → Type 0
-IsMark channel spelled = spelled ≡ channel_mark channel ++ 32 ∷ []
+IsMark channel spelled = spelled ≡ channel_mark channel ++ space ∷ []
 
 -- the text is the civil time of some moment in range
 pub record ShowsSome (text : List ℕ) : Type 0 where
@@ -51,11 +61,11 @@ pub record IsTime (moment : ℕ) (spelled : List ℕ) : Type 0 where
   pub civil : List ℕ
   pub in_range : moment ≤ last_moment
   pub shown : IsShownAs moment civil
-  pub is_spelled : spelled ≡ civil ++ 32 ∷ []
+  pub is_spelled : spelled ≡ civil ++ space ∷ []
 
 -- the name of the end, and a space
 abbrev pub IsEnd : How → List ℕ → Type 0
-IsEnd how spelled = spelled ≡ how_name how ++ 32 ∷ []
+IsEnd how spelled = spelled ≡ how_name how ++ space ∷ []
 
 -- a number from `least` to 4,100, and the byte behind it
 pub record IsCount (least end number : ℕ) (spelled : List ℕ) : Type 0 where
@@ -86,13 +96,13 @@ FromText errors characters = Joined (IsTextOf errors characters) IsBehindText
 abbrev pub FromNewline : ℕ → ℕ → List ℕ → Type 0
 FromNewline errors characters = Joined IsNewline (λ none. FromText errors characters)
 
--- from its characters on, which aren't fewer than its errors and stand before a bracket (93)
+-- from its characters on, which aren't fewer than its errors and stand before a bracket
 abbrev pub FromCharacters : ℕ → List ℕ → Type 0
-FromCharacters errors = Joined (IsCount errors 93) (FromNewline errors)
+FromCharacters errors = Joined (IsCount errors closing_bracket) (FromNewline errors)
 
--- from its errors on, which stand before a slash (47)
+-- from its errors on, which stand before a slash
 abbrev pub FromErrors : List ℕ → Type 0
-FromErrors = Joined (IsCount 0 47) FromCharacters
+FromErrors = Joined (IsCount 0 slash) FromCharacters
 
 -- from how it ended on
 abbrev pub FromEnd : List ℕ → Type 0

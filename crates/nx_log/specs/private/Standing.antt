@@ -1,10 +1,13 @@
--- What the stage of a reader and the bytes that it holds stand for: what came behind the last entry.
+-- What the stage of a reader and the bytes that it holds stand for: what came behind the last
+-- entry.
 use Rattle.std.specs.Prelude.{◌≡◌, ◌≢◌, ◌⊎◌, ℕ, ◌+◌, ◌<◌, List, [], ◌∷◌, ◌++◌, drop, length, max, take, Option, None, Some}
 use Rattle.std.specs.List.{All}
 use Rattle.nx_log.specs.Entries.{IsUnfinishedEntry}
 use Rattle.nx_log.specs.Reading.{CanGoOn, HasNext, IsBlank}
-use Rattle.nx_log.specs.declared.gap.Stage.{Stage}
-use Rattle.nx_log.specs.declared.gap.Stage.TheVariants.{Start, Blank, Gap, Bracket, Begun, Torn}
+use Rattle.nx_log.specs.declared.entries.gap.Stage.{Stage}
+use Rattle.nx_log.specs.declared.entries.gap.Stage.TheVariants.{Start, Blank, Gap, Bracket, Begun, Torn}
+use Rattle.nx_log.specs.private.Stages as stages
+use Rattle.nx_log.specs.private.Stages.{bracket}
 use Rattle.nx_log.specs.private.Rooms.{room_less, room_of, room_over}
 
 -- what contracts see of a reader
@@ -22,13 +25,13 @@ pub record BlanksBefore (gap bytes : List ℕ) : Type 0 where
   pub split : bytes ≡ first ∷ more
   pub other : ¬ IsBlank first
 
--- no gap, and a bracket (91), behind which no other bracket stands
+-- no gap, and a bracket, behind which no other bracket stands
 pub record NoneBefore (gap bytes : List ℕ) : Type 0 where
   pub none : gap ≡ []
   pub second : ℕ
   pub more : List ℕ
-  pub split : bytes ≡ 91 ∷ (second ∷ more)
-  pub other : second ≢ 91
+  pub split : bytes ≡ bracket ∷ (second ∷ more)
+  pub other : second ≢ bracket
 
 -- one byte that is no newline and no space, and behind it another; behind a bracket another bracket
 pub record OneBefore (gap bytes : List ℕ) : Type 0 where
@@ -38,7 +41,7 @@ pub record OneBefore (gap bytes : List ℕ) : Type 0 where
   pub first : ℕ
   pub more : List ℕ
   pub split : bytes ≡ first ∷ more
-  pub bracket : byte ≡ 91 → first ≡ 91
+  pub bracket : byte ≡ stages.bracket → first ≡ stages.bracket
 
 -- no other gap than this stands before an entry that begins these bytes
 abbrev pub IsGapBefore : List ℕ → List ℕ → Type 0
@@ -66,7 +69,7 @@ pub record HasTorn (room : ℕ) (rest : List ℕ) : Type 0 where
 pub record IsOther (byte : ℕ) (rest : List ℕ) : Type 0 where
   pub split : rest ≡ byte ∷ []
   pub not_blank : ¬ IsBlank byte
-  pub not_bracket : byte ≢ 91
+  pub not_bracket : byte ≢ bracket
 
 -- newlines and spaces, one or more, and the room behind them
 pub record AreBlanks (room : Option ℕ) (rest : List ℕ) : Type 0 where
@@ -79,12 +82,12 @@ abbrev pub StandsFor : Stage → List ℕ → List ℕ → Type 0
 StandsFor Start held rest = rest ≡ []
 StandsFor (Blank room) held rest = AreBlanks room rest
 StandsFor Gap held rest = (byte : ℕ) × IsOther byte rest
-StandsFor Bracket held rest = rest ≡ 91 ∷ []
+StandsFor Bracket held rest = rest ≡ bracket ∷ []
 StandsFor (Begun room) held rest = HasBegun room held rest
 StandsFor (Torn room) held rest = HasTorn room rest
 
--- a gap, and what is held of the entry behind it, if it has begun; the bytes left have to begin it or
--- go on with it
+-- a gap, and what is held of the entry behind it, if it has begun; the bytes left have to begin it
+-- or go on with it
 pub record Enters (room : Option ℕ) (held rest left : List ℕ) : Type 0 where
   pub gap : List ℕ
   pub split : rest ≡ gap ++ held
@@ -101,7 +104,7 @@ StandsBefore stage held rest left = StandsFor stage held rest × (left ≡ [])
 -- what is held as a piece begins: the beginning of an entry
 abbrev pub begun_bytes : Stage → List ℕ → List ℕ
 begun_bytes (Begun room) held = held
-begun_bytes Bracket held = 91 ∷ []
+begun_bytes Bracket held = bracket ∷ []
 begun_bytes stage held = []
 
 -- at the byte at this place behind the rest, the bytes stop being a log
@@ -115,11 +118,12 @@ abbrev pub room_size : Option ℕ → ℕ
 room_size None = 0
 room_size (Some room) = room
 
--- Behind the rest the bytes can only be of a torn end, from the place on: if there is room they are,
--- and else they stop being a log where the room ends, or at the place if it ends before.
+-- Behind the rest the bytes can only be of a torn end, from the place on. If there is room they
+-- are; else they stop being a log where the room ends, or at the place if it ends before.
 pub record CanTear (room : Option ℕ) (place : ℕ) (rest bytes : List ℕ) : Type 0 where
   pub torn : (left : ℕ) → room_less room (length bytes) ≡ Some left → HasTorn left (rest ++ bytes)
-  pub stops : room_less room (length bytes) ≡ None → StopsAfter rest bytes (max place (room_size room))
+  pub stops : room_less room (length bytes) ≡ None
+      → StopsAfter rest bytes (max place (room_size room))
 
 -- newlines and spaces at the beginning of a piece, so many, have been passed
 abbrev pub BlanksPassed : Option ℕ → List ℕ → ℕ → Stage → Type 0

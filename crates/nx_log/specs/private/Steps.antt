@@ -3,14 +3,15 @@ use Rattle.std.specs.Prelude.{◌≡◌, ℕ, ◌+◌, ◌≤◌, List, ◌++◌
 use Rattle.nx_receiver.specs.Shares.{MarkedCopy}
 use Rattle.nx_log.specs.LogReader.{most_lines}
 use Rattle.nx_log.specs.Reading.{AreReadAs, line_behind}
-use Rattle.nx_log.specs.declared.reader.Pushed.{Pushed}
-use Rattle.nx_log.specs.declared.reader.Pushed.TheVariants.{All, Bad, Entry}
-use Rattle.nx_log.specs.declared.start.EntryStart.{EntryStart}
-use Rattle.nx_log.specs.declared.start.EntryStart.TheVariants.{Whole, Unfinished, Broken}
+use Rattle.nx_log.specs.declared.entries.reader.Pushed.{Pushed}
+use Rattle.nx_log.specs.declared.entries.reader.Pushed.TheVariants.{All, Bad, Entry}
+use Rattle.nx_log.specs.declared.entries.start.EntryStart.{EntryStart}
+use Rattle.nx_log.specs.declared.entries.start.EntryStart.TheVariants.{Whole, Unfinished, Broken}
 
 -- These bytes came before, the rest behind the entries, and the next byte stands on this line. What
 -- was read of them is all up to some of the rest.
-pub record CameBefore (line : ℕ) (bytes : List ℕ) (entries : List MarkedCopy) (rest : List ℕ) : Type 0
+pub record CameBefore (line : ℕ) (bytes : List ℕ) (entries : List MarkedCopy) (rest : List ℕ)
+    : Type 0
   where
     pub early : List ℕ
     pub start : List ℕ

@@ -1,5 +1,5 @@
 use Rattle.std.proofs.Common.{sym, ◌∙◌}
-use Rattle.nx_log.proofs.QueryTexts.{kept-none, kept-some}
+use Rattle.nx_log.proofs.lemmas.texts.QueryTexts.{kept-none, kept-some}
 use Rattle.nx_log.proofs.kept.remembered_of.Goals as goal
 use Rattle.nx_log.specs.Logged.{is_kept}
 use Rattle.nx_log.specs.View.{copy_said}

@@ -1,7 +1,7 @@
 use Rattle.std.proofs.Common.{◌≡◌, []}
 use Rattle.std.specs.Io.KnownBytes.{IsAtEnd}
-use Rattle.nx_log.proofs.printed.Moments.{closed_logged, open_logged}
-use Rattle.nx_log.proofs.printed.Runs.{resumed_entries, wrote_entries}
+use Rattle.nx_log.proofs.lemmas.printed.Moments.{closed_logged, open_logged}
+use Rattle.nx_log.proofs.lemmas.printed.Runs.{resumed_entries, wrote_entries}
 use Rattle.nx_log.proofs.laws.a_run_writes_a_log.Goals as goal
 
 pub returns : goal.returns

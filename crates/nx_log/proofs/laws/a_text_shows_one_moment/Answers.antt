@@ -1,5 +1,5 @@
 use Rattle.std.proofs.Common.{[], refl}
-use Rattle.nx_log.proofs.Moments.{same_time}
+use Rattle.nx_log.proofs.lemmas.texts.Moments.{same_time}
 use Rattle.nx_log.proofs.laws.a_text_shows_one_moment.Goals as goal
 
 pub returns : goal.returns

@@ -1,4 +1,4 @@
-use Rattle.nx_log.proofs.logs.Reads.{ended_once, one_line, same_reading, stopped_once}
+use Rattle.nx_log.proofs.lemmas.reading.Reads.{ended_once, one_line, same_reading, stopped_once}
 use Rattle.nx_log.proofs.laws.bytes_are_read_in_one_way.Goals as goal
 
 pub returns-clause-one_reading : goal.returns-clause-one_reading

@@ -1,6 +1,0 @@
-pub mod Dates
-pub mod Joins
-pub mod Lists
-pub mod Parts
-pub mod Stages
-pub mod Wholes

@@ -1,0 +1,65 @@
+-- Lists that two splits of one list compare.
+use Rattle.std.proofs.Common.{◌≡◌, ◌≢◌, ◌≤◌, ◌⊎◌, inl, inr, ℕ, List, [], ◌∷◌, ◌++◌, get_or, drop, length, ap, sym, ◌∙◌, refl, arith, append-nil}
+use Rattle.std.proofs.lemmas.List.{length-append}
+
+-- the second list is the first and then more
+pub record Extends (front all : List ℕ) : Type 0 where
+  pub more : List ℕ
+  pub is : all ≡ front ++ more
+
+-- of two lists that begin one list, one begins the other
+pub one_extends : (xs ys x y : List ℕ) → xs ++ x ≡ ys ++ y → Extends xs ys ⊎ Extends ys xs
+one_extends [] ys x y e = inl (record { more = ys; is = refl })
+one_extends (a ∷ xs) [] x y e = inr (record { more = a ∷ xs; is = refl })
+one_extends (a ∷ xs) (b ∷ ys) x y e =
+    let here : a ≡ b = ap (λ (l : List ℕ). get_or l 0 0) e in
+    elim (one_extends xs ys x y (ap (drop 1) e)) [
+      | inl f ↦ inl
+          (record {
+            more = f.more;
+            is = ap (λ l. b ∷ l) f.is ∙ ap (λ h. h ∷ (xs ++ f.more)) (sym here);
+          })
+      | inr f ↦ inr
+          (record { more = f.more; is = ap (λ l. a ∷ l) f.is ∙ ap (λ h. h ∷ (ys ++ f.more)) here })
+    ]
+
+-- a list that is not empty has elements
+pub some_elements : (xs : List ℕ) → xs ≢ [] → 1 ≤ length xs
+some_elements [] h = absurd (h refl)
+some_elements (x ∷ xs) h = omega arith
+
+pub no_elements : (xs : List ℕ) → length xs ≡ 0 → xs ≡ []
+no_elements [] h = refl
+no_elements (x ∷ xs) h = absurd (omega (arith, h))
+
+-- what ends with an element isn't empty
+pub ends_with_one : (xs : List ℕ) (x : ℕ) → xs ++ x ∷ [] ≢ []
+ends_with_one xs x e = omega (arith, ap length e, length-append xs (x ∷ []))
+
+-- the beginning of a list with one more element, which lacks some, begins the list
+pub part_of_longer : (xs bytes more : List ℕ) (x : ℕ) → xs ++ x ∷ [] ≡ bytes ++ more → more ≢ []
+    → Extends bytes xs
+part_of_longer xs bytes more x e some =
+    elim (one_extends xs bytes (x ∷ []) more e) [
+      | inr f ↦ f
+      | inl f ↦
+          let whole = ap length e in
+          let left = length-append xs (x ∷ []) in
+          let right = length-append bytes more in
+          let front = ap length f.is ∙ length-append xs f.more in
+          let has = some_elements more some in
+          let none : f.more ≡ [] = no_elements f.more (omega arith) in
+          record {
+            more = [];
+            is = sym (append-nil xs) ∙ ap (λ l. xs ++ l) (sym none) ∙ sym f.is
+                ∙ sym (append-nil bytes);
+          }
+    ]
+
+-- what begins a list of one element, and lacks some of it, is empty
+pub begins_one : (bytes more : List ℕ) (x : ℕ) → more ≢ [] → bytes ++ more ≡ x ∷ [] → bytes ≡ []
+begins_one bytes more x some e =
+    let whole = ap length e in
+    let parts = length-append bytes more in
+    let has = some_elements more some in
+    no_elements bytes (omega arith)

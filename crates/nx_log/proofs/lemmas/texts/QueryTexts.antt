@@ -1,0 +1,85 @@
+-- What a query asks, and what is written of an entry as JSON.
+use Rattle.std.proofs.Common.{◌≡◌, ℕ, ◌<◌, Bool, true, false, List, [], ◌∷◌, codes, length, refl, ◌∙◌, arith, Some, None}
+use Rattle.std.specs.Prelude.{IsTrue, IsAscii, ◌==◌, ◌&&◌, ◌||◌, if◌then◌else◌}
+use Rattle.serde_json.specs.Data.{Data, member, no_members, number, object, string, unsigned}
+use Rattle.nx_envelope.specs.Copies.{errors_of}
+use Rattle.nx_fec.specs.air_files.Channels.{channel_number}
+use Rattle.nx_receiver.specs.Log.{how_name}
+use Rattle.nx_receiver.specs.Shares.{MarkedCopy}
+use Rattle.nx_log.specs.Json.{entry_data}
+use Rattle.std.specs.List.{All}
+use Rattle.std.proofs.lemmas.Bool.Decides.{Decides-eqb}
+use Rattle.std.proofs.lemmas.List.Elements.{All-weaker}
+use Rattle.std.proofs.lemmas.Str.Ascii.{IsAscii-from_all}
+use Rattle.nx_code.proofs.lemmas.Character.{in_code-low}
+use Rattle.nx_code.specs.Reading.{asterisk, is_in_code}
+use Rattle.nx_log.specs.Logged.{is_text_byte}
+
+-- the last two parts of a query, where the others are known
+pub last-then : (v p n g : Bool) → v ≡ p → v ≡ true → n ≡ true → n ≡ (p && (n || g))
+last-then v true true g a b e = refl
+last-then v true false g a b e = cc
+last-then v false n g a b e = cc
+
+pub last-else : (v p n g r : Bool) → v ≡ p → v ≡ true → n ≡ false → r ≡ g → r ≡ (p && (n || g))
+last-else v true true g r a b e f = cc
+last-else v true false g r a b e f = f
+last-else v false n g r a b e f = cc
+
+pub none-before : (v p x : Bool) → v ≡ p → v ≡ false → v ≡ (p && x)
+none-before v true x a b = cc
+none-before v false x a b = a
+
+-- the last part, where the part before it is known
+pub last-known : (b x y : Bool) → b ≡ true → x ≡ y → x ≡ (b && y)
+last-known true x y a e = e
+last-known false x y a e = cc
+
+-- an entry that is kept, and one that isn't
+pub kept-some : {T : Type 0} (b : Bool) (x : T) → b ≡ true → Some x ≡ (if b then Some x else None)
+kept-some true x e = refl
+kept-some false x e = cc
+
+pub kept-none : {T : Type 0} (b : Bool) (x : T) → b ≡ false → None ≡ (if b then Some x else None)
+kept-none true x e = cc
+kept-none false x e = refl
+
+-- the object of an entry, by what its members are
+pub as-data : (d : Data) (one : MarkedCopy) (time : List ℕ)
+    (channel characters errors moment digits : ℕ) (end station subject text shown : List ℕ)
+    → d ≡ object
+    (member (codes "channel") (number (unsigned channel))
+    (member (codes "characters") (number (unsigned characters))
+    (member (codes "end") (string end)
+    (member (codes "errors") (number (unsigned errors))
+    (member (codes "moment") (number (unsigned moment))
+    (member (codes "number") (number (unsigned digits))
+    (member (codes "station") (string station)
+    (member (codes "subject") (string subject)
+    (member (codes "text") (string text)
+    (member (codes "time") (string shown)
+    no_members))))))))))
+    → channel ≡ channel_number one.channel → characters ≡ length one.copy.text
+    → errors ≡ errors_of one.copy.text → moment ≡ one.copy.moment
+    → digits ≡ one.copy.identity.number → end ≡ how_name one.copy.how
+    → station ≡ one.copy.identity.b1.byte ∷ [] → subject ≡ one.copy.identity.b2.byte ∷ []
+    → text ≡ one.copy.text → shown ≡ time
+    → d ≡ entry_data one time
+as-data d one time channel characters errors moment digits end station subject text shown built
+    a b c e f g h i j k = built ∙ cc
+
+-- a text is ASCII
+either_low : (byte : ℕ) (b : Bool) → is_in_code byte ≡ b → (b || (byte == asterisk)) ≡ true
+    → byte < 128
+either_low byte true e t = in_code-low byte e
+either_low byte false e t =
+    let same = (Decides-eqb byte asterisk).0 t in omega (arith, same)
+
+pub text_low : (byte : ℕ) → IsTrue (is_text_byte byte) → byte < 128
+unfolding is_text_byte
+text_low byte t = either_low byte (is_in_code byte) refl t
+
+pub text_ascii : (text : List ℕ) → All (λ byte. IsTrue (is_text_byte byte)) text → IsAscii text
+text_ascii text h =
+    IsAscii-from_all text
+    (All-weaker (λ byte. IsTrue (is_text_byte byte)) (λ b. b < 128) text_low text h)

@@ -1,9 +1,0 @@
-use Rattle.std.proofs.Common.{arith}
-use Rattle.nx_memory.proofs.Letters.{contains-letters_of}
-use Rattle.nx_log.proofs.letters.Letters.contains.Goals as goal
-
-pub returns : goal.returns
-returns c =
-    let flag = contains-letters_of c.self.inside.flags c.place_in_alphabet.result c.args.letter.byte
-    (omega arith) in
-    rw (← c.self.view_is, flag)

@@ -1,0 +1,149 @@
+use Rattle.std.proofs.Common.{◌≡◌, ◌≤◌, ◌∙◌, ◌++◌, inl, inr, length, length-append, length-drop}
+use Rattle.std.proofs.Common.{Err, ap, sym, refl, take, drop, subst, arith}
+use Rattle.std.proofs.KnownBytes.{Consumes-kept, Consumes-trans}
+use Rattle.std.proofs.lemmas.List.{length-take-le, take-append-le}
+use Rattle.std.proofs.lemmas.Result.{err_from_is_err_and}
+use Rattle.std.specs.Io.KnownBytes.{Consumes}
+use Rattle.nx_fec.proofs.lemmas.devices.TransferLaws.{Ok-not_err, Writes-sound}
+use Rattle.nx_log.proofs.lemmas.runs.LogRuns.{begin-all, hold-at}
+use Rattle.nx_log.proofs.log_runs.LogRun.read_log.Goals as goal
+
+pub returns-in_err-send-clause-read : goal.returns-in_err-send-clause-read
+returns-in_err-send-clause-read g c = λ old h.
+    let r = c.loop-room.invariant.read old h in
+    let run = r.3 in
+    let p = err_from_is_err_and c.from_residual.result c.from_residual.ensures.1 in (
+      r.0,
+      r.1,
+      omega (arith, r.2),
+      rw p.1 (rw p.2 (
+        run.entries,
+        begin-all c.loop-room.self.log r.0 run.entries run.at,
+        c.in_err-send.ensures.given c.args.query.now c.args.form old run.entries run.given,
+      )),
+    )
+
+pub returns-in_err-send-clause-writes : goal.returns-in_err-send-clause-writes
+returns-in_err-send-clause-writes g c =
+    let p = err_from_is_err_and c.from_residual.result c.from_residual.ensures.1 in
+    let counts = c.in_err-send.ensures.counts in
+    record {
+      failed = (
+        λ w. counts.failed.0 refl,
+        λ one. (
+          c.in_err-send.field-0.0.written,
+          p.1
+              ∙ ap Err p.2,
+        ),
+      );
+      once = counts.once;
+    }
+
+pub returns-in-End-clause-read : goal.returns-in-End-clause-read
+returns-in-End-clause-read g c = λ old h.
+    let r = c.loop-room.invariant.read old h in
+    let run = r.3 in
+    let sent = c.in_ok-send.ensures.given c.args.query.now c.args.form old run.entries run.given in (
+      r.0,
+      Consumes-kept _ _ _ r.0 r.1 c.in-End.ensures.0,
+      omega (arith, r.2),
+      (inl c.in-End.ensures.1, record { entries = run.entries; at = run.at; given = sent.0 }),
+    )
+
+pub returns-in-Failed-clause-read : goal.returns-in-Failed-clause-read
+returns-in-Failed-clause-read g c = λ old h.
+    let r = c.loop-room.invariant.read old h in
+    let run = r.3 in
+    let sent = c.in_ok-send.ensures.given c.args.query.now c.args.form old run.entries run.given in (
+      r.0,
+      Consumes-kept _ _ _ r.0 r.1 c.in-Failed.ensures.0,
+      omega (arith, r.2),
+      (run.entries, hold-at c.loop-room.self.log r.0 run.entries run.at, sent.1),
+    )
+
+pub returns-in_err-take_piece-clause-read : goal.returns-in_err-take_piece-clause-read
+returns-in_err-take_piece-clause-read g c = λ old h.
+    let r = c.loop-room.invariant.read old h in
+    let run = r.3 in
+    let sent = c.in_ok-send.ensures.given c.args.query.now c.args.form old run.entries run.given in
+    let b = c.next_piece.new.buffer in
+    let most = c.min-most.result in
+    let count = c.in-Bytes.count in
+    let behind = drop most c.loop-room.buffer in
+    let fits : length b ≡ most = c.next_piece.auto.buffer
+    ∙ length-take-le most c.loop-room.buffer
+    (omega (arith, c.min-most.ensures, c.loop-room.invariant.chunk)) in
+    let piece = take count (b ++ behind) in
+    let front : piece ≡ take count b = take-append-le count b behind c.in-Bytes.ensures.1 in
+    let size : length piece ≡ count =
+    ap length front ∙ length-take-le count b c.in-Bytes.ensures.1 in
+    let read = subst (Consumes (g.R.Read.remaining c.loop-room.reader.inner)
+    (g.R.Read.remaining c.next_piece.new.reader.inner)) (sym front) c.in-Bytes.ensures.2 in
+    let p = err_from_is_err_and c.from_residual-in_err-take_piece.result
+    c.from_residual-in_err-take_piece.ensures.1 in (
+      r.0 ++ piece,
+      Consumes-trans _ _ _ _ _ r.1 read,
+      omega (
+        arith,
+        r.2,
+        length-append r.0 piece,
+        size,
+        c.in-Bytes.ensures.1,
+        fits,
+        c.min-most.ensures,
+      ),
+      rw p.1 (rw p.2 (c.in_err-take_piece.ensures.taken old r.0
+          (record { entries = run.entries; at = run.at; given = sent.0 }))),
+    )
+
+pub loop-room-preserved : goal.loop-room-preserved
+loop-room-preserved g c =
+    let inv = c.loop-room.invariant in
+    let b = c.next_piece.new.buffer in
+    let most = c.min-most.result in
+    let count = c.in-Bytes.count in
+    let behind = drop most c.loop-room.buffer in
+    let fits : length b ≡ most = c.next_piece.auto.buffer
+    ∙ length-take-le most c.loop-room.buffer (omega (arith, c.min-most.ensures, inv.chunk)) in
+    let piece = take count (b ++ behind) in
+    let front : piece ≡ take count b = take-append-le count b behind c.in-Bytes.ensures.1 in
+    let size : length piece ≡ count =
+    ap length front ∙ length-take-le count b c.in-Bytes.ensures.1 in
+    let read' = subst (Consumes (g.R.Read.remaining c.loop-room.reader.inner)
+    (g.R.Read.remaining c.next_piece.new.reader.inner)) (sym front) c.in-Bytes.ensures.2 in
+    let low : count ≤ c.loop-room.room =
+    omega (arith, c.in-Bytes.ensures.1, fits, c.min-most.ensures) in
+    record {
+      writer = Writes-sound _ _ _ (λ written. Ok-not_err _ _) c.in_ok-take_piece.ensures.writes;
+      reader = c.in-Bytes.ensures.3;
+      chunk = omega (
+        arith,
+        length-append b behind,
+        length-drop most c.loop-room.buffer,
+        fits,
+        inv.chunk,
+        c.min-most.ensures,
+      );
+      bound = omega (arith, inv.bound);
+      reading = c.in_ok-take_piece.ensures.reading;
+      read = λ old h.
+          let r = inv.read old h in
+          let run = r.3 in
+          let sent = c.in_ok-send.ensures.given c.args.query.now c.args.form old run.entries
+          run.given in (
+            r.0 ++ piece,
+            Consumes-trans _ _ _ _ _ r.1 read',
+            omega (arith, r.2, size, low, length-append r.0 piece),
+            c.in_ok-take_piece.ensures.taken old r.0
+                (record { entries = run.entries; at = run.at; given = sent.0 }),
+          );
+    }
+
+pub returns-clause-read : goal.returns-clause-read
+returns-clause-read g c = λ old h.
+    let r = c.loop-room.invariant.read old h in (
+      r.0,
+      r.1,
+      omega (arith, r.2),
+      (inr (omega (arith, r.2, c.loop-room-test.false)), r.3),
+    )

@@ -1,0 +1,19 @@
+use Rattle.std.proofs.Common.{◌≡◌, ◌-◌, ◌≤◌, ℕ, Option, List, ◌++◌, length, take}
+use Rattle.nx_log.specs.private.LogRunning.{IsReading, IsRunning}
+use Rattle.nx_log.proofs.log_runs.LogRun.take_piece.Given as goal
+
+-- the entries that ended so far were given
+abbrev pub invariant-loop-at : goal.invariant-loop-at
+invariant-loop-at g l = record {
+  writer : l.writer.failures ≡ 0;
+  within : l.at ≤ length l.piece;
+  reading : IsReading l.self.log;
+  taken : (old : Option (List ℕ)) (bytes : List ℕ)
+      → IsRunning l.query l.form old l.fn.self.log (g.W.Write.contents l.fn.writer.inner)
+      l.fn.self.output bytes
+      → IsRunning l.query l.form old l.self.log (g.W.Write.contents l.writer.inner) l.self.output
+      (bytes ++ take l.at l.piece);
+}
+
+abbrev pub decreases-loop-at : goal.decreases-loop-at
+decreases-loop-at g l = length l.piece - l.at

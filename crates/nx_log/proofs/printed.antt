@@ -1,4 +1,0 @@
-pub mod Copies
-pub mod Moments
-pub mod Runs
-pub mod Texts

@@ -1,0 +1,51 @@
+use Rattle.std.proofs.Common.{sym, ap, ◌∙◌, subst}
+use Rattle.nx_log.specs.Query.{admits}
+use Rattle.nx_log.specs.Json.{IsJsonLine}
+use Rattle.nx_log.specs.LogRun.{IsInForm}
+use Rattle.nx_log.proofs.lemmas.runs.LogRuns.{given-more, given-same, view-is}
+use Rattle.nx_log.proofs.writing.output.Output.give.Goals as goal
+
+pub returns-then-not-admits-clause-given : goal.returns-then-not-admits-clause-given
+returns-then-not-admits-clause-given g c = λ one old entries is h.
+    let view = c.whole_entry-view.result in
+    let v = c.whole_entry-view.ensures in
+    let same = view-is one c.args.bytes.now view is v in
+    given-same c.args.query.now c.args.form old (g.W.Write.contents c.args.writer.now.inner)
+    c.args.self.now entries one h
+    (ap (admits c.args.query.now) (sym same)
+    ∙ sym (c.admits.ensures view.text.now v.errors v.characters)
+    ∙ c.if-not-admits.true)
+
+pub returns-in-Log-clause-given : goal.returns-in-Log-clause-given
+returns-in-Log-clause-given g c = λ one old entries is h.
+    let view = c.whole_entry-view.result in
+    let v = c.whole_entry-view.ensures in
+    let same = view-is one c.args.bytes.now view is v in
+    given-more c.give.result c.args.query.now c.args.form old
+    (g.W.Write.contents c.args.writer.now.inner) (g.W.Write.contents c.give.new.writer.inner)
+    c.args.self.now (record { batch = c.give.new.self; admitted = c.saturating_add-self.result })
+    entries one c.args.bytes.now h
+    (ap (admits c.args.query.now) (sym same)
+    ∙ sym (c.admits.ensures view.text.now v.errors v.characters)
+    ∙ c.if-not-admits.false)
+    (subst (λ f. IsInForm f one c.args.bytes.now) (sym c.in-Log.is) is)
+    c.saturating_add-self.ensures
+    (c.give.ensures.bytes old h.bytes h.given)
+
+pub returns-in-Json-clause-given : goal.returns-in-Json-clause-given
+returns-in-Json-clause-given g c = λ one old entries is h.
+    let view = c.whole_entry-view.result in
+    let v = c.whole_entry-view.ensures in
+    let same = view-is one c.args.bytes.now view is v in
+    let line = c.give_json.ensures.given in
+    given-more c.give_json.result c.args.query.now c.args.form old
+    (g.W.Write.contents c.args.writer.now.inner) (g.W.Write.contents c.give_json.new.writer.inner)
+    c.args.self.now
+    (record { batch = c.give_json.new.batch; admitted = c.saturating_add-self.result })
+    entries one line.0 h
+    (ap (admits c.args.query.now) (sym same)
+    ∙ sym (c.admits.ensures view.text.now v.errors v.characters)
+    ∙ c.if-not-admits.false)
+    (subst (λ f. IsInForm f one line.0) (sym c.in-Json.is)
+    (subst (λ o. IsJsonLine o line.0) same line.1)) c.saturating_add-self.ensures
+    (line.2 old h.bytes h.given)

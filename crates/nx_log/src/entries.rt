@@ -1,0 +1,9 @@
+//! An entry of a log as it is read back, and what stands before it and behind it.
+
+pub(crate) mod beginning;
+pub(crate) mod entry;
+pub(crate) mod gap;
+pub(crate) mod head;
+pub(crate) mod moment;
+pub(crate) mod reader;
+pub(crate) mod start;

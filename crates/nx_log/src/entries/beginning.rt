@@ -1,0 +1,238 @@
+//! Whether bytes are the beginning of an entry, told piece by piece.
+
+ghost use Rattle.std.specs.Prelude.{◌≡◌, ◌↔◌, ℕ, ◌+◌, ◌-◌, ◌≤◌, List, ◌∷◌, ◌++◌, length, drop, IsTrue};
+ghost use Rattle.nx_envelope.specs.Copies.{errors_of, most_found};
+ghost use Rattle.nx_envelope.specs.Identity.{identity_bytes};
+ghost use Rattle.nx_envelope.specs.declared.identity.Identity.{Identity as TheIdentity};
+ghost use Rattle.nx_log.specs.private.Stages.{CanBe, FromCharacters, FromEnd, FromErrors, FromMark, FromName, FromNewline, FromText, FromTime};
+ghost use Rattle.nx_log.specs.private.Stages.{IsCount, IsEnd, IsMark, IsName, IsPartOf, IsTextOf, IsTime, ShowsSome};
+
+use crate::entries::entry::{end_of, errors_in, is_text};
+use crate::entries::head::{behind_newline, count_at, how_at, mark_at, name_at, time_at};
+use crate::entries::moment::moment_of;
+use itoa::Buffer;
+use nx_envelope::{CIVIL_LEN, MAX_FOUND};
+
+/// Endings of a civil time. What begins a civil time is one with the end of the first or of the
+/// second, which are the same but for the last digit of the day: a month has its 1st, 11th and
+/// 21st, and its 31st or its 30th.
+const FIRST_ENDING: &[u8; CIVIL_LEN] = b"1970-01-01 00:00:00";
+
+const SECOND_ENDING: &[u8; CIVIL_LEN] = b"1970-01-00 00:00:00";
+
+/// How many bytes the bracket and an identity have.
+const NAME_LEN: usize = 5;
+
+/// An ending of a bracket and an identity.
+const NAME_ENDING: &[u8; NAME_LEN] = b"[AA00";
+
+/// Whether some bytes to come, or none, make these an entry.
+pub(crate) fn can_be_entry(bytes: &[u8]) -> bool
+    ensures { IsTrue result ↔ CanBe FromName bytes.now }
+{
+    match name_at(bytes) {
+        Some((_, rest)) => can_be_from_mark(rest),
+        None => is_part_of_name(bytes),
+    }
+}
+
+/// The same of an entry from the mark of its channel on.
+fn can_be_from_mark(bytes: &[u8]) -> bool
+    ensures { IsTrue result ↔ CanBe FromMark bytes.now }
+{
+    match mark_at(bytes) {
+        Some((_, rest)) => can_be_from_time(rest),
+        None => is_part_of_mark(bytes),
+    }
+}
+
+/// The same of an entry from its time on.
+fn can_be_from_time(bytes: &[u8]) -> bool
+    ensures { IsTrue result ↔ CanBe FromTime bytes.now }
+{
+    match time_at(bytes) {
+        Some((_, rest)) => can_be_from_end(rest),
+        None => is_part_of_time(bytes),
+    }
+}
+
+/// The same of an entry from how it ended on.
+fn can_be_from_end(bytes: &[u8]) -> bool
+    ensures { IsTrue result ↔ CanBe FromEnd bytes.now }
+{
+    match how_at(bytes) {
+        Some((_, rest)) => can_be_from_errors(rest),
+        None => is_part_of_end(bytes),
+    }
+}
+
+/// The same of an entry from its errors on.
+fn can_be_from_errors(bytes: &[u8]) -> bool
+    ensures { IsTrue result ↔ CanBe FromErrors bytes.now }
+{
+    match count_at(bytes, b'/') {
+        Some((errors, rest)) => can_be_from_characters(rest, errors),
+        None => is_part_of_count(bytes, 0, b'/'),
+    }
+}
+
+/// The same of an entry from its characters on.
+fn can_be_from_characters(bytes: &[u8], errors: u16) -> bool
+    requires { errors ≤ most_found }
+    ensures { IsTrue result ↔ CanBe (FromCharacters errors) bytes.now }
+{
+    match count_at(bytes, b']') {
+        Some((characters, rest)) => {
+            if characters < errors {
+                return false;
+            }
+            can_be_from_newline(rest, errors, characters)
+        }
+        None => is_part_of_count(bytes, errors, b']'),
+    }
+}
+
+/// The same of an entry from the newline behind its head on.
+fn can_be_from_newline(bytes: &[u8], errors: u16, characters: u16) -> bool
+    requires { errors ≤ characters }
+    ensures { IsTrue result ↔ CanBe (FromNewline errors characters) bytes.now }
+{
+    match behind_newline(bytes) {
+        Some(rest) => can_be_from_text(rest, errors, characters),
+        None => bytes.is_empty(),
+    }
+}
+
+/// The same of an entry from its text on.
+fn can_be_from_text(bytes: &[u8], errors: u16, characters: u16) -> bool
+    requires { errors ≤ characters }
+    ensures { IsTrue result ↔ CanBe (FromText errors characters) bytes.now }
+{
+    match bytes.split_at_checked(usize::from(characters)) {
+        Some((text, rest)) => {
+            if !is_text(text) || errors_in(text) != usize::from(errors) {
+                return false;
+            }
+            is_beginning_of(rest, end_of(text))
+        }
+        None => is_part_of_text(bytes, usize::from(errors), usize::from(characters)),
+    }
+}
+
+/// Whether the bytes are the beginning of a bracket and an identity, which lacks its end.
+fn is_part_of_name(bytes: &[u8]) -> bool
+    ensures { IsTrue result ↔ IsPartOf IsName bytes.now }
+{
+    if bytes.len() >= NAME_LEN {
+        return false;
+    }
+    let mut name = *NAME_ENDING;
+    complete(bytes, &mut name);
+    begins_with_name(&name)
+}
+
+/// Whether the bytes begin with a bracket and an identity.
+fn begins_with_name(bytes: &[u8]) -> bool
+    ensures { IsTrue result ↔ ((identity : TheIdentity) × (more : List ℕ)
+        × (bytes.now ≡ (91 ∷ identity_bytes identity) ++ more)) }
+{
+    match name_at(bytes) {
+        Some(_) => true,
+        None => false,
+    }
+}
+
+/// Whether the bytes are the beginning of the mark of a channel and a space, which lacks its end.
+fn is_part_of_mark(bytes: &[u8]) -> bool
+    ensures { IsTrue result ↔ IsPartOf IsMark bytes.now }
+{
+    is_beginning_of(bytes, b"/1") || is_beginning_of(bytes, b"/2")
+}
+
+/// Whether the bytes are the beginning of a civil time and a space, which lacks its end.
+fn is_part_of_time(bytes: &[u8]) -> bool
+    ensures { IsTrue result ↔ IsPartOf IsTime bytes.now }
+{
+    if bytes.len() > CIVIL_LEN {
+        return false;
+    }
+    let mut first = *FIRST_ENDING;
+    let mut second = *SECOND_ENDING;
+    complete(bytes, &mut first);
+    complete(bytes, &mut second);
+    is_civil(&first) || is_civil(&second)
+}
+
+/// Puts the bytes in the place of as many at the beginning of what they are completed to.
+fn complete(bytes: &[u8], whole: &mut [u8])
+    requires { length bytes.now ≤ length whole.old }
+    ensures { whole.new ≡ bytes.now ++ drop (length bytes.now) whole.old }
+{
+    whole[..bytes.len()].copy_from_slice(bytes);
+}
+
+/// Whether the text is the civil time of a moment in range.
+fn is_civil(text: &[u8]) -> bool
+    ensures { IsTrue result ↔ ShowsSome text.now }
+{
+    match moment_of(text) {
+        Some(_) => true,
+        None => false,
+    }
+}
+
+/// Whether the bytes are the beginning of the name of an end and a space, which lacks its end.
+fn is_part_of_end(bytes: &[u8]) -> bool
+    ensures { IsTrue result ↔ IsPartOf IsEnd bytes.now }
+{
+    if is_beginning_of(bytes, b"full") {
+        return true;
+    }
+    is_beginning_of(bytes, b"cut") || is_beginning_of(bytes, b"long")
+}
+
+/// Whether the bytes are the beginning of a number from `least` to 4,100 and the byte behind it,
+/// which lacks its end. It goes over all these numbers, since it is asked only where a log breaks
+/// off.
+fn is_part_of_count(bytes: &[u8], least: u16, end: u8) -> bool
+    ensures { IsTrue result ↔ IsPartOf (IsCount least end) bytes.now }
+{
+    for number in least..MAX_FOUND as u16 + 1 {
+        if is_beginning_of(bytes, Buffer::new().format(number).as_bytes()) {
+            return true;
+        }
+    }
+    false
+}
+
+/// Whether the bytes are the beginning of these, or all of them.
+fn is_beginning_of(bytes: &[u8], all: &[u8]) -> bool
+    ensures beginning { IsTrue result → all.now ≡ bytes.now ++ drop (length bytes.now) all.now }
+    ensures other { (more : List ℕ) → all.now ≡ bytes.now ++ more → IsTrue result }
+{
+    all.starts_with(bytes)
+}
+
+/// Whether the bytes are the beginning of a text with so many errors and characters, which lacks
+/// its end.
+fn is_part_of_text(bytes: &[u8], errors: usize, characters: usize) -> bool
+    requires { errors ≤ characters }
+    ensures { IsTrue result ↔ IsPartOf (IsTextOf errors characters) bytes.now }
+{
+    if bytes.len() >= characters || !is_text(bytes) {
+        return false;
+    }
+    lacks_asterisks(bytes, errors, characters)
+}
+
+/// Whether the asterisks that a text lacks may stand in the characters that it lacks.
+fn lacks_asterisks(bytes: &[u8], errors: usize, characters: usize) -> bool
+    requires { length bytes.now ≤ characters }
+    ensures { IsTrue result ↔ ((errors_of bytes.now ≤ errors)
+        × ((errors - errors_of bytes.now) + length bytes.now ≤ characters)) }
+{
+    match errors.checked_sub(errors_in(bytes)) {
+        Some(lacking) => lacking <= characters - bytes.len(),
+        None => false,
+    }
+}

@@ -1,0 +1,97 @@
+//! An entry of a log, read back.
+
+ghost use Rattle.std.specs.Prelude.{◌≡◌, ◌≢◌, ◌↔◌, ℕ, List, [], ◌∷◌, ◌++◌, All, IfNone, IfSome, IsTrue};
+ghost use Rattle.nx_envelope.specs.Copies.{errors_of};
+ghost use Rattle.nx_code.specs.Reading.{newline};
+ghost use Rattle.nx_receiver.specs.Log.{missing_newline};
+ghost use Rattle.nx_receiver.specs.Shares.{MarkedCopy};
+ghost use Rattle.nx_log.specs.Entries.{IsWholeEntry};
+ghost use Rattle.nx_log.specs.Logged.{IsLoggedAs, is_text_byte as the_is_text_byte};
+ghost use Rattle.nx_log.specs.View.{IsViewOf};
+
+use crate::entries::head::{LoggedHead, head_at};
+use nx_code::char_to_code;
+use nx_envelope::NEWLINE;
+
+/// The most bytes of a logged entry.
+pub const MAX_LOGGED: usize = 4146;
+
+/// An entry as it stands at the beginning of bytes.
+#[derive(Clone, Copy, Debug)]
+pub struct EntryView<'a> {
+    /// What the line that heads it says.
+    pub head: LoggedHead,
+    /// Its text, newlines and asterisks included.
+    pub text: &'a [u8],
+    /// How many bytes it has.
+    pub len: usize,
+}
+
+/// The logged entry with which the bytes begin, whatever stands behind it. `None` exactly where
+/// they begin with none.
+pub fn entry_at(bytes: &[u8]) -> Option<EntryView>
+    ensures found { IfSome result (IsViewOf bytes.now) }
+    ensures none { IfNone result ((one : MarkedCopy) (entry more : List ℕ) → IsLoggedAs one entry
+        → bytes.now ≢ entry ++ more) }
+{
+    let (head, rest) = head_at(bytes)?;
+    let (text, rest) = rest.split_at_checked(usize::from(head.characters))?;
+    if !is_text(text) || errors_in(text) != usize::from(head.errors) {
+        return None;
+    }
+    let rest = rest.strip_prefix(end_of(text))?;
+    Some(EntryView {
+        head,
+        text,
+        len: bytes.len() - rest.len(),
+    })
+}
+
+/// The logged entry that these bytes are, all of them. Its text isn't judged again.
+pub(crate) fn whole_entry(bytes: &[u8]) -> EntryView
+    requires { IsWholeEntry bytes.now }
+    ensures { IsViewOf bytes.now result }
+{
+    let Some((head, rest)) = head_at(bytes) else {
+        unreachable!()
+    };
+    EntryView {
+        head,
+        text: &rest[..usize::from(head.characters)],
+        len: bytes.len(),
+    }
+}
+
+/// Whether each byte may stand in a text.
+pub(crate) fn is_text(text: &[u8]) -> bool
+    ensures { IsTrue result ↔ All (λ byte. IsTrue (the_is_text_byte byte)) text.now }
+{
+    text.iter().all(|byte| is_text_byte(*byte))
+}
+
+/// Whether a byte may stand in a text: it is a character of the code, or an asterisk.
+#[tactic(auto, unfolding(crate::specs::Logged::is_text_byte))]
+fn is_text_byte(byte: u8) -> bool
+    ensures { result ≡ the_is_text_byte byte }
+{
+    char_to_code(byte).is_some() || byte == b'*'
+}
+
+/// How many asterisks a text has.
+pub(crate) fn errors_in(text: &[u8]) -> usize
+    ensures { result ≡ errors_of text.now }
+{
+    text.iter().filter(|byte| **byte == b'*').count()
+}
+
+/// What stands behind the text of an entry: a newline where the text isn't empty and doesn't end
+/// with one, and a newline.
+#[tactic(auto, unfolding(nx_receiver::specs::Log::missing_newline, nx_receiver::specs::Log::is_of_lines))]
+pub(crate) fn end_of(text: &[u8]) -> &'static [u8]
+    ensures { result.now ≡ missing_newline text.now ++ newline ∷ [] }
+{
+    match text.last() {
+        Some(last) if *last != NEWLINE => b"\n\n",
+        Some(_) | None => b"\n",
+    }
+}

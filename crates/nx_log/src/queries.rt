@@ -1,0 +1,5 @@
+//! Which entries are asked for: by station and subject, and by time.
+
+pub(crate) mod letters;
+pub(crate) mod query;
+pub(crate) mod time;
