@@ -2,15 +2,15 @@
 -- was put before it (this profile).
 use Rattle.std.specs.Prelude.{◌≡◌, ℕ, ◌+◌, ◌<◌, List, [], ◌∷◌, ◌++◌, Option, ⊤}
 use Rattle.std.specs.List.{flat_map}
-use Rattle.nx_fec.specs.AirFile.{Line}
-use Rattle.nx_fec.specs.declared.channel.Channel.{Channel}
+use Rattle.nx_fec.specs.air_files.AirFile.{Line}
+use Rattle.nx_fec.specs.declared.air_files.channel.Channel.{Channel}
 use Rattle.nx_log.specs.Logged.{remembered_on}
 use Rattle.nx_memory.specs.Memory.{newest_moment, seconds_known}
-use Rattle.nx_receiver.specs.Chain.{AreFoundIn}
+use Rattle.nx_receiver.specs.air_file_runs.Chain.{AreFoundIn}
 use Rattle.nx_receiver.specs.Events.{Event, Start, elements_among, first_setting}
 use Rattle.nx_receiver.specs.FoundCopies.{FoundCopy, TaggedCopy, ended_so_far, tagged_copies}
 use Rattle.nx_receiver.specs.InTurn.{PrintAllToEnd, PrintsInTurn}
-use Rattle.nx_receiver.specs.Listen.{events_on, given_by}
+use Rattle.nx_receiver.specs.air_file_runs.Listen.{events_on, given_by}
 use Rattle.nx_receiver.specs.Printing.{printed_copies}
 use Rattle.nx_receiver.specs.Shares.{Given, MarkedCopy, Starts, copies_on, start_on}
 use Rattle.nx_sync.specs.Locks.{IsNow, Lock, Now}
@@ -23,17 +23,17 @@ Begins {A} front all = (rest : List A) × (all ≡ front ++ rest)
 
 -- ---- a watch
 
--- How a watch ended: it answered Ok or `Back`, which closed the copies that stood open; or a crash,
+-- How a watch ended. It answered Ok or `Back`, which closed the copies that stood open. Or a crash,
 -- `Read` or `Disk` ended it, after an entry of such a copy was put, or before any was.
 pub data Ending : Type 0 where
   answered : Ending
   stopped_closing : Ending
   stopped : Ending
 
--- A watch: its MOMENT; the lines that acted, those behind which it read on before any fault of the
--- disk, and then those behind which it didn't; how it ended; with what it started; the copies that
--- were found on each channel, and those of them that were judged before it ended; the entries that
--- it put; and the bytes that its log then has.
+-- A watch: its MOMENT, how it ended, and with what it started. Its lines are those that acted:
+-- those behind which it read on before any fault of the disk, and then those behind which it
+-- didn't. Its copies are those that were found on each channel, and those of them that were judged
+-- before it ended. Then come the entries that it put, and the bytes that its log then has.
 pub record Watch : Type 0 where
   pub moment : ℕ
   pub sure : List Line
@@ -85,9 +85,9 @@ abbrev pub PutAll : Ending → List Line → List MarkedCopy → List MarkedCopy
 PutAll answered more printed put = (more ≡ []) × (put ≡ printed)
 PutAll ending more printed put = ⊤
 
--- The watch started behind these entries of its log, and took the lines that act of some lines. What
--- it put begins what they print, and is at least all that is printed of those behind which it read
--- on; all, where it answered. Its log then stands for the entries from before and for these.
+-- The watch started behind these entries of its log, and took the lines that act of some lines.
+-- What it put begins what they print, and is at least all that is printed of those behind which it
+-- read on; all, where it answered. Its log then stands for the entries from before and for these.
 pub record Puts (log : List MarkedCopy) (watch : Watch) : Type 0 where
   pub begins : watch.starts ≡ starts_at watch.moment log
   pub said : List (Option Line)
@@ -113,8 +113,8 @@ pub record IsLeftBy (now : ℕ) (log : List MarkedCopy) (sure : List Line) (put 
   pub left : watch.file ≡ file
   pub puts : Puts log watch
 
--- The copies that it judged on a channel begin those that were found; what is printed of them is
--- what it put; and those that had ended in the lines behind which it read on are among them.
+-- The copies that it judged on a channel begin those that were found, and what is printed of them
+-- is what it put. Those that had ended in the lines behind which it read on are among them.
 pub record Judges (channel : Channel) (watch : Watch) : Type 0 where
   pub found : AreFoundOf watch.ending (events_in channel watch) (watch.found channel)
   pub begins : Begins (watch.judged channel) (watch.found channel)

@@ -1,15 +1,15 @@
--- A worked chain of two watches of one log, which is empty at first: on channel 0 the first hears
+-- A worked chain of two watches of one log, which is empty at first. On channel 0 the first hears
 -- the message EA01 with the one line TEST in the slot of station E, puts its entry, and its power
--- fails; the second starts four hours later, hears the message again, and its input ends. Both hear
+-- fails. The second starts four hours later, hears the message again, and its input ends. Both hear
 -- it with each DX word damaged, and nothing on the other channels.
 use Rattle.std.specs.Prelude.{ℕ, List, [], ◌∷◌, ◌++◌}
-use Rattle.nx_fec.specs.declared.channel.Channel.TheVariants.{Zero}
+use Rattle.nx_fec.specs.declared.air_files.channel.Channel.TheVariants.{Zero}
 use Rattle.nx_kept.specs.Kept.{closed_gate, open_gate}
-use Rattle.nx_receiver.specs.ChainExample.{found_on, later_lines}
-use Rattle.nx_receiver.specs.Example.{first_copy}
-use Rattle.nx_receiver.specs.ListenExample.{example_lines}
+use Rattle.nx_receiver.specs.examples.Chain.{found_on, later_lines}
+use Rattle.nx_receiver.specs.examples.Repeats.{first_copy}
+use Rattle.nx_receiver.specs.examples.AirFile.{example_lines}
 use Rattle.nx_receiver.specs.Shares.{MarkedCopy, marked}
-use Rattle.nx_receiver.specs.Worked.{worked_log}
+use Rattle.nx_receiver.specs.examples.Emission.{worked_log}
 use Rattle.nx_left_on.specs.Chain.{Watch, answered, stopped}
 use Rattle.nx_watch.specs.Watch.{starts_at}
 

@@ -1,26 +1,26 @@
--- The headline of a receiver that is left on: a message that is sent over a chain of watches, one or
--- more times, on one channel, and stands in their log once (this profile).
+-- The headline of a receiver that is left on: a message that is sent over a chain of watches, one
+-- or more times, on one channel, and stands in their log once (this profile).
 use Rattle.std.specs.Prelude.{◌≡◌, ℕ, ◌+◌, ◌<◌, Bool, false, List, [], ◌∷◌, ◌++◌, length, map, Contains}
 use Rattle.std.specs.Prelude.{IsTrue}
 use Rattle.nx_envelope.specs.Identity.{same_identity}
 use Rattle.nx_envelope.specs.Message.{MessageView}
 use Rattle.nx_envelope.specs.declared.identity.Identity.{Identity}
-use Rattle.nx_fec.specs.declared.channel.Channel.{Channel}
+use Rattle.nx_fec.specs.declared.air_files.channel.Channel.{Channel}
 use Rattle.nx_log.specs.Logged.{kept_entries}
 use Rattle.nx_memory.specs.Memory.{most_entries, seconds_known}
 use Rattle.nx_memory.specs.Selection.{admits}
-use Rattle.nx_memory.specs.declared.entry.MemoryEntry.{MemoryEntry}
+use Rattle.nx_memory.specs.declared.memories.entry.MemoryEntry.{MemoryEntry}
 use Rattle.nx_receiver.specs.Events.{Event, Setting, elements_among, first_setting, setting_at}
 use Rattle.nx_receiver.specs.FoundCopies.{FoundCopy, TaggedCopy}
-use Rattle.nx_receiver.specs.Listen.{events_on}
+use Rattle.nx_receiver.specs.air_file_runs.Listen.{events_on}
 use Rattle.nx_receiver.specs.Printing.{copies_of, entries_after, entries_made, is_remembered}
 use Rattle.nx_receiver.specs.Shares.{copies_on}
 use Rattle.nx_station.specs.Sendings.{IsCut, IsSentAt, Part}
 use Rattle.nx_left_on.specs.Chain.{HadEnded, Watch, all_copies, all_put, copies_in, events_in}
 use Rattle.nx_left_on.specs.Chain.{start_in}
 
--- A watch; elements that were sent on a channel behind those that it heard, where it ended within
--- an emission; and the gaps of any bits and the received emissions into which all these are cut.
+-- A watch, and elements that were sent on a channel behind those that it heard, where it ended
+-- within an emission. All these are cut into gaps of any bits and received emissions.
 pub record CutWatch : Type 0 where
   pub watch : Watch
   pub unheard : List Bool
@@ -106,8 +106,8 @@ pub record IsHeardInTimeOver (channel : Channel) (watches : List Watch) (message
   pub whole : watches ≡ map (λ (cut : CutWatch). cut.watch) cuts
   pub cut : (one : CutWatch) → Contains cuts one
       → IsCut (elements_in channel one.watch ++ one.unheard) one.parts
-  -- The message is sent in these emissions, once or more often, in whichever watches; and one of its
-  -- sendings ends in lines behind which its watch read on before any fault of the disk.
+  -- The message is sent in these emissions, once or more often, in whichever watches; and one of
+  -- its sendings ends in lines behind which its watch read on before any fault of the disk.
   pub at : CutWatch
   pub place : ℕ
   pub sent : IsSentIn channel cuts message at place
@@ -128,8 +128,8 @@ pub record IsHeardInTimeOver (channel : Channel) (watches : List Watch) (message
       → IsSentIn channel cuts message other place
       → (in_force_in channel one at).moment
       < (in_force_in channel other place).moment + seconds_known
-  -- At its first copy no entry of its identity is live of all that is known there; where the log was
-  -- empty at first, this always holds.
+  -- At its first copy no entry of its identity is live of all that is known there; where the log
+  -- was empty at first, this always holds.
   pub unknown : IsUnknownOver channel watches message.identity
   -- 200 identities suffice: at each of its copies, fewer than 200 entries have been made behind an
   -- entry of it, over all watches.

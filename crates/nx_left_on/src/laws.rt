@@ -2,15 +2,15 @@
 
 ghost use Rattle.std.specs.Prelude.{◌≡◌, ℕ, Bool, List, [], ◌∷◌, ◌++◌, length, take, Option};
 ghost use Rattle.nx_envelope.specs.Message.{MessageView};
-ghost use Rattle.nx_fec.specs.AirFile.{Line};
-ghost use Rattle.nx_fec.specs.declared.channel.Channel.{Channel};
-ghost use Rattle.nx_fec.specs.declared.channel.Channel.TheVariants.{Zero};
+ghost use Rattle.nx_fec.specs.air_files.AirFile.{Line};
+ghost use Rattle.nx_fec.specs.declared.air_files.channel.Channel.{Channel};
+ghost use Rattle.nx_fec.specs.declared.air_files.channel.Channel.TheVariants.{Zero};
 ghost use Rattle.nx_log.specs.Logged.{remembered_on};
 ghost use Rattle.nx_memory.specs.Content.{IsContent};
 ghost use Rattle.nx_receiver.specs.Events.{Event, elements_among};
 ghost use Rattle.nx_receiver.specs.FoundCopies.{FoundCopy};
-ghost use Rattle.nx_receiver.specs.Listen.{given_by};
-ghost use Rattle.nx_receiver.specs.Once.{IsPrintedOnce};
+ghost use Rattle.nx_receiver.specs.air_file_runs.Listen.{given_by};
+ghost use Rattle.nx_receiver.specs.laws.Once.{IsPrintedOnce};
 ghost use Rattle.nx_receiver.specs.Printing.{printed_copies};
 ghost use Rattle.nx_receiver.specs.Shares.{MarkedCopy, copies_on};
 ghost use Rattle.nx_station.specs.ChannelExample.{example_message};
@@ -22,9 +22,9 @@ ghost use Rattle.nx_left_on.specs.Example.{example_watches, kept_bytes, one_entr
 ghost use Rattle.nx_left_on.specs.LeftOn.{HasEndedAt, IsHeardInTimeOver, IsUnknownOver};
 
 /// What a watch puts tells which of the copies that are found of it were judged. So a watch goes on
-/// from its log, with some copies found and judged, where it puts a beginning of what its lines print,
-/// and at least all that is printed of those behind which it read on. And a sending whose emission
-/// lies whole in what is given has ended there.
+/// from its log, with some copies found and judged, where it puts a beginning of what its lines
+/// print, and at least all that is printed of those behind which it read on. And a sending whose
+/// emission lies whole in what is given has ended there.
 pub fn a_watch_goes_on_from_its_log()
     ensures some { (log : List MarkedCopy) (watch : Watch) → Puts log watch
         → (found judged : Channel → List FoundCopy)
@@ -35,9 +35,9 @@ pub fn a_watch_goes_on_from_its_log()
 {}
 
 /// What the clause `watched` of `nx_watch::watch` says of its file makes it a watch of a chain: the
-/// copies that its lines print until it stopped, and the entries for which the file stands. Where all
-/// of these copies are kept, it read on behind all its lines. Where so many of them are, after a crash
-/// or a fault of the disk, it is at least a watch that is sure of no line.
+/// copies that its lines print until it stopped, and the entries for which the file stands. Where
+/// all of these copies are kept, it read on behind all its lines. Where so many of them are, after
+/// a crash or a fault of the disk, it is at least a watch that is sure of no line.
 pub fn what_a_watch_keeps_goes_on()
     ensures all { (now : ℕ) (log copies : List MarkedCopy) (lines : List (Option Line))
         (file : List ℕ) (stop : Stop)
@@ -61,11 +61,11 @@ pub fn a_log_keeps_what_its_watches_put()
         → StandsForEntries (log ++ all_put (watches ++ last ∷ [])) last.file }
 {}
 
-/// A chain of watches is one receiver on each channel where the log at first remembers what a memory
-/// can hold, and no MOMENT lies 66 hours or more before the newest entry. Each watch starts with all
-/// that the log remembers. So they put what the rules of printing make of all copies that they judged,
-/// in order, as if none had ended. The log then remembers again what a memory can hold. An empty log
-/// does.
+/// A chain of watches is one receiver on each channel where the log at first remembers what a
+/// memory can hold, and no MOMENT lies 66 hours or more before the newest entry. Each watch starts
+/// with all that the log remembers. So they put what the rules of printing make of all copies that
+/// they judged, in order, as if none had ended. The log then remembers again what a memory can
+/// hold. An empty log does.
 pub fn a_chain_of_watches_is_one_receiver()
     ensures remembers { (log : List MarkedCopy) (before after : List Watch) (watch : Watch)
         (channel : Channel)
@@ -84,13 +84,13 @@ pub fn a_chain_of_watches_is_one_receiver()
     ensures empty { (channel : Channel) → IsContent (remembered_on channel []) }
 {}
 
-/// The headline of a receiver that is left on. Take a chain of watches of one log, whatever it holds at
-/// first, each ended by the end of its input, a fault, or a crash at any moment, where no MOMENT lies
-/// 66 hours or more before the newest entry. Take a message that is heard in time over them on a
-/// channel, of which a sending ends in lines behind which its watch read on. It has exactly one entry
-/// of that channel among all that they put. The entry is full, has 0 errors, and its text is
-/// the message's, letter for letter. Where the log was empty at first, no entry of it could be live at
-/// its first copy, and all that they put is the log.
+/// The headline of a receiver that is left on. Take a chain of watches of one log, whatever it
+/// holds at first, each ended by the end of its input, a fault, or a crash at any moment, where no
+/// MOMENT lies 66 hours or more before the newest entry. Take a message that is heard in time over
+/// them on a channel, of which a sending ends in lines behind which its watch read on. It has
+/// exactly one entry of that channel among all that they put. The entry is full, has 0 errors, and
+/// its text is the message's, letter for letter. Where the log was empty at first, no entry of it
+/// could be live at its first copy, and all that they put is the log.
 pub fn a_message_stands_in_the_log_once()
     ensures once { (log : List MarkedCopy) (watches : List Watch) (channel : Channel)
         (message : MessageView)
@@ -101,9 +101,9 @@ pub fn a_message_stands_in_the_log_once()
         → IsChain [] watches → IsUnknownOver channel watches message.identity }
 {}
 
-/// There is such a chain, of two watches of a log that was empty at first. EA01 with the line TEST is
-/// heard on channel 0, its entry is put, and the power fails. A watch that starts four hours later
-/// hears EA01 again. They put the one entry, and the 44 bytes of the log stand for it.
+/// There is such a chain, of two watches of a log that was empty at first. EA01 with the line TEST
+/// is heard on channel 0, its entry is put, and the power fails. A watch that starts four hours
+/// later hears EA01 again. They put the one entry, and the 44 bytes of the log stand for it.
 pub fn there_is_a_chain_of_watches_with_a_message_heard_in_time()
     ensures chain { IsChain [] example_watches }
     ensures clocks { ClocksAreNear Zero [] example_watches }

@@ -5,8 +5,8 @@ use Rattle.std.specs.Prelude.{if◌then◌else◌, List, [], ◌∷◌, ◌++◌
 use Rattle.std.specs.Prelude.{Option, Some, None, option_to_list}
 use Rattle.std.specs.List.{count_by, flat_map, position_from}
 use Rattle.nx_envelope.specs.Moment.{last_moment}
-use Rattle.nx_fec.specs.AirFile.{Line, moment, elements, refuse_station, accept_station}
-use Rattle.nx_fec.specs.AirFile.{refuse_subject, accept_subject}
+use Rattle.nx_fec.specs.air_files.AirFile.{Line, moment, elements, refuse_station, accept_station}
+use Rattle.nx_fec.specs.air_files.AirFile.{refuse_subject, accept_subject}
 use Rattle.nx_memory.specs.Memory.{seconds_known}
 use Rattle.nx_memory.specs.Selection.{is_vital}
 
@@ -25,9 +25,9 @@ abbrev pub in_force : ℕ → List ℕ → ℕ
 in_force first [] = first
 in_force first (n ∷ moments) = in_force (max first n) moments
 
--- Whether a line acts, behind lines that said these moments in range: a moment in range that isn't
--- before the one in force; elements behind any moment in range, one that went back too; a command,
--- but for the refusal of a vital subject (ITU-R M.540).
+-- Whether a line acts, behind lines that said these moments in range. A moment does that is in
+-- range and isn't before the one in force. Elements do behind any moment in range, one that went
+-- back too. A command does, but for the refusal of a vital subject (ITU-R M.540).
 abbrev pub acts : ℕ → List ℕ → Option Line → Bool
 acts first moments None = false
 acts first moments (Some (moment n)) = nat_le n last_moment && nat_le (in_force first moments) n

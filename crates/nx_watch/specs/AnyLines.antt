@@ -1,8 +1,8 @@
 -- The lines of any bytes (this profile).
 use Rattle.std.specs.Prelude.{◌≡◌, ◌≢◌, ℕ, List, [], ◌∷◌, ◌++◌, Option, Some, None}
 use Rattle.std.specs.List.{flat_map, AllByRecursion, AllZip}
-use Rattle.nx_fec.specs.AirFile.{IsLine, IsNoLine, Line, spelling}
-use Rattle.nx_fec.specs.Lines.{line_end}
+use Rattle.nx_fec.specs.air_files.AirFile.{IsLine, IsNoLine, Line, spelling}
+use Rattle.nx_fec.specs.air_files.Lines.{line_end}
 
 -- none of the bytes ends a line
 abbrev pub HasNoEnd : List ℕ → Type 0

@@ -4,7 +4,7 @@ use Rattle.std.specs.Prelude.{List, [], ◌∷◌, ◌++◌, filter}
 use Rattle.std.specs.List.{list_all, list_any}
 use Rattle.nx_envelope.specs.Identity.{same_identity}
 use Rattle.nx_memory.specs.Memory.{seconds_known}
-use Rattle.nx_memory.specs.declared.entry.MemoryEntry.{MemoryEntry}
+use Rattle.nx_memory.specs.declared.memories.entry.MemoryEntry.{MemoryEntry}
 
 -- the entry lies less than 66 hours after this moment, or before it
 abbrev pub is_near : ℕ → MemoryEntry → Bool
@@ -30,10 +30,11 @@ passing test [] = []
 passing test (entry ∷ behind) =
     (if test entry behind then entry ∷ [] else []) ++ passing test behind
 
--- What is remembered, at a moment, of the entries that a log remembers on a channel: without those
--- that lie 66 hours or more after the moment; of these, without each behind which one with an
--- earlier moment stands; and of these, without each behind which one of its identity stands less
--- than 66 hours later. So the clock that runs far ahead, or was set back, makes nothing known.
+-- What is remembered, at a moment, of the entries that a log remembers on a channel. First, those
+-- that lie 66 hours or more after the moment are left out. Of the others, each is left out behind
+-- which one with an earlier moment stands. Of these, each is left out behind which one of its
+-- identity stands less than 66 hours later. So the clock that runs far ahead, or was set back,
+-- makes nothing known.
 abbrev pub remembered_at : ℕ → List MemoryEntry → List MemoryEntry
 remembered_at moment entries =
     passing is_last_known (passing is_in_order (filter (is_near moment) entries))

@@ -3,10 +3,10 @@ use Rattle.std.specs.Prelude.{◌≡◌, ◌⊎◌, ◌↔◌, ℕ, ◌+◌, ◌
 use Rattle.std.specs.Prelude.{length, take, drop, Option, Some, Result, Ok, Err, ⊤}
 use Rattle.std.specs.List.{AllZip}
 use Rattle.std.specs.Io.KnownBytes.{Consumes, IsAtEnd}
-use Rattle.nx_fec.specs.AirFile.{Line, moment}
+use Rattle.nx_fec.specs.air_files.AirFile.{Line, moment}
 use Rattle.nx_fec.specs.Transfers.{CountedDevice}
-use Rattle.nx_fec.specs.declared.channel.Channel.{Channel}
-use Rattle.nx_fec.specs.declared.channel.Channel.TheVariants.{Zero, One, Two}
+use Rattle.nx_fec.specs.declared.air_files.channel.Channel.{Channel}
+use Rattle.nx_fec.specs.declared.air_files.channel.Channel.TheVariants.{Zero, One, Two}
 use Rattle.nx_kept.specs.Disk.{FailedOnce, LeavesOnly}
 use Rattle.nx_kept.specs.Kept.{StandsFor}
 use Rattle.nx_log.specs.Entries.{IsWholeEntry}
@@ -14,7 +14,7 @@ use Rattle.nx_log.specs.Logged.{IsLoggedAs, remembered_on}
 use Rattle.nx_memory.specs.Saved.{SavedState, SavedStates}
 use Rattle.nx_receiver.specs.Events.{none_refused}
 use Rattle.nx_receiver.specs.InTurn.{PrintAllToEnd, PrintsInTurn}
-use Rattle.nx_receiver.specs.Listen.{given_by}
+use Rattle.nx_receiver.specs.air_file_runs.Listen.{given_by}
 use Rattle.nx_receiver.specs.Log.{IsLog}
 use Rattle.nx_receiver.specs.Shares.{Given, MarkedCopy, Starts, starts_from}
 use Rattle.nx_watch.specs.Acting.{acting_lines, count_without, ends_watch, first_without, goes_on}
@@ -59,17 +59,17 @@ starts_at now entries = starts_from (all_saved_at now entries)
 
 -- ---- the lines of a watch, and what they print
 
--- How a watch stops: at the end of its input, or of the bytes that it reads at most; behind the line
--- of this number, which ends it, and goes back from the last moment to the given one; at a failed
--- read; or at a failed write of what the disk didn't take.
+-- How a watch stops: at the end of its input, or of the bytes that it reads at most; at a failed
+-- read; or at a failed write of what the disk didn't take. Or it stops behind the line of this
+-- number, which ends it, and goes back from the last moment to the given one.
 pub data Stop : Type 0 where
   at_end : Stop
   back : ℕ → ℕ → ℕ → Stop
   unread : Stop
   unwritten : Stop
 
--- These are the lines of the bytes that were read until the watch stopped so, a cut last one and the
--- one that ends the watch too. Where the input didn't end, it stopped behind the end of a line.
+-- These are the lines of the bytes that were read until the watch stopped so, a cut last one and
+-- the one that ends the watch too. Where the input didn't end, it stopped behind the end of a line.
 -- `first` is the moment in force at first.
 abbrev pub HasRead : Type 0 → ℕ → Stop → List ℕ → List (Option Line) → Type 0
 HasRead AtEnd first at_end bytes lines =
@@ -186,7 +186,7 @@ module _ {D R W E : Type 0} (d : WatchDevices D R W E) where
     pub untold : d.faults_after ≡ d.faults
 
   -- What a watch answers that started so over a file that stands for these entries, once it was
-  -- opened: all copies are kept, and how it stopped is answered; or the disk failed as a copy was
+  -- opened. All copies are kept, and how it stopped is answered. Or the disk failed as a copy was
   -- put, which is answered, whatever else ended the watch then.
   abbrev pub AnswersStarted : Starts → List MarkedCopy → Result WatchReport WatchFault → Type 0
   AnswersStarted starts entries outcome =

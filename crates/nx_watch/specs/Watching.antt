@@ -3,16 +3,16 @@ use Rattle.std.specs.Prelude.{◌≡◌, ◌⊎◌, ℕ, ◌+◌, ◌<◌, ◌�
 use Rattle.std.specs.Prelude.{decimal, length, map, take, Option, Some, None, Result, Ok, Err, ⊤}
 use Rattle.std.specs.Io.KnownBytes.{Appends}
 use Rattle.nx_envelope.specs.Moment.{last_moment}
-use Rattle.nx_fec.specs.AirFile.{Line, moment, elements, refuse_station, accept_station}
-use Rattle.nx_fec.specs.AirFile.{refuse_subject, accept_subject}
+use Rattle.nx_fec.specs.air_files.AirFile.{Line, moment, elements, refuse_station, accept_station}
+use Rattle.nx_fec.specs.air_files.AirFile.{refuse_subject, accept_subject}
 use Rattle.nx_fec.specs.Transfers.{CountedDevice}
 use Rattle.nx_memory.specs.Selection.{is_vital}
 use Rattle.nx_watch.specs.Acting.{acting_lines, count_without, ends_watch, first_without}
 use Rattle.nx_watch.specs.Acting.{goes_on, in_force, moments_said}
 use Rattle.nx_watch.specs.AnyLines.{AreLines, cut_line}
-use Rattle.nx_watch.specs.declared.line_watch.LinesWatched.{LinesWatched}
-use Rattle.nx_watch.specs.declared.line_watch.WatchEnd.{WatchEnd}
-use Rattle.nx_watch.specs.declared.line_watch.WatchEnd.TheVariants.{Read, Back, Write}
+use Rattle.nx_watch.specs.declared.lines.line_watch.LinesWatched.{LinesWatched}
+use Rattle.nx_watch.specs.declared.lines.line_watch.WatchEnd.{WatchEnd}
+use Rattle.nx_watch.specs.declared.lines.line_watch.WatchEnd.TheVariants.{Read, Back, Write}
 
 -- A taker of lines that act stood so at first and stands so now, after these lines.
 abbrev pub Standing : Type 0 → Type 1
@@ -26,8 +26,8 @@ Giving T = T → T → List Line → List ℕ → Type 0
 abbrev pub force_behind : ℕ → List Line → ℕ
 force_behind first lines = in_force first (moments_said (map Some lines))
 
--- A line may act behind these: a moment is in range, and not before the one in force; a subject that
--- is refused isn't vital.
+-- A line may act behind these: a moment is in range, and not before the one in force; a subject
+-- that is refused isn't vital.
 abbrev pub MayAct : ℕ → List Line → Line → Type 0
 MayAct first lines (moment n) = (force_behind first lines ≤ n) × (n ≤ last_moment)
 MayAct first lines (elements mark bits) = ⊤
@@ -52,8 +52,8 @@ abbrev pub told_of : ℕ → List (Option Line) → List ℕ
 told_of first lines =
     first_told (first_without first lines) ++ number_told (count_without first lines)
 
--- this text was told: it was written, or a first part of it, but not all, where a write failed, after
--- which none was tried
+-- this text was told: it was written, or a first part of it, but not all, where a write failed,
+-- after which none was tried
 abbrev pub HasTold : Option (List ℕ) → Option (List ℕ) → ℕ → List ℕ → Type 0
 HasTold old new failures text =
     ((failures ≡ 0) × Appends old new text)
@@ -94,7 +94,8 @@ pub record HasTaken {T : Type 0} (stands : Standing T) (start now : T) (first : 
   pub stood : stands start now (acting_lines first lines)
 
 -- These counts are those of these lines.
-pub record AreCounted (first : ℕ) (lines : List (Option Line)) (counts : LinesWatched) : Type 0 where
+pub record AreCounted (first : ℕ) (lines : List (Option Line)) (counts : LinesWatched)
+    : Type 0 where
   pub lines_counted : counts.lines ≡ length lines
   pub without : counts.without_effect ≡ count_without first lines
   pub first_one : counts.first_without_effect ≡ first_without first lines
@@ -111,8 +112,9 @@ pub record StopsBehind (first : ℕ) (bytes : List ℕ) (lines : List (Option Li
 
 -- What a run answers of these bytes, where the moment `first` was in force at first, and `tells`
 -- holds of the lines that it tells of. At the end of the input, or at the limit, all lines were
--- taken, a cut one too; after a failed read, all lines with their ends; behind the line that ends the
--- watch, those before it; and after a failed write the lines up to the one that gave the bytes.
+-- taken, a cut one too. After a failed read all lines with their ends were taken, and behind the
+-- line that ends the watch, those before it. After a failed write the lines up to the one that gave
+-- the bytes were taken.
 abbrev pub AnswersWatch : {T : Type 0} → Standing T → T → T → ℕ → Type 0
     → (List (Option Line) → Type 0) → Result LinesWatched WatchEnd → List ℕ → Type 0
 AnswersWatch stands start now first AtEnd tells (Ok counts) bytes =

@@ -6,6 +6,8 @@ use crate::{ActingTaker, LinesWatched, WatchEnd, WriteFailed, watch_lines};
 use nx_fec::{Counting, Scanner};
 use std::alloc::Global;
 use std::io::{Error, ErrorKind, Read, Result as IoResult, Write};
+use std::process::Abort;
+use std::str::from_utf8;
 
 /// Counts the lines that act.
 #[derive(Drop)]
@@ -14,7 +16,7 @@ struct Counter {
 }
 
 impl ActingTaker for Counter {
-    ghost use Rattle.nx_fec.specs.AirFile.{Line};
+    ghost use Rattle.nx_fec.specs.air_files.AirFile.{Line};
 
     ghost first_moment = { λ counter. 0 };
 
@@ -59,10 +61,25 @@ struct Outcome {
     told: Vec<u8>,
 }
 
+/// The bytes as a text, where they are one.
+fn shown(bytes: &[u8]) -> &str {
+    from_utf8(bytes).unwrap_or("bytes that are no text")
+}
+
 impl Outcome {
-    /// Whether the run answered this, and so many lines acted, and this was told.
-    fn is(&self, answer: Result<LinesWatched, WatchEnd>, acted: u64, told: &[u8]) -> bool {
-        self.answer == answer && self.acted == acted && self.told.as_slice() == told
+    /// Expects that the run of this row answered this, that so many lines acted, and that this was
+    /// told.
+    fn expect(
+        &self,
+        rt: &impl Abort,
+        row: &str,
+        answer: Result<LinesWatched, WatchEnd>,
+        acted: u64,
+        told: &[u8],
+    ) {
+        assert_eq!(rt; self.answer, answer, "{row}");
+        assert_eq!(rt; self.acted, acted, "{row}");
+        assert_eq!(rt; shown(&self.told), shown(told), "{row}");
     }
 }
 
@@ -109,10 +126,15 @@ fn counts(lines: u64, without_effect: u64, first: Option<u64>) -> LinesWatched {
 }
 
 /// The lengths of the pieces in which each text is read.
-const PIECES: [usize; 4] = [1, 7, 600, 65_536];
+const PIECES: [(&str, usize); 4] = [
+    ("in pieces of 1", 1),
+    ("in pieces of 7", 7),
+    ("in pieces of 600", 600),
+    ("in pieces of 65,536", 65_536),
+];
 
-/// The lines 1, 2, 4, 5 and 9 have no effect: one that isn't understood, one of 600 bytes, a moment that
-/// goes back, the refusal of a vital subject, and one that the end cuts.
+/// The lines 1, 2, 4, 5 and 9 have no effect: one that isn't understood, one of 600 bytes, a moment
+/// that goes back, the refusal of a vital subject, and one that the end cuts.
 #[test]
 fn watch_garbage(rt: HostRuntime) {
     let alloc = rt.alloc();
@@ -122,12 +144,9 @@ fn watch_garbage(rt: HostRuntime) {
     let rest = b"\nT 1735692000\nT 1735691000\nRJ L\nB 0110\nB 1\nB 0\nB 01";
     text.extend_from_slice(rest).expect(&rt, "memory");
     let told = b"navtex: line 1 had no effect\nnavtex: 5 lines had no effect\n";
-    for piece in PIECES {
+    for (row, piece) in PIECES {
         let run = run_on(alloc, 0, text.as_slice(), piece);
-        assert!(&rt;
-            run.is(Ok(counts(9, 5, Some(1))), 4, told),
-            "in pieces of {piece}"
-        );
+        run.expect(&rt, row, Ok(counts(9, 5, Some(1))), 4, told);
     }
 }
 
@@ -136,12 +155,9 @@ fn watch_garbage(rt: HostRuntime) {
 fn watch_clock_behind(rt: HostRuntime) {
     let alloc = rt.alloc();
     let told = b"navtex: line 1 had no effect\nnavtex: 1 lines had no effect\n";
-    for piece in PIECES {
+    for (row, piece) in PIECES {
         let run = run_on(alloc, 1_735_692_000, b"T 1735688400\nB 01\n", piece);
-        assert!(&rt;
-            run.is(Ok(counts(2, 1, Some(1))), 1, told),
-            "in pieces of {piece}"
-        );
+        run.expect(&rt, row, Ok(counts(2, 1, Some(1))), 1, told);
     }
 }
 
@@ -156,14 +172,11 @@ fn watch_clock_back(rt: HostRuntime) {
     };
     let told = b"navtex: line 2 had no effect\nnavtex: 2 lines had no effect\n";
     let one = b"navtex: line 2 had no effect\nnavtex: 1 lines had no effect\n";
-    for piece in PIECES {
+    for (row, piece) in PIECES {
         let run = run_on(alloc, 0, b"T 1735692000\nT 5\nT 6\nB 1\n", piece);
-        assert!(&rt; run.is(Err(back), 1, told), "back, in pieces of {piece}");
+        run.expect(&rt, row, Err(back), 1, told);
         let run = run_on(alloc, 0, b"T 1735692000\nT 5\nT 1735692001\n", piece);
-        assert!(&rt;
-            run.is(Ok(counts(3, 1, Some(2))), 2, one),
-            "once, in pieces of {piece}"
-        );
+        run.expect(&rt, row, Ok(counts(3, 1, Some(2))), 2, one);
     }
 }
 
@@ -173,26 +186,20 @@ fn watch_ends(rt: HostRuntime) {
     let alloc = rt.alloc();
     let text = b"T 5\nB 10\nB 1\nB 0";
     let cut = b"navtex: line 3 had no effect\nnavtex: 1 lines had no effect\n";
-    for piece in PIECES {
+    for (row, piece) in PIECES {
         let source = Source {
             rest: text,
             piece,
             fails: false,
         };
         let run = run_up_to(alloc, 0, source, 10);
-        assert!(&rt;
-            run.is(Ok(counts(3, 1, Some(3))), 2, cut),
-            "limit, in pieces of {piece}"
-        );
+        run.expect(&rt, row, Ok(counts(3, 1, Some(3))), 2, cut);
         let source = Source {
             rest: text,
             piece,
             fails: true,
         };
         let run = run_up_to(alloc, 0, source, 1_000);
-        assert!(&rt;
-            run.is(Err(WatchEnd::Read), 3, b""),
-            "read, in pieces of {piece}"
-        );
+        run.expect(&rt, row, Err(WatchEnd::Read), 3, b"");
     }
 }

@@ -2,9 +2,8 @@
 
 ghost use Rattle.std.specs.Prelude.{◌≡◌, ◌+◌, ◌<◌, ◌≤◌, ℕ, Bool, List, [], ◌∷◌, ◌++◌, length, take, drop, true, false};
 ghost use Rattle.std.specs.List.{All, AllZip};
-ghost use Rattle.nx_code.specs.Reading.{IsCapital};
 ghost use Rattle.nx_envelope.specs.Moment.{last_moment};
-ghost use Rattle.nx_fec.specs.AirFile.{Line, elements};
+ghost use Rattle.nx_fec.specs.air_files.AirFile.{Line, elements};
 ghost use Rattle.nx_fec.specs.Transfers.{CountedDevice, FailsOnce};
 ghost use Rattle.nx_kept.specs.Log.{Keeps};
 ghost use Rattle.nx_log.specs.Entries.{IsWholeEntry};
@@ -12,20 +11,20 @@ ghost use Rattle.nx_log.specs.Logged.{IsLoggedAs};
 ghost use Rattle.nx_memory.specs.Selection.{is_vital};
 ghost use Rattle.nx_receiver.specs.Events as events;
 ghost use Rattle.nx_receiver.specs.InTurn.{PrintAllToEnd};
-ghost use Rattle.nx_receiver.specs.Listen.{given_by};
+ghost use Rattle.nx_receiver.specs.air_file_runs.Listen.{given_by};
 ghost use Rattle.nx_receiver.specs.Listener.{HearsGiven, last_copies, moment_in_force, starts_of, then_command, then_elements, then_moment};
 ghost use Rattle.nx_receiver.specs.Shares.{Given, MarkedCopy, Starts};
 ghost use Rattle.nx_watch.specs.Watch.{AnswersStarted, HasCause, watch_devices};
 ghost use Rattle.nx_watch.specs.Watching.{StandsWith, WithWriter, with_writer};
-ghost use Rattle.nx_watch.specs.declared.keeper.Keeper.{Keeper as TheKeeper};
+ghost use Rattle.nx_watch.specs.declared.kept_log.keeper.Keeper.{Keeper as TheKeeper};
 ghost use Rattle.nx_watch.specs.declared.watcher.Watcher.{Watcher as TheWatcher};
 ghost use Rattle.nx_watch.specs.Watching.{TellsOfLines};
 ghost use Rattle.nx_watch.specs.private.Keeping.{HasKept, KeepsWith, disk_of};
 ghost use Rattle.nx_watch.specs.private.Watcher.{HasClosed, IsCopyInRange, IsLineInRange, KeepsHeard, WatcherStands};
 
-use crate::any_scanner::MOST_BYTES;
-use crate::keeper::Keeper;
-use crate::line_watch::{ActingTaker, WatchEnd, WriteFailed, watch_lines};
+use crate::kept_log::keeper::Keeper;
+use crate::lines::any_scanner::MOST_BYTES;
+use crate::lines::line_watch::{ActingTaker, WatchEnd, WriteFailed, watch_lines};
 use crate::watch_fault::WatchFault;
 use crate::watch_report::WatchReport;
 use arrayvec::ArrayVec;
@@ -69,7 +68,6 @@ impl<D: DiskFile + Drop> Watcher<D> {
 
     /// Hears elements of a channel up to and with the one that ends the first copy that is printed,
     /// and keeps its entry. Answers how many it heard.
-    // Inlined always: it runs for each line of elements.
     #[inline(always)]
     fn hear_next<W: Write>(
         &mut self,
@@ -164,8 +162,8 @@ impl<D: DiskFile + Drop> Watcher<D> {
         keeper
     }
 
-    /// Watches the lines of an input, and answers how that ended; and the file. `first` is the moment
-    /// in force at first.
+    /// Watches the lines of an input, and answers how that ended; and the file. `first` is the
+    /// moment in force at first.
     pub(crate) fn run<R: Read, W: Write, F: Write>(
         mut self,
         first: u64,
@@ -273,31 +271,20 @@ impl<D: DiskFile + Drop> ActingTaker for Watcher<D> {
             LineKind::Moment(moment) => self.set_moment(moment),
             LineKind::RefuseStation(mark, byte) => {
                 self.listener
-                    .refuse_station(Channel::of(mark), letter(byte));
+                    .refuse_station(Channel::of(mark), Letter::of_capital(byte));
             }
             LineKind::AcceptStation(mark, byte) => {
                 self.listener
-                    .accept_station(Channel::of(mark), letter(byte));
+                    .accept_station(Channel::of(mark), Letter::of_capital(byte));
             }
             LineKind::RefuseSubject(mark, byte) => {
-                self.refuse_subject(Channel::of(mark), letter(byte));
+                self.refuse_subject(Channel::of(mark), Letter::of_capital(byte));
             }
             LineKind::AcceptSubject(mark, byte) => {
                 self.listener
-                    .accept_subject(Channel::of(mark), letter(byte));
+                    .accept_subject(Channel::of(mark), Letter::of_capital(byte));
             }
         }
         Ok(())
-    }
-}
-
-/// The letter of this byte, which is one A to Z.
-fn letter(byte: u8) -> Letter
-    requires { IsCapital byte }
-    ensures { result.byte ≡ byte }
-{
-    match Letter::new(byte) {
-        Some(letter) => letter,
-        None => unreachable!(),
     }
 }

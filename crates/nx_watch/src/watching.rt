@@ -10,9 +10,9 @@ ghost use Rattle.nx_watch.specs.Watching.{TellsOfLines};
 ghost use Rattle.nx_watch.specs.private.Answering.{fault_answered};
 ghost use Rattle.nx_watch.specs.declared.watch_fault.WatchFault.TheVariants.{Damaged as DamagedAt};
 
-use crate::keeper::Keeper;
-use crate::log_grammar::LogGrammar;
-use crate::log_memory::LogMemory;
+use crate::kept_log::keeper::Keeper;
+use crate::kept_log::log_grammar::LogGrammar;
+use crate::kept_log::log_memory::LogMemory;
 use crate::watch_fault::WatchFault;
 use crate::watch_report::WatchReport;
 use crate::watcher::Watcher;
@@ -24,23 +24,23 @@ use std::alloc::Global;
 use std::io::{Read, Write};
 
 /// Listens to the lines of any bytes, to their end or to 2^63 - 1 of them, and puts each entry that
-/// `listen_from` would print of the lines that act into the kept log, all of the lines so far before
-/// each further read. Three receivers hear them, one for each channel. They start at `moment`, in
-/// whole seconds since 1970-01-01 00:00:00 UTC, with what is remembered of the log then; everything
-/// is selected. The end of the input closes the channels 0, 1 and 2 in order, and so does a moment
-/// that ends the watch. Lines without effect are told of on `faults`: the first before the next read,
-/// and their number at the end. A failed write there is passed over. Memory is taken before the first
-/// read, and not later. Hands the file back.
+/// `listen_from` would print of the lines that act into the kept log, all of the lines so far
+/// before each further read. Three receivers hear them, one for each channel. They start at
+/// `moment`, in whole seconds since 1970-01-01 00:00:00 UTC, with what is remembered of the log
+/// then; everything is selected. The end of the input closes the channels 0, 1 and 2 in order, and
+/// so does a moment that ends the watch. Lines without effect are told of on `faults`: the first
+/// before the next read, and their number at the end. A failed write there is passed over. Memory
+/// is taken before the first read, and not later. Hands the file back.
 ///
-/// From a failed put on the disk isn't called any more: that entry and all later ones are written to
-/// `writer`, each before the next read, as `listen` writes them. Whatever ends the watch then, a
+/// From a failed put on the disk isn't called any more: that entry and all later ones are written
+/// to `writer`, each before the next read, as `listen` writes them. Whatever ends the watch then, a
 /// failed write there too, it is answered as `Disk`. Nothing else is written to `writer`.
 ///
 /// A crash at any moment leaves a file that stands for the entries from before and a beginning of
 /// those that the lines print; or what it could leave before what the file held was brought to the
 /// disk. That each entry is on the disk before the next read of the input is said by the answer
-/// `Read`: a watch can't know which read will fail, and after each that fails all entries of the lines
-/// that were read whole are kept.
+/// `Read`: a watch can't know which read will fail, and after each that fails all entries of the
+/// lines that were read whole are kept.
 pub fn watch<D: DiskFile + Drop, R: Read, W: Write, F: Write>(
     alloc: Global,
     moment: u64,

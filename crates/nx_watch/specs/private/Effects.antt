@@ -1,11 +1,11 @@
 -- What is kept of the lines of a watch, and what it says of them.
 use Rattle.std.specs.Prelude.{◌≡◌, ℕ, nat_lt, Bool, List, length, Option, Some, true, false}
-use Rattle.nx_fec.specs.AirFile.{Line, moment}
+use Rattle.nx_fec.specs.air_files.AirFile.{Line, moment}
 use Rattle.nx_watch.specs.Acting.{acts, count_without, ends_watch, first_without, in_force}
 use Rattle.nx_watch.specs.Acting.{moments_said, went_far_back}
-use Rattle.nx_watch.specs.declared.line_effects.LineEffects.{LineEffects}
-use Rattle.nx_watch.specs.declared.line_effects.Effect.{Effect}
-use Rattle.nx_watch.specs.declared.line_effects.Effect.TheVariants.{Acts, Nothing, Ends}
+use Rattle.nx_watch.specs.declared.lines.line_effects.LineEffects.{LineEffects}
+use Rattle.nx_watch.specs.declared.lines.line_effects.Effect.{Effect}
+use Rattle.nx_watch.specs.declared.lines.line_effects.Effect.TheVariants.{Acts, Nothing, Ends}
 
 -- this is kept of the moments in range that lines said, where this one was in force at first
 pub record KeepsMoments (first : ℕ) (moments : List ℕ) (kept : LineEffects) : Type 0 where

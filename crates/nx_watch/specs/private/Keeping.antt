@@ -10,7 +10,7 @@ use Rattle.nx_log.specs.Entries.{IsWholeEntry}
 use Rattle.nx_receiver.specs.Listener.{count_of}
 use Rattle.nx_watch.specs.Watch.{longest_entry}
 use Rattle.nx_watch.specs.Watching.{WereGiven}
-use Rattle.nx_watch.specs.declared.keeper.Keeper.{Keeper}
+use Rattle.nx_watch.specs.declared.kept_log.keeper.Keeper.{Keeper}
 
 -- the file of a log, by any first content, and its calls that failed
 pub record DiskOf (D : Type 0) : Type 1 where
@@ -22,7 +22,8 @@ pub record DiskOf (D : Type 0) : Type 1 where
   pub faults : D → ℕ
   pub to_write : D → Type 0
 
-abbrev pub disk_of : {D : Type 0} → (List ℕ → D → Type 0) → (List ℕ → D → List ℕ) → (List ℕ → D → List ℕ → Type 0)
+abbrev pub disk_of : {D : Type 0} → (List ℕ → D → Type 0) → (List ℕ → D → List ℕ)
+    → (List ℕ → D → List ℕ → Type 0)
     → (D → ℕ) → (List ℕ → D → ℕ → List ℕ → Type 0) → (D → ℕ) → (D → Type 0) → DiskOf D
 disk_of explains seen may_leave clock left_since faults to_write = record {
   explains = explains;

@@ -1,14 +1,14 @@
 -- What is remembered of a log while it is read.
 use Rattle.std.specs.Prelude.{◌≡◌, ℕ, List, [], ◌∷◌, ◌++◌, Option, Some, None, if◌then◌else◌}
 use Rattle.nx_code.specs.Lists.{last_of}
-use Rattle.nx_fec.specs.declared.channel.Channel.{Channel}
-use Rattle.nx_fec.specs.declared.channel.Channel.TheVariants.{Zero, One, Two}
+use Rattle.nx_fec.specs.declared.air_files.channel.Channel.{Channel}
+use Rattle.nx_fec.specs.declared.air_files.channel.Channel.TheVariants.{Zero, One, Two}
 use Rattle.nx_log.specs.Logged.{IsLoggedAs, is_kept, kept_entries}
 use Rattle.nx_memory.specs.Memory.{most_entries}
-use Rattle.nx_memory.specs.declared.entry.MemoryEntry.{MemoryEntry}
+use Rattle.nx_memory.specs.declared.memories.entry.MemoryEntry.{MemoryEntry}
 use Rattle.nx_receiver.specs.Printing.{entry_of}
 use Rattle.nx_receiver.specs.Shares.{MarkedCopy, copies_on}
-use Rattle.nx_watch.specs.declared.log_memory.LogMemory.{LogMemory}
+use Rattle.nx_watch.specs.declared.kept_log.log_memory.LogMemory.{LogMemory}
 
 -- what is remembered of a channel
 abbrev pub memory_on : LogMemory → Channel → List MemoryEntry

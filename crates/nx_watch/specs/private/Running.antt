@@ -1,13 +1,13 @@
 -- How a run over the lines of any bytes stands.
 use Rattle.std.specs.Prelude.{ℕ, List, ◌++◌, Option, Err}
-use Rattle.nx_fec.specs.AirFile.{Line}
+use Rattle.nx_fec.specs.air_files.AirFile.{Line}
 use Rattle.nx_watch.specs.AnyLines.{AreLines, cut_line}
 use Rattle.nx_watch.specs.Watching.{AnswersWatch, AreCounted, HasTaken, HasTold, Standing, first_told}
 use Rattle.nx_watch.specs.Watching.{told_of}
-use Rattle.nx_watch.specs.declared.line_effects.LineEffects.{LineEffects}
-use Rattle.nx_watch.specs.declared.line_watch.LineRun.{LineRun}
-use Rattle.nx_watch.specs.declared.line_watch.LinesWatched.{LinesWatched}
-use Rattle.nx_watch.specs.declared.line_watch.WatchEnd.{WatchEnd}
+use Rattle.nx_watch.specs.declared.lines.line_effects.LineEffects.{LineEffects}
+use Rattle.nx_watch.specs.declared.lines.line_watch.LineRun.{LineRun}
+use Rattle.nx_watch.specs.declared.lines.line_watch.LinesWatched.{LinesWatched}
+use Rattle.nx_watch.specs.declared.lines.line_watch.WatchEnd.{WatchEnd}
 use Rattle.nx_watch.specs.private.Effects.{IsKept}
 use Rattle.nx_watch.specs.private.Scanning.{IsScanning}
 

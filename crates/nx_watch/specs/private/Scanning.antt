@@ -1,13 +1,13 @@
 -- How a scanner of any bytes stands.
 use Rattle.std.specs.Prelude.{◌≡◌, ℕ, ◌<◌, Bool, true, false, if◌then◌else◌, List, [], ◌∷◌, ◌++◌}
 use Rattle.std.specs.Prelude.{length, map, take, slice_index, Option, Some, None, option_to_list, ⊤}
-use Rattle.nx_fec.specs.AirFile.{IsNoLine, Line}
-use Rattle.nx_fec.specs.Lines.{Scans, line_end, max_line_bytes}
+use Rattle.nx_fec.specs.air_files.AirFile.{IsNoLine, Line}
+use Rattle.nx_fec.specs.air_files.Lines.{Scans, line_end, max_line_bytes}
 use Rattle.nx_watch.specs.Acting.{most_bytes}
 use Rattle.nx_watch.specs.AnyLines.{AreLines, HasNoEnd, cut_line}
-use Rattle.nx_watch.specs.declared.any_scanner.AnyScanner.{AnyScanner}
-use Rattle.nx_watch.specs.declared.any_scanner.Ended.{Ended}
-use Rattle.nx_watch.specs.declared.any_scanner.Ended.TheVariants.{Nothing, Line as ALine, Unknown}
+use Rattle.nx_watch.specs.declared.lines.any_scanner.AnyScanner.{AnyScanner}
+use Rattle.nx_watch.specs.declared.lines.any_scanner.Ended.{Ended}
+use Rattle.nx_watch.specs.declared.lines.any_scanner.Ended.TheVariants.{Nothing, Line as ALine, Unknown}
 
 -- the lines that were ended
 abbrev pub lines_ended : Ended → Option Line → List (Option Line)
@@ -27,7 +27,8 @@ ArePassed false since passed = passed ≡ []
 ArePassed true since passed = (since ≡ []) × HasNoEnd passed × (max_line_bytes < length passed)
 
 -- The bytes ended these lines: those before the inner scanner began, and those that it scanned.
-pub record IsScanning (now : AnyScanner) (bytes : List ℕ) (lines : List (Option Line)) : Type 0 where
+pub record IsScanning (now : AnyScanner) (bytes : List ℕ) (lines : List (Option Line))
+    : Type 0 where
   pub before : List ℕ
   pub earlier : List (Option Line)
   pub whole : AreLines before earlier []

@@ -2,14 +2,14 @@
 use Rattle.std.specs.Prelude.{◌≡◌, ℕ, ◌≤◌, List, ⊤, Option}
 use Rattle.std.specs.List.{All, AllZip}
 use Rattle.nx_envelope.specs.Moment.{last_moment}
-use Rattle.nx_fec.specs.AirFile.{Line, moment}
+use Rattle.nx_fec.specs.air_files.AirFile.{Line, moment}
 use Rattle.nx_fec.specs.Transfers.{CountedDevice}
 use Rattle.nx_log.specs.Logged.{IsLoggedAs}
-use Rattle.nx_receiver.specs.Listen.{given_by}
+use Rattle.nx_receiver.specs.air_file_runs.Listen.{given_by}
 use Rattle.nx_receiver.specs.Listener.{HearsGiven, starts_of}
 use Rattle.nx_receiver.specs.InTurn.{PrintAllToEnd}
 use Rattle.nx_receiver.specs.Shares.{Given, MarkedCopy, Starts}
-use Rattle.nx_watch.specs.declared.keeper.Keeper.{Keeper}
+use Rattle.nx_watch.specs.declared.kept_log.keeper.Keeper.{Keeper}
 use Rattle.nx_watch.specs.declared.watcher.Watcher.{Watcher}
 use Rattle.nx_watch.specs.private.Keeping.{DiskOf, HasKept, KeepsWith}
 
@@ -23,9 +23,10 @@ abbrev pub IsCopyInRange : MarkedCopy → Type 0
 IsCopyInRange one = one.copy.moment ≤ last_moment
 
 module _ {D : Type 0} (disk : DiskOf D) where
-  -- Since start the watcher took these lines: it printed copies of them, and kept their entries, and
-  -- gave these bytes to a writer.
-  pub record WatcherStands (start now : Watcher D) (lines : List Line) (given : List ℕ) : Type 0 where
+  -- Since start the watcher took these lines: it printed copies of them, and kept their entries,
+  -- and gave these bytes to a writer.
+  pub record WatcherStands (start now : Watcher D) (lines : List Line) (given : List ℕ)
+      : Type 0 where
     pub first : (starts_of start.listener).moment ≤ last_moment
     pub in_range : All IsLineInRange lines
     pub copies : List MarkedCopy

@@ -1,4 +1,4 @@
-use Rattle.nx_left_on.proofs.Chains.{content-chain, empty-content, prints-chain, remembers-chain}
+use Rattle.nx_left_on.proofs.lemmas.chains.Chains.{content-chain, empty-content, prints-chain, remembers-chain}
 use Rattle.nx_left_on.proofs.laws.a_chain_of_watches_is_one_receiver.Goals as goal
 
 pub returns : goal.returns

@@ -1,4 +1,4 @@
-use Rattle.nx_left_on.proofs.Files.{last-stands}
+use Rattle.nx_left_on.proofs.lemmas.chains.Files.{last-stands}
 use Rattle.nx_left_on.proofs.laws.a_log_keeps_what_its_watches_put.Goals as goal
 
 pub returns : goal.returns

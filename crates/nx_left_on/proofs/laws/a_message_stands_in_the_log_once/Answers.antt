@@ -1,4 +1,4 @@
-use Rattle.nx_left_on.proofs.Once.{put-once, unknown-from_nothing}
+use Rattle.nx_left_on.proofs.lemmas.chains.Once.{put-once, unknown-from_nothing}
 use Rattle.nx_left_on.proofs.laws.a_message_stands_in_the_log_once.Goals as goal
 
 pub returns : goal.returns

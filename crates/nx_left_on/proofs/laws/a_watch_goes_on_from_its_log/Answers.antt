@@ -1,5 +1,5 @@
-use Rattle.nx_left_on.proofs.Judging.{goes-on}
-use Rattle.nx_left_on.proofs.Once.{whole-ended}
+use Rattle.nx_left_on.proofs.lemmas.entries.Judging.{goes-on}
+use Rattle.nx_left_on.proofs.lemmas.chains.Once.{whole-ended}
 use Rattle.nx_left_on.proofs.laws.a_watch_goes_on_from_its_log.Goals as goal
 
 pub returns : goal.returns

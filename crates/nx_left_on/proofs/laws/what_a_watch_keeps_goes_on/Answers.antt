@@ -1,4 +1,4 @@
-use Rattle.nx_left_on.proofs.Keeps.{keeps-all, keeps-some}
+use Rattle.nx_left_on.proofs.lemmas.chains.Keeps.{keeps-all, keeps-some}
 use Rattle.nx_left_on.proofs.laws.what_a_watch_keeps_goes_on.Goals as goal
 
 pub returns : goal.returns

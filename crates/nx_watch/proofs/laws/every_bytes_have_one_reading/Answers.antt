@@ -1,5 +1,5 @@
-use Rattle.nx_watch.proofs.LawLemmas.{AreLines-one}
-use Rattle.nx_watch.proofs.ReadingLemmas.{AreLines-some}
+use Rattle.nx_watch.proofs.lemmas.lines.Law.{AreLines-one}
+use Rattle.nx_watch.proofs.lemmas.lines.Reading.{AreLines-some}
 use Rattle.nx_watch.proofs.laws.every_bytes_have_one_reading.Goals as goal
 
 pub returns : goal.returns

@@ -4,12 +4,12 @@ use Rattle.std.proofs.lemmas.List.Elements.{All-head, All-tail}
 use Rattle.nx_log.specs.Logged.{IsLoggedAs}
 use Rattle.nx_receiver.specs.FoundCopies.{copy_of}
 use Rattle.nx_receiver.specs.InTurn.{PrintAllToEnd}
-use Rattle.nx_receiver.specs.Listen.{given_by}
+use Rattle.nx_receiver.specs.air_file_runs.Listen.{given_by}
 use Rattle.nx_receiver.specs.Listener.{last_copies}
 use Rattle.nx_receiver.specs.Log.{IsEntry}
 use Rattle.nx_receiver.specs.Shares.{marked}
 use Rattle.nx_watch.specs.private.Watcher.{IsCopyInRange}
-use Rattle.nx_watch.proofs.WatcherLemmas.{end-spelled, zip-push}
+use Rattle.nx_watch.proofs.lemmas.log.Watcher.{end-spelled, zip-push}
 use Rattle.nx_watch.proofs.watcher.keep_last.Goals as goal
 
 pub entries-init : goal.entries-init
@@ -36,14 +36,16 @@ entries-preserved g c =
       range = All-tail IsCopyInRange one rest
           (subst (All IsCopyInRange) next c.entries.invariant.range);
       kept = λ starts start first lines copies texts range within printed each kept.
-          let r = c.entries.invariant.kept starts start first lines copies texts range within printed
+          let r = c.entries.invariant.kept starts start first lines copies texts range within
+          printed
           each kept in
           let all = subst (λ l. PrintAllToEnd starts (given_by lines) (r.0 ++ l)) next r.2 in
           let is = end-spelled starts lines r.0 rest one c.deref.result.now range within all
           (subst (IsEntry one) (sym c.deref.ensures.0) c.entry_bytes.ensures) in (
             r.0 ++ one ∷ [],
             r.1 ++ c.deref.result.now ∷ [],
-            subst (PrintAllToEnd starts (given_by lines)) (sym (append_assoc r.0 (one ∷ []) rest)) all,
+            subst (PrintAllToEnd starts (given_by lines)) (sym (append_assoc r.0 (one ∷ []) rest))
+                all,
             zip-push r.0 r.1 one c.deref.result.now r.3 is,
             c.keep.ensures.kept start first r.1 (one, is) r.4,
           );
@@ -59,7 +61,8 @@ returns-in_default-clause-closed g c = λ starts start first lines copies texts 
     kept in record {
       copies = r.0;
       printed = subst (PrintAllToEnd starts (given_by lines)) (append-nil r.0)
-          (subst (λ l. PrintAllToEnd starts (given_by lines) (r.0 ++ l)) c.in_default.ensures.next r.2);
+          (subst (λ l. PrintAllToEnd starts (given_by lines) (r.0 ++ l)) c.in_default.ensures.next
+          r.2);
       texts = r.1;
       each = r.3;
       kept = r.4;

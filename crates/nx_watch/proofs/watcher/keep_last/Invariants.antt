@@ -1,16 +1,16 @@
 use Rattle.std.proofs.Common.{◌≡◌, ◌≤◌, ℕ, List, ◌++◌, length}
 use Rattle.std.specs.List.{All, AllZip}
 use Rattle.nx_envelope.specs.Moment.{last_moment}
-use Rattle.nx_fec.specs.AirFile.{Line}
+use Rattle.nx_fec.specs.air_files.AirFile.{Line}
 use Rattle.nx_fec.specs.Transfers.{CountedDevice}
 use Rattle.nx_log.specs.Logged.{IsLoggedAs}
 use Rattle.nx_receiver.specs.InTurn.{PrintAllToEnd}
-use Rattle.nx_receiver.specs.Listen.{given_by}
+use Rattle.nx_receiver.specs.air_file_runs.Listen.{given_by}
 use Rattle.nx_receiver.specs.Listener.{last_copies}
 use Rattle.nx_receiver.specs.Shares.{MarkedCopy, Starts}
 use Rattle.nx_watch.specs.private.Keeping.{KeepsWith, disk_of}
 use Rattle.nx_watch.specs.private.Watcher.{IsCopyInRange, IsLineInRange}
-use Rattle.nx_watch.specs.declared.keeper.Keeper.{Keeper}
+use Rattle.nx_watch.specs.declared.kept_log.keeper.Keeper.{Keeper}
 use Rattle.nx_watch.proofs.watcher.keep_last.Given as goal
 
 -- the first of the last copies were kept

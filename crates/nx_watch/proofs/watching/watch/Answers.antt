@@ -14,10 +14,10 @@ use Rattle.nx_watch.specs.declared.watch_fault.WatchFault.TheVariants.{Damaged, 
 use Rattle.nx_receiver.specs.Shares.{Starts, starts_from}
 use Rattle.nx_watch.specs.Watch.{AnswersStarted, AnswersWatching, HasCause, HasOpened, starts_at, watch_devices}
 use Rattle.nx_watch.specs.private.Keeping.{HasKept, StandsForTexts, disk_of}
-use Rattle.nx_watch.proofs.KeepingLemmas.{fresh-keeper, keeps-stands, kept-none}
-use Rattle.nx_watch.proofs.OpeningLemmas.{answers-opening, answers-watching, cause-behind, cause-opening, damage-named, entries-of, has-opened, not-damaged, same-texts, started-before}
-use Rattle.nx_watch.proofs.RememberingLemmas.{took-all}
-use Rattle.nx_watch.proofs.RunLemmas.{nothing}
+use Rattle.nx_watch.proofs.lemmas.log.Keeping.{fresh-keeper, keeps-stands, kept-none}
+use Rattle.nx_watch.proofs.lemmas.log.Opening.{answers-opening, answers-watching, cause-behind, cause-opening, damage-named, entries-of, has-opened, not-damaged, same-texts, started-before}
+use Rattle.nx_watch.proofs.lemmas.log.Remembering.{took-all}
+use Rattle.nx_watch.proofs.lemmas.lines.Run.{nothing}
 use Rattle.nx_watch.proofs.watching.watch.Goals as goal
 
 abbrev err : WatchFault → Result WatchReport WatchFault
@@ -136,7 +136,8 @@ returns-clause-watched g c = λ start entries ex stands.
     ∙ sym (ap (λ (s : Starts). s.moment) c.in-Ok-starting.ensures.start) in
     let range = subst (λ (s : Starts). s.moment ≤ last_moment) (sym c.in-Ok-starting.ensures.start)
     c.in-Ok-starting.ensures.range in
-    let heard = subst (λ (s : Starts). HearsGiven s listener [] []) (sym c.in-Ok-starting.ensures.start)
+    let heard = subst (λ (s : Starts). HearsGiven s listener [] [])
+    (sym c.in-Ok-starting.ensures.start)
     c.in-Ok-starting.ensures.heard in
     let explained = c.run.ensures.explained first range heard fresh start ex in
     let o = c.in-Ok.ensures.opened start explained in
@@ -146,7 +147,8 @@ returns-clause-watched g c = λ start entries ex stands.
     let keeps : Keeps (d.seen start) (d.may_leave start) IsWholeEntry o.records log =
     record { front = o.front; kept = o.kept; at_rest = o.at_rest } in
     let saved = c.saved_at-saved.ensures entries
-    (took-all c.new-memory.result c.open.new.taker entries o.records c.new-memory.ensures each o.taken) in
+    (took-all c.new-memory.result c.open.new.taker entries o.records c.new-memory.ensures each
+    o.taken) in
     let starts : starts_of listener ≡ starts_at c.args.moment entries =
     c.in-Ok-starting.ensures.start ∙ ap starts_from saved in
     let answer = c.run.ensures.answers first range heard fresh start entries o.records each keeps in
@@ -218,11 +220,13 @@ returns-clause-damaged g c = λ start line ex e.
     c.in-Ok-starting.ensures.range in
     let heard = subst (λ (s : Starts). HearsGiven s c.in-Ok-starting.listener [] [])
     (sym c.in-Ok-starting.ensures.start) c.in-Ok-starting.ensures.heard in
-    let o = c.in-Ok.ensures.opened start (c.run.ensures.explained first range heard fresh start ex) in
+    let o = c.in-Ok.ensures.opened start
+    (c.run.ensures.explained first range heard fresh start ex) in
     let found = entries-of o.records o.front o.kept in
     let keeps : Keeps (d.seen start) (d.may_leave start) IsWholeEntry o.records log =
     record { front = o.front; kept = o.kept; at_rest = o.at_rest } in
-    let answer = c.run.ensures.answers first range heard fresh start found.0 o.records found.1 keeps in
+    let answer = c.run.ensures.answers first range heard fresh start found.0 o.records found.1
+    keeps in
     absurd (not-damaged _ found.0 (starts_of c.in-Ok-starting.listener) line
     (subst (AnswersStarted _ (starts_of c.in-Ok-starting.listener) found.0) e answer))
 
@@ -241,7 +245,8 @@ returns-clause-foreign g c = λ start ex none.
     c.in-Ok-starting.ensures.range in
     let heard = subst (λ (s : Starts). HearsGiven s c.in-Ok-starting.listener [] [])
     (sym c.in-Ok-starting.ensures.start) c.in-Ok-starting.ensures.heard in
-    let o = c.in-Ok.ensures.opened start (c.run.ensures.explained first range heard fresh start ex) in
+    let o = c.in-Ok.ensures.opened start
+    (c.run.ensures.explained first range heard fresh start ex) in
     absurd (none (
       o.records,
       record {

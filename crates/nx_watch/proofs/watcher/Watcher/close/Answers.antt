@@ -1,7 +1,7 @@
 use Rattle.std.proofs.Common.{[], ◌++◌, subst, append-nil, sym}
-use Rattle.nx_receiver.specs.Listen.{given_by}
+use Rattle.nx_receiver.specs.air_file_runs.Listen.{given_by}
 use Rattle.nx_receiver.specs.Listener.{starts_of}
-use Rattle.nx_watch.proofs.WatcherLemmas.{last-in-range}
+use Rattle.nx_watch.proofs.lemmas.log.Watcher.{last-in-range}
 use Rattle.nx_watch.proofs.watcher.Watcher.close.Goals as goal
 
 pub keep_last-requires-clause-range : goal.keep_last-requires-clause-range

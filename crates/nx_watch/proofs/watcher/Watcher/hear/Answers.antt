@@ -1,11 +1,11 @@
 use Rattle.std.proofs.Common.{◌≡◌, arith, take, subst, rules}
 use Rattle.std.proofs.lemmas.List.{take_all}
-use Rattle.nx_receiver.specs.Listen.{given_by}
+use Rattle.nx_receiver.specs.air_file_runs.Listen.{given_by}
 use Rattle.nx_receiver.specs.Listener.{then_elements}
-use Rattle.nx_receiver.proofs.listens.Listener.{elements-next}
+use Rattle.nx_receiver.proofs.lemmas.listening.Listener.{elements-next}
 use Rattle.nx_watch.specs.private.Keeping.{disk_of}
 use Rattle.nx_watch.specs.private.Watcher.{KeepsHeard}
-use Rattle.nx_watch.proofs.WatcherLemmas.{line-heard, none-yet}
+use Rattle.nx_watch.proofs.lemmas.log.Watcher.{line-heard, none-yet}
 use Rattle.nx_watch.proofs.watcher.Watcher.hear.Goals as goal
 
 pub loop-at-init : goal.loop-at-init
@@ -32,7 +32,8 @@ loop-at-preserved g c =
       within = omega (arith, c.hear_next-at.ensures.within);
       heard = λ start lines h.
           subst (λ bs. KeepsHeard disk g.W.Write.contents start.taker c.hear_next-at.new.self
-          start.writer c.hear_next-at.new.writer (then_elements (given_by lines) c.of-channel.result bs))
+          start.writer c.hear_next-at.new.writer
+          (then_elements (given_by lines) c.of-channel.result bs))
           (elements-next bits c.loop-at.at c.hear_next-at.result)
           (c.hear_next-at.ensures.heard start.taker start.writer lines (take c.loop-at.at bits)
           h.1.first h.1.in_range (c.loop-at.invariant.heard start lines h));

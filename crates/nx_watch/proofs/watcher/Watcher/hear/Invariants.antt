@@ -1,6 +1,6 @@
 use Rattle.std.proofs.Common.{◌≡◌, ◌-◌, ◌≤◌, ℕ, List, length, take}
-use Rattle.nx_fec.specs.AirFile.{Line}
-use Rattle.nx_receiver.specs.Listen.{given_by}
+use Rattle.nx_fec.specs.air_files.AirFile.{Line}
+use Rattle.nx_receiver.specs.air_file_runs.Listen.{given_by}
 use Rattle.nx_receiver.specs.Listener.{then_elements}
 use Rattle.nx_watch.specs.Watching.{StandsWith, WithWriter, with_writer}
 use Rattle.nx_watch.specs.private.Keeping.{disk_of}

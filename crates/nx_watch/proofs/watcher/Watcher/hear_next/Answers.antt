@@ -1,8 +1,8 @@
 use Rattle.std.proofs.Common.{◌≡◌, ◌++◌, arith, drop, refl, subst, sym, take, true}
-use Rattle.nx_receiver.specs.Listen.{given_by}
+use Rattle.nx_receiver.specs.air_file_runs.Listen.{given_by}
 use Rattle.nx_receiver.specs.Listener.{IsSpelled, starts_of}
 use Rattle.nx_watch.specs.private.Keeping.{disk_of}
-use Rattle.nx_watch.proofs.WatcherLemmas.{lines_are, none-more, none-spelled, one-more}
+use Rattle.nx_watch.proofs.lemmas.log.Watcher.{lines_are, none-more, none-spelled, one-more}
 use Rattle.nx_watch.proofs.watcher.Watcher.hear_next.Goals as goal
 
 pub returns-then-not-is_spelled-clause-heard : goal.returns-then-not-is_spelled-clause-heard
@@ -13,7 +13,8 @@ returns-then-not-is_spelled-clause-heard g c = λ start first lines part range w
     d.has_failed_to_write) g.W.Write.contents start c.args.self.now _ first c.args.writer.now
     (given_by lines) c.args.channel part (take c.hear_spelled-count.result.0
     (drop c.args.from c.args.packed.now)) out.0 refl
-    (none-spelled c.args.channel c.hear_spelled-count.result.1 out.0 _ c.if-not-is_spelled.true out.1)
+    (none-spelled c.args.channel c.hear_spelled-count.result.1 out.0 _ c.if-not-is_spelled.true
+    out.1)
     (λ copies heard. out.2 (starts_of start.listener) (given_by lines) part copies heard) h
 
 pub returns-clause-heard : goal.returns-clause-heard

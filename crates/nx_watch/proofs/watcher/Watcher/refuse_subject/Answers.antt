@@ -1,4 +1,4 @@
-use Rattle.nx_watch.proofs.WatcherLemmas.{where-ok, not-vital}
+use Rattle.nx_watch.proofs.lemmas.log.Watcher.{where-ok, not-vital}
 use Rattle.nx_watch.proofs.watcher.Watcher.refuse_subject.Goals as goal
 
 pub returns-clause-heard : goal.returns-clause-heard

@@ -1,17 +1,17 @@
 use Rattle.std.proofs.Common.{◌≡◌, ◌≤◌, ◌++◌, ◌∷◌, [], List, ap₂, arith, false, refl, sym, subst}
-use Rattle.nx_fec.specs.AirFile.{Line, moment, elements, refuse_station, accept_station}
-use Rattle.nx_fec.specs.AirFile.{refuse_subject, accept_subject}
+use Rattle.nx_fec.specs.air_files.AirFile.{Line, moment, elements, refuse_station, accept_station}
+use Rattle.nx_fec.specs.air_files.AirFile.{refuse_subject, accept_subject}
 use Rattle.nx_memory.specs.Selection.{is_vital}
 use Rattle.nx_receiver.specs.Events as events
 use Rattle.nx_receiver.specs.Events.{command}
-use Rattle.nx_receiver.specs.Listen.{given_by}
+use Rattle.nx_receiver.specs.air_file_runs.Listen.{given_by}
 use Rattle.nx_receiver.specs.Listener.{HearsGiven, starts_of}
 use Rattle.nx_receiver.specs.Shares.{to_one}
-use Rattle.nx_receiver.proofs.listens.Lines.{said, said-elements}
+use Rattle.nx_receiver.proofs.lemmas.listening.Lines.{said, said-elements}
 use Rattle.nx_watch.specs.Watching.{MayAct, StandsWith, with_writer}
 use Rattle.nx_watch.specs.private.Keeping.{disk_of}
 use Rattle.nx_watch.specs.private.Watcher.{WatcherStands}
-use Rattle.nx_watch.proofs.WatcherLemmas.{force-le, next-line, with_listener}
+use Rattle.nx_watch.proofs.lemmas.log.Watcher.{force-le, next-line, with_listener}
 use Rattle.nx_watch.proofs.watcher.WatcherActingTaker.take.Goals as goal
 
 pub returns-in-Elements-clause-taken : goal.returns-in-Elements-clause-taken
@@ -56,9 +56,10 @@ returns-in-RefuseStation-clause-taken g c = λ start lines line latest may h.
     (with_writer new c.args.writer.now) (lines ++ l ∷ [])) (sym is)
     (next-line disk g.W.Write.contents start c.args.self.now new c.args.writer.now lines
     (refuse_station mark byte) refl tt
-    (λ copies heard. subst (λ one. HearsGiven starts new.listener (given_by lines ++ one ∷ []) copies)
+    (λ copies heard. subst (λ one. HearsGiven starts new.listener (given_by lines ++ one ∷ [])
+    copies)
     (ap₂ (λ channel b. to_one channel (command (events.refuse_station b) ∷ [])) c.of.ensures
-    c.letter.ensures)
+    c.of_capital.ensures)
     (c.refuse_station.ensures.heard starts (given_by lines) copies heard)) h)
 
 pub returns-in-AcceptStation-clause-taken : goal.returns-in-AcceptStation-clause-taken
@@ -75,9 +76,11 @@ returns-in-AcceptStation-clause-taken g c = λ start lines line latest may h.
     (with_writer new c.args.writer.now) (lines ++ l ∷ [])) (sym is)
     (next-line disk g.W.Write.contents start c.args.self.now new c.args.writer.now lines
     (accept_station mark byte) refl tt
-    (λ copies heard. subst (λ one. HearsGiven starts new.listener (given_by lines ++ one ∷ []) copies)
-    (ap₂ (λ channel b. to_one channel (command (events.accept_station b) ∷ [])) c.of-in-AcceptStation.ensures
-    c.letter-in-AcceptStation.ensures)
+    (λ copies heard. subst (λ one. HearsGiven starts new.listener (given_by lines ++ one ∷ [])
+    copies)
+    (ap₂ (λ channel b. to_one channel (command (events.accept_station b) ∷ []))
+    c.of-in-AcceptStation.ensures
+    c.of_capital-in-AcceptStation.ensures)
     (c.accept_station.ensures.heard starts (given_by lines) copies heard)) h)
 
 pub returns-in-RefuseSubject-clause-taken : goal.returns-in-RefuseSubject-clause-taken
@@ -94,10 +97,14 @@ returns-in-RefuseSubject-clause-taken g c = λ start lines line latest may h.
     (with_writer new c.args.writer.now) (lines ++ l ∷ [])) (sym is)
     (next-line disk g.W.Write.contents start c.args.self.now new c.args.writer.now lines
     (refuse_subject mark byte) c.refuse_subject.ensures.keeper tt
-    (λ copies heard. subst (λ one. HearsGiven starts new.listener (given_by lines ++ one ∷ []) copies)
-    (ap₂ (λ channel b. to_one channel (command (events.refuse_subject b) ∷ [])) c.of-in-RefuseSubject.ensures
-    c.letter-in-RefuseSubject.ensures)
-    (c.refuse_subject.ensures.heard starts (given_by lines) copies (subst (λ b. is_vital b ≡ false) (sym c.letter-in-RefuseSubject.ensures) (subst (MayAct starts.moment lines) is may)) heard)) h)
+    (λ copies heard. subst (λ one. HearsGiven starts new.listener (given_by lines ++ one ∷ [])
+    copies)
+    (ap₂ (λ channel b. to_one channel (command (events.refuse_subject b) ∷ []))
+    c.of-in-RefuseSubject.ensures
+    c.of_capital-in-RefuseSubject.ensures)
+    (c.refuse_subject.ensures.heard starts (given_by lines) copies
+    (subst (λ b. is_vital b ≡ false) (sym c.of_capital-in-RefuseSubject.ensures)
+    (subst (MayAct starts.moment lines) is may)) heard)) h)
 
 pub returns-in-AcceptSubject-clause-taken : goal.returns-in-AcceptSubject-clause-taken
 returns-in-AcceptSubject-clause-taken g c = λ start lines line latest may h.
@@ -113,7 +120,9 @@ returns-in-AcceptSubject-clause-taken g c = λ start lines line latest may h.
     (with_writer new c.args.writer.now) (lines ++ l ∷ [])) (sym is)
     (next-line disk g.W.Write.contents start c.args.self.now new c.args.writer.now lines
     (accept_subject mark byte) refl tt
-    (λ copies heard. subst (λ one. HearsGiven starts new.listener (given_by lines ++ one ∷ []) copies)
-    (ap₂ (λ channel b. to_one channel (command (events.accept_subject b) ∷ [])) c.of-in-AcceptSubject.ensures
-    c.letter-in-AcceptSubject.ensures)
+    (λ copies heard. subst (λ one. HearsGiven starts new.listener (given_by lines ++ one ∷ [])
+    copies)
+    (ap₂ (λ channel b. to_one channel (command (events.accept_subject b) ∷ []))
+    c.of-in-AcceptSubject.ensures
+    c.of_capital-in-AcceptSubject.ensures)
     (c.accept_subject.ensures.heard starts (given_by lines) copies heard)) h)

@@ -1,0 +1,9 @@
+-- Chains of watches and the log that they leave.
+pub mod Chains
+pub mod Files
+pub mod First
+pub mod Found
+pub mod Keeps
+pub mod Later
+pub mod Links
+pub mod Once

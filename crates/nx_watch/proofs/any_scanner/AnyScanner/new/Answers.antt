@@ -1,7 +1,0 @@
-use Rattle.std.proofs.Common.{[], refl}
-use Rattle.nx_watch.proofs.AnyLineLemmas.{AreLines-part}
-use Rattle.nx_watch.proofs.ScanningLemmas.{fresh-stands}
-use Rattle.nx_watch.proofs.any_scanner.AnyScanner.new.Goals as goal
-
-pub returns-clause-stands : goal.returns-clause-stands
-returns-clause-stands c = fresh-stands _ c.new.ensures.stands refl [] [] (AreLines-part [] tt)

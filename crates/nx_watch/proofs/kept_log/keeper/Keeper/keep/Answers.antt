@@ -1,0 +1,34 @@
+use Rattle.std.proofs.Common.{◌≡◌, ◌++◌, ◌∷◌, [], true, false, cond, append-nil, refl, subst, sym}
+use Rattle.nx_watch.specs.Watching.{WereGiven}
+use Rattle.nx_watch.specs.private.Keeping.{HasKept, disk_of}
+use Rattle.nx_watch.proofs.lemmas.log.Keeping.{given-more}
+use Rattle.nx_watch.proofs.kept_log.keeper.Keeper.keep.Goals as goal
+
+pub returns-then-put-clause-kept : goal.returns-then-put-clause-kept
+returns-then-put-clause-kept g c = λ start first texts is h.
+    let d = g.D.DiskFile in
+    let disk = disk_of d.explains d.seen d.may_leave d.moment d.left_since d.faults
+    d.has_failed_to_write in
+    let kept = c.put.ensures start texts h.0 is h.1 in
+    let same = subst (λ b. HasKept disk start c.put.new.self (texts ++ c.args.entry.now ∷ [])
+    (h.0 ++ cond b [] c.args.entry.now)) c.if-put.true kept in (
+      h.0,
+      subst (HasKept disk start c.put.new.self (texts ++ c.args.entry.now ∷ []))
+          (append-nil h.0) same,
+      h.2,
+    )
+
+pub returns-clause-kept : goal.returns-clause-kept
+returns-clause-kept g c = λ start first texts is h.
+    let d = g.D.DiskFile in
+    let disk = disk_of d.explains d.seen d.may_leave d.moment d.left_since d.faults
+    d.has_failed_to_write in
+    let kept = c.put.ensures start texts h.0 is h.1 in
+    let more = subst (λ b. HasKept disk start c.put.new.self (texts ++ c.args.entry.now ∷ [])
+    (h.0 ++ cond b [] c.args.entry.now)) c.if-put.false kept in (
+      h.0 ++ c.args.entry.now,
+      more,
+      given-more g.W.Write.contents first c.args.writer.now c.write_more.new.writer h.0
+          c.args.entry.now is
+          (c.write_more.ensures.written (g.W.Write.contents first.inner) h.0) h.2,
+    )

@@ -1,0 +1,8 @@
+-- The lines of any bytes, read, acted on and told.
+pub mod Acting
+pub mod AnyLine
+pub mod Law
+pub mod Reading
+pub mod Run
+pub mod Scanning
+pub mod Telling

@@ -1,0 +1,335 @@
+-- A run over the lines of any bytes.
+use Rattle.std.proofs.Common.{◌≡◌, ◌+◌, ℕ, ◌≤◌, ◌<◌, Bool, true, false, not, cond, ◌&&◌, List, Result, Ok}
+use Rattle.std.proofs.Common.{[], ◌∷◌, ◌++◌, map, take, drop, Option, Some, None, max}
+use Rattle.std.proofs.Common.{option_to_list, nat_le, refl, sym, ap, ◌∙◌, subst, append_assoc}
+use Rattle.std.proofs.Common.{append-nil, arith, Err, inl}
+use Rattle.std.specs.Prelude.{IsSome, IsSomeAnd}
+use Rattle.std.specs.Io.KnownBytes.{Appends}
+use Rattle.std.proofs.lemmas.Bool.{and_parts, leb-false, leb-true}
+use Rattle.std.proofs.lemmas.List.{map-append, take-append-drop}
+use Rattle.std.proofs.lemmas.List.Concat.{flat_map-append}
+use Rattle.nx_envelope.specs.Moment.{last_moment}
+use Rattle.nx_fec.specs.air_files.AirFile.{IsLine, Line, moment, elements, refuse_station, accept_station}
+use Rattle.nx_fec.specs.air_files.AirFile.{refuse_subject, accept_subject}
+use Rattle.nx_fec.specs.air_files.Scanner.{kind_kept, kind_of}
+use Rattle.nx_fec.specs.declared.air_files.lines.LineKind.{LineKind}
+use Rattle.nx_memory.specs.Memory.{seconds_known}
+use Rattle.nx_memory.specs.Selection.{is_vital}
+use Rattle.nx_watch.specs.Acting.{acting_behind, acting_lines, acts, ends_watch, goes_on}
+use Rattle.nx_watch.specs.Acting.{goes_on_behind, in_force, is_far_back, moment_said, moments_said, went_far_back}
+use Rattle.nx_watch.specs.AnyLines.{AreLines, cut_line}
+use Rattle.nx_watch.specs.Watching.{AnswersWatch, AreCounted, HasTaken, HasTold, MayAct}
+use Rattle.nx_watch.specs.Watching.{Giving, Standing, StandsWith, first_told, told_of}
+use Rattle.nx_watch.specs.Watching.{with_writer}
+use Rattle.nx_fec.specs.Transfers.{CountedDevice}
+use Rattle.nx_watch.specs.declared.lines.line_watch.LinesWatched.{LinesWatched}
+use Rattle.nx_watch.specs.declared.lines.line_watch.WatchEnd.{WatchEnd}
+use Rattle.nx_watch.specs.declared.lines.line_watch.WatchEnd.TheVariants.{Read, Back, Write}
+use Rattle.nx_watch.specs.private.Effects.{IsKept}
+use Rattle.nx_watch.specs.declared.lines.any_scanner.Ended.{Ended}
+use Rattle.nx_watch.specs.declared.lines.line_watch.LineRun.{LineRun}
+use Rattle.nx_watch.specs.private.Running.{EndsInput, IsRunning, TellsFirst}
+use Rattle.nx_watch.specs.private.Scanning.{IsScanning, lines_ended}
+use Rattle.nx_watch.proofs.lemmas.lines.Acting.{both}
+
+-- ---- one more line
+
+goes_on-append : (first : ℕ) (moments : List ℕ) (lines : List (Option Line)) (line : Option Line)
+    → goes_on_behind first moments lines ≡ true
+    → ends_watch first (moments ++ moments_said lines) line ≡ false
+    → goes_on_behind first moments (lines ++ line ∷ []) ≡ true
+goes_on-append first moments [] line on stays =
+    both _ _ (ap not (ap (λ m. ends_watch first m line) (sym (append-nil moments)) ∙ stays)) refl
+goes_on-append first moments (l ∷ lines) line on stays =
+    let parts = and_parts (not (ends_watch first moments l))
+    (goes_on_behind first (moments ++ moment_said l) lines) on in
+    both _ _ parts.0 (goes_on-append first (moments ++ moment_said l) lines line parts.1
+    (ap (λ m. ends_watch first m line) (append_assoc moments (moment_said l) (moments_said lines))
+    ∙ stays))
+
+acting-append : (first : ℕ) (moments : List ℕ) (lines : List (Option Line)) (line : Option Line)
+    → acting_behind first moments (lines ++ line ∷ [])
+    ≡ acting_behind first moments lines
+    ++ cond (acts first (moments ++ moments_said lines) line) (option_to_list line) []
+acting-append first moments [] line =
+    append-nil (cond (acts first moments line) (option_to_list line) [])
+    ∙ ap (λ m. cond (acts first m line) (option_to_list line) []) (sym (append-nil moments))
+acting-append first moments (l ∷ lines) line =
+    let head = cond (acts first moments l) (option_to_list l) [] in
+    let rest = acting_behind first (moments ++ moment_said l) lines in
+    ap (λ k. head ++ k) (acting-append first (moments ++ moment_said l) lines line
+    ∙ ap (λ m. rest ++ cond (acts first m line) (option_to_list line) [])
+    (append_assoc moments (moment_said l) (moments_said lines)))
+    ∙ sym (append_assoc head rest
+    (cond (acts first (moments ++ moments_said (l ∷ lines)) line) (option_to_list line) []))
+
+pub taken-acting : {T : Type 0} (stands : Standing T) (start now : T) (first : ℕ)
+    (lines : List (Option Line)) (line : Line)
+    → goes_on first lines ≡ true → acts first (moments_said lines) (Some line) ≡ true
+    → ends_watch first (moments_said lines) (Some line) ≡ false
+    → stands start now (acting_lines first lines ++ line ∷ [])
+    → HasTaken stands start now first (lines ++ Some line ∷ [])
+taken-acting stands start now first lines line on acting stays stood = record {
+  on = goes_on-append first [] lines (Some line) on stays;
+  stood = subst (stands start now) (sym (acting-append first [] lines (Some line)
+      ∙ ap (λ b. acting_lines first lines ++ cond b (line ∷ []) []) acting)) stood;
+}
+
+pub taken-idle : {T : Type 0} (stands : Standing T) (start now : T) (first : ℕ)
+    (lines : List (Option Line)) (line : Option Line)
+    → HasTaken stands start now first lines → acts first (moments_said lines) line ≡ false
+    → ends_watch first (moments_said lines) line ≡ false
+    → HasTaken stands start now first (lines ++ line ∷ [])
+taken-idle stands start now first lines line taken idle stays = record {
+  on = goes_on-append first [] lines line taken.on stays;
+  stood = subst (stands start now) (sym (acting-append first [] lines line
+      ∙ ap (λ b. acting_lines first lines ++ cond b (option_to_list line) []) idle
+      ∙ append-nil (acting_lines first lines))) taken.stood;
+}
+
+-- ---- a line that acts may act behind those that acted
+
+in_force-append : (first : ℕ) (a b : List ℕ)
+    → in_force first (a ++ b) ≡ in_force (in_force first a) b
+in_force-append first [] b = refl
+in_force-append first (n ∷ a) b = in_force-append (max first n) a b
+
+acted-none : (b : Bool) (line : Line) → moment_said (Some line) ≡ []
+    → moments_said (map Some (cond b (line ∷ []) [])) ≡ []
+acted-none true line none = append-nil (moment_said (Some line)) ∙ none
+acted-none false line none = refl
+
+-- by what is tested of a moment
+force-moment : (force n : ℕ) (range later : Bool)
+    → nat_le n last_moment ≡ range → nat_le force n ≡ later
+    → in_force force (moments_said (map Some (cond (range && later) (moment n ∷ []) [])))
+    ≡ in_force force (cond range (n ∷ []) [])
+force-moment force n true true in_range not_back =
+    ap (λ b. in_force force (cond b (n ∷ []) [] ++ [])) in_range
+force-moment force n true false in_range back =
+    let less : n < force = leb-false force n back in omega arith
+force-moment force n false later in_range not_back = refl
+
+force-line : (force : ℕ) (first : ℕ) (moments : List ℕ) (line : Option Line)
+    → force ≡ in_force first moments
+    → in_force force (moments_said (map Some
+    (cond (acts first moments line) (option_to_list line) [])))
+    ≡ in_force force (moment_said line)
+force-line force first moments None is = refl
+force-line force first moments (Some (moment n)) is =
+    subst (λ f. in_force force (moments_said (map Some
+    (cond (nat_le n last_moment && nat_le f n) (moment n ∷ []) [])))
+    ≡ in_force force (moment_said (Some (moment n)))) is
+    (force-moment force n (nat_le n last_moment) (nat_le force n) refl refl)
+force-line force first moments (Some (elements mark bits)) is =
+    ap (in_force force) (acted-none (acts first moments (Some (elements mark bits)))
+    (elements mark bits) refl)
+force-line force first moments (Some (refuse_station mark letter)) is = refl
+force-line force first moments (Some (accept_station mark letter)) is = refl
+force-line force first moments (Some (refuse_subject mark letter)) is =
+    ap (in_force force) (acted-none (not (is_vital letter)) (refuse_subject mark letter) refl)
+force-line force first moments (Some (accept_subject mark letter)) is = refl
+
+force-behind : (first : ℕ) (moments : List ℕ) (lines : List (Option Line))
+    → in_force (in_force first moments)
+    (moments_said (map Some (acting_behind first moments lines)))
+    ≡ in_force (in_force first moments) (moments_said lines)
+force-behind first moments [] = refl
+force-behind first moments (line ∷ lines) =
+    let force = in_force first moments in
+    let head = cond (acts first moments line) (option_to_list line) [] in
+    let next = moments ++ moment_said line in
+    let rest = acting_behind first next lines in
+    let after : in_force force (moment_said line) ≡ in_force first next =
+    sym (in_force-append first moments (moment_said line)) in
+    ap (λ l. in_force force (moments_said l)) (map-append Some head rest)
+    ∙ ap (in_force force) (flat_map-append moment_said (map Some head) (map Some rest))
+    ∙ in_force-append force (moments_said (map Some head)) (moments_said (map Some rest))
+    ∙ ap (λ f. in_force f (moments_said (map Some rest)))
+    (force-line force first moments line refl ∙ after)
+    ∙ force-behind first next lines
+    ∙ ap (λ f. in_force f (moments_said lines)) (sym after)
+    ∙ sym (in_force-append force (moment_said line) (moments_said lines))
+
+pub may-act : (first : ℕ) (lines : List (Option Line)) (line : Line)
+    → acts first (moments_said lines) (Some line) ≡ true
+    → MayAct first (acting_lines first lines) line
+may-act first lines (moment n) h =
+    let parts = and_parts (nat_le n last_moment) (nat_le (in_force first (moments_said lines)) n) h
+    in (
+      subst (λ f. f ≤ n) (sym (force-behind first [] lines))
+          (leb-true (in_force first (moments_said lines)) n parts.1),
+      leb-true n last_moment parts.0,
+    )
+may-act first lines (elements mark bits) h = tt
+may-act first lines (refuse_station mark letter) h = tt
+may-act first lines (accept_station mark letter) h = tt
+may-act first lines (refuse_subject mark letter) h = not-true (is_vital letter) h
+  where
+    not-true : (b : Bool) → not b ≡ true → b ≡ false
+    not-true true k = cc
+    not-true false k = refl
+may-act first lines (accept_subject mark letter) h = tt
+
+-- ---- what is told of one more line
+
+pub tell-step : (P Q : Option ℕ → Type 0) (before now old new : Option ℕ) → before ≡ old
+    → now ≡ new → (IsSome old → new ≡ old) → ((IsSome before → now ≡ before) → P before → Q now)
+    → P old → Q new
+tell-step P Q before now old new was is same step h =
+    subst Q is (step (λ some. is ∙ same (subst IsSome was some) ∙ sym was) (subst P (sym was) h))
+
+-- ---- what a scanner's latest line is
+
+pub kind-is : (latest : Option Line) (kind : Option LineKind) (line : Line) (k : LineKind)
+    → kind ≡ kind_kept latest → kind ≡ Some k → latest ≡ Some line → kind_of line ≡ k
+kind-is latest kind line k e h is =
+    let same : Some (kind_of line) ≡ Some k = ap kind_kept (sym is) ∙ sym e ∙ h in cc
+
+pub some-line : (latest : Option Line) → IsSomeAnd latest IsLine → (line : Line)
+    × (latest ≡ Some line)
+some-line None h = absurd h
+some-line (Some line) h = (line, refl)
+
+-- ---- a run behind more bytes
+
+pub run-of : {T : Type 0} (stands : Standing T) (start now : T) (first : ℕ) (run : LineRun)
+    (old new : Option (List ℕ)) (failures : ℕ) (bytes : List ℕ) (lines more : List (Option Line))
+    (ended : Ended) (latest : Option Line)
+    → lines_ended ended latest ≡ more
+    → IsScanning run.scanner bytes (lines ++ lines_ended ended latest)
+    → HasTaken stands start now first (lines ++ more)
+    → TellsFirst first run.effects old new failures (lines ++ more)
+    → IsRunning stands start now first run old new failures bytes
+run-of stands start now first run old new failures bytes lines more ended latest is scans taken
+    tells = record {
+      lines = lines ++ more;
+      scans = subst (λ l. IsScanning run.scanner bytes (lines ++ l)) is scans;
+      taken = taken;
+      tells = tells;
+    }
+
+pub whole-behind : (bytes piece more front tail : List ℕ) (count : ℕ)
+    → bytes ++ take count piece ≡ front ++ tail
+    → (bytes ++ piece) ++ more ≡ front ++ (tail ++ (drop count piece ++ more))
+whole-behind bytes piece more front tail count h =
+    ap (λ l. (bytes ++ l) ++ more) (sym (take-append-drop count piece))
+    ∙ ap (λ l. l ++ more) (sym (append_assoc bytes (take count piece) (drop count piece)))
+    ∙ append_assoc (bytes ++ take count piece) (drop count piece) more
+    ∙ ap (λ l. l ++ (drop count piece ++ more)) h
+    ∙ append_assoc front tail (drop count piece ++ more)
+
+-- the input ended, with or without a line that it cuts
+pub ends-input : (first : ℕ) (bytes : List ℕ) (lines more : List (Option Line))
+    (old new : Option (List ℕ)) (failures : ℕ) (counts : LinesWatched) (rest : List ℕ)
+    → AreLines bytes lines rest → cut_line rest ≡ more → AreCounted first (lines ++ more) counts
+    → HasTold old new failures (told_of first (lines ++ more))
+    → EndsInput first bytes lines old new failures counts
+ends-input first bytes lines more old new failures counts rest are cut counted told = record {
+  rest = rest;
+  are = are;
+  counted = subst (λ l. AreCounted first (lines ++ l) counts) (sym cut) counted;
+  told = subst (λ l. HasTold old new failures (told_of first (lines ++ l))) (sym cut) told;
+}
+
+-- what is told at an end before that of the input
+pub answers-told : {T : Type 0} (stands : Standing T) (start now : T)
+    (first : ℕ) (AtEnd : Type 0) (before after : List (Option Line) → Type 0) (end : WatchEnd)
+    (bytes : List ℕ) → ((lines : List (Option Line)) → before lines → after lines)
+    → AnswersWatch stands start now first ⊥ before (Err end) bytes
+    → AnswersWatch stands start now first AtEnd after (Err end) bytes
+answers-told stands start now first AtEnd before after Read bytes step h =
+    (h.0, h.1, h.2, h.3, step h.0 h.4)
+answers-told stands start now first AtEnd before after (Back line last given) bytes step h =
+    (h.0, h.1, h.2, h.3, h.4, h.5, step (h.0 ++ Some (moment given) ∷ []) h.6)
+answers-told stands start now first AtEnd before after Write bytes step h =
+    (h.0, h.1, h.2, h.3, step (h.0 ++ Some h.1 ∷ []) h.4)
+
+-- whatever a run answers, some lines were told of
+pub tells-some : {T : Type 0} (stands : Standing T) (start now : T)
+    (first : ℕ) (AtEnd : Type 0) (tells : List (Option Line) → Type 0)
+    (answer : Result LinesWatched WatchEnd) (bytes : List ℕ)
+    → AnswersWatch stands start now first AtEnd tells answer bytes
+    → (lines : List (Option Line)) × tells lines
+tells-some stands start now first AtEnd tells (Ok counts) bytes h = (h.1 ++ cut_line h.2, h.6)
+tells-some stands start now first AtEnd tells (Err Read) bytes h = (h.0, h.4)
+tells-some stands start now first AtEnd tells (Err (Back line last given)) bytes h =
+    (h.0 ++ Some (moment given) ∷ [], h.6)
+tells-some stands start now first AtEnd tells (Err Write) bytes h =
+    (h.0 ++ Some h.1 ∷ [], h.4)
+
+pub nothing : (contents : Option (List ℕ)) → Appends contents contents []
+nothing None = tt
+nothing (Some bytes) = sym (append-nil bytes)
+
+-- a taker and a writer before the first line
+pub stands-with : {T W : Type 0} (stands : Giving T) (contents : W → Option (List ℕ))
+    (start now : T)
+    (writer : CountedDevice W) → stands start now [] [] → writer.failures ≡ 0
+    → StandsWith stands contents (with_writer start writer) (with_writer now writer) []
+stands-with stands contents start now writer stood none = (
+  [],
+  stood,
+  record {
+    written = inl (none, nothing (contents writer.inner));
+    uncalled = λ e. refl;
+  },
+)
+
+-- a run before its first line
+pub run-starts : {T : Type 0} (stands : Standing T) (start now : T) (first : ℕ) (run : LineRun)
+    (contents : Option (List ℕ)) (failures : ℕ) → IsScanning run.scanner [] []
+    → IsKept first [] run.effects → stands start now [] → failures ≡ 0
+    → IsRunning stands start now first run contents contents failures []
+run-starts stands start now first run contents failures scans kept stood none = record {
+  lines = [];
+  scans = scans;
+  taken = record { on = refl; stood = stood };
+  tells = record {
+    kept_so = kept;
+    told = inl (
+      none,
+      subst (λ o. Appends contents contents (first_told o)) (sym kept.first_one)
+          (nothing contents),
+    );
+  };
+}
+
+-- ---- the lines of a run, with a cut one and with the one that ends the watch
+
+pub acting-cut : (first : ℕ) (lines : List (Option Line)) (rest : List ℕ)
+    → acting_lines first (lines ++ cut_line rest) ≡ acting_lines first lines
+acting-cut first lines [] = ap (acting_lines first) (append-nil lines)
+acting-cut first lines (byte ∷ rest) =
+    acting-append first [] lines None ∙ append-nil (acting_lines first lines)
+
+pub acting-idle : (first : ℕ) (lines : List (Option Line)) (line : Line)
+    → acts first (moments_said lines) (Some line) ≡ false
+    → acting_lines first (lines ++ Some line ∷ []) ≡ acting_lines first lines
+acting-idle first lines line idle =
+    acting-append first [] lines (Some line)
+    ∙ ap (λ b. acting_lines first lines ++ cond b (line ∷ []) []) idle
+    ∙ append-nil (acting_lines first lines)
+
+-- the line that ends the watch doesn't act
+pub ends-idle : (first : ℕ) (moments : List ℕ) (n : ℕ)
+    → ends_watch first moments (Some (moment n)) ≡ true
+    → acts first moments (Some (moment n)) ≡ false
+ends-idle first moments n ends =
+    let far = (and_parts (nat_le n last_moment) (is_far_back first moments n)
+    (and_parts (nat_le n last_moment && is_far_back first moments n) (went_far_back first moments)
+    ends).0).1 in
+    let back : n + seconds_known ≤ in_force first moments =
+    leb-true (n + seconds_known) (in_force first moments) far in
+    idle (nat_le n last_moment) (nat_le (in_force first moments) n) refl back
+  where
+    none : (a : Bool) → (a && false) ≡ false
+    none true = refl
+    none false = refl
+
+    idle : (a b : Bool) → nat_le (in_force first moments) n ≡ b
+        → n + seconds_known ≤ in_force first moments → (a && b) ≡ false
+    idle a true e back =
+        let later : in_force first moments ≤ n = leb-true (in_force first moments) n e in
+        absurd (omega arith)
+    idle a false e back = none a

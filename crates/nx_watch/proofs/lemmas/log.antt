@@ -1,0 +1,8 @@
+-- The log of a watch, opened, remembered and added to.
+pub mod Finish
+pub mod Heard
+pub mod Keeping
+pub mod Opening
+pub mod Remembering
+pub mod Start
+pub mod Watcher

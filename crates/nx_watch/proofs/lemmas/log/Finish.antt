@@ -1,0 +1,312 @@
+-- What a watch answers in the end.
+use Rattle.std.proofs.Common.{◌≡◌, ◌⊎◌, ◌↔◌, inl, inr, ⊎_elim, ℕ, ◌+◌, ◌-◌, ◌<◌, ◌≤◌, ◌^◌, suc, zero, Bool, true, false, List}
+use Rattle.std.proofs.Common.{[], ◌∷◌, ◌++◌, length, take, drop, min, Option, Result, Ok, Err, refl, sym, ◌∙◌, ap}
+use Rattle.std.proofs.Common.{subst, arith, append-nil}
+use Rattle.std.specs.List.{AllZip, concat}
+use Rattle.std.specs.Io.KnownBytes.{Consumes, IsAtEnd}
+use Rattle.std.proofs.lemmas.List.Elements.{All-nil}
+use Rattle.nx_envelope.specs.Moment.{last_moment}
+use Rattle.nx_fec.specs.air_files.AirFile.{Line}
+use Rattle.nx_fec.specs.Transfers.{CountedDevice}
+use Rattle.nx_kept.specs.Disk.{LeavesOnly}
+use Rattle.nx_kept.specs.Kept.{closed_gate}
+use Rattle.nx_kept.proofs.lemmas.Stages.{joined, weaker}
+use Rattle.nx_log.specs.Entries.{IsWholeEntry}
+use Rattle.nx_log.specs.Logged.{IsLoggedAs}
+use Rattle.nx_receiver.specs.air_file_runs.Listen.{given_by}
+use Rattle.nx_receiver.specs.Listener.{HearsGiven, starts_of}
+use Rattle.nx_receiver.specs.Log.{IsLog}
+use Rattle.nx_receiver.specs.Shares.{MarkedCopy, Starts}
+use Rattle.nx_watch.specs.Acting.{acting_lines, most_bytes}
+use Rattle.nx_watch.specs.Watch.{AnswersStarted, AnswersStop, HasCause, HasRead, HasWatched, KeepsAll, KeepsSome, LeavesAtAnyMoment}
+use Rattle.nx_watch.specs.Watch.{PrintsUntil, StandsForEntries, Stop, WatchDevices, at_end, back, unread, unwritten, watch_devices}
+use Rattle.nx_watch.specs.Watching.{HasTold, WereGiven, told_of}
+use Rattle.nx_watch.specs.declared.kept_log.keeper.Keeper.{Keeper}
+use Rattle.nx_watch.specs.declared.watch_report.WatchReport.{WatchReport}
+use Rattle.nx_watch.specs.declared.watch_fault.WatchFault.{WatchFault}
+use Rattle.nx_watch.specs.declared.watch_fault.WatchFault.TheVariants.{Disk}
+use Rattle.nx_watch.specs.private.Keeping.{AllKept, DiskOf, HasKept, HasKeptSo, KeepsTexts, SomeKept, StandsForFirst, StandsForTexts}
+use Rattle.nx_watch.specs.private.Watcher.{IsLineInRange, WatcherStands}
+use Rattle.nx_watch.specs.declared.watcher.Watcher.{Watcher}
+use Rattle.nx_watch.proofs.lemmas.log.Keeping.{keeps-stands}
+use Rattle.nx_watch.proofs.lemmas.log.Watcher.{log-of}
+
+-- ---- entries and their bytes, side by side
+
+pub zip-length : (copies : List MarkedCopy) (texts : List (List ℕ)) → AllZip IsLoggedAs copies texts
+    → length copies ≡ length texts
+zip-length [] [] h = refl
+zip-length [] (text ∷ texts) h = absurd h
+zip-length (one ∷ copies) [] h = absurd h
+zip-length (one ∷ copies) (text ∷ texts) h = ap suc (zip-length copies texts h.1)
+
+zip-append : (copies more : List MarkedCopy) (texts others : List (List ℕ))
+    → AllZip IsLoggedAs copies texts → AllZip IsLoggedAs more others
+    → AllZip IsLoggedAs (copies ++ more) (texts ++ others)
+zip-append [] more [] others h k = k
+zip-append [] more (text ∷ texts) others h k = absurd h
+zip-append (one ∷ copies) more [] others h k = absurd h
+zip-append (one ∷ copies) more (text ∷ texts) others h k =
+    (h.0, zip-append copies more texts others h.1 k)
+
+zip-take : (n : ℕ) (copies : List MarkedCopy) (texts : List (List ℕ))
+    → AllZip IsLoggedAs copies texts → AllZip IsLoggedAs (take n copies) (take n texts)
+zip-take zero copies texts h = tt
+zip-take (suc n) [] [] h = tt
+zip-take (suc n) [] (text ∷ texts) h = absurd h
+zip-take (suc n) (one ∷ copies) [] h = absurd h
+zip-take (suc n) (one ∷ copies) (text ∷ texts) h = (h.0, zip-take n copies texts h.1)
+
+zip-drop : (n : ℕ) (copies : List MarkedCopy) (texts : List (List ℕ))
+    → AllZip IsLoggedAs copies texts → AllZip IsLoggedAs (drop n copies) (drop n texts)
+zip-drop zero copies texts h = h
+zip-drop (suc n) [] [] h = tt
+zip-drop (suc n) [] (text ∷ texts) h = absurd h
+zip-drop (suc n) (one ∷ copies) [] h = absurd h
+zip-drop (suc n) (one ∷ copies) (text ∷ texts) h = zip-drop n copies texts h.1
+
+-- what stands for the texts stands for the entries
+first-entries : (entries copies : List MarkedCopy) (texts more : List (List ℕ)) (count : ℕ)
+    (file : List ℕ) → AllZip IsLoggedAs entries texts → AllZip IsLoggedAs copies more
+    → StandsForTexts (texts ++ take count more) file
+    → StandsForEntries (entries ++ take count copies) file
+first-entries entries copies texts more count file h k stands = record {
+  texts = texts ++ take count more;
+  each = zip-append entries (take count copies) texts (take count more) h
+      (zip-take count copies more k);
+  stands = stands;
+}
+
+all-entries : (entries copies : List MarkedCopy) (texts more : List (List ℕ)) (file : List ℕ)
+    → AllZip IsLoggedAs entries texts → AllZip IsLoggedAs copies more
+    → StandsForTexts (texts ++ more) file → StandsForEntries (entries ++ copies) file
+all-entries entries copies texts more file h k stands = record {
+  texts = texts ++ more;
+  each = zip-append entries copies texts more h k;
+  stands = stands;
+}
+
+-- ---- the answer
+
+module _ {D R W E : Type 0} (disk : DiskOf D) (content : List ℕ) (start : Keeper D)
+    (remaining : R → Option (List ℕ)) (reader reader_after : CountedDevice R)
+    (contents : W → Option (List ℕ)) (writer writer_after : CountedDevice W)
+    (told : E → Option (List ℕ)) (faults faults_after : CountedDevice E)
+  where
+    abbrev pub at-hand : D → WatchDevices D R W E
+    at-hand after =
+        watch_devices (disk.seen content) (disk.may_leave content) disk.clock
+        (disk.left_since content) start.log.device after remaining reader reader_after contents
+        writer writer_after told faults faults_after
+
+    all-kept : (entries copies : List MarkedCopy) (texts more : List (List ℕ)) (now : Keeper D)
+        (given : List ℕ) → AllZip IsLoggedAs entries texts → AllZip IsLoggedAs copies more
+        → KeepsTexts disk content texts start → AllKept disk start now more given
+        → WereGiven contents writer writer_after given
+        → KeepsAll (at-hand now.log.device) entries copies
+    all-kept entries copies texts more now given each zip keeps kept wrote =
+        let k = kept.kept content texts keeps in record {
+          found = all-entries entries copies texts more (disk.seen content now.log.device) each zip
+              (record {
+                front = k.front;
+                tail = closed_gate ∷ [];
+                kept = k.kept;
+                end = tt;
+                split = k.at_rest.file;
+              });
+          left = λ file left. all-entries entries copies texts more file each zip
+              (keeps-stands disk content (texts ++ more) now k file left);
+          silent = wrote.uncalled kept.none;
+        }
+
+    some-kept : (entries copies : List MarkedCopy) (texts more : List (List ℕ)) (now : Keeper D)
+        (given : List ℕ) → AllZip IsLoggedAs entries texts → AllZip IsLoggedAs copies more
+        → KeepsTexts disk content texts start → SomeKept disk start now more given
+        → WereGiven contents writer writer_after given
+        → KeepsSome (at-hand now.log.device) entries copies
+    some-kept entries copies texts more now given each zip keeps kept wrote = record {
+      count = kept.count;
+      fewer = omega (arith, kept.fewer, zip-length copies more zip);
+      left = λ file left.
+          ⊎_elim (λ s. inl (first-entries entries copies texts more kept.count file each zip s))
+          (λ s. inr (first-entries entries copies texts more (kept.count + 1) file each zip s))
+          (kept.left content texts keeps file left);
+      log = given;
+      spelled = subst (IsLog (drop kept.count copies)) (sym kept.rest)
+          (log-of (drop kept.count copies) (drop kept.count more)
+          (zip-drop kept.count copies more zip));
+      written = wrote.written;
+    }
+
+    moments-so : (b : Bool) (more : List (List ℕ)) (now : Keeper D) (given : List ℕ)
+        → HasKeptSo disk b start now more given → (texts : List (List ℕ))
+        → KeepsTexts disk content texts start
+        → LeavesOnly disk.clock (disk.left_since content) start.log.device now.log.device
+        (StandsForFirst texts more)
+    moments-so false more now given kept texts keeps = kept.any_moment content texts keeps
+    moments-so true more now given kept texts keeps = kept.any_moment content texts keeps
+
+    pub moments-of : (entries copies : List MarkedCopy) (texts more : List (List ℕ))
+        (now : Keeper D) (given : List ℕ) → AllZip IsLoggedAs entries texts
+        → AllZip IsLoggedAs copies more → KeepsTexts disk content texts start
+        → HasKept disk start now more given
+        → LeavesAtAnyMoment (at-hand now.log.device) (λ file. (count : ℕ) × (count ≤ length copies)
+        × StandsForEntries (entries ++ take count copies) file)
+    moments-of entries copies texts more now given each zip keeps kept =
+        weaker disk.clock (disk.left_since content) (disk.may_leave content) _
+        (StandsForFirst texts more) start.log.device now.log.device
+        (moments-so now.has_failed more now given kept texts keeps)
+        (λ file s. inr (
+          s.0,
+          omega (arith, s.1, zip-length copies more zip),
+          first-entries entries copies texts more s.0 file each zip s.2,
+        ))
+
+    pub answers-started : (starts : Starts) (entries copies : List MarkedCopy)
+        (texts more : List (List ℕ)) (now : Keeper D) (given : List ℕ) (stop : Stop)
+        (lines : List (Option Line)) (outcome : Result WatchReport WatchFault)
+        → AllZip IsLoggedAs entries texts → AllZip IsLoggedAs copies more
+        → KeepsTexts disk content texts start → HasKept disk start now more given
+        → WereGiven contents writer writer_after given
+        → HasWatched (at-hand now.log.device) starts entries stop lines copies
+        → (now.has_failed ≡ true → outcome ≡ Err Disk)
+        → (now.has_failed ≡ false → AllKept disk start now more given
+        → AnswersStop starts.moment stop lines copies outcome)
+        → AnswersStarted (at-hand now.log.device) starts entries outcome
+    answers-started starts entries copies texts more now given stop lines outcome each zip keeps
+        kept
+        wrote watched failed well =
+        (stop, lines, copies, watched, so now.has_failed refl kept)
+      where
+        so : (b : Bool) → now.has_failed ≡ b → HasKeptSo disk b start now more given
+            → (KeepsAll (at-hand now.log.device) entries copies
+            × AnswersStop starts.moment stop lines copies outcome)
+            ⊎ (KeepsSome (at-hand now.log.device) entries copies × (outcome ≡ Err Disk))
+        so false is k =
+            inl (all-kept entries copies texts more now given each zip keeps k wrote, well is k)
+        so true is k =
+            inr (some-kept entries copies texts more now given each zip keeps k wrote, failed is)
+
+-- ---- why it answers so
+
+module _ {D : Type 0} (disk : DiskOf D) (to_read : D → Type 0) where
+  pub cause-of : (start now : Keeper D) (more : List (List ℕ)) (given : List ℕ)
+      (outcome : Result WatchReport WatchFault) → HasKept disk start now more given
+      → (now.has_failed ≡ true → outcome ≡ Err Disk)
+      → (now.has_failed ≡ false → AllKept disk start now more given
+      → HasCause disk.faults to_read disk.to_write outcome start.log.device now.log.device)
+      → HasCause disk.faults to_read disk.to_write outcome start.log.device now.log.device
+  cause-of start now more given outcome kept failed well = so now.has_failed refl kept
+    where
+      so : (b : Bool) → now.has_failed ≡ b → HasKeptSo disk b start now more given
+          → HasCause disk.faults to_read disk.to_write outcome start.log.device now.log.device
+      so false is k = well is k
+      so true is k =
+          subst (λ o. HasCause disk.faults to_read disk.to_write o start.log.device now.log.device)
+          (sym (failed is)) k.failed
+
+  pub explained-of : (start now : Keeper D) (more : List (List ℕ)) (given : List ℕ)
+      → HasKept disk start now more given → (content : List ℕ)
+      → disk.explains content now.log.device → disk.explains content start.log.device
+  explained-of start now more given kept = so now.has_failed kept
+    where
+      so : (b : Bool) → HasKeptSo disk b start now more given → (content : List ℕ)
+          → disk.explains content now.log.device → disk.explains content start.log.device
+      so false k = k.explained
+      so true k = k.explained
+
+-- ---- how a watch stopped
+
+pub end-apart : at_end ≡ unread → ⊥
+end-apart e = cc
+
+pub end-written : at_end ≡ unwritten → ⊥
+end-written e = cc
+
+pub back-apart : (line last given : ℕ) → back line last given ≡ unread → ⊥
+back-apart line last given e = cc
+
+pub back-written : (line last given : ℕ) → back line last given ≡ unwritten → ⊥
+back-written line last given e = cc
+
+pub unread-written : unread ≡ unwritten → ⊥
+unread-written e = cc
+
+pub unwritten-apart : unwritten ≡ unread → ⊥
+unwritten-apart e = cc
+
+-- a watcher before its first line
+pub stands-first : {D : Type 0} (disk : DiskOf D) (watcher : Watcher D)
+    → (starts_of watcher.listener).moment ≤ last_moment
+    → HearsGiven (starts_of watcher.listener) watcher.listener [] []
+    → HasKept disk watcher.keeper watcher.keeper [] []
+    → WatcherStands disk watcher watcher [] []
+stands-first disk watcher range heard kept = record {
+  first = range;
+  in_range = All-nil IsLineInRange;
+  copies = [];
+  heard = heard;
+  texts = [];
+  each = tt;
+  kept = kept;
+}
+
+module _ {D R W E : Type 0} (disk : DiskOf D) (content : List ℕ) (start : Keeper D)
+    (remaining : R → Option (List ℕ)) (reader reader_after : CountedDevice R)
+    (contents : W → Option (List ℕ)) (writer writer_after : CountedDevice W)
+    (told : E → Option (List ℕ)) (faults faults_after : CountedDevice E)
+  where
+    -- what a watch answers that stopped so, by all that is known of it
+    pub ended : (starts : Starts) (entries copies : List MarkedCopy) (texts more : List (List ℕ))
+        (now : Keeper D) (given : List ℕ) (stop : Stop) (lines : List (Option Line))
+        (bytes : List ℕ) (first : ℕ) (outcome : Result WatchReport WatchFault)
+        → first ≡ starts.moment
+        → AllZip IsLoggedAs entries texts → AllZip IsLoggedAs copies more
+        → KeepsTexts disk content texts start → HasKept disk start now more given
+        → WereGiven contents writer writer_after given
+        → Consumes (remaining reader.inner) (remaining reader_after.inner) bytes
+        → length bytes ≤ most_bytes
+        → HasRead (IsAtEnd (remaining reader_after.inner) ⊎ (length bytes ≡ most_bytes)) first stop
+        bytes lines
+        → PrintsUntil stop starts (given_by (acting_lines first lines)) copies
+        → (stop ≡ unread) ↔ (reader_after.failures ≡ 1)
+        → (stop ≡ unwritten → writer_after.failures ≡ 1)
+        → HasTold (told faults.inner) (told faults_after.inner) faults_after.failures
+        (told_of first lines)
+        → (now.has_failed ≡ true → outcome ≡ Err Disk)
+        → (now.has_failed ≡ false → AllKept disk start now more given
+        → AnswersStop first stop lines copies outcome)
+        → AnswersStarted (watch_devices (disk.seen content) (disk.may_leave content) disk.clock
+        (disk.left_since content) start.log.device now.log.device remaining reader reader_after
+        contents writer writer_after told faults faults_after) starts entries outcome
+    ended starts entries copies texts more now given stop lines bytes first outcome is each zip
+        keeps
+        kept wrote consumed within read printed failed_read failed_write said failed well =
+        answers-started disk content start remaining reader reader_after contents writer
+        writer_after
+        told faults faults_after starts entries copies texts more now given stop lines outcome each
+        zip
+        keeps kept wrote (record {
+          bytes = bytes;
+          consumed = consumed;
+          within = within;
+          read = subst (λ f. HasRead (IsAtEnd (remaining reader_after.inner)
+              ⊎ (length bytes ≡ most_bytes)) f stop bytes lines) is read;
+          printed = subst (λ f. PrintsUntil stop starts (given_by (acting_lines f lines)) copies) is
+              printed;
+          any_moment = moments-of disk content start remaining reader reader_after contents writer
+              writer_after told faults faults_after entries copies texts more now given each zip
+              keeps kept;
+          failed_read = failed_read;
+          failed_write = failed_write;
+          faults_told = subst (λ f. HasTold (told faults.inner) (told faults_after.inner)
+              faults_after.failures (told_of f lines)) is said;
+        }) failed (λ w all. subst (λ f. AnswersStop f stop lines copies outcome) is (well w all))
+
+-- a writer whose write failed was given bytes, so not all was kept
+pub wrote-some : {D W : Type 0} {disk : DiskOf D} {contents : W → Option (List ℕ)}
+    (start now : Keeper D) (more : List (List ℕ)) (given : List ℕ) (before after : CountedDevice W)
+    → before.failures ≡ 0 → after.failures ≡ 1 → WereGiven contents before after given
+    → AllKept disk start now more given → ⊥
+wrote-some start now more given before after none one wrote all =
+    omega (arith, none, one, ap (λ w. w.failures) (wrote.uncalled all.none))

@@ -1,0 +1,229 @@
+-- What a watch answers that opens its log and starts.
+use Rattle.std.proofs.Common.{◌≡◌, ◌⊎◌, inl, inr, ⊎_elim, ℕ, zero, suc, ◌+◌, ◌≤◌, Bool, true, false, List, []}
+use Rattle.std.proofs.Common.{◌∷◌, ◌++◌, length, take, Option, Result, Ok, Err, refl, sym, ◌∙◌, ap, subst}
+use Rattle.std.proofs.Common.{append-nil, arith}
+use Rattle.std.specs.List.{AllZip}
+use Rattle.nx_fec.specs.air_files.AirFile.{Line}
+use Rattle.nx_fec.specs.Transfers.{CountedDevice}
+use Rattle.nx_kept.specs.Disk.{FailedOnce, LeavesOnly}
+use Rattle.nx_kept.specs.Kept.{IsBehindOpenGates, IsKeptLog, IsTail, StandsFor}
+use Rattle.nx_kept.specs.Open as opening
+use Rattle.nx_kept.specs.declared.fault.OpenFault.{OpenFault}
+use Rattle.nx_kept.specs.declared.fault.OpenFault.TheVariants as why
+use Rattle.nx_kept.proofs.lemmas.KeptLaws.{one_list}
+use Rattle.nx_kept.proofs.lemmas.Stages.{joined, weaker}
+use Rattle.nx_log.specs.Entries.{IsWholeEntry}
+use Rattle.nx_log.specs.Logged.{IsLoggedAs}
+use Rattle.nx_receiver.specs.Shares.{MarkedCopy, Starts}
+use Rattle.nx_watch.specs.Watch.{AnswersStarted, AnswersStop, AnswersWatching, HasCause, HasOpened, StandsForEntries, Stop}
+use Rattle.nx_watch.specs.Watch.{WatchDevices, at_end, back, longest_entry, starts_at, unread, unwritten, watch_devices}
+use Rattle.nx_watch.specs.declared.watch_report.WatchReport.{WatchReport}
+use Rattle.nx_watch.specs.declared.watch_fault.WatchFault.{WatchFault}
+use Rattle.nx_watch.specs.declared.watch_fault.WatchFault.TheVariants.{Open, Damaged, Disk, Memory, Read, Back}
+use Rattle.nx_watch.specs.private.Answering.{fault_answered}
+use Rattle.nx_watch.specs.private.Entries.{entry_one, entry_some}
+use Rattle.nx_watch.specs.private.Keeping.{DiskOf, StandsForTexts}
+
+-- ---- records and entries
+
+-- records behind open gates are those of entries
+pub entries-of : (records : List (List ℕ)) (front : List ℕ)
+    → IsBehindOpenGates IsWholeEntry records front
+    → (entries : List MarkedCopy) × AllZip IsLoggedAs entries records
+entries-of [] front h = ([], tt)
+entries-of (first ∷ records) front h =
+    let rest = entries-of records h.1 h.5 in (h.3.0 ∷ rest.0, (h.3.1, rest.1))
+
+-- the texts for which a file stands are its records
+pub same-texts : (texts records : List (List ℕ)) (front tail file : List ℕ)
+    → StandsForTexts texts file → IsBehindOpenGates IsWholeEntry records front
+    → IsTail longest_entry tail → file ≡ front ++ tail → texts ≡ records
+same-texts texts records front tail file stands kept end split =
+    one_list IsWholeEntry longest_entry entry_some entry_one texts records file stands
+    (record { front = front; tail = tail; kept = kept; end = end; split = split })
+
+-- ---- an opening that failed
+
+module _ {D R W E : Type 0} (disk : DiskOf D) (content : List ℕ) (old new : D)
+    (remaining : R → Option (List ℕ)) (reader reader_after : CountedDevice R)
+    (contents : W → Option (List ℕ)) (writer writer_after : CountedDevice W)
+    (told : E → Option (List ℕ)) (faults faults_after : CountedDevice E)
+  where
+    pub has-opened : (entries : List MarkedCopy) (texts : List (List ℕ))
+        → AllZip IsLoggedAs entries texts
+        → LeavesOnly disk.clock (disk.left_since content) old new
+        (λ c. disk.may_leave content old c ⊎ StandsForTexts texts c)
+        → reader_after ≡ reader → writer_after ≡ writer → faults_after ≡ faults
+        → HasOpened (watch_devices (disk.seen content) (disk.may_leave content) disk.clock
+        (disk.left_since content) old new remaining reader reader_after contents writer writer_after
+        told faults faults_after) entries
+    has-opened entries texts each moments r w f = record {
+      any_moment = weaker disk.clock (disk.left_since content) (disk.may_leave content) _ _ old new
+          moments (λ c h. ⊎_elim (λ left. inl left)
+          (λ s. inr (record { texts = texts; each = each; stands = s })) h);
+      unread = r;
+      unwritten = w;
+      untold = f;
+    }
+
+pub answers-opening : {D R W E : Type 0} (d : WatchDevices D R W E) (now : ℕ)
+    (entries : List MarkedCopy) (fault : OpenFault) → HasOpened d entries
+    → ((line : ℕ) → fault ≡ why.Damaged line → ⊥)
+    → AnswersWatching d now entries (Err (fault_answered fault))
+answers-opening d now entries why.Read h whole = h
+answers-opening d now entries why.Disk h whole = inl h
+answers-opening d now entries (why.Damaged line) h whole = whole line refl
+answers-opening d now entries why.Memory h whole = h
+
+pub cause-opening : {D : Type 0} (faults : D → ℕ) (to_read to_write : D → Type 0)
+    (fault : OpenFault) (old new : D)
+    → opening.HasCause faults to_read to_write fault old new
+    → HasCause faults to_read to_write (Err (fault_answered fault)) old new
+cause-opening faults to_read to_write why.Read old new h = h
+cause-opening faults to_read to_write why.Disk old new h = h
+cause-opening faults to_read to_write (why.Damaged line) old new h = h
+cause-opening faults to_read to_write why.Memory old new h = ap faults h
+
+-- the answer names the damage that the opening names
+pub damage-named : (fault : OpenFault) (line : ℕ)
+    → fault_answered fault ≡ Damaged line → fault ≡ why.Damaged line
+damage-named why.Read line e = cc
+damage-named why.Disk line e = cc
+damage-named (why.Damaged other) line e = cc
+damage-named why.Memory line e = cc
+
+-- why a watch answers so that was opened without a fault
+pub cause-behind : {D : Type 0} (faults : D → ℕ) (to_read to_write : D → Type 0)
+    (outcome : Result WatchReport WatchFault) (old mid new : D) → faults mid ≡ faults old
+    → HasCause faults to_read to_write outcome mid new
+    → HasCause faults to_read to_write outcome old new
+cause-behind faults to_read to_write (Ok report) old mid new same h = h ∙ same
+cause-behind faults to_read to_write (Err Open) old mid new same h =
+    record { once = h.once ∙ ap suc same; last = h.last }
+cause-behind faults to_read to_write (Err Disk) old mid new same h =
+    record { once = h.once ∙ ap suc same; last = h.last }
+cause-behind faults to_read to_write (Err (Damaged line)) old mid new same h = h ∙ same
+cause-behind faults to_read to_write (Err Memory) old mid new same h = h ∙ same
+cause-behind faults to_read to_write (Err Read) old mid new same h = h ∙ same
+cause-behind faults to_read to_write (Err (Back line last given)) old mid new same h = h ∙ same
+
+-- ---- a watch that was started
+
+-- a fault, as an answer
+abbrev err : WatchFault → Result WatchReport WatchFault
+err fault = Err fault
+
+never-open : (first : ℕ) (stop : Stop) (lines : List (Option Line)) (copies : List MarkedCopy)
+    → AnswersStop first stop lines copies (Err Open) → ⊥
+never-open first at_end lines copies h = h
+never-open first (back line last given) lines copies h = h
+never-open first unread lines copies h = h
+never-open first unwritten lines copies h = h
+
+never-memory : (first : ℕ) (stop : Stop) (lines : List (Option Line)) (copies : List MarkedCopy)
+    → AnswersStop first stop lines copies (Err Memory) → ⊥
+never-memory first at_end lines copies h = h
+never-memory first (back line last given) lines copies h = h
+never-memory first unread lines copies h = h
+never-memory first unwritten lines copies h = h
+
+never-damaged : (first : ℕ) (stop : Stop) (lines : List (Option Line)) (copies : List MarkedCopy)
+    (line : ℕ) → AnswersStop first stop lines copies (Err (Damaged line)) → ⊥
+never-damaged first at_end lines copies line h = h
+never-damaged first (back number last given) lines copies line h = h
+never-damaged first unread lines copies line h = h
+never-damaged first unwritten lines copies line h = h
+
+module _ {D R W E : Type 0} (d : WatchDevices D R W E) (entries : List MarkedCopy) where
+  pub not-damaged : (starts : Starts) (line : ℕ)
+      → AnswersStarted d starts entries (Err (Damaged line)) → ⊥
+  not-damaged starts line h = ⊎_elim
+      (λ k. never-damaged starts.moment h.0 h.1 h.2 line k.1) (λ k. other k.1) h.4
+    where
+      other : err (Damaged line) ≡ err Disk → ⊥
+      other e = cc
+
+  pub answers-watching : (now : ℕ) (outcome : Result WatchReport WatchFault)
+      → AnswersStarted d (starts_at now entries) entries outcome
+      → AnswersWatching d now entries outcome
+  answers-watching now (Ok report) h = h
+  answers-watching now (Err Read) h = h
+  answers-watching now (Err (Back line last given)) h = h
+  answers-watching now (Err Disk) h = inr h
+  answers-watching now (Err (Damaged line)) h = not-damaged (starts_at now entries) line h
+  answers-watching now (Err Open) h = absurd (⊎_elim
+      (λ k. never-open (starts_at now entries).moment h.0 h.1 h.2 k.1) (λ k. other k.1) h.4)
+    where
+      other : err Open ≡ err Disk → ⊥
+      other e = cc
+  answers-watching now (Err Memory) h = absurd (⊎_elim
+      (λ k. never-memory (starts_at now entries).moment h.0 h.1 h.2 k.1) (λ k. other k.1) h.4)
+    where
+      other : err Memory ≡ err Disk → ⊥
+      other e = cc
+
+-- what was answered of the open log is answered of the file before it was opened
+module _ {D R W E : Type 0} (disk : DiskOf D) (content : List ℕ) (old mid new : D)
+    (remaining : R → Option (List ℕ)) (reader reader_after : CountedDevice R)
+    (contents : W → Option (List ℕ)) (writer writer_after : CountedDevice W)
+    (told : E → Option (List ℕ)) (faults faults_after : CountedDevice E)
+  where
+    abbrev devices-from : D → WatchDevices D R W E
+    devices-from from =
+        watch_devices (disk.seen content) (disk.may_leave content) disk.clock
+        (disk.left_since content) from new remaining reader reader_after contents writer
+        writer_after told faults faults_after
+
+    pub started-before : (starts : Starts) (entries : List MarkedCopy) (texts : List (List ℕ))
+        (outcome : Result WatchReport WatchFault) → AllZip IsLoggedAs entries texts
+        → LeavesOnly disk.clock (disk.left_since content) old mid
+        (λ c. disk.may_leave content old c ⊎ StandsForTexts texts c)
+        → ((c : List ℕ) → disk.may_leave content mid c → StandsForTexts texts c)
+        → AnswersStarted (devices-from mid) starts entries outcome
+        → AnswersStarted (devices-from old) starts entries outcome
+    started-before starts entries texts outcome each opened rests h =
+        let w = h.3 in (
+          h.0,
+          h.1,
+          h.2,
+          record {
+            bytes = w.bytes;
+            consumed = w.consumed;
+            within = w.within;
+            read = w.read;
+            printed = w.printed;
+            any_moment =
+                joined disk.clock (disk.left_since content) (disk.may_leave content) _ _ old mid new
+                (weaker disk.clock (disk.left_since content) (disk.may_leave content) _ _ old mid
+                opened (λ c o. ⊎_elim (λ left. inl left) (λ s. inr (none c s)) o))
+                w.any_moment
+                (λ c o. ⊎_elim (λ left. inr (none c (rests c left))) (λ s. inr s) o);
+            failed_read = w.failed_read;
+            failed_write = w.failed_write;
+            faults_told = w.faults_told;
+          },
+          ⊎_elim (λ k. inl (
+            record { found = k.0.found; left = k.0.left; silent = k.0.silent },
+            k.1,
+          ))
+              (λ k. inr (
+                record {
+                  count = k.0.count;
+                  fewer = k.0.fewer;
+                  left = k.0.left;
+                  log = k.0.log;
+                  spelled = k.0.spelled;
+                  written = k.0.written;
+                },
+                k.1,
+              )) h.4,
+        )
+      where
+        none : (c : List ℕ) → StandsForTexts texts c
+            → (count : ℕ) × (count ≤ length h.2) × StandsForEntries (entries ++ take count h.2) c
+        none c s = (
+          0,
+          omega arith,
+          subst (λ l. StandsForEntries l c) (sym (append-nil entries))
+              (record { texts = texts; each = each; stands = s }),
+        )

@@ -1,0 +1,15 @@
+use Rattle.std.proofs.Common.{◌++◌, ◌∙◌, ap, sym, subst, append-nil}
+use Rattle.nx_watch.specs.Watching.{HasTold}
+use Rattle.nx_watch.proofs.lemmas.lines.Telling.{number-none, number-some}
+use Rattle.nx_watch.proofs.lines.telling.tell_number.Goals as goal
+
+pub returns-then-count-gt0 : goal.returns-then-count-gt0
+returns-then-count-gt0 g c = λ old text h.
+    subst (λ l. HasTold old (g.F.Write.contents c.tell.new.faults.inner) c.tell.new.faults.failures
+    (text ++ l)) (sym (number-some c.args.count c.if-count-gt0.true)) (c.tell.ensures old text h)
+
+pub returns-else-count-gt0 : goal.returns-else-count-gt0
+returns-else-count-gt0 g c = λ old text h.
+    subst (λ l. HasTold old (g.F.Write.contents c.args.faults.now.inner) c.args.faults.now.failures
+    l) (sym (append-nil text) ∙ ap (λ l. text ++ l) (number-none c.args.count c.if-count-gt0.false))
+    h

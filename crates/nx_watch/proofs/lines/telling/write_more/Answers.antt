@@ -1,0 +1,15 @@
+use Rattle.std.proofs.Common.{arith}
+use Rattle.nx_watch.proofs.lemmas.lines.Telling.{told-out, told-stopped}
+use Rattle.nx_watch.proofs.lines.telling.write_more.Goals as goal
+
+pub returns-then-failures-gt0-clause-written : goal.returns-then-failures-gt0-clause-written
+returns-then-failures-gt0-clause-written g c = λ old text h.
+    told-stopped old _ _ text _ (omega (arith, c.if-failures-gt0.true, c.failures.ensures)) h
+
+pub returns-clause-written : goal.returns-clause-written
+returns-clause-written g c = λ old text h.
+    told-out old (g.W.Write.contents c.args.writer.now.inner)
+    (g.W.Write.contents c.write_out.new.writer.inner) c.args.writer.now.failures
+    c.write_out.new.writer text c.args.bytes.now c.write_out.result
+    (omega (arith, c.if-failures-gt0.false, c.failures.ensures)) h c.write_out.ensures.ok
+    c.write_out.ensures.err c.write_out.ensures.counts

@@ -1,0 +1,116 @@
+//! What a watch remembers of its log when it starts.
+
+ghost use Rattle.std.specs.Prelude.{◌≡◌, ◌<◌, ◌≤◌, ◌+◌, [], ◌++◌, length, filter};
+ghost use Rattle.std.specs.FinSet as set;
+ghost use Rattle.std.specs.List.{All, list_any};
+ghost use Rattle.nx_envelope.specs.Moment.{last_moment};
+ghost use Rattle.nx_memory.specs.Saved.{AreSavedEntries};
+ghost use Rattle.nx_watch.specs.Start.{is_in_order, is_last_known, is_near, passing, remembered_at, renews};
+
+use arrayvec::ArrayVec;
+use nx_memory::{CAPACITY, LIFETIME, MemoryEntry, PlainRecall, Recall, Saved, Selection};
+
+/// What is remembered at a moment of the entries that a log remembers on a channel, at most 200 in
+/// their order: those less than 66 hours after the moment; of these, those behind which none with
+/// an earlier moment stands; and of these, those behind which none of their identity stands less
+/// than 66 hours later. Everything is selected.
+pub fn remembered(moment: u64, entries: &[MemoryEntry]) -> Saved
+    requires few { length entries.now ≤ 200 }
+    requires numbered { All (λ entry. 0 < entry.identity.number) entries.now }
+    requires range { All (λ entry. entry.moment ≤ last_moment) entries.now }
+    ensures entries { result.entries ≡ remembered_at moment entries.now }
+    ensures stations { result.refused.stations ≡ set.empty }
+    ensures subjects { result.refused.subjects ≡ set.empty }
+{
+    let near = near_entries(moment, entries);
+    let in_order = entries_in_order(near.as_slice());
+    let last_known = entries_last_known(in_order.as_slice());
+    saved_of(last_known.as_slice())
+}
+
+/// Those entries that lie less than 66 hours after a moment, or before it.
+fn near_entries(moment: u64, entries: &[MemoryEntry]) -> ArrayVec<MemoryEntry, CAPACITY>
+    requires { length entries.now ≤ 200 }
+    ensures near { result.items ≡ filter (is_near moment) entries.now }
+    ensures few { length result.items ≤ 200 }
+{
+    let mut near = ArrayVec::new();
+    for entry in entries {
+        if entry.moment.saturating_sub(moment) < LIFETIME {
+            near.push(*entry);
+        }
+    }
+    near
+}
+
+/// Those entries behind which none with an earlier moment stands.
+fn entries_in_order(entries: &[MemoryEntry]) -> ArrayVec<MemoryEntry, CAPACITY>
+    requires { length entries.now ≤ 200 }
+    ensures in_order { result.items ≡ passing is_in_order entries.now }
+    ensures few { length result.items ≤ 200 }
+{
+    let mut kept = ArrayVec::new();
+    for place in 0..entries.len() {
+        let entry = entries[place];
+        let behind = &entries[place + 1..];
+        if stands_in_order(&entry, behind) {
+            kept.push(entry);
+        }
+    }
+    kept
+}
+
+/// Whether none with an earlier moment stands behind an entry.
+fn stands_in_order(entry: &MemoryEntry, behind: &[MemoryEntry]) -> bool
+    ensures { result ≡ is_in_order entry.now behind.now }
+{
+    behind.iter().all(|other| entry.moment <= other.moment)
+}
+
+/// Those entries behind which none of their identity stands less than
+/// 66 hours later.
+fn entries_last_known(entries: &[MemoryEntry]) -> ArrayVec<MemoryEntry, CAPACITY>
+    requires { length entries.now ≤ 200 }
+    ensures last_known { result.items ≡ passing is_last_known entries.now }
+    ensures few { length result.items ≤ 200 }
+{
+    let mut kept = ArrayVec::new();
+    for place in 0..entries.len() {
+        let entry = entries[place];
+        let behind = &entries[place + 1..];
+        if is_last(&entry, behind) {
+            kept.push(entry);
+        }
+    }
+    kept
+}
+
+/// Whether none of its identity stands less than 66 hours later behind an entry.
+fn is_last(entry: &MemoryEntry, behind: &[MemoryEntry]) -> bool
+    ensures { result ≡ is_last_known entry.now behind.now }
+{
+    !is_renewed(entry, behind)
+}
+
+/// Whether one of its identity stands less than 66 hours later behind an entry.
+fn is_renewed(entry: &MemoryEntry, behind: &[MemoryEntry]) -> bool
+    ensures { result ≡ list_any (λ other. renews entry.now other) behind.now }
+{
+    behind.iter().any(|other| {
+        entry.identity == other.identity && other.moment.saturating_sub(entry.moment) < LIFETIME
+    })
+}
+
+/// What is saved where these are the entries of a memory, and everything is selected.
+fn saved_of(entries: &[MemoryEntry]) -> Saved
+    requires { AreSavedEntries entries.now }
+    ensures entries { result.entries ≡ entries.now }
+    ensures stations { result.refused.stations ≡ set.empty }
+    ensures subjects { result.refused.subjects ≡ set.empty }
+{
+    let mut memory = PlainRecall::new();
+    for entry in entries {
+        memory.enter(entry.identity, entry.moment);
+    }
+    Saved::of(&Selection::all(), &memory)
+}

@@ -1,0 +1,117 @@
+//! A scanner of the lines of any bytes. What runs for each line is inlined always; what is asked of
+//! lines that aren't understood never is.
+
+ghost use Rattle.std.specs.Prelude.{◌≡◌, ◌+◌, ◌<◌, ◌≤◌, ℕ, List, [], ◌∷◌, ◌++◌, Option, IsSomeAnd, false, length, take};
+ghost use Rattle.nx_fec.specs.air_files.AirFile.{IsLine, Line};
+ghost use Rattle.nx_fec.specs.air_files.Lines.{Scans};
+ghost use Rattle.nx_watch.specs.AnyLines.{AreLines, HasNoEnd, cut_line};
+ghost use Rattle.nx_watch.specs.Acting.{most_bytes};
+ghost use Rattle.nx_watch.specs.private.Scanning.{CutsAs, IsPassedOver, IsScanning, OnLine, lines_ended};
+
+use memchr::memchr;
+use nx_fec::{LineKind, PackedElements, Scanner};
+
+/// The most bytes of the input of a watch: 2^63 - 1.
+pub(crate) const MOST_BYTES: u64 = 9_223_372_036_854_775_807;
+
+/// The most bytes of a piece.
+pub(crate) const CHUNK: usize = 65_536;
+
+/// The byte that ends a line.
+const LINE_END: u8 = b'\n';
+
+/// Reads the lines of any bytes piece by piece.
+#[derive(Drop)]
+pub(crate) struct AnyScanner {
+    /// The scanner of the lines behind the last one that isn't understood.
+    pub(crate) scanner: Scanner,
+    /// Whether the open line has more than 514 bytes, which are passed over.
+    is_passing: bool,
+}
+
+/// What the bytes that were taken ended.
+#[derive(Clone, Copy)]
+pub(crate) enum Ended {
+    /// No line.
+    Nothing,
+    /// A line of an air file, which is the scanner's latest.
+    Line,
+    /// A line that isn't understood.
+    Unknown,
+}
+
+impl AnyScanner {
+    /// A scanner before the first byte.
+    pub(crate) fn new() -> AnyScanner
+        ensures stands { IsScanning result [] [] }
+        ensures fresh { Scans most_bytes result.scanner [] [] }
+        ensures starts { result.is_passing ≡ false }
+        ensures room { result.scanner.room ≡ most_bytes }
+    {
+        AnyScanner {
+            scanner: Scanner::new(MOST_BYTES),
+            is_passing: false,
+        }
+    }
+
+    /// Takes the bytes of a piece up to and with its first line feed, or all where there is none.
+    /// Answers how many, and what they ended.
+    #[inline(always)]
+    pub(crate) fn take(&mut self, piece: &[u8]) -> (usize, Ended)
+        requires some { 0 < length piece.now }
+        requires short { length piece.now ≤ CHUNK }
+        requires room { length piece.now ≤ self.old.scanner.room }
+        requires within { self.old.scanner.room ≤ most_bytes }
+        ensures scans { (bytes : List ℕ) (lines : List (Option Line))
+            → IsScanning self.old bytes lines
+            → IsScanning self.new (bytes ++ take result.0 piece.now)
+            (lines ++ lines_ended result.1 self.new.scanner.latest) }
+        ensures line { OnLine result.1 (IsSomeAnd self.new.scanner.latest IsLine) }
+        ensures some { 0 < result.0 }
+        ensures all { result.0 ≤ length piece.now }
+        ensures room { self.old.scanner.room ≤ self.new.scanner.room + result.0 }
+        ensures within { self.new.scanner.room ≤ most_bytes }
+    {
+        if self.is_passing {
+            return self.pass(piece);
+        }
+        match self.scanner.push_line(piece) {
+            Ok(count) if self.scanner.latest().is_some() => (count, Ended::Line),
+            Ok(count) => (count, Ended::Nothing),
+            Err(_) => self.pass(piece),
+        }
+    }
+
+    /// Passes over the bytes of a piece up to and with its first line feed, or all where there is
+    /// none: they are of a line that isn't understood.
+    #[inline(never)]
+    fn pass(&mut self, piece: &[u8]) -> (usize, Ended)
+        requires some { 0 < length piece.now }
+        requires short { length piece.now ≤ CHUNK }
+        ensures scans { (before : List ℕ) (lines : List (Option Line)) (part : List ℕ)
+            → AreLines before lines [] → HasNoEnd part → IsPassedOver part piece.now
+            → IsScanning self.new ((before ++ part) ++ take result.0 piece.now)
+            (lines ++ lines_ended result.1 self.new.scanner.latest) }
+        ensures line { OnLine result.1 (IsSomeAnd self.new.scanner.latest IsLine) }
+        ensures some { 0 < result.0 }
+        ensures all { result.0 ≤ length piece.now }
+        ensures room { self.new.scanner.room ≡ most_bytes }
+    {
+        *self = AnyScanner::new();
+        match memchr(LINE_END, piece) {
+            Some(at) => (at + 1, Ended::Unknown),
+            None => {
+                self.is_passing = true;
+                (piece.len(), Ended::Nothing)
+            }
+        }
+    }
+
+    /// Whether a line is open, which the end of the bytes cuts.
+    pub(crate) fn is_open(&self) -> bool
+        ensures { (bytes : List ℕ) (lines : List (Option Line)) → IsScanning self.now bytes lines
+            → CutsAs result bytes lines }
+    {
+        self.is_passing || self.scanner.end().is_err()
+    }
+}

@@ -1,0 +1,224 @@
+//! Which lines act, and which one ends the watch.
+
+ghost use Rattle.std.specs.Prelude.{◌≡◌, ◌+◌, ◌^◌, ◌<◌, ◌≤◌, ℕ, List, [], ◌∷◌, ◌++◌, Option, Some, None, IsSome, true, if◌then◌else◌};
+ghost use Rattle.nx_fec.specs.air_files.AirFile.{Line, moment};
+ghost use Rattle.nx_fec.specs.air_files.Scanner.{kind_of};
+ghost use Rattle.nx_memory.specs.Selection.{is_vital};
+ghost use Rattle.nx_watch.specs.declared.lines.line_effects.LineEffects.{LineEffects as TheEffects};
+ghost use Rattle.nx_watch.specs.Acting.{acts, moment_said, moments_said};
+ghost use Rattle.nx_watch.specs.Watching.{AreCounted};
+ghost use Rattle.nx_watch.specs.private.Effects.{is_acting, IsEffect, IsKept, KeepsMoments, SameCounts};
+
+use crate::lines::line_watch::LinesWatched;
+use nx_envelope::{LAST_MOMENT, Letter};
+use nx_fec::LineKind;
+use nx_memory::{LIFETIME, Selection};
+
+/// What is kept of the lines of a watch.
+#[derive(Clone, Copy, Debug)]
+pub(crate) struct LineEffects {
+    /// The moment in force.
+    moment: u64,
+    /// Whether a line said a moment in range.
+    has_moment: bool,
+    /// Whether the last moment in range went back by 66 hours or more.
+    went_far_back: bool,
+    /// How many lines there were.
+    lines: u64,
+    /// How many of them had no effect.
+    without_effect: u64,
+    /// The first of these, where lines count from 1.
+    first_without: Option<u64>,
+}
+
+/// What a line does.
+#[derive(Clone, Copy, Debug)]
+pub(crate) enum Effect {
+    /// It acts.
+    Acts,
+    /// It has no effect.
+    Nothing,
+    /// It has no effect, and ends the watch: it goes back from the last moment to the given one.
+    Ends { last: u64, given: u64 },
+}
+
+impl LineEffects {
+    /// Before the first line, with this moment in force.
+    pub(crate) fn new(first: u64) -> LineEffects
+        ensures { IsKept first [] result }
+    {
+        LineEffects {
+            moment: first,
+            has_moment: false,
+            went_far_back: false,
+            lines: 0,
+            without_effect: 0,
+            first_without: None,
+        }
+    }
+
+    /// How many lines there were.
+    pub(crate) fn lines(&self) -> u64
+        ensures { result ≡ self.now.lines }
+    {
+        self.lines
+    }
+
+    /// How many lines had no effect.
+    pub(crate) fn without_effect(&self) -> u64
+        ensures { result ≡ self.now.without_effect }
+    {
+        self.without_effect
+    }
+
+    /// The first line without effect.
+    pub(crate) fn first_without(&self) -> Option<u64>
+        ensures { result ≡ self.now.first_without }
+    {
+        self.first_without
+    }
+
+    /// The counts of these lines.
+    pub(crate) fn counts(&self) -> LinesWatched
+        ensures { (first : ℕ) (lines : List (Option Line)) → IsKept first lines self.now
+            → AreCounted first lines result }
+    {
+        LinesWatched {
+            lines: self.lines,
+            without_effect: self.without_effect,
+            first_without_effect: self.first_without,
+        }
+    }
+
+    /// Keeps what a line of an air file says, and answers what it does.
+    #[inline(always)]
+    pub(crate) fn line(&mut self, kind: LineKind) -> Effect
+        requires room { self.old.lines < 2 ^ 63 }
+        requires fewer { self.old.without_effect ≤ self.old.lines }
+        ensures kept { (first : ℕ) (lines : List (Option Line)) (line : Line)
+            → kind_of line ≡ kind → IsKept first lines self.old
+            → IsKept first (lines ++ Some line ∷ []) self.new
+            × IsEffect first (moments_said lines) (Some line) result }
+        ensures lines { self.new.lines ≡ self.old.lines + 1 }
+        ensures fewer { self.new.without_effect ≤ self.new.lines }
+        ensures first { IsSome self.old.first_without
+            → self.new.first_without ≡ self.old.first_without }
+        ensures acting { is_acting result ≡ true → self.new.first_without ≡ self.old.first_without }
+    {
+        let effect = self.effect_of(kind);
+        self.count(effect.is_acting());
+        effect
+    }
+
+    /// Keeps that a line isn't understood.
+    pub(crate) fn not_understood(&mut self)
+        requires room { self.old.lines < 2 ^ 63 }
+        requires fewer { self.old.without_effect ≤ self.old.lines }
+        ensures kept { (first : ℕ) (lines : List (Option Line)) → IsKept first lines self.old
+            → IsKept first (lines ++ None ∷ []) self.new }
+        ensures lines { self.new.lines ≡ self.old.lines + 1 }
+        ensures fewer { self.new.without_effect ≤ self.new.lines }
+        ensures first { IsSome self.old.first_without
+            → self.new.first_without ≡ self.old.first_without }
+    {
+        self.count(false);
+    }
+
+    /// Keeps the moment that a line says, if it says one, and answers what the line does.
+    #[inline(always)]
+    fn effect_of(&mut self, kind: LineKind) -> Effect
+        ensures kept { (first : ℕ) (moments : List ℕ) (line : Line)
+            → kind_of line ≡ kind → KeepsMoments first moments self.old
+            → KeepsMoments first (moments ++ moment_said (Some line)) self.new
+            × IsEffect first moments (Some line) result }
+        ensures counts { SameCounts self.old self.new }
+    {
+        match kind {
+            LineKind::Elements(_) => acting_if(self.has_moment),
+            LineKind::Moment(given) => self.effect_of_moment(given),
+            LineKind::RefuseSubject(_, byte) => acting_if(!is_vital_subject(byte)),
+            LineKind::RefuseStation(_, _)
+            | LineKind::AcceptStation(_, _)
+            | LineKind::AcceptSubject(_, _) => Effect::Acts,
+        }
+    }
+
+    /// Keeps the moment that a line says, and answers what the line does.
+    fn effect_of_moment(&mut self, given: u64) -> Effect
+        ensures kept { (first : ℕ) (moments : List ℕ) → KeepsMoments first moments self.old
+            → KeepsMoments first (moments ++ moment_said (Some (moment given))) self.new
+            × IsEffect first moments (Some (moment given)) result }
+        ensures counts { SameCounts self.old self.new }
+    {
+        if given > LAST_MOMENT {
+            return Effect::Nothing;
+        }
+        let last = self.moment;
+        let is_far_back = given + LIFETIME <= last;
+        let went_far_back = self.went_far_back;
+        self.has_moment = true;
+        self.went_far_back = is_far_back;
+        if given >= last {
+            self.moment = given;
+            return Effect::Acts;
+        }
+        if is_far_back && went_far_back {
+            return Effect::Ends { last, given };
+        }
+        Effect::Nothing
+    }
+
+    /// Counts a line.
+    #[inline(always)]
+    fn count(&mut self, acted: bool)
+        requires room { self.old.lines < 2 ^ 63 }
+        requires fewer { self.old.without_effect ≤ self.old.lines }
+        ensures kept { (first : ℕ) (lines : List (Option Line)) (line : Option Line)
+            (before : TheEffects) → IsKept first lines before → SameCounts before self.old
+            → acted ≡ acts first (moments_said lines) line
+            → KeepsMoments first (moments_said lines ++ moment_said line) self.old
+            → IsKept first (lines ++ line ∷ []) self.new }
+        ensures lines { self.new.lines ≡ self.old.lines + 1 }
+        ensures fewer { self.new.without_effect ≤ self.new.lines }
+        ensures first { IsSome self.old.first_without
+            → self.new.first_without ≡ self.old.first_without }
+        ensures acting { acted ≡ true → self.new.first_without ≡ self.old.first_without }
+    {
+        self.lines += 1;
+        if acted {
+            return;
+        }
+        self.without_effect += 1;
+        if self.first_without.is_none() {
+            self.first_without = Some(self.lines);
+        }
+    }
+}
+
+impl Effect {
+    /// Whether the line acts.
+    #[inline(always)]
+    fn is_acting(self) -> bool
+        ensures { result ≡ is_acting self }
+    {
+        matches!(self, Effect::Acts)
+    }
+}
+
+/// A line that acts, or has no effect.
+#[inline(always)]
+fn acting_if(acts: bool) -> Effect
+    ensures { result ≡ (if acts then Effect.Acts else Effect.Nothing) }
+{
+    if acts { Effect::Acts } else { Effect::Nothing }
+}
+
+/// Whether the subject of this byte can't be refused (ITU-R M.540).
+fn is_vital_subject(byte: u8) -> bool
+    ensures { result ≡ is_vital byte }
+{
+    let Some(subject) = Letter::new(byte) else {
+        return false;
+    };
+    Selection::all().refuse_subject(subject).is_err()
+}

@@ -1,0 +1,77 @@
+//! What is told of lines without effect.
+
+ghost use Rattle.std.specs.Prelude.{◌≡◌, ◌+◌, ◌≤◌, ◌<◌, ◌^◌, ℕ, List, ◌++◌, IsSome, Some, Option, codes, decimal, length};
+ghost use Rattle.nx_watch.specs.Watching.{HasTold, first_told, number_told};
+
+use arrayvec::ArrayVec;
+use itoa::Buffer;
+use nx_fec::{Counting, write_out};
+use std::io::Write;
+
+/// The most bytes of what is told at once: 27 beside a number of at most 20 digits.
+const MOST_TOLD: usize = 64;
+
+/// Tells of the first line without effect, where there is one now and was none before.
+pub(crate) fn tell_first<F: Write>(before: Option<u64>, now: Option<u64>, faults: &mut Counting<F>)
+    ensures { (old : Option (List ℕ)) → (IsSome before → now ≡ before)
+        → HasTold old (F.contents faults.old.inner) faults.old.failures (first_told before)
+        → HasTold old (F.contents faults.new.inner) faults.new.failures (first_told now) }
+{
+    if before.is_some() {
+        return;
+    }
+    if let Some(line) = now {
+        tell(b"navtex: line ", line, b" had no effect\n", faults);
+    }
+}
+
+/// Tells at the end how many lines had no effect, where there are any.
+pub(crate) fn tell_number<F: Write>(count: u64, faults: &mut Counting<F>)
+    ensures { (old : Option (List ℕ)) (text : List ℕ)
+        → HasTold old (F.contents faults.old.inner) faults.old.failures text
+        → HasTold old (F.contents faults.new.inner) faults.new.failures (text ++ number_told count) }
+{
+    if count > 0 {
+        tell(b"navtex: ", count, b" lines had no effect\n", faults);
+    }
+}
+
+/// Tells a number between two texts, behind what was told. A failed write is passed over, and
+/// nothing is told behind one.
+pub fn tell<F: Write>(before: &[u8], number: u64, behind: &[u8], faults: &mut Counting<F>)
+    requires { length before.now + length behind.now ≤ 44 }
+    ensures { (old : Option (List ℕ)) (text : List ℕ)
+        → HasTold old (F.contents faults.old.inner) faults.old.failures text
+        → HasTold old (F.contents faults.new.inner) faults.new.failures
+        (text ++ (before.now ++ (decimal number ++ behind.now))) }
+{
+    let mut text = ArrayVec::<u8, MOST_TOLD>::new();
+    append(&mut text, before);
+    append(&mut text, Buffer::new().format(number).as_bytes());
+    append(&mut text, behind);
+    write_more(&text, faults);
+}
+
+/// Writes bytes behind others, unless a write failed before. A failed write is passed over, and so
+/// are all bytes behind it.
+pub fn write_more<W: Write>(bytes: &[u8], writer: &mut Counting<W>)
+    ensures written { (old : Option (List ℕ)) (text : List ℕ)
+        → HasTold old (W.contents writer.old.inner) writer.old.failures text
+        → HasTold old (W.contents writer.new.inner) writer.new.failures (text ++ bytes.now) }
+    ensures once { writer.old.failures ≤ 1 → writer.new.failures ≤ 1 }
+{
+    if writer.failures() > 0 {
+        return;
+    }
+    let _ = write_out(writer, bytes);
+}
+
+/// Appends bytes, for which there is room.
+fn append(text: &mut ArrayVec<u8, MOST_TOLD>, more: &[u8])
+    requires { length text.old.items + length more.now ≤ MOST_TOLD }
+    ensures { text.new.items ≡ text.old.items ++ more.now }
+{
+    let Ok(()) = text.try_extend_from_slice(more) else {
+        unreachable!()
+    };
+}
