@@ -6,13 +6,13 @@ use Rattle.std.specs.Ordering.{nat_cmp}
 use Rattle.std.specs.Str.{bytes_eq}
 use Rattle.clap.specs.Words.{App, Row, Rule, Text, first_of, new_app, new_rule, with_rule}
 use Rattle.clap.specs.declared.builder.action.ArgAction.TheVariants.{SetTrue}
-use Rattle.nx_fec.specs.Channels.{channel_number}
-use Rattle.nx_fec.specs.declared.channel.Channel.{Channel}
+use Rattle.nx_fec.specs.air_files.Channels.{channel_number}
+use Rattle.nx_fec.specs.declared.air_files.channel.Channel.{Channel}
 use Rattle.nx_log.specs.Query.{AreLetters, IsSetOf}
 use Rattle.nx_log.specs.Times.{IsSince, IsUntil}
-use Rattle.nx_log.specs.declared.form.Form.{Form}
-use Rattle.nx_log.specs.declared.form.Form.TheVariants as form
-use Rattle.nx_log.specs.declared.query.Query.{Query}
+use Rattle.nx_log.specs.declared.writing.form.Form.{Form}
+use Rattle.nx_log.specs.declared.writing.form.Form.TheVariants as form
+use Rattle.nx_log.specs.declared.queries.query.Query.{Query}
 use Rattle.nx_program.specs.declared.log_words.LogOption.{LogOption}
 use Rattle.nx_program.specs.declared.log_words.LogOption.TheVariants.{Channel as OfChannel}
 use Rattle.nx_program.specs.declared.log_words.LogOption.TheVariants.{Since, Station, Subject}
@@ -118,7 +118,8 @@ pub record IsUnfit (arguments : List Row) (option : LogOption) (text : Text) : T
   pub given : given_to option arguments ≡ Some text
   pub nothing : NamesNothing option text
 
--- the text that reports it, as clap reports a wrong value: two lines, with an empty one between them
+-- the text that reports it, as clap reports a wrong value: two lines, with an empty one between
+-- them
 -- (10 is a newline)
 abbrev pub value_report : LogOption → Text → Text
 value_report option text =

@@ -9,18 +9,18 @@ use Rattle.nx_envelope.specs.Moment.{IsShownAs}
 use Rattle.std.specs.Fmt.{decimal}
 use Rattle.nx_fec.specs.Transfers.{CountedDevice, WroteSome, Devices}
 use Rattle.nx_fec.specs.Runs.{Decodes, Encodes, Shows}
-use Rattle.nx_fec.specs.TableText.{table_text}
+use Rattle.nx_fec.specs.texts.TableText.{table_text}
 use Rattle.nx_locks.specs.Run.{ShowsLocks}
 use Rattle.nx_memory.specs.Saved.{SavedStates}
 use Rattle.nx_log.specs.LogRun.{RunsOverLog}
 use Rattle.nx_receiver.specs.Shares.{all_at_zero}
-use Rattle.nx_receiver.specs.ListenOnce.{ListensOnce}
-use Rattle.nx_receiver.specs.Resume.{ReadStateAlone, Resumes}
-use Rattle.nx_receiver.specs.declared.listen_fault.ListenFault.{ListenFault}
-use Rattle.nx_receiver.specs.declared.listen_fault.ListenFault.TheVariants as listen
-use Rattle.nx_receiver.specs.declared.resume_fault.ResumeFault.{ResumeFault}
-use Rattle.nx_receiver.specs.declared.resume_fault.ResumeFault.TheVariants as resume
-use Rattle.nx_receiver.specs.declared.resume_fault.Want.TheVariants.{Log, State}
+use Rattle.nx_receiver.specs.laws.ListenOnce.{ListensOnce}
+use Rattle.nx_receiver.specs.air_file_runs.Resume.{ReadStateAlone, Resumes}
+use Rattle.nx_receiver.specs.declared.air_file_runs.listen_fault.ListenFault.{ListenFault}
+use Rattle.nx_receiver.specs.declared.air_file_runs.listen_fault.ListenFault.TheVariants as listen
+use Rattle.nx_receiver.specs.declared.air_file_runs.resume_fault.ResumeFault.{ResumeFault}
+use Rattle.nx_receiver.specs.declared.air_file_runs.resume_fault.ResumeFault.TheVariants as resume
+use Rattle.nx_receiver.specs.declared.air_file_runs.resume_fault.Want.TheVariants.{Log, State}
 use Rattle.nx_station.specs.Checking.{Checks}
 use Rattle.nx_station.specs.Damage.{Damages}
 use Rattle.nx_station.specs.FileSending.{Sends}
@@ -114,7 +114,8 @@ ReadsStateBeforeWant d own =
 -- The call did on its input and its output what its outcome says. What stands on the output behind
 -- what stood there is what the call wrote, and nothing before it, nor behind it. A watch has a file
 -- too, and is none of these calls.
-abbrev pub PerformsOnStreams : {R W : Type 0} → Call → Devices R W → Result (Unit {0}) CallFault → Type 0
+abbrev pub PerformsOnStreams : {R W : Type 0} → Call → Devices R W → Result (Unit {0}) CallFault
+    → Type 0
 PerformsOnStreams Decode d outcome = Tells (λ why. call.Run why) (Decodes d) outcome
 PerformsOnStreams Encode d outcome = Tells (λ why. call.Run why) (Encodes d) outcome
 PerformsOnStreams Code d outcome =
@@ -207,8 +208,8 @@ abbrev pub EndsRun : {R W F D E : Type 0} → List Text → Devices R W → Besi
 EndsRun words d b outcome =
     RunsWatch words d b outcome ⊎ (IsUnused b × EndsOnStreams words d outcome)
 
--- The call did what its outcome says: a watch on its file, its input, its output and standard error,
--- and each other call on its input and its output alone.
+-- The call did what its outcome says: a watch on its file, its input, its output and standard
+-- error, and each other call on its input and its output alone.
 abbrev pub Performs : {R W F D E : Type 0} → Call → Devices R W → Beside F D E
     → Result (Unit {0}) Fault → Type 0
 Performs (Watch name moment) d b outcome = WatchesLog d b name moment outcome
@@ -223,7 +224,8 @@ pub record Exits {R W F D E : Type 0} (words : List Text) (d : Devices R W) (b :
   pub ends : EndsRun words d b outcome
   pub status_is : status ≡ status_of outcome
 
--- the call that the words name succeeded, or they ask for help or for the version, which was written
+-- the call that the words name succeeded, or they ask for help or for the version, which was
+-- written
 abbrev pub Succeeds : {R W F D E : Type 0} → List Text → Devices R W → Beside F D E → Type 0
 Succeeds words d b = EndsRun words d b (Ok tt)
 

@@ -54,8 +54,8 @@ abbrev pub Reports : {E : Type 0} → (E → Option (List ℕ)) → CountedDevic
 Reports contents old new (Ok done) = new ≡ old
 Reports contents old new (Err why) = WritesLast (IsFaultText why) contents old new
 
--- The program ends so on its devices and on standard error, with this status: standard error stood so
--- behind the call, and then the fault was reported there.
+-- The program ends so on its devices and on standard error, with this status: standard error stood
+-- so behind the call, and then the fault was reported there.
 pub record Answers {R W F D E : Type 0} (words : List Text) (d : Devices R W) (b : Beside F D E)
     (status : ℕ) : Type 0 where
   pub outcome : Result (Unit {0}) Fault

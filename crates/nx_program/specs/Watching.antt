@@ -21,9 +21,9 @@ use Rattle.nx_program.specs.declared.fault.Fault.TheVariants as fault
 use Rattle.nx_program.specs.declared.watching.WatchFailure.{WatchFailure}
 use Rattle.nx_program.specs.declared.watching.WatchFailure.TheVariants.{Unopened, Ended}
 
--- What the program has beside its input and its output, as it stands before a call and after it: what
--- opens the file of a log, and what opening one may give; that file, where one was opened, and what it
--- tells of itself; and standard error.
+-- What the program has beside its input and its output, as it stands before a call and after it.
+-- That is what opens the file of a log, and what opening one may give; that file, where one was
+-- opened, and what it tells of itself; and standard error.
 pub record Beside (F D E : Type 0) : Type 1 where
   pub files : F
   pub gives : F → List ℕ → Result D FileFault → Type 0
@@ -82,11 +82,11 @@ module _ {R W F D E : Type 0} (d : Devices R W) (b : Beside F D E) where
       (b.tells.left_since start) disk disk_after d.remaining d.reader d.reader_after d.contents
       d.writer d.writer_after b.contents b.faults b.faults_after
 
-  -- The file was watched from this moment on, with this answer, and stands so now. For each first
-  -- content that explains what it answered: where it stood for entries, all is said of what was read,
-  -- kept, written and told; where it was damaged, at which line; and where it was no kept log,
-  -- nothing was done but to read it. The disk is blamed only where it failed. Whatever the file was,
-  -- some lines were told of on standard error, and nothing else.
+  -- The file was watched from this moment on, with this answer, and stands so now. Something is
+  -- said for each first content that explains what it answered. Where it stood for entries, all is
+  -- said of what was read, kept, written and told; where it was damaged, at which line. Where it
+  -- was no kept log, nothing was done but to read it. The disk is blamed only where it failed.
+  -- Whatever the file was, some lines were told of on standard error, and nothing else.
   pub record WatchesFile (moment : ℕ) (disk disk_after : D) (answer : Result WatchReport WatchFault)
       : Type 0 where
     pub watched : (start : List ℕ) (entries : List MarkedCopy)
@@ -112,8 +112,8 @@ module _ {R W F D E : Type 0} (d : Devices R W) (b : Beside F D E) where
   watch_outcome name (Ok report) = Ok tt
   watch_outcome name (Err why) = Err (fault.Watch name (Ended why))
 
-  -- Where the log can't be had, nothing was read, written or told. Else its file was watched, and it
-  -- is handed back.
+  -- Where the log can't be had, nothing was read, written or told. Else its file was watched, and
+  -- it is handed back.
   abbrev pub WatchesOpened : Text → ℕ → Result D FileFault → Result (Unit {0}) Fault → Type 0
   WatchesOpened name moment (Err why) outcome =
       (d.reader_after ≡ d.reader) × (d.writer_after ≡ d.writer) × IsUnused b

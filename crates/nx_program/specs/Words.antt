@@ -9,8 +9,8 @@ use Rattle.clap.specs.declared.builder.value_parser.ValueParser.TheVariants as p
 use Rattle.clap.specs.declared.error.kind.ErrorKind.{ErrorKind}
 use Rattle.clap.specs.declared.error.kind.ErrorKind.TheVariants.{DisplayHelp, DisplayVersion}
 use Rattle.nx_envelope.specs.declared.letter.Letter.{Letter}
-use Rattle.nx_log.specs.declared.form.Form.{Form}
-use Rattle.nx_log.specs.declared.query.Query.{Query}
+use Rattle.nx_log.specs.declared.writing.form.Form.{Form}
+use Rattle.nx_log.specs.declared.queries.query.Query.{Query}
 use Rattle.nx_program.specs.LogWords.{IsForm, IsQuery, IsReported, log_tree}
 use Rattle.nx_program.specs.declared.words.Call.{Call}
 use Rattle.nx_program.specs.declared.words.Call.TheVariants.{Check, Code, Decode, Encode, Listen}
@@ -84,8 +84,9 @@ bare_tree = on_top (λ s. record s {
   has_version = true;
 }) (new_app (codes "navtex"))
 
--- what a command takes, and the call that it makes of it: nothing; a station and a moment; a file
--- and a moment; a kind of damage and two numbers; the options of a query and of a form
+-- What a command takes, and the call that it makes of it. It takes nothing; or a station and a
+-- moment; or a file and a moment; or a kind of damage and two numbers; or the options of a query
+-- and of a form.
 pub data Maker : Type 0 where
   plain : Call → Maker
   slot : (Letter → ℕ → Call) → Maker
@@ -204,8 +205,8 @@ pub record LacksValue (words : List Text) (report : Text) : Type 0 where
   pub entered : subcommand_of navtex words ≡ Some (codes "log", arguments)
   pub reported : IsReported arguments report
 
--- the words are refused, by clap, for their station, for their kind of damage, or for the value of an
--- option
+-- the words are refused, by clap, for their station, for their kind of damage, or for the value of
+-- an option
 abbrev pub IsRefused : List Text → Type 0
 IsRefused words =
     IsRefusedByClap words

@@ -37,6 +37,8 @@ struct Row {
     name: &'static str,
     /// What the command takes.
     takes: Takes,
+    /// How the command is called, and how it is given a file.
+    usage: &'static str,
     /// What the program's help says of the command, and short help first of all.
     about: &'static str,
     /// What stands at the end of short help, if anything.
@@ -85,7 +87,7 @@ as soon as the line with its last element has come: a head, the text, and an
 empty line. The head has the identity, the time of the copy, how it ended (full,
 cut or long), its errors, which are asterisks in the text, and its characters.
 A message that was printed full, with less than 4 per cent of errors, is not
-printed again within 66 hours, unless 200 others came in between; one numbered
+printed again within 66 hours, unless 200 others came in between. One numbered
 00 is printed each time that it is selected. What is heard on channel 1 or 2 has
 /1 or /2 behind the identity, and no channel knows of the others. Nothing is
 kept for a later run: resume and save do that.
@@ -121,6 +123,7 @@ The same on channel 1:
 const LISTEN: Row = Row {
     name: "listen",
     takes: Takes::Nothing,
+    usage: "navtex listen < x.air",
     about: "Print the log of an air file",
     short: Some(LISTEN_SHORT),
     long: LISTEN_HELP,
@@ -135,7 +138,7 @@ ends a watch, the next one goes on from it. --help says more.";
 const WATCH_HELP: &str = "Keep the log of a receiver that is left on.
 
 An air file is a text of what is on the air. A log is what a receiver prints of
-it: an entry for each message. The log of a watch is its memory too: whatever
+it: an entry for each message. The log of a watch is its memory too. Whatever
 ends a watch, also a power cut in the middle of a write, the next one goes on
 from FILE, and prints no message again that stands there.
 
@@ -161,6 +164,7 @@ const WATCH_EXAMPLE: &str = "Example, live from a demodulator:
 const WATCH: Row = Row {
     name: "watch",
     takes: Takes::File,
+    usage: "navtex watch <FILE> <MOMENT> < x.air",
     about: "Keep the log of a receiver that is left on",
     short: Some(WATCH_SHORT),
     long: WATCH_HELP,
@@ -170,6 +174,7 @@ const WATCH: Row = Row {
 const LOG: Row = Row {
     name: "log",
     takes: Takes::Query,
+    usage: "navtex log [OPTIONS] < x.log",
     about: LOG_ABOUT,
     short: Some(LOG_SHORT),
     long: LOG_HELP,
@@ -223,6 +228,7 @@ const RESUME_EXAMPLE: &str =
 const RESUME: Row = Row {
     name: "resume",
     takes: Takes::Nothing,
+    usage: "cat state x.air | navtex resume",
     about: "Print the log of an air file, and go on from a state",
     short: Some(RESUME_SHORT),
     long: RESUME_HELP,
@@ -273,6 +279,7 @@ const SAVE_EXAMPLE: &str = "Example: the state of a receiver that has heard one 
 const SAVE: Row = Row {
     name: "save",
     takes: Takes::Nothing,
+    usage: "cat state x.air | navtex save",
     about: "Print the state that an air file leaves behind a state",
     short: Some(SAVE_SHORT),
     long: SAVE_HELP,
@@ -331,6 +338,7 @@ its message was lost:
 const LOCKS: Row = Row {
     name: "locks",
     takes: Takes::Nothing,
+    usage: "navtex locks < x.air",
     about: "Print the locks of an air file and their running text",
     short: Some(LOCKS_SHORT),
     long: LOCKS_HELP,
@@ -347,13 +355,13 @@ each ended by a line feed (tr -d '\\r' takes a CR before it away). A message
 begins with the line of #, its subject (a letter A to Z) and its number (two
 digits), and ends with the line ; alone. Between them stand its lines of text,
 each of at most 69 characters A to Z, 0 to 9, space and -?:().,'=+/ without ZCZC
-and NNNN; together they have at most 4096 characters, with one more for each
+and NNNN. Together they have at most 4096 characters, with one more for each
 line's end.
 
-Writes an air file to standard output: the line of T, a space and the moment at
-which the first slot of the station begins that is not before MOMENT, and lines
-of B, a space and the elements of the emission. Stations A to X have a slot of
-ten minutes in each four hours, Y and Z have none.";
+Writes an air file to standard output. Its line of T has the moment at which the
+first slot of the station begins that is not before MOMENT. Its lines of B have
+the elements of the emission. Stations A to X have a slot of ten minutes in each
+four hours, Y and Z have none.";
 
 const SEND_EXAMPLE: &str = "Example, of which the first 40 columns are shown:
   $ printf '#A01\\nTEST\\n;\\n' | navtex send E 1735689600 | cut -c1-40
@@ -365,6 +373,7 @@ const SEND_EXAMPLE: &str = "Example, of which the first 40 columns are shown:
 const SEND: Row = Row {
     name: "send",
     takes: Takes::Slot,
+    usage: "navtex send <STATION> <MOMENT> < x.messages",
     about: "Write messages as an air file, to be sent in the next slot",
     short: Some(AIR_FILE),
     long: SEND_HELP,
@@ -384,6 +393,7 @@ const SLOTS_EXAMPLE: &str = "Example:
 const SLOTS: Row = Row {
     name: "slots",
     takes: Takes::Slot,
+    usage: "navtex slots <STATION> <MOMENT>",
     about: "Print when the station's next slot begins",
     short: None,
     long: SLOTS_HELP,
@@ -397,7 +407,7 @@ each, and others that decode --help lists.
 
 Reads an air file of at most 1048576 bytes from standard input. The elements of
 its lines of B, joined, must be those that send writes for a list of messages,
-and no others: a word of wrong weight, a word that its second sending doesn't
+and no others. A word of wrong weight, a word that its second sending doesn't
 repeat and all else that send doesn't write are faults.
 
 Writes the station and the messages to standard output, once all was found
@@ -414,6 +424,7 @@ const CHECK_EXAMPLE: &str = "Example:
 const CHECK: Row = Row {
     name: "check",
     takes: Takes::Nothing,
+    usage: "navtex check < x.air",
     about: "Print the messages of an air file that is exactly an emission",
     short: Some(AIR_FILE),
     long: CHECK_HELP,
@@ -440,6 +451,7 @@ const DAMAGE_EXAMPLE: &str = "Example, which inverts the first element of the wo
 const DAMAGE: Row = Row {
     name: "damage",
     takes: Takes::Range,
+    usage: "navtex damage <KIND> <FROM> <COUNT> < x.air",
     about: "Copy an air file with some of its words damaged",
     short: Some(AIR_FILE),
     long: DAMAGE_HELP,
@@ -478,6 +490,7 @@ const DECODE_EXAMPLE: &str = "Example, the letter A as encode sends it, here in 
 const DECODE: Row = Row {
     name: "decode",
     takes: Takes::Nothing,
+    usage: "navtex decode < x.air",
     about: "Print the text of an air file",
     short: Some(AIR_FILE),
     long: DECODE_HELP,
@@ -506,6 +519,7 @@ const ENCODE_EXAMPLE: &str =
 const ENCODE: Row = Row {
     name: "encode",
     takes: Takes::Nothing,
+    usage: "navtex encode < x.txt",
     about: "Write a text as an air file",
     short: Some(AIR_FILE),
     long: ENCODE_HELP,
@@ -520,11 +534,11 @@ each, and others that decode --help lists.
 Reads an air file of at most 1048576 bytes from standard input: the elements of
 its lines of B, joined, are words of seven elements each.
 
-Writes one line for each word to standard output, once all was read: its slot,
-from 0; DX where the slot is even and RX where it is odd; its number in
-hexadecimal, with the element that is sent first in the least place; and its
-name, which is what code prints as its letter, or wrong where the number of its
-elements B is not four.";
+Writes one line for each word to standard output, once all was read. It has the
+slot, from 0; DX for an even slot and RX for an odd one; the number in
+hexadecimal, with the element that is sent first in the least place; and the
+name. This is what code prints as the letter of the word, or wrong where the
+number of its elements B is not four.";
 
 const SHOW_EXAMPLE: &str = "Example, of which the first two lines and the ninth are shown:
   $ printf A | navtex encode | navtex show | sed -n '1,2p;9p'
@@ -535,6 +549,7 @@ const SHOW_EXAMPLE: &str = "Example, of which the first two lines and the ninth 
 const SHOW: Row = Row {
     name: "show",
     takes: Takes::Nothing,
+    usage: "navtex show < x.air",
     about: "Print the words of an air file",
     short: Some(AIR_FILE),
     long: SHOW_HELP,
@@ -562,6 +577,7 @@ const CODE_EXAMPLE: &str = "Example, the first and the fourth line:
 const CODE: Row = Row {
     name: "code",
     takes: Takes::Nothing,
+    usage: "navtex code",
     about: "Print the table of the code",
     short: None,
     long: CODE_HELP,
@@ -711,6 +727,7 @@ impl Row {
         ensures { IsReadAs command.entry result }
     {
         let described = command
+            .override_usage(self.usage)
             .about(self.about)
             .long_about(self.long)
             .after_long_help(self.example);

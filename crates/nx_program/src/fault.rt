@@ -56,8 +56,8 @@ pub enum CallFault {
     /// An air file was not listened to, or not to its end.
     #[error(transparent)]
     Listen(ListenFault),
-    /// A state was not read, the air file behind it was not listened to, or not to its end, or a new
-    /// state was not written whole.
+    /// A state was not read, the air file behind it was not listened to, or not to its end, or a
+    /// new state was not written whole.
     #[error(transparent)]
     Resume(ResumeFault),
     /// An air file was not copied whole.
@@ -148,8 +148,8 @@ impl<'a> Fault<'a> {
         }
     }
 
-    /// Reports the fault on standard error by one text, and answers its exit status, which stays the
-    /// same where the text can't be written. The device isn't called again after it failed.
+    /// Reports the fault on standard error by one text, and answers its exit status, which stays
+    /// the same where the text can't be written. The device isn't called again after it failed.
     pub fn report<E: Write>(&self, faults: &mut Counting<E>) -> u8
         ensures status { result ≡ fault_status self.now }
         ensures reported { WritesLast (IsFaultText self.now) E.contents faults.old faults.new }

@@ -11,8 +11,8 @@ ghost use Rattle.nx_program.specs.declared.words.Call.TheVariants.{Damage, Locks
 ghost use Rattle.nx_station.specs.declared.damaging.DamageKind.{DamageKind};
 ghost use Rattle.nx_station.specs.declared.damaging.DamageKind.TheVariants.{All, Dx};
 
-/// How the words are read: each list of words names one call, asks for help, asks for the version or
-/// is refused, and these exclude each other.
+/// How the words are read: each list of words names one call, asks for help, asks for the version
+/// or is refused, and these exclude each other.
 pub fn words_read_as_one()
     ensures some { (words : List Text) → ((call : Call) × Names words call)
         ⊎ (AsksForHelp words ⊎ (AsksForVersion words ⊎ IsRefused words)) }

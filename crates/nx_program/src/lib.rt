@@ -1,4 +1,5 @@
-//! The program `navtex` without its process: what its words ask for, done from an input to an output.
+//! The program `navtex` without its process: what its words ask for, done from an input to an
+//! output.
 #![tactic(auto)]
 
 mod commands;

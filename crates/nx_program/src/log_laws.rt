@@ -2,8 +2,8 @@
 
 ghost use Rattle.std.specs.Prelude.{List, [], ◌∷◌, codes, Some, true};
 ghost use Rattle.clap.specs.Words.{Text};
-ghost use Rattle.nx_fec.specs.declared.channel.Channel.TheVariants.{One};
-ghost use Rattle.nx_log.specs.declared.form.Form.TheVariants as form;
+ghost use Rattle.nx_fec.specs.declared.air_files.channel.Channel.TheVariants.{One};
+ghost use Rattle.nx_log.specs.declared.writing.form.Form.TheVariants as form;
 ghost use Rattle.nx_program.specs.LogWords.{all_entries, value_report};
 ghost use Rattle.nx_program.specs.Words.{IsRefusedByClap, LacksValue, Names};
 ghost use Rattle.nx_program.specs.declared.log_words.LogOption.TheVariants.{Since, Station};

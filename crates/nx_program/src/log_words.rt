@@ -7,7 +7,7 @@ ghost use Rattle.nx_program.specs.LogWords.{Asks, IsForm, IsQuery, IsReported, N
 ghost use Rattle.nx_program.specs.LogWords.{given_to, has_flag, option_name};
 ghost use Rattle.nx_program.specs.LogWords.{value_name as the_value_name, value_report as the_report};
 ghost use Rattle.nx_program.specs.private.LogReading.{IsUnfitAs, IsWrong};
-ghost use Rattle.nx_fec.specs.declared.channel.Channel.{Channel};
+ghost use Rattle.nx_fec.specs.declared.air_files.channel.Channel.{Channel};
 ghost use Rattle.nx_program.specs.declared.log_words.LogOption.TheVariants as option;
 
 use clap::ArgMatches;

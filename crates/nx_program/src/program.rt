@@ -10,7 +10,7 @@ ghost use Rattle.nx_program.specs.Words.{IsRefused, Names};
 ghost use Rattle.nx_program.specs.private.Reading.{ExplainsWords, IsOnStreams};
 ghost use Rattle.clap.specs.Words.{Text};
 ghost use Rattle.nx_fec.specs.Transfers.{CountedDevice, devices};
-ghost use Rattle.nx_fec.specs.TableText.{table_text};
+ghost use Rattle.nx_fec.specs.texts.TableText.{table_text};
 ghost use Rattle.nx_program.specs.declared.words.Call.{Call};
 
 use crate::commands::VERSION;
@@ -221,7 +221,8 @@ fn exit_status<S: AsStr, R: Read, W: Write, E: Write, F: LogFiles + Drop>(
     }
 }
 
-/// The fault of words that can't be had, for this reason: one of them is no text, or memory ran out.
+/// The fault of words that can't be had, for this reason: one of them is no text, or memory ran
+/// out.
 fn want_of_words(reason: &io::Error) -> Fault<'static>
     ensures { IsWantOfWords reason.now result }
 {
@@ -267,8 +268,9 @@ pub fn answer<R: Read, W: Write, E: Write, F: LogFiles + Drop>(
         (beside files F.gives result.file F.Disk.DiskFile E.contents faults.old faults.new)
         (Ok tt)) }
 
-    // A success leaves nothing on standard error, but for a watch; and a fault one text, behind what
-    // a watch told there: `navtex: `, the fault, and a newline, but for a text of clap on the words.
+    // A success leaves nothing on standard error, but for a watch; and a fault one text, behind
+    // what a watch told there: `navtex: `, the fault, and a newline, but for a text of clap on the
+    // words.
     ensures silent { IfOk words (λ given. (NamesWatch (map string_bytes given.items) → ⊥)
         → result.status ≡ 0 → faults.new ≡ faults.old) }
     ensures reported { result.status ≢ 0
@@ -284,8 +286,8 @@ pub fn answer<R: Read, W: Write, E: Write, F: LogFiles + Drop>(
     }
 }
 
-/// Runs the program on its words, of which the first is its name, and answers its exit status. It has
-/// no files, so a watch answers that its log can't be opened.
+/// Runs the program on its words, of which the first is its name, and answers its exit status. It
+/// has no files, so a watch answers that its log can't be opened.
 pub fn run<S: AsStr, R: Read + Drop, W: Write + Drop, E: Write + Drop>(
     alloc: Global,
     words: &[S],
@@ -294,7 +296,8 @@ pub fn run<S: AsStr, R: Read + Drop, W: Write + Drop, E: Write + Drop>(
     faults: E,
 ) -> u8
     // How the program ended, by what its call ensures of the devices.
-    ensures exits { (reader : CountedDevice R) × (writer : CountedDevice W) × (told : CountedDevice E)
+    ensures exits { (reader : CountedDevice R) × (writer : CountedDevice W)
+        × (told : CountedDevice E)
         × Exits (map S.text words.now)
         (devices R.remaining W.contents (fresh_device input) reader (fresh_device output) writer)
         (beside (record {}) ⟦<NoFiles as LogFiles>⟧.gives None

@@ -117,8 +117,8 @@ impl WatchFailure {
         }
     }
 
-    /// Tells of it on standard error by one line, which names the log. A failed write is passed over,
-    /// and nothing is told behind one.
+    /// Tells of it on standard error by one line, which names the log. A failed write is passed
+    /// over, and nothing is told behind one.
     pub fn tell<E: Write>(&self, log: &FileName, faults: &mut Counting<E>)
         ensures { (old : Option (List ℕ)) (text : List ℕ)
             → HasTold old (E.contents faults.old.inner) faults.old.failures text
@@ -182,8 +182,8 @@ fn tell_of_log<E: Write>(before: &[u8], log: &FileName, behind: &[u8], faults: &
     write_more(behind, faults);
 }
 
-/// Opens the log of this name and watches it from this moment on. Its file is handed back, if it was
-/// opened.
+/// Opens the log of this name and watches it from this moment on. Its file is handed back, if it
+/// was opened.
 pub fn watch_log<'a, F: LogFiles, R: Read, W: Write, E: Write>(
     alloc: Global,
     log: FileName<'a>,

@@ -103,9 +103,10 @@ pub enum WordsFault {
     Memory(AllocError),
 }
 
-/// The call that the words name, of which the first is the program's name. `Help` and `Version` where
-/// they ask for these, `Refused` where clap doesn't understand them, `Station` and `Kind` where that
-/// argument is none, `Value` where an option's value names nothing, and `Memory` where it ran out.
+/// The call that the words name, of which the first is the program's name. `Help` and `Version`
+/// where they ask for these, `Refused` where clap doesn't understand them, `Station` and `Kind`
+/// where that argument is none, `Value` where an option's value names nothing, and `Memory` where
+/// it ran out.
 pub fn call_of<'a, S: AsStr>(alloc: Global, words: &'a [S]) -> Result<Call<'a>, WordsFault>
     ensures named { IfOk result (Names (map S.text words.now)) }
     ensures refused { IfErr result (ExplainsWords (map S.text words.now)) }

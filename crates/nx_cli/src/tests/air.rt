@@ -103,11 +103,12 @@ pub enum Piece<'a> {
     Part(usize, usize, usize),
     /// The same in lines of 490, each named as one of a channel by this digit.
     Named(u8, usize, usize),
-    /// Each of the lines of EA01 on channel 0 and, behind it, on channel 1, at its moment; or the other
-    /// way round, where so told.
+    /// Each of the lines of EA01 on channel 0 and, behind it, on channel 1, at its moment; or the
+    /// other way round, where so told.
     InTurn(bool),
-    /// The elements that these combinations in a row are sent as, to before this one, in lines of 490.
-    Combinations(&'a [&'a [u8]], usize),
+    /// The elements that these combinations in a row are sent as, from one on to before another, in
+    /// lines of 490.
+    Combinations(&'a [&'a [u8]], usize, usize),
 }
 
 /// The lines of elements of EA01, without its moment.
@@ -130,9 +131,9 @@ impl Piece<'_> {
                 let lines = lines_of_ea01(rt);
                 alternating(rt, alloc, lines, lines, is_1_first)
             }
-            Piece::Combinations(pieces, to) => {
+            Piece::Combinations(pieces, from, to) => {
                 let elements = elements_sent(rt, alloc, &join(rt, alloc, pieces));
-                part_of(rt, alloc, &elements, 0..to, 490)
+                part_of(rt, alloc, &elements, from..to, 490)
             }
         }
     }
@@ -178,8 +179,8 @@ fn named(rt: &impl Abort, alloc: Global, digit: u8, lines: &[u8]) -> Vec<u8> {
     named
 }
 
-/// The moment of EA01, and each of these lines of channel 0 with one of those that are named as lines of
-/// channel 1: behind it, or before it where these come first.
+/// The moment of EA01, and each of these lines of channel 0 with one of those that are named as
+/// lines of channel 1: behind it, or before it where these come first.
 pub fn alternating(
     rt: &impl Abort,
     alloc: Global,

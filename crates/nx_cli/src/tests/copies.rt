@@ -50,7 +50,7 @@ fn ends_a_long_copy(rt: HostRuntime) {
     let endless: [&[u8]; 3] = [&HEADER_OF_EA01, &[29], &COMBINATIONS];
     let pieces = [
         Text(MOMENT_OF_EA01),
-        Combinations(&endless, usize::MAX),
+        Combinations(&endless, 0, usize::MAX),
         Text(b"T 1735706400\n"),
         LINES,
     ];
@@ -65,7 +65,7 @@ fn cuts_a_copy_of_letters(rt: HostRuntime) {
     let endless: [&[u8]; 3] = [&HEADER_OF_EA01, &[29], &COMBINATIONS];
     // The letters A are the positions from 86 on. The second sending of the 2,000th, of position
     // 2,085, is in slot 4,175; the file ends behind it.
-    let pieces = [Text(MOMENT_OF_EA01), Combinations(&endless, 7 * 4_176)];
+    let pieces = [Text(MOMENT_OF_EA01), Combinations(&endless, 0, 7 * 4_176)];
     let head = b"[EA01 2025-01-01 00:40:00 cut 0/2000]\n";
     let log = entry_of_letters(&rt, rt.alloc(), head, 2_000, b"");
     expect_log(&rt, rt.alloc(), ("2,000 letters", &pieces, &log));

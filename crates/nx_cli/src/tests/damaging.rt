@@ -43,8 +43,8 @@ fn inverts_elements(rt: HostRuntime) {
 
 #[test]
 fn inverts_one_element_of_each_word(rt: HostRuntime) {
-    // What is damaged, and how many words that are: of 59 words from slot 144 on 30 are DX words, and of
-    // 57 from slot 145 on 29 are RX words.
+    // What is damaged, and how many words that are: of 59 words from slot 144 on 30 are DX words,
+    // and of 57 from slot 145 on 29 are RX words.
     static ROWS: [([&str; 3], usize); 3] = [
         (["dx", "144", "59"], 30),
         (["rx", "145", "57"], 29),

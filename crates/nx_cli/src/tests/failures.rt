@@ -8,8 +8,8 @@ use std::alloc::Global;
 use std::io::Write;
 use std::process::Abort;
 
-// Three calls on a counted writer, of which the third fails, reach what it wraps, and two more do not:
-// each of these fails, and counts as a failure.
+// Three calls on a counted writer, of which the third fails, reach what it wraps, and two more do
+// not: each of these fails, and counts as a failure.
 #[test]
 fn counts_failures(rt: HostRuntime) {
     let mut sink = Sink::new(Vec::new(rt.alloc()));
@@ -18,12 +18,12 @@ fn counts_failures(rt: HostRuntime) {
     assert!(rt; writer.write(b"A").is_ok());
     assert!(rt; writer.flush().is_ok());
     assert!(rt; writer.flush().is_err());
-    assert!(rt; writer.failures() == 1);
+    assert_eq!(rt; writer.failures(), 1);
     assert!(rt; writer.flush().is_err());
     assert!(rt; writer.write(b"B").is_err());
-    assert!(rt; writer.failures() == 3);
+    assert_eq!(rt; writer.failures(), 3);
     let sink = writer.into_inner();
-    assert!(rt; sink.calls == 3);
+    assert_eq!(rt; sink.calls, 3);
     expect_text(&rt, "written", &sink.taken, b"A");
 }
 
@@ -80,15 +80,17 @@ fn expect_stop_at_write(rt: &impl Abort, alloc: Global, taken: usize) {
     expect_text(rt, "encode", &output.taken, wanted);
 }
 
+// At the begin of the line, within it, and before the byte that ends it.
 #[test]
 fn stops_at_a_failed_write(rt: HostRuntime) {
-    for taken in 0..AIR_FILE_OF_A.len() {
+    let last = AIR_FILE_OF_A.len() - 1;
+    for taken in [0, 1, 2, 3, 54, last - 1, last] {
         expect_stop_at_write(&rt, rt.alloc(), taken);
     }
 }
 
-// A word of the program, the input, the most bytes that the output takes at once, whether it forgets
-// them, and the status.
+// A word of the program, the input, the most bytes that the output takes at once, whether it
+// forgets them, and the status.
 type OddRow<'a> = (&'a str, &'a [u8], usize, bool, u8);
 
 // Expects that the run ends with the status, where standard error fails at its first call.

@@ -1,11 +1,11 @@
-//! Each call over a reader and a writer, interrupted at each of its reads, and at each kind of place in
-//! what it writes.
+//! Each call over a reader and a writer, interrupted at each of its reads, and at each kind of
+//! place in what it writes.
 
 ghost use Rattle.std.specs.Prelude.{◌≡◌, ◌≤◌};
 ghost use Rattle.nx_envelope.specs.Moment.{last_moment};
 
 use super::air::Piece::{Combinations, Named, Part, Text};
-use super::air::{HEADER_OF_EA01, MOMENT_OF_EA01, Piece, join, made_of};
+use super::air::{HEADER_OF_EA01, MOMENT_OF_EA01, Piece, made_of};
 use super::clocked::{Clock, Pieces, Reader, Writer};
 use super::endings::Ending;
 use super::resuming::{EA01_SAVED, NOTHING};
@@ -51,15 +51,14 @@ struct Given {
     /// What a receiver left that heard EB02.
     saved: SavedSet,
     bits: Vec<bool>,
-    /// The air file of EA01 with 200 elements in each line, so that its copy is open behind some of
-    /// them.
+    /// EA01 in three lines behind a command, so that its copy is open behind the first of them and
+    /// ends in the second.
     short_lines: Vec<u8>,
-    /// The same behind the state of a receiver that has heard nothing.
+    /// The same lines behind the state of a receiver that has heard nothing.
     resumed: Vec<u8>,
-    /// Three channels that hear EA01 in turn: 1 all of it, 0 and 2 up to the end of its text.
+    /// Behind that state three channels that hear EA01 in turn: 1 all of it, 0 and 2 up to the end
+    /// of its text.
     on_three: Vec<u8>,
-    /// The same behind that state.
-    resumed_on_three: Vec<u8>,
     /// One line in which a copy of EA01 is cut, and one of EB02 ends.
     two_in_a_line: Vec<u8>,
 }
@@ -173,33 +172,36 @@ fn given_to_calls(rt: &impl Abort, alloc: Global) -> Given
 {
     let mut file = Counting::new(AIR_FILE_OF_EA01);
     let bits = read_bits(alloc, &mut file).expect(rt, "elements");
-    let short_lines = in_short_lines(rt, alloc, &bits);
-    let on_three = made_of(rt, alloc, &ON_THREE);
     Given {
         station: Letter::new(b'E').expect(rt, "a station"),
         entry: entry_of_ea01(rt),
         saved: saved_with_eb02(rt),
-        resumed: join(rt, alloc, &[NOTHING, &short_lines]),
-        resumed_on_three: join(rt, alloc, &[NOTHING, &on_three]),
+        short_lines: made_of(rt, alloc, &[Text(COMMAND), NOW, SHORT_LINES]),
+        resumed: made_of(rt, alloc, &[Text(NOTHING), NOW, SHORT_LINES]),
         two_in_a_line: made_of(rt, alloc, &TWO_IN_A_LINE),
-        short_lines,
-        on_three,
+        on_three: made_of(rt, alloc, &ON_THREE),
         bits,
     }
 }
 
-/// The elements of EA01 on three channels in turn, of which channel 1 hears all.
-static ON_THREE: [Piece<'static>; 10] = [
-    Text(MOMENT_OF_EA01),
-    Part(0, 490, 490),
-    Named(b'1', 0, 490),
-    Named(b'2', 0, 490),
-    Part(490, 980, 490),
-    Named(b'1', 490, 980),
-    Named(b'2', 490, 980),
-    Part(980, 1_323, 490),
-    Named(b'1', 980, 1_421),
-    Named(b'2', 980, 1_323),
+/// A command that refuses what isn't heard.
+const COMMAND: &[u8] = b"RS A\n";
+
+const NOW: Piece<'static> = Text(MOMENT_OF_EA01);
+
+/// The last 749 elements of EA01, with which a lock begins, in lines of at most 360.
+const SHORT_LINES: Piece<'static> = Part(672, 1_421, 360);
+
+/// Those elements on three channels in turn, of which channel 1 hears all, behind a state.
+static ON_THREE: [Piece<'static>; 8] = [
+    Text(NOTHING),
+    NOW,
+    Part(672, 1_162, 490),
+    Named(b'1', 672, 1_162),
+    Named(b'2', 672, 1_162),
+    Part(1_162, 1_323, 490),
+    Named(b'1', 1_162, 1_421),
+    Named(b'2', 1_162, 1_323),
 ];
 
 /// The letter shift, ZCZC, a space, EB, the figure shift, 02 and a new line.
@@ -208,26 +210,12 @@ const HEADER_OF_EB02: [u8; 13] = [29, 26, 3, 26, 3, 31, 5, 2, 30, 16, 23, 27, 28
 /// The letter shift, NNNN and what follows it.
 const END: [u8; 8] = [29, 14, 14, 14, 14, 27, 28, 28];
 
-/// The C before EB02 is position 89 and the last N position 102, so that the copies end with the elements
-/// 1,288 and 1,470, which the third line has both.
+/// The C before EB02 is position 89 and the last N position 102, so that the copies end with the
+/// elements 1,288 and 1,470, which the second and last line has both.
 static TWO_IN_A_LINE: [Piece<'static>; 2] = [
-    Text(MOMENT_OF_EA01),
-    Combinations(&[&HEADER_OF_EA01, &HEADER_OF_EB02, &END], usize::MAX),
+    NOW,
+    Combinations(&[&HEADER_OF_EA01, &HEADER_OF_EB02, &END], 672, usize::MAX),
 ];
-
-/// EA01 at its moment, with 200 elements in each line.
-fn in_short_lines(rt: &impl Abort, alloc: Global, bits: &[bool]) -> Vec<u8> {
-    let mut file = b"T 1735692000\n".to_vec(alloc).expect(rt, "memory");
-    for line in bits.chunks(200) {
-        file.extend_from_slice(b"B ").expect(rt, "memory");
-        for bit in line {
-            file.push(if *bit { b'1' } else { b'0' })
-                .expect(rt, "memory");
-        }
-        file.push(b'\n').expect(rt, "memory");
-    }
-    file
-}
 
 /// A call, what it reads, and what it writes.
 #[derive(Drop)]
@@ -258,7 +246,8 @@ impl Case<'_> {
         written
     }
 
-    /// How often the call reads, where each read gives such a piece: a call that reads sees the end too.
+    /// How often the call reads, where each read gives such a piece: a call that reads sees the end
+    /// too.
     fn reads(&self, pieces: Pieces) -> usize {
         match self.call {
             Call::EntryText | Call::EntryTextOn(_) | Call::WriteBits | Call::WriteTable => 0,
@@ -282,55 +271,50 @@ fn whole_lines(input: &[u8], read: usize) -> usize {
     lines
 }
 
-/// The copy of EA01 ends with the word of slot 195, its element 1,372. With 200 elements in each line
-/// that is in the seventh of 203 bytes, behind the line of the moment.
-const HEARD_IN_SHORT_LINES: usize = LINE_OF_MOMENT + 7 * 203;
+/// The copy of EA01 ends with the word of slot 195, its element 1,372: in the second of these lines
+/// of 363 bytes.
+const HEARD_IN_SHORT_LINES: usize = COMMAND.len() + LINE_OF_MOMENT + 2 * 363;
 
-/// Where the first of the channels on three has heard a copy in full: behind two lines of 490 elements
-/// on each of the three, one of 343 on channel 0 and one of 441 on channel 1.
-const HEARD_ON_THREE: usize = LINE_OF_MOMENT + 2 * (493 + 494 + 494) + 346 + 445;
+/// Where the first of the channels on three has heard a copy in full: behind a line of 490 elements
+/// on each of the three, one of 161 on channel 0 and one of 259 on channel 1.
+const HEARD_ON_THREE: usize = LINE_OF_MOMENT + (493 + 494 + 494) + 164 + 263;
 
 /// The copies that stand open at the end come by channel.
 const LOG_ON_THREE: &[u8] = b"[EA01/1 2025-01-01 00:40:00 full 0/5]\nTEST\n\n\
     [EA01 2025-01-01 00:40:00 cut 0/5]\nTEST\n\n\
     [EA01/2 2025-01-01 00:40:00 cut 0/5]\nTEST\n\n";
 
-/// Two copies of one line, the third of 490 elements.
+/// Two copies of one line.
 const LOG_OF_TWO: &[u8] =
     b"[EA01 2025-01-01 00:40:00 cut 0/0]\n\n[EB02 2025-01-01 00:40:00 full 0/0]\n\n";
-
-const HEARD_TWO: usize = LINE_OF_MOMENT + 3 * 493;
 
 const LOG_ON_CHANNEL_2: &[u8] = b"[EA01/2 2025-01-01 00:40:00 full 0/5]\nTEST\n\n";
 
 /// The calls that listen to one channel.
-fn listening<'a>(given: &'a Given) -> [Case<'a>; 6] {
-    let whole = AIR_FILE_OF_EA01.len();
+fn listening<'a>(given: &'a Given) -> [Case<'a>; 4] {
+    let two = given.two_in_a_line.as_slice();
     [
-        heard(Call::Listen, AIR_FILE_OF_EA01, LOG_OF_EA01, whole),
         heard(
             Call::ListenFrom,
             &given.short_lines,
             LOG_OF_EA01,
             HEARD_IN_SHORT_LINES,
         ),
-        heard(Call::Listen, &given.two_in_a_line, LOG_OF_TWO, HEARD_TWO),
-        row(Call::Listen, LINES, b""),
+        heard(Call::Listen, two, LOG_OF_TWO, two.len()),
         locks_shown(),
         resumed_for_the_state(given),
     ]
 }
 
-/// Those that listen to three.
-fn listening_on_three<'a>(given: &'a Given) -> [Case<'a>; 2] {
-    [
-        on_three(Call::Listen, &given.on_three, 0),
-        on_three(
-            Call::Resume(Want::Log),
-            &given.resumed_on_three,
-            NOTHING.len(),
-        ),
-    ]
+/// The call that listens to three, behind a state.
+fn listening_on_three(given: &Given) -> Case<'_> {
+    let first = b"[EA01/1 2025-01-01 00:40:00 full 0/5]\nTEST\n\n".len();
+    let input = given.on_three.as_slice();
+    Case {
+        state: NOTHING.len(),
+        written: [(NOTHING.len() + HEARD_ON_THREE, first); 2],
+        ..row(Call::Resume(Want::Log), input, LOG_ON_THREE)
+    }
 }
 
 /// The others.
@@ -378,16 +362,6 @@ fn heard<'a>(call: Call, input: &'a [u8], output: &'a [u8], enough: usize) -> Ca
     Case {
         written: [(enough, output.len()); 2],
         ..row(call, input, output)
-    }
-}
-
-/// Three channels behind so many bytes of a state.
-fn on_three<'a>(call: Call, input: &'a [u8], state: usize) -> Case<'a> {
-    let first = b"[EA01/1 2025-01-01 00:40:00 full 0/5]\nTEST\n\n".len();
-    Case {
-        state,
-        written: [(HEARD_ON_THREE.saturating_add(state), first); 2],
-        ..row(call, input, LOG_ON_THREE)
     }
 }
 
@@ -469,8 +443,8 @@ fn interrupt(alloc: Global, case: &Case, given: &Given, trouble: Trouble) -> End
     }
 }
 
-/// Expects that a call with this trouble ended so and wrote this, and that a failed call on a device
-/// was the last one.
+/// Expects that a call with this trouble ended so and wrote this, and that a failed call on a
+/// device was the last one.
 fn expect_ending(
     rt: &impl Abort,
     case: &Case,
@@ -496,44 +470,43 @@ fn expect_ending(
     );
 }
 
-/// Expects that the call succeeds where so many reads succeed.
-fn expect_success(
+/// Expects that the call stops at this read, which fails.
+fn expect_stop_at_read(
     rt: &impl Abort,
     alloc: Global,
     case: &Case,
     given: &Given,
     pieces: Pieces,
-    sound: Option<usize>,
+    read: usize,
 )
     requires { given.now.entry.moment ≤ last_moment }
 {
     let trouble = Trouble {
         pieces,
-        sound,
+        sound: Some(read),
         room: None,
     };
     let ended = interrupt(alloc, case, given, trouble);
-    expect_ending(rt, case, trouble, &ended, Ok(()), case.output.len());
+    let written = case.written_after(ended.read);
+    expect_ending(rt, case, trouble, &ended, Err(Ending::Read), written);
 }
 
 /// Expects that the call stops at each of its reads, as each fails in turn, and that there is no
-/// further one.
+/// further one: it succeeds where the next would fail.
 fn expect_stops_at_reads(rt: &impl Abort, alloc: Global, case: &Case, given: &Given, pieces: Pieces)
     requires { given.now.entry.moment ≤ last_moment }
 {
     let reads = case.reads(pieces);
     for read in 0..reads {
-        let trouble = Trouble {
-            pieces,
-            sound: Some(read),
-            room: None,
-        };
-        let ended = interrupt(alloc, case, given, trouble);
-        let written = case.written_after(ended.read);
-        expect_ending(rt, case, trouble, &ended, Err(Ending::Read), written);
+        expect_stop_at_read(rt, alloc, case, given, pieces, read);
     }
-    expect_success(rt, alloc, case, given, pieces, None);
-    expect_success(rt, alloc, case, given, pieces, Some(reads));
+    let trouble = Trouble {
+        pieces,
+        sound: Some(reads),
+        room: None,
+    };
+    let ended = interrupt(alloc, case, given, trouble);
+    expect_ending(rt, case, trouble, &ended, Ok(()), case.output.len());
 }
 
 /// Each read fails in turn, inside a line and at its end.
@@ -559,13 +532,12 @@ fn stops_listening_at_each_failed_read(rt: HostRuntime) {
 #[test]
 fn stops_listening_to_three_channels_at_each_failed_read(rt: HostRuntime) {
     let given = given_to_calls(&rt, rt.alloc());
-    for case in &listening_on_three(&given) {
-        expect_stops_at_reads(&rt, rt.alloc(), case, &given, Pieces::HalfLines);
-    }
+    let case = listening_on_three(&given);
+    expect_stops_at_reads(&rt, rt.alloc(), &case, &given, Pieces::HalfLines);
 }
 
-/// Expects that the call stops at a writer that fails behind so many bytes, or succeeds where there is
-/// room for all.
+/// Expects that the call stops at a writer that fails behind so many bytes, or succeeds where there
+/// is room for all.
 fn expect_stop_at_write(rt: &impl Abort, alloc: Global, case: &Case, given: &Given, room: usize)
     requires { given.now.entry.moment ≤ last_moment }
 {
@@ -623,10 +595,10 @@ fn stops_listening_at_each_failed_write(rt: HostRuntime) {
     }
 }
 
+/// It writes an entry while it reads, and two at the end.
 #[test]
 fn stops_listening_to_three_channels_at_each_failed_write(rt: HostRuntime) {
     let given = given_to_calls(&rt, rt.alloc());
-    for case in &listening_on_three(&given) {
-        expect_stops_at_writes(&rt, rt.alloc(), case, &given);
-    }
+    let case = listening_on_three(&given);
+    expect_stops_at_writes(&rt, rt.alloc(), &case, &given);
 }

@@ -36,7 +36,7 @@ fn finds_the_emission(rt: HostRuntime) {
             "ZCZCZC EA01",
             &[
                 NOW,
-                Combinations(&[&[26, 3], &HEADER_OF_EA01, &REST_OF_EA01], usize::MAX),
+                Combinations(&[&[26, 3], &HEADER_OF_EA01, &REST_OF_EA01], 0, usize::MAX),
             ],
             LOG_OF_EA01,
         ),

@@ -1,4 +1,5 @@
-//! `navtex log` on words and bytes: which entries are asked for, in which form, and what it refuses.
+//! `navtex log` on words and bytes: which entries are asked for, in which form, and what it
+//! refuses.
 
 use super::{expect_fault, expect_output};
 

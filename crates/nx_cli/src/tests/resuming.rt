@@ -26,8 +26,8 @@ pub const EA01_SAVED: &[u8] = b"STATE 2\nC0\nEA01 1735692000\nC1\nC2\nEND\n";
 /// Four hours after the moment of EA01.
 const LATER: Piece<'static> = Text(b"T 1735706400\n");
 
-/// Expects that a run ends so on this input and writes this, where the input comes at once, and where
-/// it comes byte by byte and the output takes one at a time.
+/// Expects that a run ends so on this input and writes this, where the input comes at once, and
+/// where it comes byte by byte and the output takes one at a time.
 fn expect_run(
     rt: &impl Abort,
     alloc: Global,
@@ -42,10 +42,11 @@ fn expect_run(
     run_in_pieces(alloc, words, input, 1).expect(rt, row, status, output, line);
 }
 
-/// Expects that `resume` writes this log of an input, and `save` this state.
+/// Expects that `resume` writes this log of an input, which comes at once, and `save` this state
+/// where it comes byte by byte.
 fn expect_left(rt: &impl Abort, alloc: Global, row: &str, input: &[u8], log: &[u8], state: &[u8]) {
-    expect_run(rt, alloc, row, &RESUME, input, log, (0, ""));
-    expect_run(rt, alloc, row, &SAVE, input, state, (0, ""));
+    run_on(alloc, &RESUME, input).expect(rt, row, 0, log, b"");
+    run_in_pieces(alloc, &SAVE, input, 1).expect(rt, row, 0, state, b"");
 }
 
 /// What is told of an input, a state and what stands behind it, the log of `resume`, and the state
@@ -59,11 +60,12 @@ fn expect_each_left(rt: &impl Abort, alloc: Global, cases: &[Left]) {
     }
 }
 
-/// Expects that `resume` and `save` refuse an input by this line, and write nothing.
+/// Expects that `resume` refuses an input by this line where it comes byte by byte, `save` where it
+/// comes at once, and that they write nothing.
 fn expect_refusal(rt: &impl Abort, alloc: Global, input: &[u8], line: &str) {
-    let row = shown(input);
-    expect_run(rt, alloc, row, &RESUME, input, b"", (2, line));
-    expect_run(rt, alloc, row, &SAVE, input, b"", (2, line));
+    let (row, line) = (shown(input), line.as_bytes());
+    run_in_pieces(alloc, &RESUME, input, 1).expect(rt, row, 2, b"", line);
+    run_on(alloc, &SAVE, input).expect(rt, row, 2, b"", line);
 }
 
 #[test]
@@ -99,6 +101,14 @@ fn goes_on_from_a_state(rt: HostRuntime) {
         ),
     ];
     expect_each_left(&rt, rt.alloc(), &CASES);
+}
+
+#[test]
+fn takes_a_state_in_any_pieces(rt: HostRuntime) {
+    let alloc = rt.alloc();
+    let input = join(&rt, alloc, &[WITH_EA01, b"T 1735706400\n"]);
+    expect_run(&rt, alloc, "resume", &RESUME, &input, b"", (0, ""));
+    expect_run(&rt, alloc, "save", &SAVE, &input, EA01_SAVED, (0, ""));
 }
 
 #[test]
@@ -274,8 +284,8 @@ fn names_the_line_in_which_a_state_is_cut(rt: HostRuntime) {
     expect_left(&rt, alloc, "whole", WHOLE, b"", WHOLE);
 }
 
-/// Expects that `resume` and `save` over a text that comes again and again end with this line, behind
-/// so many reads, and write nothing.
+/// Expects that `resume` and `save` over a text that comes again and again end with this line,
+/// behind so many reads, and write nothing.
 fn expect_stop_on_endless(rt: &impl Abort, alloc: Global, text: &[u8], reads: u64, line: &str) {
     for words in [RESUME, SAVE] {
         let mut source = Source::of(text);

@@ -15,8 +15,8 @@ const PATTERN: Piece<'static> = Text(b"T 1735692000\nB 0110011111100001100111111
 /// What is told of a file, its pieces, and the report of its locks.
 type Shown<'a> = (&'a str, &'a [Piece<'a>], &'a [u8]);
 
-/// Expects that `locks` ends so and writes its report, where the pieces in a row are read at once, and
-/// where they are read and written byte by byte.
+/// Expects that `locks` ends so and writes its report, where the pieces in a row are read at once,
+/// and where they are read and written byte by byte.
 fn expect_report(rt: &impl Abort, alloc: Global, case: Shown, end: End) {
     let (row, pieces, report) = case;
     let air_file = made_of(rt, alloc, pieces);

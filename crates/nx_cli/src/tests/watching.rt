@@ -1,4 +1,5 @@
-//! `watch` over a file in memory: what it leaves there, its exit statuses and the lines of its faults.
+//! `watch` over a file in memory: what it leaves there, its exit statuses and the lines of its
+//! faults.
 
 use super::air::{MOMENT_OF_EA01, join};
 use super::devices::{Sink, Source};

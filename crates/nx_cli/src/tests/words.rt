@@ -50,7 +50,7 @@ fn reads_its_words(rt: HostRuntime) {
         (
             &["navtex", "decode", "frob"],
             64,
-            "error: unexpected argument 'frob' found\n\nUsage: navtex decode\n",
+            "error: unexpected argument 'frob' found\n\nUsage: navtex decode < x.air\n",
         ),
         (
             &["navtex", "help"],
@@ -75,7 +75,7 @@ fn reads_its_words(rt: HostRuntime) {
         (
             &["navtex", "encode", "-h"],
             0,
-            "Write a text as an air file\n\nUsage: navtex encode\n",
+            "Write a text as an air file\n\nUsage: navtex encode < x.txt\n",
         ),
         (
             &["navtex", "decode", "--help"],
@@ -85,7 +85,7 @@ fn reads_its_words(rt: HostRuntime) {
         (
             &["navtex", "damage", "-h"],
             0,
-            "Copy an air file with some of its words damaged\n\nUsage: navtex damage <KIND> <FROM> <COUNT>\n",
+            "Copy an air file with some of its words damaged\n\nUsage: navtex damage <KIND> <FROM> <COUNT> < x.air\n",
         ),
         (
             &["navtex", "damage", "tx", "0", "4294967296"],
@@ -95,7 +95,7 @@ fn reads_its_words(rt: HostRuntime) {
         (
             &["navtex", "log", "-h"],
             0,
-            "Print the entries of a log that are asked for\n\nUsage: navtex log [OPTIONS]\n",
+            "Print the entries of a log that are asked for\n\nUsage: navtex log [OPTIONS] < x.log\n",
         ),
         (
             &["navtex", "log", "--good", "--good"],

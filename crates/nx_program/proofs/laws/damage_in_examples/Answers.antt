@@ -4,9 +4,9 @@ use Rattle.clap.specs.Words.{Row, Text}
 use Rattle.clap.specs.declared.error.kind.ErrorKind.TheVariants as kind
 use Rattle.nx_station.specs.declared.damaging.DamageKind.{DamageKind}
 use Rattle.nx_program.specs.Words.{kind_name}
-use Rattle.nx_program.proofs.GivenArguments.{given}
-use Rattle.nx_program.proofs.CallArguments.{differ, no_kind, number-of}
-use Rattle.nx_program.proofs.WordsLemmas.{invalid_is_refusal, missing_argument_is_refusal}
+use Rattle.nx_program.proofs.lemmas.words.GivenArguments.{given}
+use Rattle.nx_program.proofs.lemmas.words.CallArguments.{differ, no_kind, number-of}
+use Rattle.nx_program.proofs.lemmas.words.Words.{invalid_is_refusal, missing_argument_is_refusal}
 use Rattle.nx_program.proofs.laws.damage_in_examples.Goals as goal
 
 abbrev arguments : Text → Text → Text → List Row

@@ -1,4 +1,4 @@
-use Rattle.nx_program.proofs.WordsLemmas.{damage-bounds, send-bound, slots-bound, watch-bound}
+use Rattle.nx_program.proofs.lemmas.words.Words.{damage-bounds, send-bound, slots-bound, watch-bound}
 use Rattle.nx_program.proofs.laws.numbers_are_in_range.Goals as goal
 
 pub returns : goal.returns

@@ -2,9 +2,9 @@ use Rattle.std.proofs.Common.{◌≡◌, ℕ, List, [], ◌∷◌, Some, codes, 
 use Rattle.clap.proofs.OnLiterals.{clap_on_literals}
 use Rattle.clap.specs.Words.{Row, Text}
 use Rattle.clap.specs.declared.error.kind.ErrorKind.TheVariants as kind
-use Rattle.nx_program.proofs.WordsLemmas.{invalid_is_refusal, missing_argument_is_refusal}
-use Rattle.nx_program.proofs.CallArguments.{number-of}
-use Rattle.nx_program.proofs.GivenArguments.{given}
+use Rattle.nx_program.proofs.lemmas.words.Words.{invalid_is_refusal, missing_argument_is_refusal}
+use Rattle.nx_program.proofs.lemmas.words.CallArguments.{number-of}
+use Rattle.nx_program.proofs.lemmas.words.GivenArguments.{given}
 use Rattle.nx_envelope.specs.declared.letter.Letter.{Letter}
 use Rattle.nx_program.proofs.laws.slots_in_examples.Goals as goal
 

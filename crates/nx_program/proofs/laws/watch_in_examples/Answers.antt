@@ -2,10 +2,10 @@ use Rattle.std.proofs.Common.{List, [], ◌∷◌, codes, refl, inl}
 use Rattle.clap.proofs.OnLiterals.{clap_on_literals}
 use Rattle.clap.specs.Words.{Row}
 use Rattle.clap.specs.declared.error.kind.ErrorKind.TheVariants as kind
-use Rattle.nx_program.proofs.GivenArguments.{given}
-use Rattle.nx_program.proofs.CallArguments.{number-of}
-use Rattle.nx_program.proofs.WordsLemmas.{invalid_is_refusal, missing_argument_is_refusal}
-use Rattle.nx_program.proofs.WordsLemmas.{unknown_is_refusal}
+use Rattle.nx_program.proofs.lemmas.words.GivenArguments.{given}
+use Rattle.nx_program.proofs.lemmas.words.CallArguments.{number-of}
+use Rattle.nx_program.proofs.lemmas.words.Words.{invalid_is_refusal, missing_argument_is_refusal}
+use Rattle.nx_program.proofs.lemmas.words.Words.{unknown_is_refusal}
 use Rattle.nx_program.proofs.laws.watch_in_examples.Goals as goal
 
 abbrev arguments : List Row

@@ -1,7 +1,7 @@
 use Rattle.std.proofs.Common.{[], refl, inl}
 use Rattle.clap.proofs.OnLiterals.{clap_on_literals}
 use Rattle.clap.specs.declared.error.kind.ErrorKind.TheVariants as kind
-use Rattle.nx_program.proofs.WordsLemmas.{missing_is_refusal, unknown_is_refusal}
+use Rattle.nx_program.proofs.lemmas.words.Words.{missing_is_refusal, unknown_is_refusal}
 use Rattle.nx_program.proofs.laws.words_in_examples.Goals as goal
 
 pub returns : goal.returns

@@ -1,6 +1,6 @@
-use Rattle.nx_program.proofs.WordsLemmas.{help_not_refused, help_not_version, named_not_help}
-use Rattle.nx_program.proofs.WordsLemmas.{named_not_refused, named_not_version, named_once}
-use Rattle.nx_program.proofs.WordsLemmas.{read_as_one, version_not_refused}
+use Rattle.nx_program.proofs.lemmas.words.Words.{help_not_refused, help_not_version, named_not_help}
+use Rattle.nx_program.proofs.lemmas.words.Words.{named_not_refused, named_not_version, named_once}
+use Rattle.nx_program.proofs.lemmas.words.Words.{read_as_one, version_not_refused}
 use Rattle.nx_program.proofs.laws.words_read_as_one.Goals as goal
 
 pub returns : goal.returns

@@ -13,12 +13,12 @@ use Rattle.jiff_core.proofs.MarchLemmas.{day_count-early}
 use Rattle.jiff_core.proofs.SignedLemmas.{signed_arith}
 use Rattle.nx_code.specs.Reading.{IsCapital}
 use Rattle.nx_envelope.specs.Moment.{IsShownAs}
-use Rattle.nx_log.proofs.TimeTexts.{second-long, shown-length}
+use Rattle.nx_log.proofs.lemmas.texts.TimeTexts.{second-long, shown-length}
 use Rattle.nx_log.specs.Times.{IsSince}
 use Rattle.nx_program.specs.LogWords.{NamesLetters}
 use Rattle.nx_program.specs.declared.log_words.LogOption.TheVariants.{Since, Station}
-use Rattle.nx_program.proofs.GivenArguments.{given}
-use Rattle.nx_program.proofs.WordsLemmas.{conflict_is_refusal}
+use Rattle.nx_program.proofs.lemmas.words.GivenArguments.{given}
+use Rattle.nx_program.proofs.lemmas.words.Words.{conflict_is_refusal}
 use Rattle.nx_program.proofs.log_laws.log_in_examples.Goals as goal
 
 -- a flag that was not given, and the rows of both
@@ -67,7 +67,8 @@ last_second = record {
 now_is_none : (moment : ℕ) → IsSince (codes "now") moment → ⊥
 now_is_none moment named = elim named.1 [
   | inl written ↦ let digit : 23 < 10 = written.digits.1.0 in absurd (omega (arith, digit))
-  | inr (inl w) ↦ let long : 19 ≤ 3 = second-long (codes "now") moment w in absurd (omega (arith, long))
+  | inr (inl w) ↦ let long : 19 ≤ 3 = second-long (codes "now") moment w in
+      absurd (omega (arith, long))
   | inr (inr s) ↦ let long : 12 ≡ 19 = shown-length moment _ s in absurd (omega (arith, long))
 ]
 

@@ -11,7 +11,8 @@ returns-in-Some c =
     let given : first_of name (rows_of found) ≡ Some c.in-Some.text.now =
     sym (first_value-rows found name) ∙ sym c.get_str.ensures
     ∙ ap (option_map (λ text. text.now)) c.in-Some.is in
-    c.eq.ensures ∙ sym (ap (λ o. option_map_or (λ text. bytes_eq text (codes "true")) o false) given)
+    c.eq.ensures
+    ∙ sym (ap (λ o. option_map_or (λ text. bytes_eq text (codes "true")) o false) given)
 
 pub returns-in-None : goal.returns-in-None
 returns-in-None c =

@@ -1,5 +1,5 @@
 use Rattle.std.proofs.Common.{map, string_bytes}
-use Rattle.nx_program.proofs.ReportLemmas.{answers-called, answers-reported, answers-silent}
+use Rattle.nx_program.proofs.lemmas.outcomes.Report.{answers-called, answers-reported, answers-silent}
 use Rattle.nx_program.specs.Watching.{beside}
 use Rattle.nx_fec.specs.Transfers.{devices}
 use Rattle.nx_program.proofs.program.answer.Goals as goal
@@ -16,7 +16,8 @@ returns-in-Ok-clause-called g c =
     let b = beside c.args.files g.F.LogFiles.gives c.exit_status.result.file g.F.Disk.DiskFile
     g.E.Write.contents c.args.faults.now c.exit_status.new.faults in
     rw (c.in-Ok.is, ← c.as_slice.ensures.value)
-    (λ call named is. answers-called words d b c.exit_status.result.status c.exit_status.ensures call
+    (λ call named is. answers-called words d b c.exit_status.result.status c.exit_status.ensures
+    call
     named is)
 
 pub returns-in-Ok-clause-silent : goal.returns-in-Ok-clause-silent

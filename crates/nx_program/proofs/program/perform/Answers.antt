@@ -5,14 +5,14 @@ use Rattle.nx_station.specs.Damage.{Damages}
 use Rattle.nx_station.specs.FileSending.{Sends}
 use Rattle.nx_locks.specs.Run.{ShowsLocks}
 use Rattle.nx_log.specs.LogRun.{RunsOverLog}
-use Rattle.nx_receiver.specs.ListenOnce.{ListensOnce}
-use Rattle.nx_receiver.specs.Resume.{Resumes}
+use Rattle.nx_receiver.specs.laws.ListenOnce.{ListensOnce}
+use Rattle.nx_receiver.specs.air_file_runs.Resume.{Resumes}
 use Rattle.nx_receiver.specs.Shares.{all_at_zero}
-use Rattle.nx_receiver.specs.declared.resume_fault.Want.TheVariants.{Log, State}
+use Rattle.nx_receiver.specs.declared.air_file_runs.resume_fault.Want.TheVariants.{Log, State}
 use Rattle.nx_program.specs.Program.{IsUntouchedByWant, PerformsOnStreams, ReadsStateBeforeWant}
 use Rattle.nx_program.specs.declared.fault.CallFault.TheVariants as call
 use Rattle.nx_program.specs.declared.words.Call.{Call}
-use Rattle.nx_program.proofs.ProgramLemmas.{tells-err, tells-ok, untouched}
+use Rattle.nx_program.proofs.lemmas.outcomes.Program.{tells-err, tells-ok, untouched}
 use Rattle.nx_program.proofs.program.perform.Goals as goal
 
 pub returns-in_err-send-in-Send : goal.returns-in_err-send-in-Send
@@ -78,7 +78,8 @@ returns-in_ok-listen-in-Listen g c =
     c.args.writer.now c.listen.new.writer in
     let P : Call → Type 0 = λ call. PerformsOnStreams call d (Ok tt) in
     subst P (sym c.in-Listen.is)
-    (tells-ok (λ why. call.Listen why) (λ own. ListensOnce all_at_zero d own × IsUntouchedByWant d own)
+    (tells-ok (λ why. call.Listen why) (λ own. ListensOnce all_at_zero d own
+    × IsUntouchedByWant d own)
     own.field-0
     (own.ensures.listens, untouched d (Ok own.field-0) own.ensures.memory))
 
@@ -91,7 +92,8 @@ returns-in_err-listen-in-Listen g c =
     let p = err_from_is_err_and outcome c.from_residual-in_err-listen-in-Listen.ensures.1 in
     let P : Call → Type 0 = λ call. PerformsOnStreams call d outcome in
     subst P (sym c.in-Listen.is)
-    (tells-err (λ why. call.Listen why) (λ own. ListensOnce all_at_zero d own × IsUntouchedByWant d own)
+    (tells-err (λ why. call.Listen why) (λ own. ListensOnce all_at_zero d own
+    × IsUntouchedByWant d own)
     outcome own.field-0.0 p.0
     (own.ensures.listens, untouched d (Err own.field-0.0) own.ensures.memory) p.1 p.2)
 
@@ -176,7 +178,8 @@ returns-in_err-log_run-in-Log g c =
     let p = err_from_is_err_and outcome c.from_residual-in_err-log_run-in-Log.ensures.1 in
     let P : Call → Type 0 = λ call. PerformsOnStreams call d outcome in
     subst P (sym c.in-Log.is)
-    (tells-err (λ why. call.Log why) (RunsOverLog c.in-Log.query c.in-Log.form d) outcome own.field-0.0
+    (tells-err (λ why. call.Log why) (RunsOverLog c.in-Log.query c.in-Log.form d) outcome
+    own.field-0.0
     p.0 own.ensures p.1 p.2)
 
 pub returns-in_ok-log_run-in-Log : goal.returns-in_ok-log_run-in-Log

@@ -1,7 +1,7 @@
 use Rattle.std.proofs.Common.{◌≡◌, None, map}
-use Rattle.nx_program.proofs.ProgramLemmas.{exits-fresh, refused-exits, status-exits, success-exits}
-use Rattle.nx_program.proofs.ProgramLemmas.{success-named, words-exit}
-use Rattle.nx_program.proofs.ReportLemmas.{answers-exits, ends-none}
+use Rattle.nx_program.proofs.lemmas.outcomes.Program.{exits-fresh, refused-exits, status-exits, success-exits}
+use Rattle.nx_program.proofs.lemmas.outcomes.Program.{success-named, words-exit}
+use Rattle.nx_program.proofs.lemmas.outcomes.Report.{answers-exits, ends-none}
 use Rattle.nx_program.specs.Program.{fresh_device}
 use Rattle.nx_fec.specs.Transfers.{devices}
 use Rattle.nx_program.proofs.program.run.Goals as goal

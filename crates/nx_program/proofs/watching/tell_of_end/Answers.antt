@@ -3,7 +3,7 @@ use Rattle.std.specs.Prelude.{codes, decimal}
 use Rattle.nx_watch.specs.Watching.{HasTold}
 use Rattle.nx_program.specs.Watching.{watch_fault_line}
 use Rattle.nx_program.specs.declared.watching.WatchFailure.TheVariants.{Ended}
-use Rattle.nx_program.proofs.WatchLines.{more-told, twice-told}
+use Rattle.nx_program.proofs.lemmas.outcomes.WatchLines.{more-told, twice-told}
 use Rattle.nx_program.proofs.watching.tell_of_end.Goals as goal
 
 pub returns-in-Open : goal.returns-in-Open

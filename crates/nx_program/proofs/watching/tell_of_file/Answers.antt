@@ -13,7 +13,8 @@ returns-in-Open g c = λ old text told.
 pub returns-in-Busy : goal.returns-in-Busy
 returns-in-Busy g c = λ old text told.
     subst (λ w. HasTold old (g.E.Write.contents c.tell_of_log-in-Busy.new.faults.inner)
-    c.tell_of_log-in-Busy.new.faults.failures (text ++ watch_fault_line c.args.log.now (Unopened w)))
+    c.tell_of_log-in-Busy.new.faults.failures
+    (text ++ watch_fault_line c.args.log.now (Unopened w)))
     (sym c.in-Busy.is) (c.tell_of_log-in-Busy.ensures old text told)
 
 pub returns-in-Memory : goal.returns-in-Memory

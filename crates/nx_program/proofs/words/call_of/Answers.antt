@@ -1,13 +1,13 @@
 use Rattle.std.proofs.lemmas.Slice.Eq.{bytes_eq-Decides}
-use Rattle.nx_program.proofs.CallArguments.{differ}
+use Rattle.nx_program.proofs.lemmas.words.CallArguments.{differ}
 use Rattle.std.proofs.Common.{◌≡◌, ◌∙◌, List, Some, codes, map, ap, sym, subst, Bor, Option, option_map}
 use Rattle.std.proofs.lemmas.Result.{err_from_is_err_and}
 use Rattle.clap.specs.Words.{App, HasKind, Row, Text, fault_of, found_of, is_simple}
 use Rattle.clap.specs.Words.{is_simple_and_free, rows_of, subcommand_of}
 use Rattle.clap.specs.declared.parser.matches.ArgMatches.{ArgMatches}
-use Rattle.nx_program.proofs.WordsLemmas.{navtex-is_simple, navtex-is_simple_and_free, entered_pair}
-use Rattle.nx_program.proofs.WordsLemmas.{explained, options-named, options-refused}
-use Rattle.nx_program.proofs.WordsLemmas.{outcome-named, outcome-refused}
+use Rattle.nx_program.proofs.lemmas.words.Words.{navtex-is_simple, navtex-is_simple_and_free, entered_pair}
+use Rattle.nx_program.proofs.lemmas.words.Words.{explained, options-named, options-refused}
+use Rattle.nx_program.proofs.lemmas.words.Words.{outcome-named, outcome-refused}
 use Rattle.nx_program.proofs.words.call_of.Goals as goal
 
 pub returns-in_err-matches-clause-refused : goal.returns-in_err-matches-clause-refused

@@ -1,7 +1,7 @@
 use Rattle.std.proofs.Common.{◌≡◌, ◌∙◌, Option, Some, None, Bor, ap, sym, rules, option_map, codes}
 use Rattle.clap.specs.Words.{Text, found_of}
 use Rattle.clap.proofs.WalkLemmas.{first_value-rows}
-use Rattle.nx_program.proofs.ArgumentsRead.{if_none, text-absent}
+use Rattle.nx_program.proofs.lemmas.words.ArgumentsRead.{if_none, text-absent}
 use Rattle.nx_program.proofs.words.file_in.Goals as goal
 
 abbrev itself : Text → Text
@@ -19,5 +19,6 @@ pub returns-clause-some : goal.returns-clause-some
 returns-clause-some c =
     let text : c.get_str.result ≡ Some c.in_ok-name.name = search rules in
     rw c.new.ensures (sym (first_value-rows (found_of c.args.arguments.now) (codes "FILE"))
-    ∙ (sym c.get_str.ensures ∙ ap (λ (o : Option (Bor Text)). option_map (λ (s : Bor Text). s.now) o)
+    ∙ (sym c.get_str.ensures
+    ∙ ap (λ (o : Option (Bor Text)). option_map (λ (s : Bor Text). s.now) o)
     text))

@@ -1,7 +1,7 @@
 use Rattle.std.proofs.Common.{◌≡◌, ◌∙◌, Option, Some, None, Bor, ap, sym, rules, option_map, codes}
 use Rattle.clap.specs.Words.{Text, found_of}
 use Rattle.nx_program.specs.Words.{kind_name}
-use Rattle.nx_program.proofs.ArgumentsRead.{if_none, text-absent, text-none, text-some}
+use Rattle.nx_program.proofs.lemmas.words.ArgumentsRead.{if_none, text-absent, text-none, text-some}
 use Rattle.nx_program.proofs.words.kind_in.Goals as goal
 
 pub returns-in_err-get_str-clause-none : goal.returns-in_err-get_str-clause-none

@@ -1,7 +1,7 @@
 use Rattle.std.proofs.Common.{refl}
 use Rattle.std.specs.Str.Parse.{ExplainsUnsignedError, HasUnsignedDigitsIfOk, ParsesUnsigned}
 use Rattle.clap.specs.Words.{found_of, one_text}
-use Rattle.nx_program.proofs.ArgumentsRead.{number-none, number-some}
+use Rattle.nx_program.proofs.lemmas.words.ArgumentsRead.{number-none, number-some}
 use Rattle.nx_program.proofs.words.number_in.Goals as goal
 
 pub returns : goal.returns

@@ -1,4 +1,4 @@
-use Rattle.nx_program.proofs.ArgumentsRead.{if_none}
+use Rattle.nx_program.proofs.lemmas.words.ArgumentsRead.{if_none}
 use Rattle.nx_program.proofs.words.range_in.Goals as goal
 
 pub returns-in_err-number_in-clause-none : goal.returns-in_err-number_in-clause-none

@@ -2,7 +2,7 @@ use Rattle.std.proofs.Common.{◌≡◌, ◌∙◌, [], ◌∷◌, Option, Some,
 use Rattle.std.proofs.Common.{option_map, codes}
 use Rattle.clap.specs.Words.{Text, found_of}
 use Rattle.nx_envelope.specs.declared.letter.Letter.{Letter}
-use Rattle.nx_program.proofs.ArgumentsRead.{if_none, text-absent, text-none, text-some}
+use Rattle.nx_program.proofs.lemmas.words.ArgumentsRead.{if_none, text-absent, text-none, text-some}
 use Rattle.nx_program.proofs.words.station_in.Goals as goal
 
 abbrev alone : Letter → Text

@@ -1,7 +1,7 @@
 use Rattle.std.proofs.Common.{◌≡◌, ◌∙◌, ◌∷◌, ◌++◌, ◌+◌, ◌<◌, [], arith, codes, length, refl}
 use Rattle.std.proofs.lemmas.List.{length-append}
 use Rattle.std.specs.Fmt.InlineText.{inline_text}
-use Rattle.nx_program.proofs.ReportLemmas.{cut_to-fits}
+use Rattle.nx_program.proofs.lemmas.outcomes.Report.{cut_to-fits}
 use Rattle.nx_program.proofs.fault.CallFault.line.Goals as goal
 
 pub returns : goal.returns

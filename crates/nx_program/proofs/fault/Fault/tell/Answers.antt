@@ -3,7 +3,7 @@ use Rattle.nx_program.specs.Report.{IsFaultText, WritesOne}
 use Rattle.nx_program.specs.Watching.{watch_fault_line}
 use Rattle.nx_program.specs.declared.fault.Fault.{Fault}
 use Rattle.nx_program.specs.declared.fault.Fault.TheVariants as fault
-use Rattle.nx_program.proofs.WatchLines.{told-one, untold}
+use Rattle.nx_program.proofs.lemmas.outcomes.WatchLines.{told-one, untold}
 use Rattle.nx_program.proofs.fault.Fault.tell.Goals as goal
 
 pub returns-in-Watch : goal.returns-in-Watch

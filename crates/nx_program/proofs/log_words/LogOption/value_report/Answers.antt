@@ -1,7 +1,8 @@
 use Rattle.std.proofs.Common.{◌≡◌, ◌++◌, ◌∷◌, ℕ, List, [], append_assoc, codes}
 use Rattle.nx_program.proofs.log_words.LogOption.value_report.Goals as goal
 
--- a text that is put together of seven, of which two are known by another name and the last is three
+-- a text that is put together of seven, of which two are known by another name and the last is
+-- three
 joined_parts : (o p q r s t u v a b d e f g h i j x y : List ℕ) → o ≡ [] → p ≡ o ++ a → q ≡ p ++ b
     → r ≡ q ++ d → s ≡ r ++ e → t ≡ s ++ f → u ≡ t ++ g → v ≡ u ++ (h ++ i ++ j) → e ≡ x → g ≡ y
     → v ≡ a ++ b ++ d ++ x ++ f ++ y ++ h ++ i ++ j

@@ -12,10 +12,10 @@ use Rattle.clap.specs.Walk.{with_values}
 use Rattle.clap.specs.Faults.{check_fault, level_fault, use_fault}
 use Rattle.clap.specs.declared.builder.value_parser.Reading.{Reading}
 use Rattle.clap.specs.declared.parser.matches.ValueSource.{ValueSource}
-use Rattle.nx_program.proofs.EachFound.{Each}
-use Rattle.nx_program.proofs.NumbersGiven.{built_number, built_text, no_defaults}
-use Rattle.nx_program.proofs.RowsKept.{UsesWell, good-at_row, good-settled_end, good-without}
-use Rattle.nx_program.proofs.RowsKept.{level-check}
+use Rattle.nx_program.proofs.lemmas.EachFound.{Each}
+use Rattle.nx_program.proofs.lemmas.words.NumbersGiven.{built_number, built_text, no_defaults}
+use Rattle.nx_program.proofs.lemmas.words.RowsKept.{UsesWell, good-at_row, good-settled_end, good-without}
+use Rattle.nx_program.proofs.lemmas.words.RowsKept.{level-check}
 
 -- there is a first one of these texts
 abbrev pub AreSome : List Text → Type 0

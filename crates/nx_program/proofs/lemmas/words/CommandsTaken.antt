@@ -9,13 +9,13 @@ use Rattle.clap.specs.Simple.{argument_words, built_leaf, entered, filled_from, 
 use Rattle.clap.specs.Simple.{names_of, rows_at}
 use Rattle.clap.specs.Walk.{answers_to, nothing_held, rows_after, walk}
 use Rattle.clap.specs.Faults.{check_fault, entered_fault, level_fault}
-use Rattle.nx_program.proofs.CommandTable.{IsSound, Makes, entries-sound}
-use Rattle.nx_program.proofs.EachFound.{Each, each-map, found_is}
-use Rattle.nx_program.proofs.NumbersGiven.{GivesNumber, IsNumeric, gets, uses-other, uses-text}
-use Rattle.nx_program.proofs.NumbersGiven.{uses-wanted}
-use Rattle.nx_program.proofs.RowsKept.{UsesWell, or-first, or-second}
-use Rattle.nx_program.proofs.TextsGiven.{GivesText, IsTexted, gets-text, uses-other_number}
-use Rattle.nx_program.proofs.TextsGiven.{uses-wanted_text}
+use Rattle.nx_program.proofs.lemmas.words.CommandTable.{IsSound, Makes, entries-sound}
+use Rattle.nx_program.proofs.lemmas.EachFound.{Each, each-map, found_is}
+use Rattle.nx_program.proofs.lemmas.words.NumbersGiven.{GivesNumber, IsNumeric, gets, uses-other, uses-text}
+use Rattle.nx_program.proofs.lemmas.words.NumbersGiven.{uses-wanted}
+use Rattle.nx_program.proofs.lemmas.words.RowsKept.{UsesWell, or-first, or-second}
+use Rattle.nx_program.proofs.lemmas.words.TextsGiven.{GivesText, IsTexted, gets-text, uses-other_number}
+use Rattle.nx_program.proofs.lemmas.words.TextsGiven.{uses-wanted_text}
 use Rattle.nx_program.specs.Words.{Entry, Maker, entries, navtex, number_rule, on_file, options}
 use Rattle.nx_program.specs.Words.{plain, range, slot, text_rule, tree_of}
 
@@ -129,7 +129,11 @@ leaf e = built_leaf (tree_of e.0 e.1).top
 
 leaf-is : (name : Text) (maker : Maker) → Makes name maker → IsCommandOf (leaf (name, maker))
 leaf-is name (plain call) makes words e = record { maker = plain call; makes = makes; gives = tt }
-leaf-is name (options make) makes words e = record { maker = options make; makes = makes; gives = tt }
+leaf-is name (options make) makes words e = record {
+  maker = options make;
+  makes = makes;
+  gives = tt;
+}
 leaf-is name (slot make) makes words e = record {
   maker = slot make;
   makes = makes;

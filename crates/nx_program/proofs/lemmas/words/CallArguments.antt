@@ -13,7 +13,7 @@ use Rattle.clap.specs.declared.builder.value_parser.ValueParser.{ValueParser}
 use Rattle.clap.specs.declared.builder.value_parser.ValueParser.TheVariants as parser
 use Rattle.clap.proofs.ValueTestLemmas.{Accepts-accepts, accepts-Accepts}
 use Rattle.nx_envelope.specs.declared.letter.Letter.{Letter}
-use Rattle.nx_envelope.proofs.LettersAndDigits.{same_letter}
+use Rattle.nx_envelope.proofs.lemmas.headers.LettersAndDigits.{same_letter}
 use Rattle.nx_program.specs.declared.words.Call.{Call}
 use Rattle.nx_station.specs.declared.damaging.DamageKind.{DamageKind}
 use Rattle.nx_station.specs.declared.damaging.DamageKind.TheVariants.{Dx, Rx, All}

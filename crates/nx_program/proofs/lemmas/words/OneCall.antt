@@ -10,14 +10,14 @@ use Rattle.nx_program.specs.declared.words.Call.{Call}
 use Rattle.nx_program.specs.declared.words.Call.TheVariants.{Log}
 use Rattle.nx_program.specs.Words.{Entry, HasArguments, IsKind, IsStation, Maker, command_name}
 use Rattle.nx_program.specs.Words.{entries, on_file, options, plain, range, slot}
-use Rattle.nx_program.proofs.CallArguments.{file_call-is, range_call-is, range_call-kind, slot_call-is}
-use Rattle.nx_program.proofs.CallArguments.{slot_call-station}
-use Rattle.nx_log.specs.declared.query.Query.{Query}
+use Rattle.nx_program.proofs.lemmas.words.CallArguments.{file_call-is, range_call-is, range_call-kind, slot_call-is}
+use Rattle.nx_program.proofs.lemmas.words.CallArguments.{slot_call-station}
+use Rattle.nx_log.specs.declared.queries.query.Query.{Query}
 use Rattle.nx_program.specs.LogWords.{IsQuery}
-use Rattle.nx_program.proofs.QueryAsked.{query_call-is, query_call-query}
-use Rattle.nx_program.proofs.CommandTable.{HasCall, IsSlotWord, IsSound, Makes, call_in}
-use Rattle.nx_program.proofs.CommandTable.{call_in-only, entries-sound, made}
-use Rattle.nx_program.proofs.EachFound.{Each}
+use Rattle.nx_program.proofs.lemmas.queries.QueryAsked.{query_call-is, query_call-query}
+use Rattle.nx_program.proofs.lemmas.words.CommandTable.{HasCall, IsSlotWord, IsSound, Makes, call_in}
+use Rattle.nx_program.proofs.lemmas.words.CommandTable.{call_in-only, entries-sound, made}
+use Rattle.nx_program.proofs.lemmas.EachFound.{Each}
 
 made-is : (name : Text) (maker : Maker) → Makes name maker → (rows : List Row)
     → IfSome (made maker rows) (HasCall name rows)

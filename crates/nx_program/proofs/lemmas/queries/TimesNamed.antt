@@ -9,12 +9,12 @@ use Rattle.jiff_core.proofs.SignedLemmas.{signed_arith}
 use Rattle.jiff_core.specs.Calendar.{IsCivilDate, IsYear, days_from_civil, days_in_month}
 use Rattle.nx_envelope.specs.Identity.{two_digits}
 use Rattle.nx_envelope.specs.Moment.{IsShownAs, last_moment}
-use Rattle.nx_log.proofs.Moments.{months_small, same_time, year_small}
-use Rattle.nx_log.proofs.TimeTexts.{digits_show_none, digits_write_no_second, second-long}
-use Rattle.nx_log.proofs.TimeTexts.{joined-back, joined-length, shown-length}
+use Rattle.nx_log.proofs.lemmas.texts.Moments.{months_small, same_time, year_small}
+use Rattle.nx_log.proofs.lemmas.texts.TimeTexts.{digits_show_none, digits_write_no_second, second-long}
+use Rattle.nx_log.proofs.lemmas.texts.TimeTexts.{joined-back, joined-length, shown-length}
 use Rattle.nx_log.specs.Times.{NamesMoment, WritesMoment, WritesSecond, joined}
-use Rattle.nx_program.proofs.Known.{IsKnown, UpTo, at_most, both, either, same_integer, same_text}
-use Rattle.nx_program.proofs.Known.{up_to}
+use Rattle.nx_program.proofs.lemmas.Known.{IsKnown, UpTo, at_most, both, either, same_integer, same_text}
+use Rattle.nx_program.proofs.lemmas.Known.{up_to}
 
 -- digits
 digits_known : (text : List ℕ) → IsKnown (AllDigits 10 text)

@@ -5,18 +5,18 @@ use Rattle.std.proofs.Common.{refl, rules}
 use Rattle.std.specs.Str.{bytes_eq}
 use Rattle.clap.specs.Words.{Row, Text}
 use Rattle.nx_envelope.specs.declared.letter.Letter.{Letter}
-use Rattle.nx_log.specs.declared.form.Form.{Form}
-use Rattle.nx_log.specs.declared.query.Query.{Query}
+use Rattle.nx_log.specs.declared.writing.form.Form.{Form}
+use Rattle.nx_log.specs.declared.queries.query.Query.{Query}
 use Rattle.nx_program.specs.LogWords.{IsForm, IsQuery}
 use Rattle.nx_station.specs.declared.damaging.DamageKind.{DamageKind}
 use Rattle.nx_program.specs.declared.words.Call.{Call}
 use Rattle.nx_program.specs.declared.words.Call.TheVariants.{Damage, Log, Send, Slots, Watch}
 use Rattle.nx_program.specs.Words.{Entry, HasArguments, IsFile, IsKind, IsNumber, IsStation, Maker}
 use Rattle.nx_program.specs.Words.{command_name, entries, on_file, options, plain, range, slot}
-use Rattle.nx_program.proofs.CallArguments.{file_call, file_call-only, range_call, range_call-only}
-use Rattle.nx_program.proofs.CallArguments.{slot_call, slot_call-only}
-use Rattle.nx_program.proofs.QueryAsked.{query_call, query_call-only}
-use Rattle.nx_program.proofs.EachFound.{Each}
+use Rattle.nx_program.proofs.lemmas.words.CallArguments.{file_call, file_call-only, range_call, range_call-only}
+use Rattle.nx_program.proofs.lemmas.words.CallArguments.{slot_call, slot_call-only}
+use Rattle.nx_program.proofs.lemmas.queries.QueryAsked.{query_call, query_call-only}
+use Rattle.nx_program.proofs.lemmas.EachFound.{Each}
 
 -- the call that an entry makes of the arguments, and the one that the entry under this name makes
 abbrev pub made : Maker → List Row → Option Call

@@ -8,11 +8,11 @@ use Rattle.nx_program.specs.declared.fault.Fault.{Fault}
 use Rattle.nx_program.specs.declared.fault.Fault.TheVariants as fault
 use Rattle.nx_log.specs.declared.log_fault.LogFault.{LogFault}
 use Rattle.nx_log.specs.declared.log_fault.LogFault.TheVariants as log
-use Rattle.nx_receiver.specs.declared.listen_fault.ListenFault.{ListenFault}
-use Rattle.nx_receiver.specs.declared.listen_fault.ListenFault.TheVariants as listen
-use Rattle.nx_receiver.specs.declared.resume_fault.ResumeFault.{ResumeFault}
-use Rattle.nx_receiver.specs.declared.resume_fault.ResumeFault.TheVariants as resume
-use Rattle.nx_receiver.specs.declared.state_fault.StateFault.TheVariants as state
+use Rattle.nx_receiver.specs.declared.air_file_runs.listen_fault.ListenFault.{ListenFault}
+use Rattle.nx_receiver.specs.declared.air_file_runs.listen_fault.ListenFault.TheVariants as listen
+use Rattle.nx_receiver.specs.declared.air_file_runs.resume_fault.ResumeFault.{ResumeFault}
+use Rattle.nx_receiver.specs.declared.air_file_runs.resume_fault.ResumeFault.TheVariants as resume
+use Rattle.nx_receiver.specs.declared.air_file_runs.state_fault.StateFault.TheVariants as state
 use Rattle.nx_station.specs.declared.fault.CheckFault.{CheckFault}
 use Rattle.nx_station.specs.declared.fault.CheckFault.TheVariants as check
 use Rattle.nx_station.specs.declared.fault.DamageFault.{DamageFault}
@@ -41,8 +41,8 @@ use Rattle.nx_program.specs.Status.{fault_status, listen_status, log_status, res
 use Rattle.nx_program.specs.Status.{run_status, send_status, status_of, watch_failure_status}
 use Rattle.nx_fec.specs.Transfers.{Devices, devices, CountedDevice}
 use Rattle.nx_program.specs.Words.{IsRefused, Names}
-use Rattle.nx_program.proofs.WordsLemmas.{help_not_refused, named_not_help, named_not_refused}
-use Rattle.nx_program.proofs.WordsLemmas.{named_not_version, named_once, version_not_refused}
+use Rattle.nx_program.proofs.lemmas.words.Words.{help_not_refused, named_not_help, named_not_refused}
+use Rattle.nx_program.proofs.lemmas.words.Words.{named_not_version, named_once, version_not_refused}
 
 -- what was wrapped, with no failed call
 fresh-is : {T : Type 0} (c : CountedDevice T) (device : T) → c.inner ≡ device → c.failures ≡ 0

@@ -1,5 +1,5 @@
--- What holds or not can be known of equalities, orders and texts, of what is joined of these, and of
--- a number up to a most.
+-- What holds or not can be known of equalities, orders and texts, of what is joined of these, and
+-- of a number up to a most.
 use Rattle.std.proofs.Common.{◌≡◌, ◌⊎◌, ◌≤◌, ℕ, zero, suc, ℤ, Bool, true, false, Decides, List}
 use Rattle.std.proofs.Common.{[], ◌∷◌, arith, inl, inr, int_eq, nat_le, refl, subst}
 use Rattle.std.specs.Str.{bytes_eq}

@@ -30,21 +30,21 @@ use Rattle.nx_program.specs.Words.{IsRefusal, IsRefused, IsStation, LacksKind, L
 use Rattle.nx_program.specs.Words.{Maker, Names, command_name, entries, navtex, on_file, options}
 use Rattle.nx_program.specs.Words.{plain, range, slot}
 use Rattle.nx_program.specs.LogWords.{IsQuery, value_report}
-use Rattle.nx_program.proofs.QueryAsked.{query_not_unfit, query_or_unfit}
+use Rattle.nx_program.proofs.lemmas.queries.QueryAsked.{query_not_unfit, query_or_unfit}
 use Rattle.nx_program.specs.private.LogReading.{ExplainsOptions}
 use Rattle.nx_program.specs.private.Reading.{ExplainsWords, IsSortedAs}
-use Rattle.nx_program.proofs.EachFound.{Each, each-map, found_is}
-use Rattle.nx_program.proofs.CallArguments.{differ, number_once}
-use Rattle.nx_program.proofs.CommandTable.{HasCall, IsSlotWord, IsSound, Makes, entries-sound}
-use Rattle.nx_program.proofs.CommandsTaken.{Gives, leaf, taken-command}
-use Rattle.nx_program.proofs.NumbersGiven.{number-given}
-use Rattle.nx_program.proofs.OneCall.{IsNotCalled, call_or_none, has-kind, has-query, has-station}
-use Rattle.nx_program.proofs.OneCall.{same_call}
+use Rattle.nx_program.proofs.lemmas.EachFound.{Each, each-map, found_is}
+use Rattle.nx_program.proofs.lemmas.words.CallArguments.{differ, number_once}
+use Rattle.nx_program.proofs.lemmas.words.CommandTable.{HasCall, IsSlotWord, IsSound, Makes, entries-sound}
+use Rattle.nx_program.proofs.lemmas.words.CommandsTaken.{Gives, leaf, taken-command}
+use Rattle.nx_program.proofs.lemmas.words.NumbersGiven.{number-given}
+use Rattle.nx_program.proofs.lemmas.words.OneCall.{IsNotCalled, call_or_none, has-kind, has-query, has-station}
+use Rattle.nx_program.proofs.lemmas.words.OneCall.{same_call}
 use Rattle.nx_envelope.specs.declared.letter.Letter.{Letter}
 use Rattle.nx_program.specs.declared.words.Call.TheVariants.{Damage, Send, Slots, Watch}
-use Rattle.nx_program.proofs.FaultKinds.{HasNoHelp, IsUniform, help-alone, help-no_version}
-use Rattle.nx_program.proofs.FaultKinds.{kinds_cases, level-nil, refusal_is, u-level, u-none}
-use Rattle.nx_program.proofs.FaultKinds.{u-option, version-alone}
+use Rattle.nx_program.proofs.lemmas.words.FaultKinds.{HasNoHelp, IsUniform, help-alone, help-no_version}
+use Rattle.nx_program.proofs.lemmas.words.FaultKinds.{kinds_cases, level-nil, refusal_is, u-level, u-none}
+use Rattle.nx_program.proofs.lemmas.words.FaultKinds.{u-option, version-alone}
 
 pub navtex-is_simple : is_simple navtex ≡ true
 unfolding clap_on_literals
@@ -227,8 +227,8 @@ named_not_refused words call named (inr (inr (inl lacks))) =
 named_not_refused words call named (inr (inr (inr lacks))) =
     named-lacks_value words call lacks.0 named lacks.1
 
--- what words with no call lack, which clap takes: a station, a kind of damage, or a value that names
--- something
+-- what words with no call lack, which clap takes: a station, a kind of damage, or a value that
+-- names something
 pub data Lacks (words : List Text) (name : Text) (arguments : List Row) : Type 0 where
   a_station : IsSlotWord name → LacksStation words → Lacks words name arguments
   a_kind : name ≡ codes "damage" → LacksKind words → Lacks words name arguments
@@ -486,7 +486,8 @@ pub outcome-refused : (words : List Text) (name : Text) (arguments : List Row) (
     → HasArguments call arguments → ⊥)
     → (name ≡ codes "damage" → unfit ≡ Kind) → (name ≢ codes "damage" → unfit ≡ Station)
     → outcome ≡ ok_or found unfit → IfErr outcome (ExplainsWords words)
-outcome-refused words name arguments (Some call) unfit outcome taken entered other none kind station is =
+outcome-refused words name arguments (Some call) unfit outcome taken entered other none kind station
+    is =
     rw is tt
 outcome-refused words name arguments None unfit outcome taken entered other none kind station is =
     go (lacks_argument words name arguments taken entered (λ call. none call other))

@@ -22,7 +22,7 @@ use Rattle.clap.specs.Faults.{flags_fault, level_fault, long_fault, option_fault
 use Rattle.clap.specs.Faults.{positional_fault, react_fault, settle_fault, short_fault, step_fault}
 use Rattle.clap.specs.Faults.{stray_fault, turn_fault, use_fault, walk_fault, word_fault}
 use Rattle.clap.specs.declared.error.kind.ErrorKind.TheVariants as kind
-use Rattle.nx_program.proofs.EachFound.{Each, found_is}
+use Rattle.nx_program.proofs.lemmas.EachFound.{Each, found_is}
 
 pub or-first : (a b : Kinds) → or_else a b ≡ [] → a ≡ []
 or-first [] b e = refl

@@ -31,7 +31,7 @@ use Rattle.clap.specs.declared.builder.action.ArgAction.TheVariants.{HelpLong, V
 use Rattle.clap.specs.declared.builder.value_parser.ValueParser.{ValueParser}
 use Rattle.clap.specs.declared.error.kind.ErrorKind.{ErrorKind}
 use Rattle.clap.specs.declared.error.kind.ErrorKind.TheVariants as kind
-use Rattle.nx_program.proofs.RowsKept.{or-second}
+use Rattle.nx_program.proofs.lemmas.words.RowsKept.{or-second}
 use Rattle.nx_program.specs.Words.{IsRefusal}
 
 -- what an answer of clap is to the program

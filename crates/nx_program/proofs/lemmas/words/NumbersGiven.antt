@@ -21,9 +21,9 @@ use Rattle.clap.specs.declared.parser.matches.ValueSource.{ValueSource}
 use Rattle.clap.specs.declared.builder.action.ArgAction.TheVariants.{Set}
 use Rattle.std.specs.Str.Parse.{digits_value, without_leading_plus}
 use Rattle.clap.proofs.ValueTestLemmas.{accepts-Accepts}
-use Rattle.nx_program.proofs.EachFound.{Each}
-use Rattle.nx_program.proofs.RowsKept.{UsesWell, good-at_row, good-settled_end, good-without}
-use Rattle.nx_program.proofs.RowsKept.{level-check, or-first, or-second}
+use Rattle.nx_program.proofs.lemmas.EachFound.{Each}
+use Rattle.nx_program.proofs.lemmas.words.RowsKept.{UsesWell, good-at_row, good-settled_end, good-without}
+use Rattle.nx_program.proofs.lemmas.words.RowsKept.{level-check, or-first, or-second}
 use Rattle.nx_program.specs.Words.{IsNumber, number_rule, text_rule}
 
 -- numbers from 0 to the most

@@ -26,7 +26,7 @@ use Rattle.nx_program.specs.Watching.{Beside, IsUnused, WatchesLog, watch_fault_
 use Rattle.nx_program.specs.Watching.{with_faults}
 use Rattle.nx_program.specs.Words.{Names}
 use Rattle.nx_program.specs.declared.words.Call.{Call}
-use Rattle.nx_program.proofs.ProgramLemmas.{fault-status, success-exits, success-named}
+use Rattle.nx_program.proofs.lemmas.outcomes.Program.{fault-status, success-exits, success-named}
 
 -- a text that has room is not cut
 pub cut_to-fits : (room : ℕ) (text : List ℕ) → length text ≤ room → cut_to room text ≡ text
@@ -93,16 +93,20 @@ watch-line : (name : Text) (why : WatchFailure) → IsFaultLine (watch_fault_lin
 watch-line name (Unopened file.Open) = log-line name _ (line-of (codes " can't be opened"))
 watch-line name (Unopened file.Busy) =
     navtex-line (codes "another watch has the log " ++ (name ++ codes "\n"))
-    (ends-behind (codes "another watch has the log ") (name ++ codes "\n") (ends-behind name (codes "\n") (line-of [])))
-watch-line name (Unopened file.Memory) = navtex-line (codes "out of memory\n") (line-of (codes "out of memory"))
+    (ends-behind (codes "another watch has the log ") (name ++ codes "\n")
+    (ends-behind name (codes "\n") (line-of [])))
+watch-line name (Unopened file.Memory) =
+    navtex-line (codes "out of memory\n") (line-of (codes "out of memory"))
 watch-line name (Ended watch.Open) = log-line name _ (line-of (codes " can't be opened"))
 watch-line name (Ended (watch.Damaged line)) =
     log-line name (codes " is damaged at line " ++ (decimal line ++ codes "\n"))
     (ends-behind (codes " is damaged at line ") (decimal line ++ codes "\n")
     (ends-behind (decimal line) (codes "\n") (line-of [])))
 watch-line name (Ended watch.Disk) = log-line name _ (line-of (codes " can't be written"))
-watch-line name (Ended watch.Memory) = navtex-line (codes "out of memory\n") (line-of (codes "out of memory"))
-watch-line name (Ended watch.Read) = navtex-line (codes "read failed\n") (line-of (codes "read failed"))
+watch-line name (Ended watch.Memory) =
+    navtex-line (codes "out of memory\n") (line-of (codes "out of memory"))
+watch-line name (Ended watch.Read) =
+    navtex-line (codes "read failed\n") (line-of (codes "read failed"))
 watch-line name (Ended (watch.Back line last given)) =
     let end : List ℕ = decimal last ++ codes "\n" in
     let third : List ℕ = codes " is before " ++ end in
@@ -110,7 +114,8 @@ watch-line name (Ended (watch.Back line last given)) =
     navtex-line (codes "line " ++ (decimal line ++ second))
     (ends-behind (codes "line ") (decimal line ++ second) (ends-behind (decimal line) second
     (ends-behind (codes ": moment ") (decimal given ++ third) (ends-behind (decimal given) third
-    (ends-behind (codes " is before ") end (ends-behind (decimal last) (codes "\n") (line-of [])))))))
+    (ends-behind (codes " is before ") end
+    (ends-behind (decimal last) (codes "\n") (line-of [])))))))
 
 -- each fault but one of the words is reported by a line
 text-line : (why : Fault) (text : List ℕ) → fault_status why ≢ 64 → IsFaultText why text

@@ -1,5 +1,5 @@
--- What the options of `log` ask for: at most one query, and an option that names nothing where there
--- is none.
+-- What the options of `log` ask for: at most one query, and an option that names nothing where
+-- there is none.
 use Rattle.std.proofs.Common.{◌≡◌, ◌≢◌, ◌∙◌, ◌⊎◌, ◌+◌, ℕ, Bool, List, [], ◌∷◌, Option, Some, None}
 use Rattle.std.proofs.Common.{IfSome, ap, codes, inl, inr, length, refl, sym}
 use Rattle.std.specs.FinSet as set
@@ -8,22 +8,22 @@ use Rattle.std.specs.Ordering.{nat_cmp}
 use Rattle.std.specs.Prelude.{◌==◌, ◌||◌}
 use Rattle.clap.specs.Words.{Row, Text}
 use Rattle.nx_code.specs.Reading.{IsCapital}
-use Rattle.nx_fec.specs.Channels.{channel_number}
-use Rattle.nx_fec.specs.declared.channel.Channel.{Channel}
-use Rattle.nx_fec.specs.declared.channel.Channel.TheVariants.{One, Two, Zero}
+use Rattle.nx_fec.specs.air_files.Channels.{channel_number}
+use Rattle.nx_fec.specs.declared.air_files.channel.Channel.{Channel}
+use Rattle.nx_fec.specs.declared.air_files.channel.Channel.TheVariants.{One, Two, Zero}
 use Rattle.nx_log.specs.Query.{IsSetOf}
 use Rattle.nx_log.specs.Times.{IsSince, IsUntil}
-use Rattle.nx_log.specs.declared.form.Form.{Form}
-use Rattle.nx_log.specs.declared.query.Query.{Query}
-use Rattle.nx_memory.proofs.Letters.{contains-insert, contains-none}
+use Rattle.nx_log.specs.declared.writing.form.Form.{Form}
+use Rattle.nx_log.specs.declared.queries.query.Query.{Query}
+use Rattle.nx_memory.proofs.lemmas.Letters.{contains-insert, contains-none}
 use Rattle.nx_program.specs.declared.log_words.LogOption.{LogOption}
 use Rattle.nx_program.specs.declared.log_words.LogOption.TheVariants as option
 use Rattle.nx_program.specs.LogWords.{Asks, IsForm, IsQuery, IsUnfit, NamesChannel}
 use Rattle.nx_program.specs.LogWords.{NamesLetters, form_of, given_to, has_flag}
 use Rattle.nx_program.specs.declared.words.Call.{Call}
-use Rattle.nx_program.proofs.CallArguments.{IsDecided, differ}
-use Rattle.nx_program.proofs.Known.{at_most, both, each, same_text}
-use Rattle.nx_program.proofs.TimesNamed.{time_known, time_once}
+use Rattle.nx_program.proofs.lemmas.words.CallArguments.{IsDecided, differ}
+use Rattle.nx_program.proofs.lemmas.Known.{at_most, both, each, same_text}
+use Rattle.nx_program.proofs.lemmas.queries.TimesNamed.{time_known, time_once}
 
 -- letters
 abbrev set_of : Text → set.FinSet nat_cmp
@@ -67,7 +67,8 @@ channel_known text = elim (same_text text (codes "0")) [
   ]
 ]
 
-same_channels : (a b : Channel) → (48 + channel_number a) ∷ [] ≡ (48 + channel_number b) ∷ [] → a ≡ b
+same_channels : (a b : Channel) → (48 + channel_number a) ∷ [] ≡ (48 + channel_number b) ∷ []
+    → a ≡ b
 same_channels Zero Zero e = refl
 same_channels Zero One e = absurd (differ _ _ refl e)
 same_channels Zero Two e = absurd (differ _ _ refl e)
@@ -116,7 +117,8 @@ module _ {T : Type 0} (Means : Text → T → Type 0) where
       nothing.2 value (rw (← is) asks)
 
 -- the query
-abbrev make_query : Option (set.FinSet nat_cmp) → Option (set.FinSet nat_cmp) → Option Channel → Option ℕ
+abbrev make_query : Option (set.FinSet nat_cmp) → Option (set.FinSet nat_cmp) → Option Channel
+    → Option ℕ
     → Option ℕ → Bool → Query
 make_query stations subjects channel since until good = record {
   stations = stations;
@@ -155,23 +157,26 @@ query_or_unfit rows = elim (asked NamesLetters letters_known (given_to option.St
     | inr n ↦ inr (option.Subject, n.0, record { given = n.1; nothing = n.2 })
     | inl subjects ↦ elim (asked NamesChannel channel_known (given_to option.Channel rows)) [
       | inr n ↦ inr (option.Channel, n.0, record { given = n.1; nothing = n.2 })
-      | inl channel ↦ elim (asked IsSince (time_known (codes " 00:00:00")) (given_to option.Since rows)) [
-        | inr n ↦ inr (option.Since, n.0, record { given = n.1; nothing = n.2 })
-        | inl since ↦ elim (asked IsUntil (time_known (codes " 23:59:59")) (given_to option.Until rows)) [
-          | inr n ↦ inr (option.Until, n.0, record { given = n.1; nothing = n.2 })
-          | inl until ↦ inl (
-            make_query stations.0 subjects.0 channel.0 since.0 until.0 (has_flag (codes "good") rows),
-            record {
-              stations = stations.1;
-              subjects = subjects.1;
-              channel = channel.1;
-              since = since.1;
-              until = until.1;
-              good = refl;
-            },
-          )
-        ]
-      ]
+      | inl channel ↦ elim
+          (asked IsSince (time_known (codes " 00:00:00")) (given_to option.Since rows)) [
+            | inr n ↦ inr (option.Since, n.0, record { given = n.1; nothing = n.2 })
+            | inl since ↦ elim
+                (asked IsUntil (time_known (codes " 23:59:59")) (given_to option.Until rows)) [
+                  | inr n ↦ inr (option.Until, n.0, record { given = n.1; nothing = n.2 })
+                  | inl until ↦ inl (
+                    make_query stations.0 subjects.0 channel.0 since.0 until.0
+                        (has_flag (codes "good") rows),
+                    record {
+                      stations = stations.1;
+                      subjects = subjects.1;
+                      channel = channel.1;
+                      since = since.1;
+                      until = until.1;
+                      good = refl;
+                    },
+                  )
+                ]
+          ]
     ]
   ]
 ]
@@ -213,7 +218,8 @@ pub query_call-is : (make : Query → Form → Call) (rows : List Row) (P : Call
     → IfSome (query_call make rows) P
 query_call-is make rows P has = go (query_or_unfit rows)
   where
-    go : (d : ((query : Query) × IsQuery rows query) ⊎ IsAnyUnfit rows) → IfSome (made_of make rows d) P
+    go : (d : ((query : Query) × IsQuery rows query) ⊎ IsAnyUnfit rows)
+        → IfSome (made_of make rows d) P
     go (inl found) = has found.0 (form_of (has_flag (codes "json") rows)) found.1 refl
     go (inr unfit) = tt
 

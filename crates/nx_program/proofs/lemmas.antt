@@ -1,0 +1,6 @@
+-- Lemmas that several proofs cite.
+pub mod EachFound
+pub mod Known
+pub mod outcomes
+pub mod queries
+pub mod words

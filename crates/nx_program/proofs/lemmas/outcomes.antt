@@ -1,0 +1,4 @@
+-- What a run leaves on its devices.
+pub mod Program
+pub mod Report
+pub mod WatchLines
