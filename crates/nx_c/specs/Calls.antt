@@ -1,5 +1,5 @@
--- What each call over slices answers, by the run below it: a reader over a slice gave all its bytes,
--- and what was written begins empty (this profile).
+-- What each call over slices answers, by the run below it: a reader over a slice gave all its
+-- bytes, and what was written begins empty (this profile).
 use Rattle.std.specs.Prelude.{ℕ, ◌≡◌, ◌≢◌, ◌==◌, nat_lt, if◌then◌else◌, List, [], length, Some}
 use Rattle.std.specs.Prelude.{Result, Ok, Err, IfErr}
 use Rattle.std.specs.declared.alloc.AllocError.{AllocError}
@@ -9,16 +9,16 @@ use Rattle.nx_fec.specs.Runs.{AnswersEncoding, AnswersWordRun, IsDecoded, file_l
 use Rattle.nx_fec.specs.declared.fault.RunFault.{RunFault}
 use Rattle.nx_fec.specs.declared.fault.RunFault.TheVariants as run
 use Rattle.nx_memory.specs.Saved.{AreSavedStates, SavedStates}
-use Rattle.nx_receiver.specs.Chain.{HasGoneOn}
-use Rattle.nx_receiver.specs.Listen.{AnswersListening}
-use Rattle.nx_receiver.specs.ListenOnce.{HasPrintedOnce}
+use Rattle.nx_receiver.specs.air_file_runs.Chain.{HasGoneOn}
+use Rattle.nx_receiver.specs.air_file_runs.Listen.{AnswersListening}
+use Rattle.nx_receiver.specs.laws.ListenOnce.{HasPrintedOnce}
 use Rattle.nx_receiver.specs.Shares.{Starts, all_at_zero, starts_from}
-use Rattle.nx_receiver.specs.State.{BeginsWith, ExplainsState, state_bytes}
-use Rattle.nx_receiver.specs.declared.listen_fault.ListenFault.{ListenFault}
-use Rattle.nx_receiver.specs.declared.listen_fault.ListenFault.TheVariants.{Memory}
-use Rattle.nx_receiver.specs.declared.listening.Report.{Report}
-use Rattle.nx_receiver.specs.declared.resume_fault.ResumeFault.{ResumeFault}
-use Rattle.nx_receiver.specs.declared.resume_fault.ResumeFault.TheVariants.{State, Listen, Write}
+use Rattle.nx_receiver.specs.air_file_runs.State.{BeginsWith, ExplainsState, state_bytes}
+use Rattle.nx_receiver.specs.declared.air_file_runs.listen_fault.ListenFault.{ListenFault}
+use Rattle.nx_receiver.specs.declared.air_file_runs.listen_fault.ListenFault.TheVariants.{Memory}
+use Rattle.nx_receiver.specs.declared.air_file_runs.listening.Report.{Report}
+use Rattle.nx_receiver.specs.declared.air_file_runs.resume_fault.ResumeFault.{ResumeFault}
+use Rattle.nx_receiver.specs.declared.air_file_runs.resume_fault.ResumeFault.TheVariants.{State, Listen, Write}
 use Rattle.nx_station.specs.Checking.{AnswersChecking}
 use Rattle.nx_station.specs.FileSending.{AnswersSending}
 use Rattle.nx_station.specs.declared.fault.CheckFault.{CheckFault}
@@ -91,7 +91,8 @@ pub record TellsResuming (state air : List ℕ) (log new_state : Room) (a : Answ
 
 -- ---- runs that write at their end
 
--- a run that decodes these bytes writes this text, and none before a fault that isn't one of writing
+-- a run that decodes these bytes writes this text, and none before a fault that isn't one of
+-- writing
 pub record DecodesTo (air text : List ℕ) (outcome : Result ℕ RunFault) : Type 0 where
   pub answers : AnswersWordRun
       (λ text count. IsDecoded file_limit air text × (count ≡ length text))
@@ -106,7 +107,8 @@ pub record EncodesTo (text air : List ℕ) (outcome : Result ℕ RunFault) : Typ
 -- a run that sends this message file of a station, from a moment on, writes these bytes, or none
 pub record SendsTo (station moment : ℕ) (file air : List ℕ) (outcome : Result Sent SendRunFault)
     : Type 0 where
-  pub answers : AnswersSending (Unit {0}) file_limit station moment file (Some []) (Some air) outcome
+  pub answers : AnswersSending (Unit {0}) file_limit station moment file (Some [])
+      (Some air) outcome
   pub unwritten : IfErr outcome (λ why. ((written : ℕ) → why ≢ sending.Write written) → air ≡ [])
 
 -- a run that checks these bytes writes this text, or none

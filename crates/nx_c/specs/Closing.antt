@@ -1,7 +1,7 @@
 -- What closing a receiver answers, and abandoning it (this profile).
 use Rattle.std.specs.Prelude.{◌≡◌, ◌≢◌, ℕ, ◌≤◌, nat_lt, if◌then◌else◌, List, [], ◌∷◌, length, Option}
 use Rattle.std.specs.Prelude.{Some, None, MatchOption}
-use Rattle.nx_fec.specs.declared.channel.Channel.{Channel}
+use Rattle.nx_fec.specs.declared.air_files.channel.Channel.{Channel}
 use Rattle.nx_receiver.specs.FoundCopies.{copy_of}
 use Rattle.nx_receiver.specs.declared.entry.Entry.{Entry}
 use Rattle.nx_receiver.specs.Log.{IsEntry}
@@ -9,8 +9,8 @@ use Rattle.nx_receiver.specs.Shares.{MarkedCopy, marked}
 use Rattle.nx_c.specs.Life.{EndsWith, ending, ending_at}
 use Rattle.nx_c.specs.Status.{number_of}
 use Rattle.nx_c.specs.Told.{IsPut, Room}
-use Rattle.nx_c.specs.declared.kept.Kept.{Kept}
-use Rattle.nx_c.specs.declared.kept.Stage.{Stage}
+use Rattle.nx_c.specs.declared.receiver.kept.Kept.{Kept}
+use Rattle.nx_c.specs.declared.receiver.kept.Stage.{Stage}
 use Rattle.nx_c.specs.declared.told.Status.{Status}
 use Rattle.nx_c.specs.declared.told.Status.TheVariants as status
 
@@ -41,8 +41,8 @@ pub record Closes (old new : Option Kept) (text : List ℕ) : Type 0 where
   pub ends : EndsWith kept.stage left
   pub hands_out : HandsOut left new text
 
--- Closing: the status has its cause; where all is done, one entry is put into the room, which has room
--- for it, or the receiver is closed; else it stays as it was, and nothing is put.
+-- Closing: the status has its cause. Where all is done, one entry is put into the room, which has
+-- room for it, or the receiver is closed. Else it stays as it was, and nothing is put.
 pub record AnswersClosing (old new : Option Kept) (log : Room) (answer : ℕ) : Type 0 where
   pub cause : answer ≡ number_of (closing_status old (length log.old))
   pub text : List ℕ

@@ -2,8 +2,8 @@
 use Rattle.std.specs.Prelude.{◌≡◌, ◌≢◌, ℕ, ◌<◌, ◌≤◌, ◌==◌, nat_lt, Bool, not, if◌then◌else◌, List, []}
 use Rattle.std.specs.Prelude.{◌++◌, length, map, take, Option, Some, None}
 use Rattle.std.specs.List.{list_all}
-use Rattle.nx_fec.specs.Channels.{channel_number}
-use Rattle.nx_fec.specs.declared.channel.Channel.{Channel}
+use Rattle.nx_fec.specs.air_files.Channels.{channel_number}
+use Rattle.nx_fec.specs.declared.air_files.channel.Channel.{Channel}
 use Rattle.nx_receiver.specs.FoundCopies.{TaggedCopy}
 use Rattle.nx_receiver.specs.InTurn.{PrintsInTurn}
 use Rattle.nx_receiver.specs.Listener.{HearsGiven, Listening, then_elements}
@@ -12,7 +12,7 @@ use Rattle.nx_receiver.specs.Shares.{Given, MarkedCopy, Starts, marked}
 use Rattle.nx_c.specs.Life.{hearing}
 use Rattle.nx_c.specs.Status.{number_of}
 use Rattle.nx_c.specs.Told.{IsPut, Room}
-use Rattle.nx_c.specs.declared.kept.Kept.{Kept}
+use Rattle.nx_c.specs.declared.receiver.kept.Kept.{Kept}
 use Rattle.nx_c.specs.declared.told.Status.{Status}
 use Rattle.nx_c.specs.declared.told.Status.TheVariants as status
 
@@ -58,8 +58,8 @@ pub record HearsElements (channel : Channel) (old new : Listening) (bits : List 
       → (k : ℕ) → k < length bits
       → PrintsInTurn starts (then_elements given channel (part ++ take k bits)) copies
 
--- So many of the elements of these bytes are heard on the channel of this number; all, where nothing
--- is printed.
+-- So many of the elements of these bytes are heard on the channel of this number; all, where
+-- nothing is printed.
 pub record Hears (channel : ℕ) (old new : Option Kept) (bytes : List ℕ) (heard : ℕ)
     (text : List ℕ)
     : Type 0 where
@@ -73,9 +73,9 @@ pub record Hears (channel : ℕ) (old new : Option Kept) (bytes : List ℕ) (hea
   pub hears : HearsElements on listener after (elements_of (take heard bytes)) text
   pub all : text ≡ [] → heard ≡ length bytes
 
--- Hearing elements: the status has its cause; where all is done, they are heard, and the bytes of the
--- entry are put into the room, which has room for them; else nothing is heard, the receiver stays as
--- it was, and nothing is put.
+-- Hearing elements: the status has its cause. Where all is done, they are heard, and the bytes of
+-- the entry are put into the room, which has room for them. Else nothing is heard, the receiver
+-- stays as it was, and nothing is put.
 pub record AnswersHearing (channel : ℕ) (bytes : List ℕ) (old new : Option Kept) (heard : ℕ)
     (log : Room) (answer : ℕ)
     : Type 0 where

@@ -4,9 +4,9 @@ use Rattle.std.specs.Prelude.{◌≡◌, List, ◌++◌, Option, Some, None}
 use Rattle.nx_receiver.specs.InTurn.{PrintAllToEnd}
 use Rattle.nx_receiver.specs.Listener.{HearsGiven, Listening, last_copies}
 use Rattle.nx_receiver.specs.Shares.{Given, MarkedCopy, Starts}
-use Rattle.nx_c.specs.declared.kept.Kept.{Kept}
-use Rattle.nx_c.specs.declared.kept.Stage.{Stage}
-use Rattle.nx_c.specs.declared.kept.Stage.TheVariants.{Hearing, Ending}
+use Rattle.nx_c.specs.declared.receiver.kept.Kept.{Kept}
+use Rattle.nx_c.specs.declared.receiver.kept.Stage.{Stage}
+use Rattle.nx_c.specs.declared.receiver.kept.Stage.TheVariants.{Hearing, Ending}
 
 -- the three receivers that hear, where the receiver is open and its end has not begun
 abbrev pub hearing_at : Stage → Option Listening

@@ -2,10 +2,10 @@
 use Rattle.std.specs.Prelude.{◌≡◌, ◌≢◌, ◌⊎◌, ℕ, List, [], ◌++◌, length}
 use Rattle.nx_envelope.specs.declared.found.How.{How}
 use Rattle.nx_envelope.specs.declared.found.How.TheVariants.{Full, Cut, Long}
-use Rattle.nx_fec.specs.Channels.{channel_number}
+use Rattle.nx_fec.specs.air_files.Channels.{channel_number}
 use Rattle.nx_log.specs.Logged.{IsLoggedAs}
 use Rattle.nx_log.specs.View.{IsViewOf}
-use Rattle.nx_log.specs.declared.entry.EntryView.{EntryView}
+use Rattle.nx_log.specs.declared.entries.entry.EntryView.{EntryView}
 use Rattle.nx_receiver.specs.Shares.{MarkedCopy}
 use Rattle.nx_c.specs.Status.{number_of}
 use Rattle.nx_c.specs.Told.{IsPut, Room, after_putting}
@@ -45,7 +45,8 @@ BeginsWithNone bytes =
 
 -- Reading an entry: it is told, its text is put into the room, and the status says whether the room
 -- held it; or there is none, what was told before stays, and nothing is put.
-pub record AnswersEntry (bytes : List ℕ) (old new : LogEntry) (room : Room) (answer : ℕ) : Type 0 where
+pub record AnswersEntry (bytes : List ℕ) (old new : LogEntry) (room : Room) (answer : ℕ)
+    : Type 0 where
   pub text : List ℕ
   pub put : IsPut text room
   pub reads : (ReadsEntry bytes new text

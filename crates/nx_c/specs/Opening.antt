@@ -7,7 +7,7 @@ use Rattle.nx_receiver.specs.declared.fault.MomentFault.{MomentFault}
 use Rattle.nx_receiver.specs.declared.fault.MomentFault.TheVariants as moment
 use Rattle.nx_c.specs.Life.{HasHeard}
 use Rattle.nx_c.specs.Status.{number_of}
-use Rattle.nx_c.specs.declared.kept.Kept.{Kept}
+use Rattle.nx_c.specs.declared.receiver.kept.Kept.{Kept}
 use Rattle.nx_c.specs.declared.told.Status.{Status}
 use Rattle.nx_c.specs.declared.told.Status.TheVariants as status
 
@@ -16,8 +16,8 @@ abbrev pub opening_status : Option Kept → ℕ → Status
 opening_status (Some kept) moment = status.AlreadyOpen
 opening_status None moment = if nat_lt last_moment moment then status.MomentRange else status.Done
 
--- Opening a receiver at a moment: it has heard nothing but the moment, and starts with nothing. Where
--- it isn't done, the receiver stays as it was; a closed one also where there is no memory.
+-- Opening a receiver at a moment: it has heard nothing but the moment, and starts with nothing.
+-- Where it isn't done, the receiver stays as it was; a closed one also where there is no memory.
 pub record AnswersOpening (moment : ℕ) (old new : Option Kept) (answer : ℕ) : Type 0 where
   pub cause : (answer ≡ number_of (opening_status old moment))
       ⊎ ((answer ≡ number_of status.Memory) × (old ≡ None))
@@ -36,7 +36,7 @@ moment_status last moment =
     else if nat_lt moment last then status.MomentBack
     else status.Done
 
--- Setting the moment of a receiver that hears and stands after what it was given: it then stands
+-- Setting the moment of a receiver that hears and stands after what it was given. It then stands
 -- after the moment too, which belongs to all channels; or the moment is refused, and it stays as it
 -- was.
 pub record SetsMoment (moment : ℕ) (listener : Listening) (old new : Option Kept) (answer : ℕ)
@@ -46,7 +46,8 @@ pub record SetsMoment (moment : ℕ) (listener : Listening) (old new : Option Ke
   pub done : answer ≡ 0 → HasHeard starts new (then_moment given moment) copies
   pub refused : answer ≢ 0 → new ≡ old
 
--- Setting the moment: of a receiver that hears, so; another is told to be closed, and stays as it was.
+-- Setting the moment: of a receiver that hears, so; another is told to be closed, and stays as it
+-- was.
 abbrev pub AnswersMoment : ℕ → Option Kept → Option Kept → ℕ → Option Listening → Type 0
 AnswersMoment moment old new answer None =
     (answer ≡ number_of status.Closed) × (new ≡ old)

@@ -1,17 +1,17 @@
 -- What saving a receiver answers, and opening one from what is saved (this profile).
 use Rattle.std.specs.Prelude.{◌≡◌, ◌⊎◌, ℕ, List, [], length, Option, Some, None, Result, Ok, Err, Box}
-use Rattle.nx_fec.specs.declared.channel.Channel.{Channel}
+use Rattle.nx_fec.specs.declared.air_files.channel.Channel.{Channel}
 use Rattle.nx_memory.specs.Saved.{AreSavedStates, SavedStates}
-use Rattle.nx_receiver.specs.Chain.{Leaves}
+use Rattle.nx_receiver.specs.air_file_runs.Chain.{Leaves}
 use Rattle.nx_receiver.specs.Listener.{HearsGiven, Listening}
 use Rattle.nx_receiver.specs.Shares.{Given, MarkedCopy, Starts, saved_of, share, start_on, starts_from}
-use Rattle.nx_receiver.specs.State.{BeginsWith, ExplainsState, state_bytes}
-use Rattle.nx_receiver.specs.declared.state_fault.StateFault.{StateFault}
+use Rattle.nx_receiver.specs.air_file_runs.State.{BeginsWith, ExplainsState, state_bytes}
+use Rattle.nx_receiver.specs.declared.air_file_runs.state_fault.StateFault.{StateFault}
 use Rattle.nx_c.specs.Faults.{state_told}
 use Rattle.nx_c.specs.Life.{HasHeard, hearing}
 use Rattle.nx_c.specs.Status.{number_of}
 use Rattle.nx_c.specs.Told.{IsPut, Room, after_putting}
-use Rattle.nx_c.specs.declared.kept.Kept.{Kept}
+use Rattle.nx_c.specs.declared.receiver.kept.Kept.{Kept}
 use Rattle.nx_c.specs.declared.told.Status.{Status}
 use Rattle.nx_c.specs.declared.told.Status.TheVariants as status
 use Rattle.std.specs.Global.{Global}
@@ -25,8 +25,8 @@ pub record Saves (listener : Listening) (text : List ℕ) : Type 0 where
       → Leaves (start_on starts channel) (share channel given) (saved_of left channel)
   pub spelled : text ≡ state_bytes left
 
--- Saving: of a receiver that hears, the text is that of what it leaves, and the status says whether
--- the room held it, or there was no memory for it; another is told to be closed.
+-- Saving. The text is that of what the receiver leaves that hears; the status says whether the room
+-- held it, or there was no memory for it. Another receiver is told to be closed.
 abbrev pub SavesBy : Option Listening → List ℕ → ℕ → ℕ → Type 0
 SavesBy None text capacity answer = (answer ≡ number_of status.Closed) × (text ≡ [])
 SavesBy (Some listener) text capacity answer =
@@ -49,8 +49,8 @@ Restores bytes (Err why) =
     ⊎ ((fault : StateFault) × ExplainsState (Unit {0}) (λ more. Unit {0}) bytes fault
     × (why ≡ (state_told fault).status))
 
--- These bytes begin with a state, and a receiver is opened that starts with it and has heard nothing;
--- or there is no memory for it; or the bytes begin with no state, and the status says why.
+-- These bytes begin with a state, and a receiver is opened that starts with it and has heard
+-- nothing; or there is no memory for it. Or the bytes begin with no state, and the status says why.
 abbrev pub OpensFrom : List ℕ → Option Kept → ℕ → Type 0
 OpensFrom bytes new answer =
     BeginsWith bytes (λ states more. ((answer ≡ 0) × HasHeard (starts_from states) new [] [])

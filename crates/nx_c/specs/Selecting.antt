@@ -1,20 +1,21 @@
 -- What the calls answer that select what a receiver prints (this profile).
 use Rattle.std.specs.Prelude.{◌≡◌, ◌≢◌, ℕ, nat_lt, nat_le, ◌&&◌, Bool, not, if◌then◌else◌, List, Option, Some, None}
-use Rattle.nx_fec.specs.Channels.{channel_number}
-use Rattle.nx_fec.specs.declared.channel.Channel.{Channel}
+use Rattle.nx_code.specs.Reading.{capital_a, capital_z}
+use Rattle.nx_fec.specs.air_files.Channels.{channel_number}
+use Rattle.nx_fec.specs.declared.air_files.channel.Channel.{Channel}
 use Rattle.nx_memory.specs.Selection.{is_vital}
 use Rattle.nx_receiver.specs.Events.{Command}
 use Rattle.nx_receiver.specs.Listener.{HearsGiven, Listening, then_command}
 use Rattle.nx_receiver.specs.Shares.{Given, MarkedCopy, Starts}
 use Rattle.nx_c.specs.Life.{hearing}
 use Rattle.nx_c.specs.Status.{number_of}
-use Rattle.nx_c.specs.declared.kept.Kept.{Kept}
+use Rattle.nx_c.specs.declared.receiver.kept.Kept.{Kept}
 use Rattle.nx_c.specs.declared.told.Status.{Status}
 use Rattle.nx_c.specs.declared.told.Status.TheVariants as status
 
 -- a letter, A to Z
 abbrev pub is_letter : ℕ → Bool
-is_letter byte = nat_le 65 byte && nat_le byte 90
+is_letter byte = nat_le capital_a byte && nat_le byte capital_z
 
 -- the status of a command for a channel and a letter, and for a subject that is refused: `none` is
 -- that of a byte which is no letter
@@ -50,7 +51,8 @@ pub record TakesCommand (command : Command) (channel : ℕ) (old new : Option Ke
 
 -- Selecting: the status has its cause; where all is done, the command is given to the channel; else
 -- the receiver stays as it was.
-pub record AnswersSelecting (asked : Status) (command : Command) (channel : ℕ) (old new : Option Kept)
+pub record AnswersSelecting (asked : Status) (command : Command) (channel : ℕ)
+    (old new : Option Kept)
     (answer : ℕ)
     : Type 0 where
   pub cause : answer ≡ number_of (selecting_status asked (hearing old))

@@ -18,7 +18,7 @@ abbrev pub room : List ℕ → List ℕ → ℕ → Room
 room old new written = record { old = old; new = new; written = written }
 
 -- The text was put into the room, as much of it as there is room for, and what stood behind it in
--- the room stayed; its bytes are counted, those too for which there was no room.
+-- the room stayed. Its bytes are counted, those too for which there was no room.
 pub record IsPut (text : List ℕ) (r : Room) : Type 0 where
   pub put : r.new
       ≡ take (min (length text) (length r.old)) text

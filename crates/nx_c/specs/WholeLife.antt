@@ -5,7 +5,7 @@ use Rattle.nx_receiver.specs.Log.{IsLog}
 use Rattle.nx_receiver.specs.Shares.{Given, MarkedCopy, Starts}
 use Rattle.nx_c.specs.Closing.{Closes}
 use Rattle.nx_c.specs.Life.{HasHeard}
-use Rattle.nx_c.specs.declared.kept.Kept.{Kept}
+use Rattle.nx_c.specs.declared.receiver.kept.Kept.{Kept}
 
 -- The receiver hears, and stands after this was given to it; these bytes are the log of what it
 -- printed.
@@ -23,8 +23,8 @@ pub record Step : Type 0 where
 abbrev pub step : Given → List ℕ → Step
 step given text = record { given = given; text = text }
 
--- A call is this step: whatever the receiver was given before, it then stands after this too, and the
--- bytes follow in its log.
+-- A call is this step: whatever the receiver was given before, it then stands after this too, and
+-- the bytes follow in its log.
 abbrev pub IsStep : Option Kept → Step → Option Kept → Type 0
 IsStep old one new =
     (starts : Starts) (given : List Given) (log : List ℕ) → HasLogged starts old given log

@@ -4,13 +4,13 @@
 ghost use Rattle.std.specs.Prelude.{◌≡◌, ℕ, List, [], ◌∷◌, ◌++◌, Option, None, map, take};
 ghost use Rattle.std.specs.List.{concat};
 ghost use Rattle.nx_envelope.specs.Message.{MessageView};
-ghost use Rattle.nx_fec.specs.Channels.{channel_number};
-ghost use Rattle.nx_fec.specs.declared.channel.Channel.{Channel};
+ghost use Rattle.nx_fec.specs.air_files.Channels.{channel_number};
+ghost use Rattle.nx_fec.specs.declared.air_files.channel.Channel.{Channel};
 ghost use Rattle.nx_receiver.specs.Events as events;
 ghost use Rattle.nx_receiver.specs.Events.{Command, command};
 ghost use Rattle.nx_receiver.specs.InTurn.{PrintAllToEnd};
 ghost use Rattle.nx_receiver.specs.Log.{IsLog};
-ghost use Rattle.nx_receiver.specs.Once.{IsHeardInTime, IsPrintedOnce};
+ghost use Rattle.nx_receiver.specs.laws.Once.{IsHeardInTime, IsPrintedOnce};
 ghost use Rattle.nx_receiver.specs.Shares.{Given, MarkedCopy, Starts, all_at_zero, copies_on, share, start_on, to_all, to_one};
 ghost use Rattle.nx_station.specs.Sendings.{Part};
 ghost use Rattle.nx_c.specs.Hearing.{AnswersHearing, elements_of};
@@ -19,7 +19,7 @@ ghost use Rattle.nx_c.specs.Opening.{AnswersMoment, AnswersOpening};
 ghost use Rattle.nx_c.specs.Selecting.{AnswersSelecting};
 ghost use Rattle.nx_c.specs.Told.{Room};
 ghost use Rattle.nx_c.specs.WholeLife.{AreCloses, AreSteps, HasLogged, IsStep, Step, given_in, step, texts_of};
-ghost use Rattle.nx_c.specs.declared.kept.Kept.{Kept};
+ghost use Rattle.nx_c.specs.declared.receiver.kept.Kept.{Kept};
 ghost use Rattle.nx_c.specs.declared.told.Status.{Status};
 
 /// Each call that is done is a step in the life of a receiver: what it gives, and the bytes that it

@@ -4,8 +4,8 @@ ghost use Rattle.std.specs.Prelude.{◌≡◌};
 ghost use Rattle.nx_c.specs.LogEntry.{AnswersEntry, entry_seen, how_number};
 ghost use Rattle.nx_c.specs.Told.{room as the_room};
 
+use crate::caller_room::{put, put_whole};
 use crate::log_entry::LogEntry;
-use crate::put::{put, put_whole};
 use crate::told::Status;
 use nx_envelope::How;
 use nx_log::{EntryView, entry_at};

@@ -5,13 +5,13 @@ ghost use Rattle.nx_c.specs.Calls.{GoesOnTo, HasResumed, ListensTo, ResumesTo, T
 ghost use Rattle.nx_c.specs.Faults.{listen_told, resume_told};
 ghost use Rattle.nx_c.specs.Told.{IsPut, Tells, answer, room};
 ghost use Rattle.nx_memory.specs.Saved.{AreSavedStates};
-ghost use Rattle.nx_receiver.specs.Listen.{IsLogOf};
-ghost use Rattle.nx_receiver.specs.ListenOnce.{HasPrintedOnce};
+ghost use Rattle.nx_receiver.specs.air_file_runs.Listen.{IsLogOf};
+ghost use Rattle.nx_receiver.specs.laws.ListenOnce.{HasPrintedOnce};
 ghost use Rattle.nx_receiver.specs.Shares.{all_at_zero};
-ghost use Rattle.nx_receiver.specs.State.{BeginsWith, state_bytes};
+ghost use Rattle.nx_receiver.specs.air_file_runs.State.{BeginsWith, state_bytes};
 
+use crate::caller_room::{put, tell};
 use crate::faults::{listen_told, resume_told, told};
-use crate::put::{put, tell};
 use crate::told::{Place, Status};
 use nx_fec::{Counting, WriteFault};
 use nx_memory::SavedSet;

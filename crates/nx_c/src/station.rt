@@ -8,8 +8,8 @@ ghost use Rattle.nx_c.specs.declared.told.Status.TheVariants.{NoStation};
 ghost use Rattle.nx_code.specs.Reading.{IsCapital};
 ghost use Rattle.nx_station.specs.Slots.{HasNoSlot, IsNextSlot};
 
+use crate::caller_room::tell;
 use crate::faults::{check_told, sending_told, told};
-use crate::put::tell;
 use crate::told::{Place, Status, Told};
 use nx_envelope::Letter;
 use nx_fec::Counting;

@@ -1,6 +1,6 @@
 use Rattle.std.proofs.Common.{rules}
 use Rattle.std.proofs.Common.{◌<◌, subst}
-use Rattle.nx_c.proofs.SignalLemmas.{number-lt}
+use Rattle.nx_c.proofs.lemmas.Signal.{number-lt}
 use Rattle.nx_c.proofs.codes.nx_signal_of.Goals as goal
 
 pub returns-in_default-clause-signal : goal.returns-in_default-clause-signal

@@ -7,7 +7,12 @@ returns c =
       text = view.text.now;
       put = c.put_whole.ensures.put;
       reads = inl (
-        record { view = view; is = c.in-Some.ensures.found; said = c.told_of.ensures; text_is = refl },
+        record {
+          view = view;
+          is = c.in-Some.ensures.found;
+          said = c.told_of.ensures;
+          text_is = refl;
+        },
         c.put_whole.ensures.status,
       );
     }

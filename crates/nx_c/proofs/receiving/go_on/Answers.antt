@@ -1,11 +1,11 @@
 use Rattle.std.proofs.Common.{rules}
 use Rattle.std.proofs.Common.{Ok, ap, sym, ◌∙◌}
-use Rattle.nx_receiver.proofs.once.Listen.{printed-once}
-use Rattle.nx_receiver.specs.Chain.{HasGoneOn}
-use Rattle.nx_receiver.specs.Listen.{AnswersListening}
-use Rattle.nx_receiver.specs.ListenOnce.{HasPrintedOnce}
+use Rattle.nx_receiver.proofs.lemmas.once.Listen.{printed-once}
+use Rattle.nx_receiver.specs.air_file_runs.Chain.{HasGoneOn}
+use Rattle.nx_receiver.specs.air_file_runs.Listen.{AnswersListening}
+use Rattle.nx_receiver.specs.laws.ListenOnce.{HasPrintedOnce}
 use Rattle.nx_receiver.specs.Shares.{starts_from}
-use Rattle.nx_c.proofs.StateLemmas.{leaves-whole, moved}
+use Rattle.nx_c.proofs.lemmas.State.{leaves-whole, moved}
 use Rattle.nx_c.proofs.receiving.go_on.Goals as goal
 
 pub returns-in-Ok-state_text : goal.returns-in-Ok-state_text

@@ -1,11 +1,11 @@
 use Rattle.std.proofs.Common.{arith}
 use Rattle.std.proofs.lemmas.Grind.{common_steps}
 use Rattle.std.proofs.Common.{Some, ap, sym, ◌∙◌, subst}
-use Rattle.nx_receiver.proofs.once.Listen.{printed-once}
-use Rattle.nx_receiver.specs.Listen.{AnswersListening}
-use Rattle.nx_receiver.specs.ListenOnce.{HasPrintedOnce}
+use Rattle.nx_receiver.proofs.lemmas.once.Listen.{printed-once}
+use Rattle.nx_receiver.specs.air_file_runs.Listen.{AnswersListening}
+use Rattle.nx_receiver.specs.laws.ListenOnce.{HasPrintedOnce}
 use Rattle.nx_receiver.specs.Shares.{all_at_zero}
-use Rattle.nx_c.proofs.StateLemmas.{moved}
+use Rattle.nx_c.proofs.lemmas.State.{moved}
 use Rattle.nx_c.proofs.receiving.nx_listen.Goals as goal
 use Rattle.nx_c.proofs.receiving.nx_listen.Goals.{in-Ok, in-Err}
 

@@ -1,7 +1,7 @@
 use Rattle.std.proofs.Common.{OnOk, subst, ap, sym, ◌∙◌}
-use Rattle.nx_receiver.specs.State.{BeginsWith}
+use Rattle.nx_receiver.specs.air_file_runs.State.{BeginsWith}
 use Rattle.nx_c.specs.Calls.{HasResumed}
-use Rattle.nx_c.proofs.StateLemmas.{in-rooms}
+use Rattle.nx_c.proofs.lemmas.State.{in-rooms}
 use Rattle.nx_c.proofs.receiving.nx_resume.Goals as goal
 use Rattle.nx_c.proofs.receiving.nx_resume.Goals.{in-Ok, in-Err}
 

@@ -1,6 +1,6 @@
 use Rattle.std.proofs.Common.{Ok, subst}
-use Rattle.nx_receiver.specs.State.{AnswersState}
-use Rattle.nx_c.proofs.StateLemmas.{resumed-to, resumes-to}
+use Rattle.nx_receiver.specs.air_file_runs.State.{AnswersState}
+use Rattle.nx_c.proofs.lemmas.State.{resumed-to, resumes-to}
 use Rattle.nx_c.proofs.receiving.resume_over.Goals as goal
 
 pub returns-in-Ok-clause-resumes : goal.returns-in-Ok-clause-resumes

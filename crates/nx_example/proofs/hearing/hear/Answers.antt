@@ -4,7 +4,7 @@ use Rattle.std.proofs.Common.{length-drop}
 use Rattle.std.proofs.lemmas.List.{map-append, take_rest}
 use Rattle.nx_receiver.specs.Events.{Event, element, elements}
 use Rattle.nx_receiver.specs.Receiver.{Stands, entry_list}
-use Rattle.nx_receiver.proofs.listens.Listener.{elements-next}
+use Rattle.nx_receiver.proofs.lemmas.listening.Listener.{elements-next}
 use Rattle.nx_example.proofs.hearing.hear.Goals as goal
 
 rest-length : (bits : List Bool) (at : ℕ)

@@ -1,0 +1,92 @@
+//! A receiver in the caller's memory, which is a pointer to what is kept of it.
+
+ghost use Rattle.std.specs.Prelude.{◌≡◌, None, Some, MatchOption, Option, is_some};
+ghost use Rattle.nx_c.specs.Handle.{handle_owns, kept_coded};
+ghost use Rattle.nx_c.specs.declared.receiver.kept.Kept.{Kept as WhatIsKept};
+
+use crate::receiver::kept::Kept;
+use crate::receiver::loose::Loose;
+use std::alloc::Global;
+use std::marker::Model;
+use std::mem::replace;
+use std::ptr::null_mut;
+
+/// A receiver in the caller's memory: one pointer, which is null where the receiver is closed.
+///
+/// It owns what is kept of the receiver. It is no `Drop`, so no function of this crate can lose one
+/// that is open.
+#[repr(C)]
+pub struct NxReceiver {
+    at: *mut (),
+    pub ghost value: { Option WhatIsKept } by { kept_coded },
+}
+
+impl Model for NxReceiver {
+    ghost also_owns = { λ receiver. handle_owns receiver.at receiver.value };
+}
+
+impl NxReceiver {
+    /// A receiver that is closed.
+    fn closed() -> NxReceiver
+        ensures { result.value ≡ None }
+    {
+        NxReceiver { at: null_mut() }
+    }
+
+    /// The receiver of which this is kept.
+    fn of_loose(loose: Loose<Kept, Global>) -> NxReceiver
+        ensures { result.value ≡ Some loose.value }
+    {
+        let Loose { at, alloc: _ } = loose;
+        NxReceiver { at: at as *mut () }
+    }
+
+    /// What is kept of the receiver; nothing where it is closed.
+    fn into_loose(self, alloc: Global) -> Option<Loose<Kept, Global>>
+        ensures { MatchOption result (self.value ≡ None) (λ loose. self.value ≡ Some loose.value) }
+    {
+        let NxReceiver { at } = self;
+        if at.is_null() {
+            return None;
+        }
+        Some(Loose {
+            at: at as *mut Kept,
+            alloc,
+        })
+    }
+
+    /// Takes what is kept of the receiver, which is closed then; nothing where it was closed.
+    pub(crate) fn take(&mut self, alloc: Global) -> Option<Box<Kept>>
+        ensures kept { MatchOption result (self.old.value ≡ None)
+            (λ kept. self.old.value ≡ Some kept.value) }
+        ensures closed { self.new.value ≡ None }
+    {
+        let loose = replace(self, NxReceiver::closed()).into_loose(alloc)?;
+        Some(loose.into_box())
+    }
+
+    /// Keeps this of the receiver from here on, and hands out what was kept of it before.
+    pub(crate) fn put(&mut self, kept: Box<Kept>, alloc: Global) -> Option<Box<Kept>>
+        ensures put { self.new.value ≡ Some kept.value }
+        ensures kept { MatchOption result (self.old.value ≡ None)
+            (λ kept. self.old.value ≡ Some kept.value) }
+    {
+        let receiver = NxReceiver::of_loose(Loose::of(kept));
+        let loose = replace(self, receiver).into_loose(alloc)?;
+        Some(loose.into_box())
+    }
+
+    /// Whether the receiver is open.
+    pub(crate) fn is_open(&mut self, alloc: Global) -> bool
+        ensures open { result ≡ is_some self.old.value }
+        ensures unchanged { self.new.value ≡ self.old.value }
+    {
+        match self.take(alloc) {
+            Some(kept) => {
+                let _none = self.put(kept, alloc);
+                true
+            }
+            None => false,
+        }
+    }
+}
