@@ -1,0 +1,6 @@
+//! Cases and worked examples, and each law called once.
+
+mod cases;
+mod cases_heard;
+mod examples;
+mod laws;
