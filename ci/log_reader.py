@@ -1,24 +1,27 @@
 #!/usr/bin/env python3
-"""A plain reader of a log and of a kept log, to compare the program with. It is written from what a log is, not from
-the program's code, and it holds all bytes at once.
+"""A plain reader of a log and of a kept log, to compare the program with. It is written from what a
+log is, not from the program's code, and it holds all bytes at once.
 
 usage: ci/log_reader.py [--kept] [--json] < FILE
 
-It prints the entries, as they stand in a log or as JSON. Where the bytes are damaged it says at which line, with status 2.
+It prints the entries, as they stand in a log or as JSON. Where the bytes are damaged it says at
+which line, with status 2.
 
-An entry is `[`, two letters, two digits, `/1` or `/2` on these channels, a space, the moment as `YYYY-MM-DD HH:MM:SS`,
-a space, `full`, `cut` or `long`, a space, the number of `*` of the text, `/`, the number of its bytes, `]`, a newline; the
-text; a newline if the text isn't empty and doesn't end with one; a newline.
+An entry is `[`, two letters, two digits, `/1` or `/2` on these channels, a space, the moment as
+`YYYY-MM-DD HH:MM:SS`, a space, `full`, `cut` or `long`, a space, the number of `*` of the text,
+`/`, the number of its bytes, `]`, a newline; the text; a newline if the text isn't empty and
+doesn't end with one; a newline.
 
-A log is entries in a row. Before each, and at the end, newlines and spaces are passed over, or one byte of any kind. At the
-end bytes are passed over behind the last space before them, where they are no whole entry: a put that was torn.
+A log is entries in a row. Before each, and at the end, newlines and spaces are passed over, or one
+byte of any kind. At the end bytes are passed over behind the last space before them, where they are
+no whole entry: a put that was torn.
 
-A kept log is a gate, an entry, a gate, an entry, and so on, a gate. A gate is one byte, closed where it is a space. It stands
-for the entries that have an open gate before them. Behind these there is nothing, or one byte, or a closed gate and a put
-that was torn.
+A kept log is a gate, an entry, a gate, an entry, and so on, a gate. A gate is one byte, closed
+where it is a space. It stands for the entries that have an open gate before them. Behind these
+there is nothing, or one byte, or a closed gate and a put that was torn.
 
-Damaged bytes are damaged at the line of the first byte with which no bytes to come make them good; where they end too
-early, at the line in which they end.
+Damaged bytes are damaged at the line of the first byte with which no bytes to come make them good;
+where they end too early, at the line in which they end.
 """
 
 import json
@@ -88,8 +91,9 @@ def is_good(entry):
 
 
 def entry_at(data, at):
-    """The entry that begins there, and the place behind it; or None, and the place of the byte with which it is none any
-    more. Of a head, which is one line, that is its first byte; where the bytes end too early it is their end."""
+    """The entry that begins there, and the place behind it; or None, and the place of the byte with
+    which it is none any more. Of a head, which is one line, that is its first byte; where the bytes
+    end too early it is their end."""
     head = HEAD.match(data, at)
     if not head:
         return None, at

@@ -1,9 +1,11 @@
-/* Stands before the calls of the C library by which a watch changes its log: `ci/power` builds it as a shared object, and
- * loads it before the program.
+/* Stands before the calls of the C library by which a watch changes its log: `ci/power` builds it
+ * as a shared object, and loads it before the program.
  *
- *   POWER_CALL   which of these calls meets the fault, from 1: writes at a place, cuts and syncs are counted together
- *   POWER_HOW    `fail`: it is answered by EIO; `before`, `half`, `after`: the process is killed before it, behind the first
- *                half of what it writes, or behind it; `short`: it writes the first half and answers so, which is no fault
+ *   POWER_CALL   which of these calls meets the fault, from 1: writes at a place, cuts and syncs
+ *                are counted together
+ *   POWER_HOW    `fail`: it is answered by EIO; `before`, `half`, `after`: the process is killed
+ *                before it, behind the first half of what it writes, or behind it; `short`: it
+ *                writes the first half and answers so, which is no fault
  *   POWER_MET    a file that is made where the fault is met */
 #define _GNU_SOURCE
 #include <dlfcn.h>

@@ -1,11 +1,11 @@
-/* Refuses memory to each call of the library for C, one growth at a time: `ci/fail-alloc` builds it over
- * crates/nx_c/out/libnx_c.a and runs it as
+/* Refuses memory to each call of the library for C, one growth at a time: `ci/fail-alloc` builds it
+ * over crates/nx_c/out/libnx_c.a and runs it as
  *
  *   refusals AIR MESSAGES      an air file of one emission, and a message file
  *
- * For each call it prints its growths and what came. The status is 0 where each refusal was answered by NX_MEMORY or
- * NX_WRITE, what was written then is the beginning of the right answer, each block was given back, and the call without
- * a refusal answers as at first. */
+ * For each call it prints its growths and what came. The status is 0 where each refusal was
+ * answered by NX_MEMORY or NX_WRITE, what was written then is the beginning of the right answer,
+ * each block was given back, and the call without a refusal answers as at first. */
 #include "navtex.h"
 #include <inttypes.h>
 #include <stdbool.h>
@@ -66,7 +66,8 @@ static uint32_t listen(uint8_t *room, size_t *written, struct nx_place *place) {
 static uint32_t resume(uint8_t *room, size_t *written, struct nx_place *place) {
     static uint8_t state[ROOM];
     size_t state_written;
-    return nx_resume(nothing, sizeof nothing - 1, air.at, air.length, room, ROOM, written, state, ROOM, &state_written, place);
+    return nx_resume(nothing, sizeof nothing - 1, air.at, air.length, room, ROOM, written, state, ROOM,
+                     &state_written, place);
 }
 
 static uint32_t send(uint8_t *room, size_t *written, struct nx_place *place) {
@@ -119,7 +120,8 @@ int main(int count, char **words) {
         for (refused = 1; refused <= all + 1; refused++) {
             growths = 0;
             status = calls[call].make(room, &written, &place);
-            bool is_told = refused > all ? status == NX_DONE && written == length : status == NX_MEMORY || status == NX_WRITE;
+            bool is_told = refused > all ? status == NX_DONE && written == length
+                                         : status == NX_MEMORY || status == NX_WRITE;
             if (!is_told || written > length || memcmp(room, right, written) != 0 || blocks != 0) {
                 printf("%s, growth %u: status %" PRIu32 ", %zu bytes, %d blocks kept\n", calls[call].name, refused, status, written, blocks);
                 wrong++;

@@ -1,9 +1,10 @@
-"""Reads the definitions of crates/*/specs and the items of crates/*/src, and what each of them names.
+"""Reads the definitions of crates/*/specs and the items of crates/*/src, and what each of them
+names.
 
-It reads the sources alone, without the toolchain, and relies on the form that `rt fmt` gives them: an item begins at
-its indent and ends there. Names are followed through `use` lines, with `as` and braces, through modules that are
-imported whole, `declared` types and what a lib.rt hands out; what a pattern, a parameter, a field or a λ binds is no
-name of anything else.
+It reads the sources alone, without the toolchain, and relies on the form that `rt fmt` gives them:
+an item begins at its indent and ends there. Names are followed through `use` lines, with `as` and
+braces, through modules that are imported whole, `declared` types and what a lib.rt hands out; what
+a pattern, a parameter, a field or a λ binds is no name of anything else.
 """
 
 import os
@@ -33,6 +34,15 @@ class Item:
     lines: int = 0
     comments: int = 0
     names: dict = field(default_factory=dict)
+    law: str = ""
+
+    def take_law(self, lines, start):
+        """Takes the name of the law that the comment directly before says to say what this is."""
+        first = start
+        while first > 0 and lines[first - 1].startswith("--"):
+            first -= 1
+        found = re.search(r"the law `(\w+)` says", " ".join(line.lstrip("- ") for line in lines[first:start]))
+        self.law = found[1] if found else self.law
 
     def count(self, lines, start, end):
         """Counts these lines, and the comment directly before them."""
@@ -203,6 +213,7 @@ class Sources:
                 goes_on = (path, name) in self.items
                 item = self.items.setdefault((path, name), Item(path, name, start + 1, end))
                 item.count(lines, start, end)
+                item.take_law(lines, start)
                 item.end = max(item.end, end)
                 head, *members = re.split(r"\n  (?:pub )?(?=[^\s-])", text)
                 names, bound = free_names("" if goes_on else head)
@@ -213,8 +224,24 @@ class Sources:
                 self.makers.update((here, maker) for maker in makers)
                 for one in (name, *makers):
                     scope[one], self.names[module][one] = (here, one), (path, name)
-                self.later.append((item, (lambda text=text: self.clause_keys(scope, text)) if goes_on else
+                said = lambda item=item, text=text: self.said_keys(scope, item, text)  # noqa: E731
+                self.later.append((item, said if goes_on else
                                    (lambda names=names: [self.key(scope, name) for name in names])))
+
+    def said_keys(self, scope, item, text):
+        """What one clause of a definition names.
+
+        Where it names a private definition, and the comment of its own says 'the law `NAME` says',
+        it is that law in their stead: what the private definition is, the law says.
+        """
+        keys = self.clause_keys(scope, text)
+        is_private = any(key and key[0] and "/specs/private/" in key[0] for key in keys)
+        if not item.law or not is_private or "/specs/private/" in item.path:
+            return keys
+        laws = (scope.home[0], "src", "laws")
+        if item.law not in self.names[laws]:
+            raise SystemExit(f"{item.path}: {item.name} names a law {item.law}, which isn't there")
+        return [self.names[laws][item.law]]
 
     def clause_keys(self, scope, text):
         """What one clause of a definition names: its patterns name constructors, and bind all else."""
@@ -237,9 +264,11 @@ class Sources:
                 scope.take(text)
             elif kind == "use":
                 self.take_use(module, text, module[2] == "lib" and (public or is_program))
-            elif kind == "mod" and public:
-                above = [it for it in module[2:] if it != "lib"]
-                self.handed_out[module[0]].append(((*module[:2], *above, name), None))
+            elif kind == "mod":
+                inner = (*module[:2], *(it for it in module[2:] if it != "lib"), name)
+                self.names.setdefault(inner, {})  # of a folder, whose file may have modules alone
+                if public:
+                    self.handed_out[module[0]].append((inner, None))
             elif kind not in ("impl", "mod"):
                 self.names[module][name] = (path, name)
                 self.read_item(kind, Item(path, name, start + 1, end, public), scope, lines, text)
