@@ -2,12 +2,12 @@
  *
  *   calls listen|check|decode|encode   writes what the call writes
  *   calls send E MOMENT                the same, of a station from a moment on
- *   calls resume STATE NEW             listens from the state in the file STATE, writes the log, and
- *                                      the new state to the file NEW, where there is one
+ *   calls resume STATE NEW             listens from the state in the file STATE, writes the log,
+ *                                      and the new state to the file NEW, where there is one
  *   calls slot E MOMENT                the moment of a station's next slot
  *   calls signals                      the signal of each word
- *   calls rooms                        what calls leave of a room that is too small, on the air file
- *                                      of the standard input
+ *   calls rooms                        what calls leave of a room that is too small, on the air
+ *                                      file of the standard input
  *
  * The status is 0, or 2 with a line `status N line N text line N at N` on standard error. */
 #include "navtex.h"

@@ -1,6 +1,6 @@
-/* Hears elements as they come: each 0 or 1 of the standard input is one, of channel 0, and other bytes
- * are passed over. Writes each entry as soon as its message is over. The moment is the clock's, or the
- * first word. */
+/* Hears elements as they come: each 0 or 1 of the standard input is one, of channel 0, and other
+ * bytes are passed over. Writes each entry as soon as its message is over. The moment is the
+ * clock's, or the first word. */
 #include "navtex.h"
 #include <stdio.h>
 #include <stdlib.h>

@@ -1,14 +1,19 @@
-/* The receiver that is kept between calls, on an air file on standard input, whose lines are given to it
- * one by one:
+/* The receiver that is kept between calls, on an air file on standard input, whose lines are given
+ * to it one by one:
  *
  *   stream hear PIECE                writes the log; elements are given in pieces of so many
- *   stream resume STATE NEW          the same in pieces of 7, from the state in the file STATE; the new one goes to the file NEW
- *   stream entries                   reads a log on standard input entry by entry, and writes each again by what it says
+ *   stream resume STATE NEW          the same in pieces of 7, from the state in the file STATE; the
+ *                                    new one goes to the file NEW
+ *   stream entries                   reads a log on standard input entry by entry, and writes each
+ *                                    again by what it says
  *   stream refusals                  what calls answer that are refused
- *   stream days N                    hears three channels for so many days without a block of memory; how many entries
- *   stream fail                      opens while each block of memory is refused in turn, hears without any, and saves and
- *                                    opens from the state while each is refused
- *   stream speed PIECE TIMES         hears all elements so often, and says how many nanoseconds of the processor one took
+ *   stream days N                    hears three channels for so many days without a block of
+ *                                    memory; how many entries
+ *   stream fail                      opens while each block of memory is refused in turn, hears
+ *                                    without any, and saves and opens from the state while each is
+ *                                    refused
+ *   stream speed PIECE TIMES         hears all elements so often, and says how many nanoseconds of
+ *                                    the processor one took
  *
  * The status is 0, or 2 with the status of a call on standard error. */
 #include "navtex.h"
@@ -30,7 +35,8 @@ static void done(const char *what, uint32_t status) {
         stop(what, status);
 }
 
-/* The channel of a line, from the byte behind its letters; moves it to what stands behind the space. */
+/* The channel of a line, from the byte behind its letters; moves it to what stands behind the
+ * space. */
 static uint8_t channel_of(const char **at) {
     uint8_t channel = **at == ' ' ? 0 : (uint8_t)(*(*at)++ - '0');
     ++*at;
@@ -38,7 +44,8 @@ static uint8_t channel_of(const char **at) {
 }
 
 /* Hears the digits of a line in pieces. */
-static void hear(struct nx_receiver *receiver, uint8_t channel, const char *digits, size_t count, size_t piece, int print) {
+static void hear(struct nx_receiver *receiver, uint8_t channel, const char *digits, size_t count, size_t piece,
+                 int print) {
     static uint8_t elements[1024];
     for (size_t at = 0; at < count; at++)
         elements[at] = (uint8_t)(digits[at] - '0');
@@ -250,7 +257,8 @@ void rattle_dealloc(void *block) {
     free(block);
 }
 
-/* So many days of three channels, of the elements of a file over and over; no block of memory is given. */
+/* So many days of three channels, of the elements of a file over and over; no block of memory is
+ * given. */
 static int days(size_t count) {
     static uint8_t elements[1 << 22];
     struct nx_receiver receiver = {0};
@@ -272,7 +280,8 @@ static int days(size_t count) {
     return 0;
 }
 
-/* Saves with each block refused in turn, until it is saved, and opens another receiver from that state so. */
+/* Saves with each block refused in turn, until it is saved, and opens another receiver from that
+ * state so. */
 static void fail_saving(struct nx_receiver *receiver) {
     static uint8_t state[1 << 14];
     size_t written;
@@ -301,7 +310,8 @@ static void fail_saving(struct nx_receiver *receiver) {
     nx_abandon(&other);
 }
 
-/* Opens with each block refused in turn, until it is opened; then no block is given, and all is heard. */
+/* Opens with each block refused in turn, until it is opened; then no block is given, and all is
+ * heard. */
 static int fail(void) {
     for (long block = 0;; block++) {
         struct nx_receiver receiver = {0};

@@ -4,8 +4,8 @@
     navtex.py LIBRARY listen < AIR              the log of an air file
     navtex.py LIBRARY resume STATE NEW < AIR    the same, from the state in the file STATE; the new
                                                 state goes to the file NEW
-    navtex.py LIBRARY live PIECE < AIR          the log again, by a receiver that is given the lines one
-                                                by one, their elements in pieces of so many
+    navtex.py LIBRARY live PIECE < AIR          the log again, by a receiver that is given the lines
+                                                one by one, their elements in pieces of so many
 
 LIBRARY is a shared object, of libnx_c.a; examples/c/check makes one.
 
@@ -189,8 +189,8 @@ def _done(status):
 
 
 class Receiver:
-    """A receiver that is kept between calls, on three channels. To be used in a `with`, which gives its
-    memory back; `close` hands out first what the end prints."""
+    """A receiver that is kept between calls, on three channels. To be used in a `with`, which gives
+    its memory back; `close` hands out first what the end prints."""
 
     def __init__(self, library, moment, state):
         self._library, self._handle, self._room = library, _Handle(), _Room(MAX_ENTRY)

@@ -76,10 +76,12 @@ class Demodulator:
 
 
 def find(samples, rate):
-    """Where words of NAVTEX are: a list of (phasing met, locks, middle, exchanged, second), best first.
+    """Where words of NAVTEX are: a list of (phasing met, locks, middle, exchanged, second), best
+    first.
 
-    Tried are the six clearest places of the spectrum, at least 60 Hz apart, each for two minutes from
-    where it is first clear; of what is found within 200 Hz of something better nothing is told.
+    Tried are the six clearest places of the spectrum, at least 60 Hz apart, each for two minutes
+    from where it is first clear; of what is found within 200 Hz of something better nothing is
+    told.
     """
     spectrum = receive.Middle(rate, *BAND)
     piece = int(rate * receive.PIECE / receive.BAUD)

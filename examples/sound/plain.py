@@ -1,8 +1,9 @@
 """The demodulator of --plain: each element is decided by itself, by the energy at the two tones.
 
-Where neither tone is as loud as of late, in a fade, an element is written 0: of a word's four B some
-are then missing, so the word shows that it is damaged. Where elements begin is followed slowly, over
-some seconds and in proportion to what is heard, so that the count of elements goes on through a fade.
+Where neither tone is as loud as of late, in a fade, an element is written 0: of a word's four B
+some are then missing, so the word shows that it is damaged. Where elements begin is followed
+slowly, over some seconds and in proportion to what is heard, so that the count of elements goes on
+through a fade.
 """
 import numpy as np
 

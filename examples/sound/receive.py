@@ -1,7 +1,7 @@
 """From samples to the two tones of each element: blanking, middle, clock.
 
-All works on pieces of 0.2 s. A piece is mixed down so that the middle of the two tones lies at 0 Hz,
-and brought to 16 samples an element; then the clock finds where elements begin.
+All works on pieces of 0.2 s. A piece is mixed down so that the middle of the two tones lies at 0
+Hz, and brought to 16 samples an element; then the clock finds where elements begin.
 """
 import numpy as np
 
@@ -18,9 +18,9 @@ BAND = 320.0          # Hz on each side of the middle that pass the filter
 class Middle:
     """Finds the middle of two tones SHIFT apart, by the power of the sound at each frequency.
 
-    Power: the squared FFT of 0.2 s (Hann window) over its own mean, so that each piece counts alike;
-    averaged over some 2.5 s; smoothed by the width of a keyed tone. The score of f is the lesser of
-    the powers at f - SHIFT/2 and f + SHIFT/2: a carrier alone has one of them.
+    Power: the squared FFT of 0.2 s (Hann window) over its own mean, so that each piece counts
+    alike; averaged over some 2.5 s; smoothed by the width of a keyed tone. The score of f is the
+    lesser of the powers at f - SHIFT/2 and f + SHIFT/2: a carrier alone has one of them.
     """
 
     def __init__(self, rate, first, last):
@@ -119,10 +119,11 @@ class Mixer:
 class Clock:
     """Where elements begin, and what each of the tones is in them.
 
-    E(t) is the energy of a tone over the 16 samples up to t. |E_B - E_Y| is largest where an element
-    ends, so the angle of the sum of |E_B - E_Y| e^(-2 pi i t / 16) tells the place (after Oerder and
-    Meyr 1988). The sum is over 3 s before and 1 s after. Each element moves by an eighth of what it is
-    late, at most 2 per cent of its length, so that the count of elements goes on where nothing is heard.
+    E(t) is the energy of a tone over the 16 samples up to t. |E_B - E_Y| is largest where an
+    element ends, so the angle of the sum of |E_B - E_Y| e^(-2 pi i t / 16) tells the place (after
+    Oerder and Meyr 1988). The sum is over 3 s before and 1 s after. Each element moves by an eighth
+    of what it is late, at most 2 per cent of its length, so that the count of elements goes on
+    where nothing is heard.
     """
 
     def __init__(self):
@@ -178,8 +179,8 @@ class Clock:
         return np.array([begins, *pair])
 
     def tone(self, begins, sign):
-        """r of the upper tone (sign 1) or the lower: the mean of x e^(-2 pi i f t) over each element,
-        t from its beginning, between samples by straight lines."""
+        """r of the upper tone (sign 1) or the lower: the mean of x e^(-2 pi i f t) over each
+        element, t from its beginning, between samples by straight lines."""
         turns = sign * np.pi * SHIFT / RATE
         places = self.begin + np.arange(len(self.heard))
         sums = np.concatenate(([0], np.cumsum(self.heard * np.exp(-1j * turns * places))))

@@ -1,9 +1,9 @@
 """From the tones of elements to elements: words are decided from both sendings of a position.
 
-A position is sent twice: as DX in one slot, and as RX five slots later, 35 elements behind. A word is
-named by its number, element 1 in the least place, B as 1; with the tones exchanged it is 127 less its
-number. Likelihoods are natural logarithms, over that of noise alone. r is the mean of a tone over an
-element, A its size where the tone is sent, N the power of noise in it.
+A position is sent twice: as DX in one slot, and as RX five slots later, 35 elements behind. A word
+is named by its number, element 1 in the least place, B as 1; with the tones exchanged it is 127
+less its number. Likelihoods are natural logarithms, over that of noise alone. r is the mean of a
+tone over an element, A its size where the tone is sent, N the power of noise in it.
 """
 import numpy as np
 
@@ -55,9 +55,9 @@ def likely(power, loud, noise):
 
 
 def fades(proof):
-    """The odds that each element is heard, by those before it and by those behind it: the passes of a
-    hidden Markov model of two states, heard and faded (Rabiner 1989). `proof` is the likelihood of each
-    element."""
+    """The odds that each element is heard, by those before it and by those behind it: the passes of
+    a hidden Markov model of two states, heard and faded (Rabiner 1989). `proof` is the likelihood
+    of each element."""
     before, behind, odds, back = [], [], 10.0, 1.0
     for one in proof:
         odds = (odds * (1 - ENTER) + LEAVE) / (odds * ENTER + 1 - LEAVE)
@@ -136,9 +136,9 @@ class Sendings:
         return self.out[first:self.told]
 
     def hear_tones(self):
-        """A^2 and N of each tone, by two rounds of expectation and maximisation over the elements near
-        it (Dempster, Laird and Rubin 1977), and its likelihood, where the element may also be weak or in a
-        fade."""
+        """A^2 and N of each tone, by two rounds of expectation and maximisation over the elements
+        near it (Dempster, Laird and Rubin 1977), and its likelihood, where the element may also be
+        weak or in a fade."""
         first, end = self.state.end, self.tones.end - NEAR
         if end <= first:
             return
@@ -186,8 +186,9 @@ class Sendings:
         self.slopes.add(np.array(slopes).T)
 
     def slope(self, first, end, words):
-        """The sum of c(i + m) c(i)*, m from 1 to 3, of which the angle is 4 pi T times the frequency that
-        is left in c, the tones of a word turned back (Luise and Reggiannini 1995)."""
+        """The sum of c(i + m) c(i)*, m from 1 to 3, of which the angle is 4 pi T times the
+        frequency that is left in c, the tones of a word turned back (Luise and Reggiannini
+        1995)."""
         places, tone = np.arange(first, end)[:, None] + np.arange(WORD), 1 - PATTERNS[words]
         state = self.state.rows[places - self.state.first, tone]
         turned = self.tones.rows[places - self.tones.first, tone] * TURNED[words]
@@ -216,8 +217,8 @@ class Sendings:
             self.lock, self.middle = None, None
 
     def write(self, place):
-        """The words of the position that begins here, in both places; where none is sure, 0. Two models
-        are mixed, with and without phase, by what spoke for each of late."""
+        """The words of the position that begins here, in both places; where none is sure, 0. Two
+        models are mixed, with and without phase, by what spoke for each of late."""
         off = self.off(place)
         still = pairs(self.words[place], self.words[place + GAP], self.exchanged)
         turning = pairs(self.with_phase(place, off), self.with_phase(place + GAP, off), self.exchanged)
@@ -242,7 +243,8 @@ class Sendings:
 
     def with_phase(self, place, off):
         """The likelihood of each word whose tones follow each other without a jump of phase:
-        ln I0(|sum of 2 A r e^(-i phi) / N|) - sum of A^2 / N; phi grows by 0.85 turns an element."""
+        ln I0(|sum of 2 A r e^(-i phi) / N|) - sum of A^2 / N; phi grows by 0.85 turns an
+        element."""
         state = self.state[place:place + WORD]
         rows = 2 * np.sqrt(state[:, :, 0]) / state[:, :, 1] * self.tones[place:place + WORD]
         rows = rows * np.exp(-2j * np.pi * off * T * np.arange(WORD))[:, None]
