@@ -2,15 +2,16 @@
 //! the words and their roles from the phasing, and says when a lock is over.
 #![tactic(auto)]
 
-mod eight;
 pub mod laws;
 mod mark_bits;
 mod packed;
+mod phasing;
 mod step;
 mod synchroniser;
 mod taking;
 mod track;
 mod windows;
+mod windows_after;
 mod word_synchroniser;
 
 pub use step::{Change, Role, Step};

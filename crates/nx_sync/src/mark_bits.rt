@@ -1,19 +1,22 @@
 //! The marks of the last words of a lock in one number, for a line of words at once. What runs for
 //! each word is inlined always, since its answers would go through memory otherwise.
 
-ghost use Rattle.std.specs.Prelude.{◌≡◌, ◌∷◌, ◌++◌, ◌≤◌, ◌<◌, ◌^◌, ◌-◌, [], Bool, length, drop, false, IsTrue};
+ghost use Rattle.std.specs.Prelude.{◌≡◌, ◌∷◌, ◌++◌, ◌≤◌, ◌<◌, ◌^◌, ◌+◌, ◌-◌, [], Bool, length, drop, nat_le, IsTrue};
 ghost use Rattle.std.specs.List.{count_by};
 ghost use Rattle.circular_buffer.specs.Buffer.{keep_last};
 ghost use Rattle.nx_code.specs.Word.{number_of};
-ghost use Rattle.nx_sync.specs.Words.{marked_words};
-ghost use Rattle.nx_sync.specs.private.Eight.{marks_after_words};
+ghost use Rattle.nx_sync.specs.Words.{losing_count, marked_words};
+ghost use Rattle.nx_sync.specs.private.Eight.{marks_after_words, wrong_ones};
 
-use crate::eight::{EIGHT, wrong_bits};
-use nx_code::Word;
+use crate::track::EIGHT;
+use nx_code::{Word, check_bits};
 use std::marker::Model;
 
 /// How many marks of its last words a lock keeps, whether each was wrong (this profile).
 pub(crate) const MARKS: usize = 64;
+
+/// How many wrong words among the marked ones lose the lock (this profile).
+const LOSING_COUNT: u32 = 40;
 
 /// The marks of the last words of a lock, at most 64, whether each was wrong.
 #[derive(Clone, Copy)]
@@ -71,11 +74,27 @@ impl Marks {
 
     /// How many of the marks are set.
     #[inline(always)]
-    pub(crate) fn wrong_count(&self) -> u32
+    fn wrong_count(&self) -> u32
         ensures count { result ≡ count_by (λ b. b) self.now }
         ensures within { result ≤ 64 }
     {
         self.bits.count_ones()
+    }
+
+    /// Whether as many of the marks are set as lose the lock.
+    #[inline(always)]
+    pub(crate) fn loses_lock(&self) -> bool
+        ensures { result ≡ nat_le losing_count (count_by (λ b. b) self.now) }
+    {
+        self.wrong_count() >= LOSING_COUNT
+    }
+
+    /// Whether fewer would be set than lose the lock, if eight more words were wrong.
+    #[inline(always)]
+    pub(crate) fn keeps_lock_for_eight(&self) -> bool
+        ensures { result ≡ nat_le (count_by (λ b. b) self.now + 8 + 1) losing_count }
+    {
+        self.wrong_count() + (EIGHT as u32) < LOSING_COUNT
     }
 
     /// Whether there are 64 marks, and none of them is set.
@@ -107,4 +126,35 @@ impl Marks {
         }
         marks
     }
+}
+
+/// The marks of eight words, whether each has the wrong weight.
+#[inline(always)]
+fn wrong_ones(words: &[Word; EIGHT]) -> [bool; EIGHT]
+    ensures { result ≡ wrong_ones words.now }
+{
+    [
+        !check_bits(words[0]),
+        !check_bits(words[1]),
+        !check_bits(words[2]),
+        !check_bits(words[3]),
+        !check_bits(words[4]),
+        !check_bits(words[5]),
+        !check_bits(words[6]),
+        !check_bits(words[7]),
+    ]
+}
+
+/// The marks of eight words as bits of a number, the first word's in the least place.
+#[inline(always)]
+fn wrong_bits(words: &[Word; EIGHT]) -> u64
+    ensures number { result ≡ number_of (wrong_ones words.now) }
+    ensures within { result < 2 ^ 8 }
+{
+    let marks = wrong_ones(words);
+    let mut bits = 0;
+    for place in (0..EIGHT).rev() {
+        bits = 2 * bits + u64::from(marks[place]);
+    }
+    bits
 }

@@ -15,14 +15,14 @@ ghost use Rattle.nx_sync.specs.private.Calls.{heard_one, with_mark, track_from, 
 ghost use Rattle.nx_sync.specs.Synchroniser.{StandsAfter, is_hunting, is_between_words};
 
 use crate::mark_bits::{MARKS, Marks};
-use crate::packed::{
-    PACKED, count_before_lock_in, element, has_no_lock, last_window, window_after_number,
-};
+use crate::packed::{PACKED, count_before_lock_in, element, has_no_lock};
+use crate::phasing::{PATTERN, may_lock, role_after};
 use crate::step::{Role, Step};
 use crate::track::Track;
-use crate::windows::{
-    PATTERN, STRIDE, count_before_lock, last_word, may_lock, next_window, role_after,
-    stride_window, windows_after,
+use crate::windows::count_before_lock;
+use crate::windows_after::{
+    STRIDE, last_word, next_window, window_after_number, window_after_stride, window_after_whole,
+    windows_after,
 };
 use crate::word_synchroniser::WordSynchroniser;
 use circular_buffer::HeapCircularBuffer;
@@ -30,16 +30,11 @@ use nx_code::{ELEMENTS, Word, check_bits};
 use std::alloc::{AllocError, Global};
 use std::marker::Model;
 
-/// How many wrong words among the marked ones lose the lock (this profile).
-pub(crate) const LOSING_COUNT: u32 = 40;
-
-/// How many bytes the fields of a synchroniser take (on the target of this toolchain).
+/// How many bytes the fields take (on the target of this toolchain).
 const BYTES: usize = 64;
 
 /// The synchroniser of a receiver. It keeps no history but the last 28 elements, and whether each
-/// of the last 64 words of a lock was wrong. That it has no other field, the model's `inverse`
-/// shows of each one that contracts see, and its size, which `new` proves, of one whose own type
-/// forgets; reading shows it of a field that is replaced by such a one of the same size.
+/// of the last 64 words of a lock was wrong.
 #[derive(Drop)]
 pub struct Synchroniser {
     /// The last 28 elements, the oldest in the least place.
@@ -79,8 +74,8 @@ impl Model for Synchroniser {
         × (s.marks ≡ s.wrong.items)
         × ForSome s.track (λ t. (t.filled < 7) × (s.seen ≡ pattern_elements)) };
 
-    // Each field is given back by what contracts see of it, so that none can be added whose meaning
-    // they see. Of one that is seen as nothing, the proved size of the struct tells.
+    // What contracts see gives each field back, so that no history can be kept beside them. Of a
+    // field that they see as nothing, the size that `new` proves tells.
     ghost inverse = { λ h. record {
       recent = h.recent;
       seen = h.seen;
@@ -312,7 +307,7 @@ impl Synchroniser {
         }
         self.wrong.push_back(is_wrong);
         self.marks.push(is_wrong);
-        self.marks.wrong_count() >= LOSING_COUNT
+        self.marks.loses_lock()
     }
 
     /// Puts these marks in place of those that there were.
@@ -400,7 +395,7 @@ impl Synchroniser {
         if !has_no_lock(self.recent, number) {
             return false;
         }
-        self.recent = last_window(number);
+        self.recent = window_after_whole(number);
         self.seen = PATTERN;
         true
     }
@@ -441,7 +436,7 @@ impl Synchroniser {
         if part.len() < STRIDE || may_lock(self.recent) {
             return self.skip_block(part);
         }
-        self.recent = stride_window(self.recent, part);
+        self.recent = window_after_stride(self.recent, part);
         self.seen = PATTERN;
         STRIDE
     }

@@ -10,10 +10,10 @@ ghost use Rattle.nx_code.specs.Word.{elements};
 ghost use Rattle.nx_sync.specs.Synchroniser.{Held, is_between_words, is_hunting};
 ghost use Rattle.nx_sync.specs.Taking.{BringsStep, BringsWords, IsTaken};
 
-use crate::eight::EIGHT;
 use crate::packed::{eight_words_in, element, word_in};
 use crate::step::Step;
 use crate::synchroniser::Synchroniser;
+use crate::track::EIGHT;
 use crate::word_synchroniser::WordSynchroniser;
 use nx_code::{ELEMENTS, Word};
 

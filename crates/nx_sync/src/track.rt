@@ -7,12 +7,12 @@ ghost use Rattle.nx_sync.specs.private.Calls.{track_from, track_after, change_by
 ghost use Rattle.nx_sync.specs.private.Eight.{last_five_marks};
 ghost use Rattle.nx_sync.specs.Synchroniser as held;
 
-use crate::eight::EIGHT;
+use crate::phasing::PHASING_1;
 use crate::step::{Change, Role, Step};
 use nx_code::Word;
 
-/// The number of phasing signal 1, which is idle signal alpha (M.476, M.625).
-pub(crate) const PHASING_1: u8 = 0x0F;
+/// How many words are heard at once: an even number, so that the roles stay in step.
+pub(crate) const EIGHT: usize = 8;
 
 /// How a lock is followed. One that is copied for each word, so all of it is small.
 #[derive(Clone, Copy, Debug)]
@@ -93,7 +93,7 @@ impl Track {
         // A lock has ended where the words three and five before, which are DX words, are both
         // phasing signal 1.
         let is_ended = self.role == Role::Rx && self.was_p1 % 2 == 1 && self.was_p1 / 4 % 2 == 1;
-        // Asked first whether there is a change, since mostly there is none.
+        // Most words bring no change.
         let change = if !is_ended && !is_lost {
             None
         } else if is_ended {

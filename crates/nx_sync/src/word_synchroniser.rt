@@ -10,16 +10,19 @@ ghost use Rattle.nx_sync.specs.Locks.{pattern_elements};
 ghost use Rattle.nx_sync.specs.Steps.{IsWordStep, AreQuietWords};
 ghost use Rattle.nx_sync.specs.private.Calls.{held_at_words};
 ghost use Rattle.nx_sync.specs.private.Eight.{after_eight};
+ghost use Rattle.nx_sync.specs.Synchroniser as held;
 ghost use Rattle.nx_sync.specs.Synchroniser.{StandsAfter, is_between_words, keeps_lock};
 
-use crate::eight::{EIGHT, has_dx_phasing_1, numbers, window_after_eight};
 use crate::mark_bits::Marks;
+use crate::phasing::PHASING_1;
 use crate::step::Step;
-use crate::synchroniser::LOSING_COUNT;
-use crate::track::Track;
-use crate::windows::next_word_window;
+use crate::track::{EIGHT, Track};
+use crate::windows_after::{next_word_window, window_after_eight};
 use nx_code::{Word, check_bits};
 use std::marker::Model;
+
+/// How many bytes the fields take (on the target of this toolchain).
+const BYTES: usize = 24;
 
 /// A synchroniser at work on whole words of a lock: what `Synchroniser` holds then, but for the
 /// buffer of the marks, which it keeps as bits of one number.
@@ -40,7 +43,7 @@ impl Model for WordSynchroniser {
 
     ghost Value = { Held };
 
-    // whole words come in a lock alone, before which 28 elements were heard
+    // Whole words come in a lock alone, before which 28 elements were heard.
     ghost view = { λ s. record {
       recent = s.recent;
       seen = pattern_elements;
@@ -51,7 +54,6 @@ impl Model for WordSynchroniser {
     ghost invariant = { λ s. (s.recent < 2 ^ pattern_elements)
         × ForSome s.track (λ t. t.filled < 7) };
 
-    // Each field is given back by what contracts see of it.
     ghost inverse = { λ h. record { recent = h.recent; track = h.track; marks = h.wrong } };
 }
 
@@ -63,8 +65,7 @@ impl WordSynchroniser {
         requires filled { ForSome track (λ t. t.filled < 7) }
         ensures { result ≡ held_at_words recent track marks }
     {
-        // Nothing is kept beside these fields, not even in a type whose model forgets.
-        prove!(size_of::<WordSynchroniser>() == 24);
+        prove!(size_of::<WordSynchroniser>() == BYTES);
         WordSynchroniser {
             recent,
             track,
@@ -127,7 +128,7 @@ impl WordSynchroniser {
         self.recent = next_word_window(self.recent, word);
         self.marks.push(!check_bits(word));
         // A word that brings a change gives the lock up.
-        let (next, step) = track.complete(word, self.marks.wrong_count() >= LOSING_COUNT);
+        let (next, step) = track.complete(word, self.marks.loses_lock());
         self.track = next;
         step
     }
@@ -142,8 +143,7 @@ impl WordSynchroniser {
         let Some(track) = self.track else {
             return false;
         };
-        let is_few = self.marks.wrong_count() + (EIGHT as u32) < LOSING_COUNT;
-        track.awaits_free_dx() & !has_dx_phasing_1(words) & is_few
+        track.awaits_free_dx() & !has_dx_phasing_1(words) & self.marks.keeps_lock_for_eight()
     }
 
     /// Hears eight words, the first of which is a DX word: what `push` does of one after the other.
@@ -169,10 +169,39 @@ impl WordSynchroniser {
         ensures small { (k : ℕ) → k < 8 → slice_index words.now k < 128 }
         ensures between { IsTrue (is_between_words self.new) }
     {
-        // Only what is proved of the numbers is taken from these; nothing runs for it.
+        // Each word is one of 128. That is all that this says, and nothing runs for it.
         let _ = numbers(words);
         self.marks.push_eight(words);
         self.recent = window_after_eight(words);
         self.track = Some(track.after_eight(words));
     }
+}
+
+/// The numbers of eight words.
+#[inline(always)]
+fn numbers(words: &[Word; EIGHT]) -> [u8; EIGHT]
+    ensures value { result ≡ words.now }
+    ensures small { (k : ℕ) → k < 8 → slice_index result k < 128 }
+{
+    [
+        words[0].number(),
+        words[1].number(),
+        words[2].number(),
+        words[3].number(),
+        words[4].number(),
+        words[5].number(),
+        words[6].number(),
+        words[7].number(),
+    ]
+}
+
+/// Whether the first of eight words, or each second one after it, is phasing signal 1.
+#[inline(always)]
+fn has_dx_phasing_1(words: &[Word; EIGHT]) -> bool
+    ensures { result ≡ held.has_dx_phasing_1 words.now }
+{
+    (words[0].number() == PHASING_1)
+        | (words[2].number() == PHASING_1)
+        | (words[4].number() == PHASING_1)
+        | (words[6].number() == PHASING_1)
 }

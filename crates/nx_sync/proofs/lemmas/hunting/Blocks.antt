@@ -9,7 +9,7 @@ use Rattle.std.proofs.lemmas.Nat.{shr-shr, field_of}
 use Rattle.std.proofs.Math.Pow.{mod-mod-pow}
 use Rattle.nx_code.specs.Word.{elements_from}
 use Rattle.nx_code.proofs.lemmas.Packed.{length-elements_from, elements_from-take, value_of-odd}
-use Rattle.nx_sync.specs.declared.packed.TheConstants.{BLOCKS}
+use Rattle.nx_sync.specs.declared.phasing.TheConstants.{BLOCKS}
 use Rattle.nx_sync.specs.Windows.{window_before_dx, window_before_rx, is_lock_window}
 use Rattle.nx_sync.specs.private.Windows.{blocks, is_one_of, is_block, joined, window_in, block_in}
 use Rattle.nx_sync.specs.private.Windows.{may_lock_in_blocks, may_lock_in_both, IsBeforeLockIn}

@@ -21,11 +21,11 @@ returns-clause-heard c h =
     let late : 27 ≤ held.seen = omega (arith, c.requires, ap (λ h. h.seen) view) in
     let seen : min (held.seen + 64) 28 ≡ 28 = omega arith in
     subst (λ h. Passes h (elements_from 64 number) 64 (record held {
-      recent = c.last_window-self-inside.result;
+      recent = c.window_after_whole-self-inside.result;
       seen = 28;
     })) view
     (subst₂ (λ w k. Passes held (elements_from 64 number) 64 (record held { recent = w; seen = k }))
-    (sym (c.last_window-self-inside.ensures.value held.recent c.self.invariant.0)) seen
+    (sym (c.window_after_whole-self-inside.ensures.value held.recent c.self.invariant.0)) seen
     (passes_of held (elements_from 64 number) 64 (record held {
       recent = window_after held.recent (elements_from 64 number);
       seen = min (held.seen + 64) 28;

@@ -26,7 +26,7 @@ returns c =
     ap (λ w. is_in_phasing (w / 2 ^ 21)) (sym recent)
     ∙ (sym c.may_lock.ensures ∙ c.if-may_lock.false) in
     subst (λ h. Skips h part 21
-    (record held { recent = c.stride_window-self-inside.result; seen = 28 })) view
+    (record held { recent = c.window_after_stride-self-inside.result; seen = 28 })) view
     (subst (λ w. Skips held part 21 (record held { recent = w; seen = 28 }))
-    (sym c.stride_window-self-inside.ensures.value)
+    (sym c.window_after_stride-self-inside.ensures.value)
     (stride_skips held part late c.self-2.invariant.0 stride out))

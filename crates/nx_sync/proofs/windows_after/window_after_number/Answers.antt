@@ -1,6 +1,6 @@
 use Rattle.std.proofs.Common.{◌/◌, ◌%◌, ◌^◌, sym, ap, ◌∙◌}
 use Rattle.nx_sync.proofs.lemmas.hunting.Blocks.{window_after-joined}
-use Rattle.nx_sync.proofs.packed.window_after_number.Goals as goal
+use Rattle.nx_sync.proofs.windows_after.window_after_number.Goals as goal
 
 pub returns-clause-value : goal.returns-clause-value
 returns-clause-value c =

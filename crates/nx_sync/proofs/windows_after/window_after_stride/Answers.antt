@@ -3,7 +3,7 @@ use Rattle.std.proofs.Common.{◌∙◌, arith}
 use Rattle.nx_code.specs.Word.{number_of}
 use Rattle.nx_code.proofs.lemmas.Word.{value_of-bool_byte, value_of-le}
 use Rattle.nx_sync.proofs.lemmas.hunting.Strides.{number_of-front, twice-lt, number_of-none, window_after-stride}
-use Rattle.nx_sync.proofs.windows.stride_window.Goals as goal
+use Rattle.nx_sync.proofs.windows_after.window_after_stride.Goals as goal
 
 pub loop-place-preserved : goal.loop-place-preserved
 loop-place-preserved c =

@@ -1,6 +1,6 @@
 use Rattle.std.proofs.Common.{◌≡◌, ◌-◌, ◌<◌, ◌^◌, drop}
 use Rattle.nx_code.specs.Word.{number_of}
-use Rattle.nx_sync.proofs.windows.stride_window.Given as goal
+use Rattle.nx_sync.proofs.windows_after.window_after_stride.Given as goal
 
 -- the number so far is that of the elements from here on
 abbrev pub invariant-loop-place : goal.invariant-loop-place

@@ -1,6 +1,6 @@
 use Rattle.std.proofs.Common.{ℕ, List, arith}
 use Rattle.nx_sync.proofs.lemmas.words.EightWords.{judged, wrong_ones-eight}
-use Rattle.nx_sync.proofs.eight.wrong_ones.Goals as goal
+use Rattle.nx_sync.proofs.mark_bits.wrong_ones.Goals as goal
 
 pub returns : goal.returns
 returns c =

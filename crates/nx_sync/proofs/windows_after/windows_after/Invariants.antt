@@ -1,6 +1,6 @@
 use Rattle.std.proofs.Common.{ℕ, ◌≡◌, ◌+◌, ◌^◌, ◌<◌, length, take, get_or}
 use Rattle.nx_sync.specs.private.Windows.{window_after}
-use Rattle.nx_sync.proofs.windows.windows_after.Given as goal
+use Rattle.nx_sync.proofs.windows_after.windows_after.Given as goal
 
 -- the windows so far, and the last one of them
 abbrev pub invariant-loop-place : goal.invariant-loop-place

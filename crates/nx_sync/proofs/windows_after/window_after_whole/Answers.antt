@@ -1,6 +1,6 @@
 use Rattle.std.proofs.Common.{sym, arith}
 use Rattle.nx_sync.proofs.lemmas.hunting.Blocks.{window_after-all}
-use Rattle.nx_sync.proofs.packed.last_window.Goals as goal
+use Rattle.nx_sync.proofs.windows_after.window_after_whole.Goals as goal
 
 pub returns-clause-value : goal.returns-clause-value
 returns-clause-value c window h =

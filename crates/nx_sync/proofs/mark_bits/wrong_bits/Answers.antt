@@ -2,7 +2,7 @@ use Rattle.std.proofs.Common.{◌<◌, ◌+◌, ◌-◌, ◌*◌, ◌^◌, ℕ, 
 use Rattle.std.proofs.Common.{get_or, arith, rules}
 use Rattle.nx_code.proofs.lemmas.Word.{value_of-bool_byte, value_of-le}
 use Rattle.nx_sync.proofs.lemmas.words.MarkBits.{bits_before, few_bits, no_bits}
-use Rattle.nx_sync.proofs.eight.wrong_bits.Goals as goal
+use Rattle.nx_sync.proofs.mark_bits.wrong_bits.Goals as goal
 
 pub loop-place-init : goal.loop-place-init
 loop-place-init c = (no_bits c.wrong_ones-marks.result (omega arith), omega arith)

@@ -4,7 +4,7 @@ use Rattle.std.proofs.lemmas.Bool.{cases_lt}
 use Rattle.nx_sync.specs.private.Windows.{next_window, window_after}
 use Rattle.nx_sync.proofs.lemmas.states.Hearing.{window_after-none, window_after-more, window_after-lt, set_here}
 use Rattle.nx_sync.proofs.lemmas.states.Hearing.{set_before}
-use Rattle.nx_sync.proofs.windows.windows_after.Goals as goal
+use Rattle.nx_sync.proofs.windows_after.windows_after.Goals as goal
 
 pub loop-place-init : goal.loop-place-init
 loop-place-init c = (
