@@ -1,5 +1,8 @@
 //! Forward error correction of collective mode B: each position is sent in two words, and received
 //! from both; and the air files that carry an emission.
+//!
+//! What is kept from call to call has no field but those that contracts see: a model's `inverse`
+//! gives each of them back, and the size of the struct is proved where one is made.
 #![tactic(auto)]
 
 mod air_file_runs;

@@ -1,4 +1,5 @@
-//! Bytes that lie in the value itself, at most so many of them.
+//! Bytes that lie in the value itself, at most so many of them. What appends some is inlined
+//! always, so that a length that is known makes a copy without a call.
 ghost use Rattle.std.specs.Prelude.{◌≡◌, ◌+◌, ◌≤◌, [], ◌++◌, length, take};
 
 use std::marker::Model;
@@ -8,8 +9,7 @@ const SHORT: usize = 32;
 
 /// At most `CAPACITY` bytes. An `ArrayVec` would write over all of its places where it is emptied;
 /// here they are left as they are. What lies in the places behind the count, bytes of earlier
-/// times, no contract sees and nothing reads. Its size is proved where it is used, so nothing else
-/// is kept.
+/// times, no contract sees and nothing reads.
 #[derive(Drop)]
 pub(crate) struct BoundedBytes<const CAPACITY: usize> {
     bytes: [u8; CAPACITY],
@@ -53,7 +53,6 @@ impl<const CAPACITY: usize> BoundedBytes<CAPACITY> {
     }
 
     /// Appends bytes where there is room.
-    // Inlined always, so that a length that is known makes a copy without a call.
     #[inline(always)]
     pub fn append(&mut self, bytes: &[u8])
         requires { length self.old + length bytes.now ≤ CAPACITY }
@@ -67,7 +66,6 @@ impl<const CAPACITY: usize> BoundedBytes<CAPACITY> {
     }
 
     /// Appends the first `count` of these bytes.
-    // Inlined always: it runs for each line.
     #[inline(always)]
     pub fn append_front(&mut self, bytes: &[u8], count: usize)
         requires within { count ≤ length bytes.now }

@@ -1,4 +1,5 @@
-//! Line feeds, which end the lines of an air file.
+//! Line feeds, which end the lines of an air file. What runs for each line is inlined always, so
+//! that its vector stays in registers.
 ghost use Rattle.std.specs.Prelude.{◌≡◌, ◌↔◌, ◌<◌, ◌≤◌, ℕ, length, slice_index};
 ghost use Rattle.std.specs.Int.{bit_at};
 ghost use Rattle.memchr.specs.Find.{IsFirstByte, is_byte};
@@ -14,7 +15,6 @@ pub(crate) const LINE_END: u8 = b'\n';
 const LANES: usize = 32;
 
 /// The place of the first line feed of a piece, if it has one.
-// Inlined always: it runs for each line.
 #[inline(always)]
 pub(crate) fn first_feed(piece: &[u8]) -> Option<usize>
     ensures { IsFirstByte (is_byte line_end) piece.now result }
@@ -30,7 +30,6 @@ pub(crate) fn first_feed(piece: &[u8]) -> Option<usize>
 }
 
 /// The line feeds among the first 32 bytes of a piece: bit k says whether byte k is one.
-// Inlined always, so that its vector stays in registers.
 #[inline(always)]
 fn feeds(piece: &[u8]) -> u64
     requires { 32 ≤ length piece.now }

@@ -1,5 +1,7 @@
 //! The lines of an air file, which carries what a receiver hears: moments, elements and commands of
-//! selection.
+//! selection. What runs for each line is inlined always, since its answer would go through memory
+//! otherwise. What reads a line that names its channel never is, so that other lines pay nothing
+//! for it.
 ghost use Rattle.std.specs.Prelude.{◌≡◌, ◌≢◌, ◌<◌, ◌≤◌, ◌^◌, ℕ, List, ◌++◌, codes, length, map, take, IfSome, IfNone, MatchOption, [], ◌∷◌, Some};
 ghost use Rattle.std.specs.Fmt.{decimal};
 ghost use Rattle.nx_code.specs.Reading.{IsCapital};
@@ -98,7 +100,6 @@ pub(crate) fn unpack(digits: &[u8], bits: &mut ArrayVec<bool, MAX_ELEMENTS>)
 
 /// Reads a line, given without its line feed: what it says, and its elements. None, and no
 /// elements, where it is no line of an air file.
-// Inlined always: the scanner asks it for each line, and its answer would go through memory.
 #[inline(always)]
 pub(crate) fn read_line(line: &[u8], elements: &mut PackedElements) -> Option<LineKind>
     requires { elements.old ≡ [] }
@@ -132,7 +133,6 @@ pub(crate) fn read_line(line: &[u8], elements: &mut PackedElements) -> Option<Li
 }
 
 /// Reads a line that names its channel, as `read_line` does.
-// Never inlined: lines that name none pay nothing for it.
 #[inline(never)]
 fn read_marked(line: &[u8], elements: &mut PackedElements) -> Option<LineKind>
     requires { elements.old ≡ [] }
@@ -219,7 +219,6 @@ pub(crate) fn after<'a>(line: &'a [u8], word: &[u8]) -> Option<&'a [u8]>
 }
 
 /// The letter A to Z that follows the word at the front of a line and ends the line.
-// Inlined always, as a part of `read_line`.
 #[inline(always)]
 fn letter_behind(line: &[u8], word: &[u8]) -> Option<u8>
     ensures found { IfSome result (λ found. IsCapital found
@@ -265,7 +264,6 @@ fn moment(digits: &[u8]) -> Option<u64>
 
 /// The moment whose digits stand at the front of bytes, and how many these are, at most 11; 0 of
 /// them where there is none. A zero in front stands alone.
-// Inlined always: it runs for each moment.
 #[inline(always)]
 pub(crate) fn moment_front(bytes: &[u8]) -> (u64, usize)
     requires { 12 ≤ length bytes.now }

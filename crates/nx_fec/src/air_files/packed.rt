@@ -1,4 +1,5 @@
-//! The elements of one line, packed into words of 64.
+//! The elements of one line, packed into words of 64. What runs for each line is inlined always, so
+//! that its vectors stay in registers.
 ghost use Rattle.std.specs.Prelude.{◌≡◌, ◌≢◌, ◌<◌, ◌≤◌, ◌==◌, Bool, List, [], false, true, length, map, take, IsTrue};
 ghost use Rattle.std.specs.Simd.Lanes.{mask_l};
 ghost use Rattle.nx_code.specs.Packed.{elements_of_words};
@@ -21,8 +22,7 @@ const FEW: usize = 16;
 const WORDS: usize = MAX_ELEMENTS / LANES;
 
 /// At most 512 elements, each one bit: element i is bit i % 64 of word i / 64, and 1 is B. What
-/// lies in the places behind them, bits of earlier elements, no contract sees and nothing reads;
-/// its size is proved, so nothing else is kept.
+/// lies in the places behind them, bits of earlier elements, no contract sees and nothing reads.
 #[derive(Drop)]
 pub struct PackedElements {
     words: [u64; WORDS],
@@ -77,7 +77,6 @@ impl PackedElements {
 
     /// Reads 1 to 512 elements, each a digit 0 or 1, in place of those that were there. False, and
     /// no elements, where the digits are none.
-    // Inlined always: it runs for each line.
     #[inline(always)]
     pub fn read(&mut self, digits: &[u8]) -> bool
         ensures found { IsTrue result → (0 < length self.new) × (length self.new ≤ 512)
@@ -111,7 +110,6 @@ impl PackedElements {
 
     /// Reads the elements at the front of bytes, up to the first byte that is no digit of one, or
     /// 512, in place of those that were there. Answers how many there are.
-    // Inlined always: it runs for each line.
     #[inline(always)]
     pub(crate) fn read_front(&mut self, bytes: &[u8]) -> usize
         requires { 512 ≤ length bytes.now }
@@ -132,7 +130,6 @@ impl PackedElements {
     }
 
     /// Takes the first `count` elements of a word, in place of those that were there.
-    // Inlined always: it runs for each short line.
     #[inline(always)]
     pub(crate) fn put(&mut self, word: u64, count: usize)
         requires { count ≤ 64 }
@@ -157,7 +154,6 @@ impl PackedElements {
 }
 
 /// Packs fewer digits than a word holds: few of them one by one.
-// Inlined always, as a part of `read`.
 #[inline(always)]
 fn pack_last(digits: &[u8]) -> (u64, bool)
     requires { length digits.now < 64 }
@@ -181,7 +177,6 @@ fn pack_last(digits: &[u8]) -> (u64, bool)
 
 /// Packs the digits at the front of bytes, up to the first byte that is none, or 64: their word,
 /// and how many there are.
-// Inlined always, so that its vectors stay in registers.
 #[inline(always)]
 fn pack_front(bytes: &[u8]) -> (u64, usize)
     requires { 64 ≤ length bytes.now }
@@ -198,7 +193,6 @@ fn pack_front(bytes: &[u8]) -> (u64, usize)
 }
 
 /// Packs the digits at the front of bytes, as `pack_front` does, but at most 32.
-// Inlined always, so that its vectors stay in registers.
 #[inline(always)]
 pub(crate) fn pack_near(bytes: &[u8]) -> (u64, usize)
     requires { 32 ≤ length bytes.now }
@@ -212,7 +206,6 @@ pub(crate) fn pack_near(bytes: &[u8]) -> (u64, usize)
 }
 
 /// Packs the first 64 digits.
-// Inlined always, so that its vectors stay in registers.
 #[inline(always)]
 fn pack_64(digits: &[u8]) -> (u64, bool)
     requires { 64 ≤ length digits.now }
@@ -225,7 +218,6 @@ fn pack_64(digits: &[u8]) -> (u64, bool)
 }
 
 /// The places of a byte among the first 64: bit k says whether byte k is it.
-// Inlined always, so that its vectors stay in registers.
 #[inline(always)]
 fn places_of(digits: &[u8], byte: u8) -> u64
     requires { 64 ≤ length digits.now }
@@ -237,7 +229,6 @@ fn places_of(digits: &[u8], byte: u8) -> u64
 }
 
 /// The places of a byte among the first 32, as `places_of` has them.
-// Inlined always, so that its vectors stay in registers.
 #[inline(always)]
 fn near_places_of(digits: &[u8], byte: u8) -> u64
     requires { 32 ≤ length digits.now }

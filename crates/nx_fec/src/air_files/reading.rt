@@ -59,7 +59,6 @@ fn read_through<R: Read>(
     requires room { 0 < length buffer.old }
     ensures { ReadsElements R.remaining reader.old reader.new result }
 {
-    // Nothing is kept beside these fields, not even in a type whose model forgets.
     prove!(size_of::<BitFile>() == 664);
     let mut file = BitFile {
         scanner: Scanner::new(FILE_LIMIT),
@@ -115,7 +114,6 @@ impl Model for BitFile {
 
     ghost view = { λ file. record { scanner = file.scanner; bits = file.bits } };
 
-    // What contracts see gives every field back: nothing else is kept.
     ghost inverse = { λ v. record { scanner = v.scanner; bits = v.bits } };
 }
 
@@ -174,7 +172,6 @@ impl Model for WholeFile {
 
     ghost view = { λ file. record { bytes = file.bytes; room = file.room } };
 
-    // What contracts see gives every field back: nothing else is kept.
     ghost inverse = { λ v. record { bytes = v.bytes; room = v.room } };
 }
 

@@ -1,4 +1,6 @@
-//! A scanner of the lines of an air file, which takes one piece after the other.
+//! A scanner of the lines of an air file, which takes one piece after the other. What runs for each
+//! line is inlined always, so that no large answer goes through memory. Most lines are taken whole,
+//! and have few elements; what runs for other lines is never inlined.
 ghost use Rattle.std.specs.Prelude.{◌≡◌, ◌≢◌, ◌+◌, ◌<◌, ◌≤◌, ℕ, List, [], ◌∷◌, ◌++◌, None, option_to_list, IfOk, IfErr, IfSome, OnOk, OnErr, IsSomeAnd, length, take, MatchResult};
 ghost use Rattle.std.specs.List.{AllByRecursion};
 ghost use Rattle.std.specs.Option.{option_map};
@@ -32,8 +34,7 @@ const NEAR_BYTES: usize = 34;
 const FAR_BYTES: usize = MAX_LINE_BYTES + 2;
 
 /// Reads the lines of an air file piece by piece: it holds the line that is open, or the one that
-/// the last byte ended, how many lines were ended, and how many more bytes it may take. No field
-/// can be added whose meaning contracts see, and its size is proved.
+/// the last byte ended, how many lines were ended, and how many more bytes it may take.
 #[derive(Drop)]
 pub struct Scanner {
     /// The bytes of that line.
@@ -64,9 +65,8 @@ impl Model for Scanner {
     ghost invariant = { λ s. (s.lines + length (part_of s.ended s.kept) + s.room < 2 ^ 64)
         × IsKept s.ended s.elements s.kept };
 
-    // What contracts see gives every field back. The bytes and the elements of earlier lines that
-    // lie behind those that are kept, in their places, are seen by no contract, and nothing reads
-    // them.
+    // The bytes and the elements of earlier lines that lie behind those that are kept, in their
+    // places, are seen by no contract, and nothing reads them.
     ghost inverse = { λ v. record {
       kept = bytes_kept v.latest v.part;
       ended = kind_kept v.latest;
@@ -90,7 +90,6 @@ impl Scanner {
         ensures stands { Scans limit result [] [] }
         ensures no_line { result.latest ≡ None }
     {
-        // Nothing is kept beside these fields, not even in a type whose model forgets.
         prove!(size_of::<Scanner>() == 640);
         Scanner {
             kept: BoundedBytes::new(),
@@ -147,8 +146,6 @@ impl Scanner {
     /// the 515th byte of a line, `BadLine` at the end of one that is none of an air file's,
     /// `TooLong` at a byte past the limit. After a fault, which is the file's first whatever bytes
     /// follow, the bytes before it were taken.
-    // Inlined always: it runs for each line, from more than one caller, and no large answer goes
-    // through memory.
     #[inline(always)]
     pub fn push_line(&mut self, piece: &[u8]) -> Result<usize, LineFault>
         requires { 0 < length piece.now }
@@ -172,7 +169,6 @@ impl Scanner {
     }
 
     /// Takes the bytes of a piece as `push_line` does, whatever line they are of.
-    // Never inlined: most lines are taken whole.
     #[inline(never)]
     fn push_part(&mut self, piece: &[u8]) -> Result<usize, LineFault>
         requires { 0 < length piece.now }
@@ -210,7 +206,6 @@ impl Scanner {
     /// Takes the line that a piece begins with, where none is open and the line is one of elements
     /// or a moment, and answers how many bytes it has with its end. 0 where it took nothing, as it
     /// may.
-    // Inlined always, as a part of `push_line`.
     #[inline(always)]
     fn take_whole(&mut self, piece: &[u8]) -> usize
         ensures taken { 0 < result → TakesLine self.old self.new piece.now result }
@@ -232,7 +227,6 @@ impl Scanner {
 
     /// Takes the line that a piece begins with as `take_whole` does, where it has few elements and
     /// names no channel.
-    // Inlined always, as a part of `push_line`.
     #[inline(always)]
     fn take_near(&mut self, piece: &[u8]) -> usize
         requires empty { self.old.part ≡ [] }
@@ -259,7 +253,6 @@ impl Scanner {
     }
 
     /// Takes the line that a piece begins with as `take_whole` does, where it is a moment.
-    // Inlined always, as a part of `push_line`.
     #[inline(always)]
     fn take_moment(&mut self, piece: &[u8]) -> usize
         requires empty { self.old.part ≡ [] }
@@ -286,7 +279,6 @@ impl Scanner {
     }
 
     /// Takes the line that a piece begins with as `take_whole` does, where it has elements.
-    // Never inlined: many elements cost more than the call.
     #[inline(never)]
     fn take_far(&mut self, piece: &[u8]) -> usize
         requires { self.old.part ≡ [] }
@@ -315,7 +307,6 @@ impl Scanner {
 
     /// Takes the first `count` bytes of a piece into the open line; none of them is a line feed.
     /// After a fault the bytes before it were taken.
-    // Inlined always, as a part of `push_line`.
     #[inline(always)]
     fn go_on(&mut self, piece: &[u8], count: usize) -> Result<(), LineFault>
         requires within { count ≤ length piece.now }

@@ -28,7 +28,6 @@ impl<T> Model for Counting<T> {
 
     ghost view = { λ c. record { inner = c.inner; failures = c.failures } };
 
-    // What contracts see gives every field back: nothing else is kept.
     ghost inverse = { λ v. record { inner = v.inner; failures = v.failures } };
 }
 
@@ -38,7 +37,6 @@ impl<T> Counting<T> {
         ensures inner { result.inner ≡ inner }
         ensures none { result.failures ≡ 0 }
     {
-        // Nothing is kept beside these fields, not even in a type whose model forgets.
         prove!(size_of::<Counting<u64>>() == 16);
         Counting { inner, failures: 0 }
     }

@@ -29,7 +29,6 @@ impl Model for Batch {
 
     ghost view = { λ b. record { bytes = b.waiting; sent = b.sent } };
 
-    // What contracts see gives every field back: nothing else is kept.
     ghost inverse = { λ v. record { waiting = v.bytes; sent = v.sent } };
 }
 
@@ -39,7 +38,6 @@ impl Batch {
         ensures bytes { result.bytes ≡ [] }
         ensures sent { result.sent ≡ 0 }
     {
-        // Nothing is kept beside these fields, not even in a type whose model forgets.
         prove!(size_of::<Batch>() == 32_784);
         Batch {
             waiting: BoundedBytes::new(),

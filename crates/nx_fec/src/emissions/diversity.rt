@@ -1,5 +1,5 @@
 //! Diversity reception: a position is taken from its DX word and the RX word five slots later
-//! (M.625).
+//! (M.625). What runs for each word is inlined always.
 
 ghost use Rattle.std.specs.Prelude.{◌≡◌, ◌+◌, ◌*◌, ◌<◌, ℕ, [], ◌∷◌, ◌++◌, List, slice_index};
 ghost use Rattle.nx_code.specs.Classes.{reception_of_class};
@@ -105,7 +105,6 @@ impl Model for Diversity {
 
     ghost invariant = { λ d. (d.oldest < 34) × (d.middle < 34) × (d.newest < 34) };
 
-    // What contracts see gives every field back: no other word is kept.
     ghost inverse = { λ words. record {
       oldest = class_by (slice_index_or words 0 nothing);
       middle = class_by (slice_index_or words 1 nothing);
@@ -124,7 +123,6 @@ impl Diversity {
     pub fn new() -> Diversity
         ensures { IsLatest result [] }
     {
-        // Nothing is kept beside these fields, not even in a type whose model forgets.
         prove!(size_of::<Diversity>() == 3);
         Diversity {
             oldest: NO_CLASS,
@@ -134,7 +132,6 @@ impl Diversity {
     }
 
     /// Takes the next DX word.
-    // Inlined always, as each call here: they run for each word.
     #[inline(always)]
     pub fn dx(&mut self, heard: Heard)
         ensures latest { IsLatest self.new (self.old ++ heard_as heard ∷ []) }

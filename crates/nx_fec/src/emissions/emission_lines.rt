@@ -1,4 +1,5 @@
-//! The lines of an emission, written from its positions.
+//! The lines of an emission, written from its positions. What runs for each position is inlined
+//! always.
 
 ghost use Rattle.std.specs.Prelude.{◌≡◌, ◌+◌, ◌*◌, ◌<◌, ◌≤◌, ◌++◌, length, map, take, IfErr, OnOk};
 ghost use Rattle.std.specs.Int.{to_le_bytes, w64};
@@ -98,7 +99,6 @@ fn push_slots(positions: &[Position], index: usize, batch: &mut BoundedBytes<BAT
 }
 
 /// The digits of the word of a position that is sent first, and of the one that is sent again.
-// Inlined always: it runs for each position.
 #[inline(always)]
 fn digits_sent(position: Position) -> (u64, u64)
     ensures dx { take 7 (to_le_bytes w64 result.0)
