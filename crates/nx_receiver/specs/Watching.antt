@@ -7,7 +7,7 @@ use Rattle.nx_sync.specs.Synchroniser.{Held}
 use Rattle.nx_envelope.specs.declared.finder.Finder.{Finder}
 use Rattle.nx_memory.specs.Selection.{Refused}
 use Rattle.nx_receiver.specs.Events.{Setting}
-use Rattle.nx_receiver.specs.declared.over.CopyTag.{CopyTag}
+use Rattle.nx_receiver.specs.declared.copy_taker.CopyTag.{CopyTag}
 
 -- what contracts see of a reader: what arrived of the latest three DX words, the shift in force,
 -- and the finder of the copies in the text

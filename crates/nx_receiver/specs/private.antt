@@ -1,4 +1,6 @@
 pub mod Awaiting
+pub mod CopyTaker
+pub mod CopyTakerLaws
 pub mod Heads
 pub mod Listener
 pub mod ListenerBegins

@@ -2,13 +2,13 @@
 #![tactic(auto)]
 
 mod air_file_runs;
+mod copy_taker;
 mod entry;
 mod fault;
 mod judging;
 pub mod laws;
 mod listener;
 mod lock_reader;
-mod over;
 mod receiver;
 mod watch;
 mod writing;

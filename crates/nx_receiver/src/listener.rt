@@ -1,4 +1,5 @@
-//! Three receivers that hear elements as they come: the engine of `listen`.
+//! Three receivers that hear elements as they come: the engine of `listen`. What runs for each line
+//! of elements is inlined always.
 
 ghost use Rattle.std.specs.Prelude.{◌≡◌, ◌+◌, ◌<◌, ◌≤◌, ◌↔◌, ◌∷◌, ℕ, Bool, true, false, List, [], ◌++◌, length, map, take, drop, IfErr, IfOk, IfSome, IsErr, IsNone, IsSome, IsTrue, MatchOption, MatchResult, None, OnErr, OnOk};
 ghost use Rattle.nx_envelope.specs.Moment.{last_moment};
@@ -16,9 +17,9 @@ ghost use Rattle.nx_receiver.specs.Shares.{Given, MarkedCopy, Starts, marked, sa
 ghost use Rattle.nx_receiver.specs.private.Awaiting.{HearsUpTo};
 ghost use Rattle.nx_receiver.specs.private.Listener.{HearsTo};
 
+use crate::copy_taker::Over;
 use crate::entry::Entry;
 use crate::fault::{MomentFault, ReceiverFault};
-use crate::over::Over;
 use crate::receiver::Receiver;
 use crate::writing::MAX_ENTRY;
 use arrayvec::ArrayVec;
@@ -317,7 +318,6 @@ impl Listener {
     /// Hears elements of a channel as `hear` does, and spells the entry: where it says true,
     /// `entry` has the bytes of the entry of the copy that ended, with the mark of the channel, in
     /// place of what it had. With false it heard all, and `entry` is as it was.
-    // Inlined always: it runs for each line of elements.
     #[inline(always)]
     pub fn hear_spelled(
         &mut self,
@@ -351,7 +351,6 @@ impl Listener {
     }
 
     /// Hears elements of a channel as `hear_spelled` does, but counts nothing.
-    // Inlined always, as a part of it.
     #[inline(always)]
     fn next_spelled_on(
         &mut self,
@@ -379,7 +378,6 @@ impl Listener {
 
     /// Hears elements of a channel up to and with the first one with which something is over that
     /// may bring an entry; says how many, and what is over.
-    // Inlined always: it runs for each line of elements.
     #[inline(always)]
     pub(crate) fn hear_on(
         &mut self,

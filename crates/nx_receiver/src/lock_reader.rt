@@ -1,11 +1,13 @@
-//! The text of one lock, read from its words.
+//! The text of one lock, read from its words. What runs for each word or for eight of them is
+//! inlined always, since its answers would go through memory otherwise. What hands a copy out is
+//! not inlined, so that no loop over words has a place for a text of 4,100.
 
 ghost use Rattle.std.specs.Prelude.{◌≡◌, ◌↔◌, ◌+◌, ℕ, false, IsNone, IsTrue, MatchOption};
 ghost use Rattle.nx_sync.specs.Words.{role_of};
 ghost use Rattle.nx_sync.specs.declared.step.Role.{Role};
 ghost use Rattle.nx_envelope.specs.Copies.{Copy};
 ghost use Rattle.nx_envelope.specs.Finder.{Closes, ClosesHeld, ClosesNone, HasReady, is_over, is_ready};
-ghost use Rattle.nx_envelope.specs.Found.{IsFound, IsHeadOf};
+ghost use Rattle.nx_envelope.specs.Found.{IsFound};
 ghost use Rattle.nx_receiver.specs.private.LockReader.{AreNext, HearsWord, PrintsPlain, ReadsLock, is_open, text_after};
 
 use nx_code::{Printer, WORDS_AT_ONCE, Word};
@@ -65,7 +67,6 @@ impl LockReader {
 
     /// Takes the next word of the lock, which has that role, and answers what it brings. A copy
     /// that it ends can be taken before the next word.
-    // Inlined, since it is called for each word.
     #[inline(always)]
     pub(crate) fn take_word(&mut self, word: Word, role: Role) -> TextEvent
         ensures stands { (first : Role) (words : ℕ → ℕ) (n : ℕ) → ReadsLock self.old first words n
@@ -95,7 +96,6 @@ impl LockReader {
     /// Hears the next eight words of the lock at once, of which the first is a DX word, where
     /// surely none of them begins or ends a copy: `true` where it did. Else nothing changed, and
     /// they have to be heard one by one.
-    // Inlined, as `take_word`.
     #[inline(always)]
     pub(crate) fn hear_eight(&mut self, words: &[Word; WORDS_AT_ONCE]) -> bool
         ensures stands { IsTrue result → (first : Role) (before : ℕ → ℕ) (n : ℕ)
@@ -118,7 +118,6 @@ impl LockReader {
     }
 
     /// The copy that the last word ended, where it was not taken yet.
-    // Not inlined, so that no loop over words has a place for a text of 4,100.
     #[inline(never)]
     pub(crate) fn take_found(&mut self) -> Option<Found>
         ensures stands { (first : Role) (words : ℕ → ℕ) (n : ℕ) → ReadsLock self.old first words n
@@ -148,7 +147,6 @@ impl LockReader {
 
     /// Ends the text, as the lock or the bits end, and answers the copy that stands open; the
     /// reader is then as new, for the next lock. A copy that could be taken is gone.
-    // Not inlined, as `take_found`.
     #[inline(never)]
     pub(crate) fn end(&mut self) -> Option<Found>
         ensures closes { (first : Role) (words : ℕ → ℕ) (n : ℕ) → ReadsLock self.old first words n

@@ -1,4 +1,6 @@
-//! The receiver: elements, moments and commands in, entries out.
+//! The receiver: elements, moments and commands in, entries out. What runs for each line of
+//! elements is inlined always. What finishes a copy is not, so that no loop over elements has a
+//! place for an entry or its head.
 
 ghost use Rattle.std.specs.Prelude.{◌≡◌, ◌≢◌, ◌↔◌, ℕ, Option, MatchResult, false, ◌+◌, ◌<◌, ◌≤◌, ◌==◌, ◌||◌, List, [], ◌++◌, length, take, drop, IfErr, IfOk, IfSome, IsErr, IsNone, IsSome, IsTrue, OnErr, OnOk, Bool, true};
 ghost use Rattle.nx_envelope.specs.Moment.{last_moment};
@@ -18,7 +20,7 @@ ghost use Rattle.nx_receiver.specs.private.Heads.{headed_list};
 ghost use Rattle.nx_receiver.specs.private.LockReader.{is_open};
 ghost use Rattle.nx_receiver.specs.FoundCopies.{TaggedCopy};
 ghost use Rattle.nx_receiver.specs.private.Watch.{handed_out};
-ghost use Rattle.nx_receiver.specs.declared.over.Over.TheVariants.{CopyAndLock, Lock, Nothing};
+ghost use Rattle.nx_receiver.specs.declared.copy_taker.Over.TheVariants.{CopyAndLock, Lock, Nothing};
 ghost use Rattle.nx_envelope.specs.Copies.{Copy};
 ghost use Rattle.nx_envelope.specs.Finder.{HasReady};
 ghost use Rattle.nx_envelope.specs.Found.{IsHeadOf};
@@ -26,10 +28,10 @@ ghost use Rattle.nx_fec.specs.air_files.LineRuns.{HasGiven};
 ghost use Rattle.nx_fec.specs.declared.air_files.channel.Channel.{Channel};
 ghost use Rattle.nx_fec.specs.Transfers.{FailsOnce, WroteSome};
 
+use crate::copy_taker::{CopyTag, Over};
 use crate::entry::Entry;
 use crate::fault::{MomentFault, ReceiverFault};
 use crate::judging::{judge, judge_head};
-use crate::over::{CopyTag, Over};
 use crate::watch::Watch;
 use crate::writing::{MAX_ENTRY, give_entry, spell_entry};
 use arrayvec::ArrayVec;
@@ -225,7 +227,6 @@ impl<M: Recall> Receiver<M> {
 
     /// Hears packed elements from a place on, up to and with the one that ends the first copy that
     /// is printed, as `feed` does.
-    // Inlined always, as `hear`.
     #[inline(always)]
     pub(crate) fn next_entry(
         &mut self,
@@ -260,7 +261,6 @@ impl<M: Recall> Receiver<M> {
 
     /// Hears packed elements as `next_entry` does, and spells the entry on a channel in place of
     /// what `spelled` had: says whether there is one.
-    // Inlined always, as `hear`.
     #[inline(always)]
     pub(crate) fn next_spelled(
         &mut self,
@@ -298,7 +298,6 @@ impl<M: Recall> Receiver<M> {
     /// Finishes what is over, and spells the entry that it brings on a channel, if it brings one,
     /// in place of what `spelled` had: says whether it does. The text goes from the finder to its
     /// place.
-    // Not inlined, so that no loop over elements has a place for the head of an entry.
     #[inline(never)]
     fn spell(&mut self, over: Over, channel: Channel, spelled: &mut ArrayVec<u8, MAX_ENTRY>) -> bool
         ensures stands { (copies : List TaggedCopy)
@@ -337,7 +336,6 @@ impl<M: Recall> Receiver<M> {
     /// Hears elements up to and with the first one with which something is over, all of them where
     /// nothing is; says how many, and what is over: `finish` or `give` is due then, before anything
     /// else is heard.
-    // Inlined, as that of the watch.
     #[inline(always)]
     pub(crate) fn hear(&mut self, packed: &PackedElements, from: usize) -> (usize, Over)
         requires { from ≤ length packed.now }
@@ -383,7 +381,6 @@ impl<M: Recall> Receiver<M> {
     }
 
     /// The entry of the copy that is over, where one is and it is printed.
-    // Not inlined, so that no loop over elements has a place for an entry.
     #[inline(never)]
     pub(crate) fn finish(&mut self, over: Over) -> Option<Entry>
         ensures stands { (start : Start) (history : List Event) (log : List TaggedCopy) →
@@ -408,7 +405,6 @@ impl<M: Recall> Receiver<M> {
 
     /// Finishes what is over, and gives the entry that it brings on a channel, if it brings one:
     /// says whether it does. The text goes from the finder to the batch.
-    // Not inlined, so that no loop over elements has a place for the head of an entry.
     #[inline(never)]
     pub(crate) fn give<W: Write>(
         &mut self,

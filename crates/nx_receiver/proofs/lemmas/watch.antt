@@ -2,7 +2,6 @@
 pub mod Bits
 pub mod EightWords
 pub mod Hears
-pub mod Loops
 pub mod Packed
 pub mod Takes
 pub mod Texts

@@ -10,8 +10,8 @@ use Rattle.nx_receiver.specs.Events.{setting_after_all, elements}
 use Rattle.nx_receiver.specs.FoundCopies.{TaggedCopy}
 use Rattle.nx_receiver.specs.Printing.{printed_copies, entries_after}
 use Rattle.nx_receiver.specs.Receiver.{Receiving, Stands}
-use Rattle.nx_receiver.specs.declared.over.Over.{Over}
-use Rattle.nx_receiver.specs.declared.over.Over.TheVariants as over
+use Rattle.nx_receiver.specs.declared.copy_taker.Over.{Over}
+use Rattle.nx_receiver.specs.declared.copy_taker.Over.TheVariants as over
 use Rattle.nx_receiver.specs.Log.{IsLog}
 use Rattle.nx_receiver.specs.Shares.{marked}
 use Rattle.nx_fec.specs.declared.air_files.channel.Channel.{Channel}

@@ -26,7 +26,7 @@ use Rattle.nx_receiver.specs.declared.air_file_runs.listening.LineRefusal.{LineR
 use Rattle.nx_receiver.specs.declared.air_file_runs.listening.LineRefusal.TheVariants.{NoMoment, Moment, Vital}
 use Rattle.nx_receiver.specs.declared.air_file_runs.listen_fault.ListenFault.{ListenFault}
 use Rattle.nx_receiver.specs.declared.air_file_runs.listen_fault.ListenFault.TheVariants as listen
-use Rattle.nx_receiver.specs.declared.over.Over.{Over}
+use Rattle.nx_receiver.specs.declared.copy_taker.Over.{Over}
 
 -- The receiver of a channel, whatever it was given before, hears so many of these elements, and
 -- hands out these copies with the last of them, and none before.

@@ -2,27 +2,24 @@
 -- A watch turns elements into copies, each with the moment and the selection in force at its second
 -- digit (this profile).
 use Rattle.std.specs.Prelude.{◌≡◌, ℕ, ◌+◌, ◌-◌, ◌≤◌, Bool, true, false}
-use Rattle.std.specs.Prelude.{is_some, List, [], ◌∷◌, ◌++◌, length, map, take, Option, Some, None}
+use Rattle.std.specs.Prelude.{List, [], ◌∷◌, ◌++◌, length, map, take, Option, Some, None}
 use Rattle.std.specs.Prelude.{slice_index_or}
 use Rattle.std.specs.List.{All}
-use Rattle.nx_sync.specs.Synchroniser.{Held, StandsAfter}
+use Rattle.nx_sync.specs.Synchroniser.{StandsAfter}
 use Rattle.nx_sync.specs.Locks.{Lock, Now, hunting, locked, IsNow}
-use Rattle.nx_sync.specs.Words.{word_of_lock, first_role, role_of, whole_words}
-use Rattle.nx_sync.specs.declared.step.Step.{Step}
+use Rattle.nx_sync.specs.Words.{word_of_lock, first_role, whole_words}
 use Rattle.nx_sync.specs.declared.step.Role.{Role}
 use Rattle.nx_envelope.specs.Copies.{Copy, open_headers}
 use Rattle.nx_envelope.specs.Header.{Header}
-use Rattle.nx_envelope.specs.Finder.{HasReady, is_over}
+use Rattle.nx_envelope.specs.Finder.{HasReady}
 use Rattle.nx_envelope.specs.declared.found.Found.{Found}
-use Rattle.nx_envelope.specs.declared.found.TextEvent.{TextEvent}
-use Rattle.nx_envelope.specs.declared.found.TextEvent.TheVariants as events
 use Rattle.nx_envelope.specs.declared.identity.Identity.{Identity}
 use Rattle.nx_memory.specs.Selection.{admits}
-use Rattle.nx_receiver.specs.declared.over.Over.{Over}
-use Rattle.nx_receiver.specs.declared.over.Over.TheVariants as over
-use Rattle.nx_receiver.specs.declared.over.CopyTag.{CopyTag}
+use Rattle.nx_receiver.specs.declared.copy_taker.Over.{Over}
+use Rattle.nx_receiver.specs.declared.copy_taker.Over.TheVariants as over
+use Rattle.nx_receiver.specs.declared.copy_taker.CopyTag.{CopyTag}
 use Rattle.nx_receiver.specs.Events.{Setting}
-use Rattle.nx_receiver.specs.private.LockReader.{ReadsLock, HearsWord, text_after}
+use Rattle.nx_receiver.specs.private.LockReader.{ReadsLock}
 use Rattle.nx_receiver.specs.Watching.{LockReading, Watching, in_force}
 use Rattle.nx_receiver.specs.LockText.{PlacedByte, bytes_of}
 use Rattle.nx_receiver.specs.FoundCopies.{FoundCopy, place_in, ended_in, past_text, past_copies}
@@ -166,20 +163,10 @@ pub record HearsAll (old new : Watching) (heard : List Bool) (answer : Over) : T
       (copies : List TaggedCopy) → WatchStands first old bits settings copies
       → HearsBits first old new bits settings copies heard answer
 
--- what a watch holds whose synchroniser is at work on whole words: this one stands for its own
-abbrev pub at_words : Watching → Held → Watching
-at_words watch synchroniser = record watch { synchroniser = synchroniser }
-
 -- the copy that was handed out, with its tag
 abbrev pub handed_out : Option Found → CopyTag → List TaggedCopy
 handed_out None kept = []
 handed_out (Some found) kept = tagged_found found kept.moment kept.is_selected ∷ []
-
--- the tag after what a word brings: a header takes what is in force
-abbrev pub tag_after : Watching → TextEvent → CopyTag
-tag_after watch events.Nothing = watch.tag
-tag_after watch (events.Header identity) = tag_of (in_force watch) identity
-tag_after watch events.CopyOver = watch.tag
 
 -- what is over with a word, by whether a copy is and whether the word brings a change
 abbrev pub over_with : Bool → Bool → Over
@@ -187,27 +174,6 @@ over_with false false = over.Nothing
 over_with true false = over.Copy
 over_with false true = over.Lock
 over_with true true = over.CopyAndLock
-
--- a word was read, whichever lock it is of: what it brings to the text, what is over, and the tag
-pub record ReadsWord (old new : Watching) (word : ℕ) (role : Role) (is_changed : Bool)
-    (answer : Over) : Type 0 where
-  pub event : TextEvent
-  pub stands : (first : Role) (words : ℕ → ℕ) (n : ℕ) → ReadsLock old.reader first words n
-      → words n ≡ word → role ≡ role_of first n → ReadsLock new.reader first words (n + 1)
-  pub hears : (first : Role) (words : ℕ → ℕ) (n : ℕ) → ReadsLock old.reader first words n
-      → words n ≡ word → role ≡ role_of first n
-      → HearsWord (text_after first words n) (text_after first words (n + 1))
-      new.reader.finder event
-  pub kept : new.tag ≡ tag_after old event
-  pub synchroniser : new.synchroniser ≡ old.synchroniser
-  pub force : in_force new ≡ in_force old
-  pub is : answer ≡ over_with (is_over event) is_changed
-
--- what a step brings is read: nothing where it completes no word
-pub record ReadsStep (old new : Watching) (step : Step) (answer : Over) : Type 0 where
-  pub none : step.word ≡ None → (new ≡ old) × (answer ≡ over.Nothing)
-  pub some : (word : ℕ) (role : Role) → step.word ≡ Some (word, role)
-      → ReadsWord old new word role (is_some step.change) answer
 
 -- the moment of the tag is as it was, or the one in force; all else that is in force stays
 pub data TagGoesOn (old new : Watching) : Type 0 where

@@ -23,10 +23,10 @@ ghost use Rattle.nx_receiver.specs.declared.air_file_runs.listen_fault.ListenFau
 mod unlogged;
 
 use crate::air_file_runs::listen_fault::ListenFault;
+use crate::copy_taker::Over;
 use crate::entry::Entry;
 use crate::fault::MomentFault;
 use crate::listener::Listener;
-use crate::over::Over;
 use crate::writing::entry_bytes;
 use nx_envelope::Letter;
 use nx_fec::{

@@ -40,8 +40,8 @@ use Rattle.nx_receiver.specs.Shares.{Given, MarkedCopy, Starts, copies_on, event
 use Rattle.nx_receiver.specs.Shares.{share, start_on, to_all, to_one}
 use Rattle.nx_receiver.specs.private.Awaiting.{Awaits, HandsOut, HearsUpTo}
 use Rattle.nx_receiver.specs.FoundCopies.{TaggedCopy}
-use Rattle.nx_receiver.specs.declared.over.Over.{Over}
-use Rattle.nx_receiver.specs.declared.over.Over.TheVariants as overs
+use Rattle.nx_receiver.specs.declared.copy_taker.Over.{Over}
+use Rattle.nx_receiver.specs.declared.copy_taker.Over.TheVariants as overs
 use Rattle.nx_receiver.proofs.lemmas.channels.Shares.{copies_on-append, copies_on-marked, copies_on-other}
 use Rattle.nx_receiver.proofs.lemmas.channels.Shares.{in_turn-more, in_turn-none, in_turn-other, same_channel-refl}
 use Rattle.nx_receiver.proofs.lemmas.channels.Shares.{share-one}

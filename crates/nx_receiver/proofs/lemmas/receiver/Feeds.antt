@@ -6,8 +6,8 @@ use lib.Seq.{take-add}
 use Rattle.std.proofs.lemmas.Bool.{cases_lt}
 use Rattle.std.proofs.lemmas.List.{drop-drop, length-take, map-append, take-take}
 use Rattle.nx_memory.specs.declared.memories.entry.MemoryEntry.{MemoryEntry}
-use Rattle.nx_receiver.specs.declared.over.Over.{Over}
-use Rattle.nx_receiver.specs.declared.over.Over.TheVariants as over
+use Rattle.nx_receiver.specs.declared.copy_taker.Over.{Over}
+use Rattle.nx_receiver.specs.declared.copy_taker.Over.TheVariants as over
 use Rattle.nx_receiver.specs.declared.entry.Entry.{Entry}
 use Rattle.nx_receiver.specs.Events.{Event, Setting, Start, elements_among, element, first_setting}
 use Rattle.nx_receiver.specs.Events.{setting_after_all, settings, elements}
@@ -19,7 +19,7 @@ use Rattle.nx_receiver.specs.private.Watch.{HasEnded, HearsAll, IsOver, all_in_f
 use Rattle.nx_receiver.specs.Watching.{Watching, in_force}
 use Rattle.nx_receiver.proofs.lemmas.receiver.Events.{bits_of-more, force-more, settings-more}
 use Rattle.nx_receiver.proofs.lemmas.receiver.Printing.{has_printed}
-use Rattle.nx_receiver.proofs.lemmas.watch.Loops.{rest_is}
+use Rattle.nx_receiver.proofs.lemmas.watch.Packed.{rest_is}
 
 -- the first so many of these elements were fed, and no entry was handed out
 pub record Fed {M : Type 0} (content : M → List MemoryEntry) (old now : Receiving M)

@@ -21,9 +21,9 @@ use Rattle.nx_receiver.specs.Printing.{entries_after, entries_made, entry_made, 
 use Rattle.nx_receiver.specs.Printing.{is_printed, printed_copies}
 use Rattle.nx_receiver.specs.Receiver.{Receiving}
 use Rattle.nx_receiver.specs.Watching.{Watching, in_force}
-use Rattle.nx_receiver.specs.declared.over.CopyTag.{CopyTag}
-use Rattle.nx_receiver.specs.declared.over.Over.{Over}
-use Rattle.nx_receiver.specs.declared.over.Over.TheVariants as over
+use Rattle.nx_receiver.specs.declared.copy_taker.CopyTag.{CopyTag}
+use Rattle.nx_receiver.specs.declared.copy_taker.Over.{Over}
+use Rattle.nx_receiver.specs.declared.copy_taker.Over.TheVariants as over
 use Rattle.nx_receiver.specs.private.Awaiting.{AwaitsOver, behind_copy}
 use Rattle.nx_receiver.specs.private.Heads.{headed_copy, headed_list}
 use Rattle.nx_receiver.specs.private.LockReader.{is_open}

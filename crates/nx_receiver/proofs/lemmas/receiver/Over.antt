@@ -8,8 +8,8 @@ use Rattle.nx_envelope.specs.Copies.{Copy, closed_copy, open_headers}
 use Rattle.nx_envelope.specs.Finder.{HasReady, HoldsCopy, StandsAfter}
 use Rattle.nx_envelope.specs.declared.finder.Finder.{Finder}
 use Rattle.nx_envelope.specs.declared.found.Found.{Found}
-use Rattle.nx_receiver.specs.declared.over.CopyTag.{CopyTag}
-use Rattle.nx_receiver.specs.declared.over.Over.TheVariants as over
+use Rattle.nx_receiver.specs.declared.copy_taker.CopyTag.{CopyTag}
+use Rattle.nx_receiver.specs.declared.copy_taker.Over.TheVariants as over
 use Rattle.nx_receiver.specs.Events.{Setting}
 use Rattle.nx_receiver.specs.FoundCopies.{ended_in, ended_so_far, found_copy, past_copies}
 use Rattle.nx_receiver.specs.FoundCopies.{past_text, TaggedCopy}

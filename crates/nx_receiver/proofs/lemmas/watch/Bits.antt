@@ -16,7 +16,7 @@ use Rattle.nx_fec.specs.emissions.Pairing.{IsLatest}
 use Rattle.nx_code.specs.Reading.{shift_after_all, text}
 use Rattle.nx_code.specs.declared.shifts.Shift.TheVariants.{Letters}
 use Rattle.nx_envelope.specs.Finder as finders
-use Rattle.nx_receiver.specs.declared.over.CopyTag.{CopyTag}
+use Rattle.nx_receiver.specs.declared.copy_taker.CopyTag.{CopyTag}
 use Rattle.nx_receiver.specs.Events.{Setting}
 use Rattle.nx_receiver.specs.FoundCopies.{FoundCopy, ended_in, past_copies, standing_text}
 use Rattle.nx_receiver.specs.FoundCopies.{ended_so_far, TaggedCopy, tag}

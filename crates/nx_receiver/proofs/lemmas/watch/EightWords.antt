@@ -1,9 +1,8 @@
--- Eight words of a lock that a watch hears at once, where none of them brings anything.
+-- Eight words of a lock that a taker takes at once, where none of them brings anything.
 use Rattle.std.proofs.Common.{◌≡◌, ℕ, zero, suc, ◌+◌, ◌*◌, ◌<◌, ◌≤◌, Bool, false, List, [], ◌∷◌}
 use Rattle.std.proofs.Common.{◌++◌, length, take, drop, get_or, Some, None, refl, sym, ap, ◌∙◌}
 use Rattle.std.proofs.Common.{subst, arith, append_assoc, append-nil, add-one, map, slice_index}
 use Rattle.std.proofs.Common.{subst₂}
-use Rattle.std.specs.Prelude.{IsTrue}
 use Rattle.std.specs.List.{All, flat_map}
 use Rattle.std.proofs.lemmas.List.{append_cancel_left, length-append, length-map, take-append-drop}
 use Rattle.std.proofs.lemmas.List.{take_all, take_more}
@@ -12,7 +11,8 @@ use Rattle.nx_sync.specs.Laws.{OneMore, still_stands, now_over}
 use Rattle.nx_sync.specs.Locks.{Lock, Now, hunting, locked, IsNow}
 use Rattle.nx_sync.specs.Steps.{AreQuietWords, LimitStands, Brings, found, word, inside, over}
 use Rattle.nx_sync.specs.Steps.{hunts, IsStep, IsWordStep, step}
-use Rattle.nx_sync.specs.Synchroniser.{Held, StandsAfter, is_between_words}
+use Rattle.nx_sync.specs.Synchroniser.{Held}
+use Rattle.nx_sync.specs.Taking.{BringsWords}
 use Rattle.nx_sync.specs.Words.{word_of_lock, first_role, heard_word, other_role, role_of}
 use Rattle.nx_sync.specs.Words.{whole_words}
 use Rattle.nx_sync.specs.declared.step.Role.{Role}
@@ -23,11 +23,11 @@ use Rattle.nx_sync.proofs.lemmas.states.KeptPast.{word_at-more, first_role-more}
 use Rattle.nx_code.proofs.lemmas.Packed.{length-elements}
 use Rattle.nx_sync.proofs.lemmas.states.StateChanges.{one_more, standing_after}
 use Rattle.nx_sync.proofs.lemmas.states.UniqueStates.{now-unique}
-use Rattle.nx_sync.proofs.lemmas.words.WordLimits.{limit_by}
 use Rattle.nx_envelope.specs.Copies.{ended_copies, open_headers}
 use Rattle.nx_envelope.specs.Finder.{BringNothing, Keeps}
-use Rattle.nx_receiver.specs.declared.over.CopyTag.{CopyTag}
-use Rattle.nx_receiver.specs.declared.over.Over.TheVariants as over
+use Rattle.nx_receiver.specs.declared.copy_taker.CopyTaker.{CopyTaker}
+use Rattle.nx_receiver.specs.declared.copy_taker.CopyTag.{CopyTag}
+use Rattle.nx_receiver.specs.declared.copy_taker.Over.TheVariants as over
 use Rattle.nx_receiver.specs.Events.{Setting}
 use Rattle.nx_receiver.specs.FoundCopies.{FoundCopy, ended_in, ended_so_far, found_copy}
 use Rattle.nx_receiver.specs.FoundCopies.{past_copies, standing_text, TaggedCopy, tag}
@@ -35,7 +35,9 @@ use Rattle.nx_receiver.specs.LockText.{PlacedByte, bytes_of, lock_text, text_by}
 use Rattle.nx_receiver.specs.Watching.{LockReading, Watching, in_force}
 use Rattle.nx_receiver.specs.private.LockReader.{AreNext, PrintsPlain, ReadsLock, text_after}
 use Rattle.nx_receiver.specs.private.Watch.{HasEnded, HasTag, HearsBits, ReadsNow, ReadsOver}
-use Rattle.nx_receiver.specs.private.Watch.{WatchStands, all_in_force, copies_by, setting_in}
+use Rattle.nx_receiver.specs.private.CopyTaker.{Hears, watch_of}
+use Rattle.nx_receiver.specs.private.Watch.{WatchStands, all_in_force, as_it_was, copies_by}
+use Rattle.nx_receiver.specs.private.Watch.{setting_in}
 use Rattle.nx_receiver.proofs.lemmas.locks.Found.{IsByteIn, ended_headers_in, found-same, open_headers_in}
 use Rattle.nx_receiver.proofs.lemmas.locks.Found.{text_placed}
 use Rattle.nx_receiver.proofs.lemmas.locks.Growing.{ended_go_on, past_copies-more}
@@ -271,7 +273,7 @@ pub record ReadsEight (old new : LockReading) (next : List ℕ) : Type 0 where
       → PrintsPlain (text_after first words n) (text_after first words (n + 8))
 
 -- Eight words come after these elements.
-module _ (first : Setting) (h : List Bool) (s : List Setting) (old : Watching) (sync : Held)
+module _ (first : Setting) (h : List Bool) (s : List Setting) (old : Watching)
     (reader : LockReading) (next : List ℕ) (eight : length next ≡ 8)
     (quiet : AreQuietWords h Dx next) (reads : ReadsEight old.reader reader next)
     (many : length s ≡ length h) where
@@ -373,25 +375,37 @@ module _ (first : Setting) (h : List Bool) (s : List Setting) (old : Watching) (
       let at : t ≡ limit.t = cc in
       eight_over locks p t limit.whole now (omega (arith, limit.limit, at)) stood has_tag
 
-pub eight_heard : (first : Setting) (old : Watching) (sync : Held) (reader : LockReading)
+eight_heard : (first : Setting) (old : CopyTaker) (before after : Held) (reader : LockReading)
     (next : List ℕ) (h : List Bool) (s : List Setting) (copies : List TaggedCopy)
-    → length next ≡ 8 → AreQuietWords h Dx next → ReadsEight old.reader reader next
-    → IsTrue (is_between_words old.synchroniser) → StandsAfter sync (h ++ flat_map elements next)
-    → WatchStands first old h s copies
-    → HearsBits first old (record old { synchroniser = sync; reader = reader }) h s copies
-    (flat_map elements next) over.Nothing
-eight_heard first old sync reader next h s copies eight quiet reads between stands w =
+    → length next ≡ 8 → ReadsEight old.reader reader next → BringsWords before after next
+    → WatchStands first (watch_of before old) h s copies
+    → HearsBits first (watch_of before old) (watch_of after (record old { reader = reader })) h s
+    copies (flat_map elements next) over.Nothing
+eight_heard first old before after reader next h s copies eight reads brings w =
+    let watch = watch_of before old in
     let o = w.reads in
     let more : List Bool = flat_map elements next in
-    let limit = (limit_by old.synchroniser (is_between_words old.synchroniser) refl h
-    w.synchroniser).0 between in
-    let after : ReadsOver first reader old.tag (h ++ more) (s ++ all_in_force old more) copies =
-    subst (ReadsOver first reader old.tag (h ++ more) (s ++ all_in_force old more)) (sym o.ended)
-    (eight_now first h s old sync reader next eight quiet reads o.many o.locks o.now o.stands limit
-    o.reads o.has_tag) in
+    let quiet = brings.quiet h w.synchroniser in
+    let later : ReadsOver first reader old.tag (h ++ more) (s ++ all_in_force watch more) copies =
+    subst (ReadsOver first reader old.tag (h ++ more) (s ++ all_in_force watch more)) (sym o.ended)
+    (eight_now first h s watch reader next eight quiet reads o.many o.locks o.now o.stands
+    (brings.limit h w.synchroniser) o.reads o.has_tag) in
     record {
-      brings = record { synchroniser = stands; reads = after };
-      none_before = λ k lt. none_ended first h more s (all_in_force old more)
-          (all_in_force old (take k more)) copies o.locks after.locks o.now after.now o.stands
-          after.stands o.many o.ended after.ended k;
+      brings = record { synchroniser = brings.stands h w.synchroniser; reads = later };
+      none_before = λ k lt. none_ended first h more s (all_in_force watch more)
+          (all_in_force watch (take k more)) copies o.locks later.locks o.now later.now o.stands
+          later.stands o.many o.ended later.ended k;
     }
+
+pub eight_taken : (old : CopyTaker) (reader : LockReading) (next : List ℕ) (before after : Held)
+    → length next ≡ 8 → ReadsEight old.reader reader next → BringsWords before after next
+    → Hears before old (flat_map elements next) after (record old { reader = reader }) None
+eight_taken old reader next before after eight reads brings = record {
+  hears = record {
+    hears = λ first h s copies w. eight_heard first old before after reader next h s copies eight
+        reads brings w;
+  };
+  force = refl;
+  kept = as_it_was refl;
+  some = λ e. cc;
+}

@@ -14,8 +14,8 @@ use Rattle.nx_envelope.specs.Found.{IsFound}
 use Rattle.nx_envelope.specs.Header.{Header}
 use Rattle.nx_envelope.specs.declared.found.Found.{Found}
 use Rattle.nx_envelope.proofs.lemmas.copies.OneOpenCopy.{open_headers-nil}
-use Rattle.nx_receiver.specs.declared.over.CopyTag.{CopyTag}
-use Rattle.nx_receiver.specs.declared.over.Over.TheVariants as over
+use Rattle.nx_receiver.specs.declared.copy_taker.CopyTag.{CopyTag}
+use Rattle.nx_receiver.specs.declared.copy_taker.Over.TheVariants as over
 use Rattle.nx_receiver.specs.Events.{Setting}
 use Rattle.nx_receiver.specs.FoundCopies.{ended_in, open_in, past_copies, past_text, standing_text}
 use Rattle.nx_receiver.specs.FoundCopies.{ended_so_far, open_so_far, found_copy, TaggedCopy, tag}

@@ -15,13 +15,14 @@ use Rattle.nx_envelope.specs.Header.{Header}
 use Rattle.nx_envelope.specs.declared.finder.Finder.{Finder}
 use Rattle.nx_envelope.specs.declared.found.TextEvent.{TextEvent}
 use Rattle.nx_envelope.specs.declared.found.TextEvent.TheVariants as events
-use Rattle.nx_receiver.specs.declared.over.CopyTag.{CopyTag}
+use Rattle.nx_receiver.specs.declared.copy_taker.CopyTag.{CopyTag}
 use Rattle.nx_receiver.specs.Events.{Setting}
 use Rattle.nx_receiver.specs.FoundCopies.{FoundCopy, place_in, found_copy, ended_in, TaggedCopy}
 use Rattle.nx_receiver.specs.FoundCopies.{tag}
 use Rattle.nx_receiver.specs.private.LockReader.{HearsWord, text_after, word_place}
 use Rattle.nx_receiver.specs.LockText.{PlacedByte, printed_by, text_by, bytes_of}
-use Rattle.nx_receiver.specs.private.Watch.{HasTag, copies_by, ready_copy, setting_in, tag_after}
+use Rattle.nx_receiver.specs.private.CopyTaker.{tag_after}
+use Rattle.nx_receiver.specs.private.Watch.{HasTag, copies_by, ready_copy, setting_in}
 use Rattle.nx_receiver.specs.private.Watch.{tag_of, place_of_header}
 use Rattle.nx_receiver.specs.Watching.{Watching, in_force}
 use Rattle.nx_receiver.proofs.lemmas.locks.Texts.{bytes_are_reading, bytes_of-append, bytes-placed}
@@ -281,8 +282,8 @@ pub after_word : (first : Setting) (settings : List Setting) (before after : Lis
     (watch : Watching) (low high place : ℕ) (finder : Finder) (event : TextEvent)
     → All (IsByteIn low high) before → high ≤ length settings → place ≡ length settings
     → HasTag first settings before watch.tag → AddsByte before after place finder event
-    → AfterWord first (settings ++ in_force watch ∷ []) before after (tag_after watch event) finder
-    (is_over event)
+    → AfterWord first (settings ++ in_force watch ∷ []) before after
+    (tag_after (in_force watch) watch.tag event) finder (is_over event)
 after_word first settings before after watch low high place finder events.Nothing placed h last k
     (no_byte e n) =
     record {

@@ -6,23 +6,26 @@ use Rattle.std.proofs.lemmas.List.{length_push}
 use Rattle.nx_sync.specs.Laws.{OneMore, still_hunts, now_finds, still_stands, now_over}
 use Rattle.nx_sync.specs.Locks.{Lock, Now, hunting, locked, IsNow, Past, IsPattern}
 use Rattle.nx_sync.specs.Steps.{Brings, found, word, inside, over, hunts, IsStep, step}
-use Rattle.nx_sync.specs.Synchroniser.{StandsAfter}
+use Rattle.nx_sync.specs.Synchroniser.{Held, StandsAfter}
 use Rattle.nx_sync.specs.Words.{word_of_lock, first_role, role_of, whole_words, heard_word}
 use Rattle.nx_sync.specs.declared.step.Role.{Role}
 use Rattle.nx_sync.specs.declared.step.Step.{Step}
 use Rattle.nx_sync.proofs.lemmas.states.StateChanges.{one_more}
 use Rattle.nx_sync.proofs.lemmas.states.KeptPast.{Past-within}
 use Rattle.nx_envelope.specs.Finder.{is_over}
-use Rattle.nx_receiver.specs.declared.over.CopyTag.{CopyTag}
-use Rattle.nx_receiver.specs.declared.over.Over.{Over}
+use Rattle.nx_receiver.specs.declared.copy_taker.CopyTaker.{CopyTaker}
+use Rattle.nx_receiver.specs.declared.copy_taker.CopyTag.{CopyTag}
+use Rattle.nx_receiver.specs.declared.copy_taker.Over.{Over}
 use Rattle.nx_receiver.specs.Events.{Setting}
 use Rattle.nx_receiver.specs.FoundCopies.{FoundCopy, ended_in, past_copies, standing_text}
 use Rattle.nx_receiver.specs.FoundCopies.{ended_so_far, TaggedCopy}
 use Rattle.nx_receiver.specs.private.LockReader.{ReadsLock, word_place}
 use Rattle.nx_receiver.specs.LockText.{PlacedByte, lock_text}
 use Rattle.nx_receiver.specs.private.Watch.{HasTag, IsOver, LockIsOver, ReadsNow, ReadsOver}
-use Rattle.nx_receiver.specs.private.Watch.{ReadsWord, WatchStands, copies_by, over_with, tag_after}
-use Rattle.nx_receiver.specs.Watching.{Watching, in_force}
+use Rattle.nx_receiver.specs.private.Watch.{WatchStands, copies_by, over_with}
+use Rattle.nx_receiver.specs.private.CopyTaker.{ReadsWord, setting_of, tag_after}
+use Rattle.nx_receiver.specs.private.CopyTaker.{watch_of}
+use Rattle.nx_receiver.specs.Watching.{Watching}
 use Rattle.nx_receiver.proofs.lemmas.locks.Found.{text_placed}
 use Rattle.nx_receiver.proofs.lemmas.locks.Growing.{past_copies-more}
 use Rattle.nx_receiver.proofs.lemmas.locks.Texts.{lock_text-more}
@@ -66,19 +69,22 @@ be_over first watch bits settings copies new true brought stands =
 
 -- The last element of word k of the lock at t was heard after these elements.
 module _ (first : Setting) (bits : List Bool) (b : Bool) (settings : List Setting)
-    (many : length settings ≡ length bits) (old new : Watching) (answer : Over)
-    (synchroniser : StandsAfter new.synchroniser (bits ++ b ∷ [])) where
+    (many : length settings ≡ length bits) (old new : CopyTaker) (held : Held) (answer : Over)
+    (synchroniser : StandsAfter held (bits ++ b ∷ [])) where
   abbrev bits' : List Bool
   bits' = bits ++ b ∷ []
 
   abbrev settings' : List Setting
-  settings' = settings ++ in_force old ∷ []
+  settings' = settings ++ setting_of old ∷ []
+
+  abbrev watch : Watching
+  watch = watch_of held new
 
   longer : length bits' ≡ length bits + 1
   longer = length_push bits b
 
   as_many : length settings' ≡ length bits'
-  as_many = omega (arith, length_push bits b, length_push settings (in_force old), many)
+  as_many = omega (arith, length_push bits b, length_push settings (setting_of old), many)
 
   -- what the text of the lock and its copies are after word k
   pub record WordRead (t k : ℕ) (is_changed : Bool) : Type 0 where
@@ -100,7 +106,8 @@ module _ (first : Setting) (bits : List Bool) (b : Bool) (settings : List Settin
       let same = lock_text-more bits (b ∷ []) t k here heard in
       let adds = adds_byte (first_role bits' t) (word_of_lock bits' t) t k new.reader.finder r.event
       (r.hears (first_role bits' t) (word_of_lock bits' t) k at is_word is_role) in
-      let after = after_word first settings (lock_text bits' t k) (lock_text bits' t (k + 1)) old t
+      let after = after_word first settings (lock_text bits' t k) (lock_text bits' t (k + 1))
+      (watch_of held old) t
       (t + 7 * k) (word_place t k) new.reader.finder r.event
       (text_placed (first_role bits' t) (word_of_lock bits' t) t k) (omega (arith, heard, many))
       (omega (arith, e, longer, many))
@@ -111,7 +118,8 @@ module _ (first : Setting) (bits : List Bool) (b : Bool) (settings : List Settin
         after = subst (λ (kept : CopyTag). AfterWord first settings' (lock_text bits t k)
             (lock_text bits' t (k + 1)) kept new.reader.finder (is_over r.event)) (sym r.kept)
             (subst (λ (l : List PlacedByte). AfterWord first settings' l (lock_text bits' t (k + 1))
-            (tag_after old r.event) new.reader.finder (is_over r.event)) same after);
+            (tag_after (setting_of old) old.tag r.event) new.reader.finder (is_over r.event)) same
+            after);
         reads = r.stands (first_role bits' t) (word_of_lock bits' t) k at is_word is_role;
         is = r.is;
       }
@@ -127,7 +135,7 @@ module _ (first : Setting) (bits : List Bool) (b : Bool) (settings : List Settin
   unfolding ended_so_far
   ended_with locks p t k is whole new e =
       ap (λ l. l ++ copies_by first settings' new)
-      (sym (copies_by-later first settings (in_force old ∷ []) (length bits)
+      (sym (copies_by-later first settings (setting_of old ∷ []) (length bits)
       (omega (arith, many)) (ended_so_far bits locks (locked p t))
       (ended_placed bits locks (locked p t) is)))
       ∙ sym (copies_by-append first settings' (ended_so_far bits locks (locked p t)) new)
@@ -146,7 +154,7 @@ module _ (first : Setting) (bits : List Bool) (b : Bool) (settings : List Settin
       → (r : Step) → r.word ≡ Some (w, role) → ReadsWord old new w role (is_some r.change) answer
       → IsNow bits' (lock ∷ locks) (hunting q) → length bits' ≡ q
       → r ≡ step (Some (heard_word bits' lock.at lock.last)) (Some lock.how)
-      → IsOver first new bits' settings'
+      → IsOver first watch bits' settings'
       (copies_by first settings (ended_so_far bits locks (locked p lock.at))) answer
   unfolding Past
   over_case w role locks p lock q is reads k r one wr on end f =
@@ -161,10 +169,10 @@ module _ (first : Setting) (bits : List Bool) (b : Bool) (settings : List Settin
       (subst (λ (m : ℕ). HasTag first settings (lock_text bits t m) old.tag) whole k) w role
       (is_some r.change) (ap (λ x. x.0) pair) (sym (ap (λ x. x.1) pair)) wr in
       let changed : is_some r.change ≡ true = ap (λ x. is_some x.change) f in
-      subst (IsOver first new bits' settings'
+      subst (IsOver first watch bits' settings'
       (copies_by first settings (ended_so_far bits locks (locked p t))))
       (sym (read.is ∙ ap (over_with read.is_copy_over) changed))
-      (be_over first new bits' settings'
+      (be_over first watch bits' settings'
       (copies_by first settings (ended_so_far bits locks (locked p t)))
       (copies_by first settings' read.after.new) read.is_copy_over read.after.brought (record {
         synchroniser = synchroniser;
@@ -184,7 +192,7 @@ module _ (first : Setting) (bits : List Bool) (b : Bool) (settings : List Settin
       → (r : Step) → r.word ≡ Some (w, role) → ReadsWord old new w role (is_some r.change) answer
       → (newer : List Lock) (next : Now) → IsNow bits' newer next → Brings bits' r newer next
       → OneMore bits' locks now newer next
-      → IsOver first new bits' settings' (copies_by first settings (ended_so_far bits locks now))
+      → IsOver first watch bits' settings' (copies_by first settings (ended_so_far bits locks now))
       answer
   unfolding ended_so_far
   word_case w role locks (hunting p) is reads k r one wr newer (hunting q) on (hunts h e)
@@ -216,10 +224,10 @@ module _ (first : Setting) (bits : List Bool) (b : Bool) (settings : List Settin
       (subst (λ (m : ℕ). HasTag first settings (lock_text bits t m) old.tag) whole k) w role
       (is_some r.change) (ap (λ x. x.0) pair) (sym (ap (λ x. x.1) pair)) wr in
       let still : is_some r.change ≡ false = ap (λ x. is_some x.change) f in
-      subst (IsOver first new bits' settings'
+      subst (IsOver first watch bits' settings'
       (copies_by first settings (ended_so_far bits locks (locked p t))))
       (sym (read.is ∙ ap (over_with read.is_copy_over) still))
-      (stand_on first new bits' settings'
+      (stand_on first watch bits' settings'
       (copies_by first settings (ended_so_far bits locks (locked p t)))
       (copies_by first settings' read.after.new) read.is_copy_over read.after.brought (record {
         synchroniser = synchroniser;
@@ -244,19 +252,21 @@ module _ (first : Setting) (bits : List Bool) (b : Bool) (settings : List Settin
       (now_over lock x y z) =
       subst (λ (u : ℕ). IsNow bits locks (locked p u) → ReadsNow old.reader bits (locked p u)
       → HasTag first settings (standing_text bits (locked p u)) old.tag
-      → IsOver first new bits' settings'
+      → IsOver first watch bits' settings'
       (copies_by first settings (ended_so_far bits locks (locked p u))) answer) y
       (λ was at has. over_case w role locks p lock q was at has r one wr on z f) is reads k
 
 pub word_bit : (first : Setting) (bits : List Bool) (b : Bool) (settings : List Setting)
-    (copies : List TaggedCopy) (old new : Watching) (answer : Over) (r : Step) (w : ℕ) (role : Role)
+    (copies : List TaggedCopy) (old new : CopyTaker) (held : Held) (answer : Over) (r : Step)
+    (w : ℕ) (role : Role)
     → ReadsOver first old.reader old.tag bits settings copies → IsStep (bits ++ b ∷ []) r
     → r.word ≡ Some (w, role) → ReadsWord old new w role (is_some r.change) answer
-    → StandsAfter new.synchroniser (bits ++ b ∷ [])
-    → IsOver first new (bits ++ b ∷ []) (settings ++ in_force old ∷ []) copies answer
-word_bit first bits b settings copies old new answer r w role o is one wr synchroniser =
-    subst (λ (l : List TaggedCopy). IsOver first new (bits ++ b ∷ [])
-    (settings ++ in_force old ∷ []) l answer) (sym o.ended)
-    (word_case first bits b settings o.many old new answer synchroniser w role o.locks o.now
+    → StandsAfter held (bits ++ b ∷ [])
+    → IsOver first (watch_of held new) (bits ++ b ∷ []) (settings ++ setting_of old ∷ []) copies
+    answer
+word_bit first bits b settings copies old new held answer r w role o is one wr synchroniser =
+    subst (λ (l : List TaggedCopy). IsOver first (watch_of held new) (bits ++ b ∷ [])
+    (settings ++ setting_of old ∷ []) l answer) (sym o.ended)
+    (word_case first bits b settings o.many old new held answer synchroniser w role o.locks o.now
     o.stands o.reads o.has_tag r one wr is.locks is.now is.stands is.brings
     (one_more bits b o.locks is.locks o.now is.now o.stands is.stands))

@@ -11,8 +11,8 @@ ghost use Rattle.nx_receiver.specs.declared.air_file_runs.listen_fault.ListenFau
 
 use crate::air_file_runs::listen_fault::ListenFault;
 use crate::air_file_runs::listening::{LineRefusal, Report, line_listener, run_fault};
+use crate::copy_taker::Over;
 use crate::listener::Listener;
-use crate::over::Over;
 use nx_envelope::Letter;
 use nx_fec::{
     Channel, Counting, HearFault, LineHearer, LineKind, LinesFault, PackedElements, Scanner,

@@ -3,7 +3,7 @@ use Rattle.std.specs.Prelude.{MatchResult}
 use Rattle.std.proofs.lemmas.Result.{err_from_is_err_and}
 use Rattle.nx_fec.specs.air_files.LineRuns.{HasGiven}
 use Rattle.nx_fec.specs.Transfers.{WroteSome}
-use Rattle.nx_receiver.specs.declared.over.Over.TheVariants.{Nothing}
+use Rattle.nx_receiver.specs.declared.copy_taker.Over.TheVariants.{Nothing}
 use Rattle.nx_receiver.specs.Listener.{then_elements}
 use Rattle.nx_receiver.specs.private.Listener.{BeginsLog}
 use Rattle.nx_receiver.proofs.lemmas.listening.Listener.{begins-more, finishes, heard-no-over, heard-over}

@@ -1,5 +1,5 @@
 use Rattle.std.proofs.Common.{◌≡◌, ◌++◌, arith, drop, length-drop, rules, take}
-use Rattle.nx_receiver.specs.declared.over.Over.TheVariants.{Nothing}
+use Rattle.nx_receiver.specs.declared.copy_taker.Over.TheVariants.{Nothing}
 use Rattle.nx_receiver.proofs.lemmas.listening.Listener.{finishes, heard-no-over, heard-over, hears-until}
 use Rattle.nx_receiver.proofs.listener.Listener.hear_next_unlogged.Goals as goal
 

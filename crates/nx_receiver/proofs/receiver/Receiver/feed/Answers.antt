@@ -1,5 +1,5 @@
 use Rattle.std.proofs.Common.{◌≡◌, List, Bool, None, take, drop, length, rules, ◌-◌}
-use Rattle.nx_receiver.specs.declared.over.Over.TheVariants.{Nothing}
+use Rattle.nx_receiver.specs.declared.copy_taker.Over.TheVariants.{Nothing}
 use Rattle.nx_receiver.proofs.lemmas.receiver.Feeds.{Finished, fed_before, fed_on, fed_to, is_none}
 use Rattle.nx_receiver.proofs.lemmas.receiver.Feeds.{none_finished, piece_is, piece_within, prints_none}
 use Rattle.nx_receiver.proofs.receiver.Receiver.feed.Goals as goal

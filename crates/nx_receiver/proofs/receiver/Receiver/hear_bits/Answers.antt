@@ -1,5 +1,5 @@
 use Rattle.std.proofs.Common.{◌≡◌, List, Bool, take, drop, length, refl, rules, ◌-◌}
-use Rattle.nx_receiver.specs.declared.over.Over.TheVariants.{Nothing}
+use Rattle.nx_receiver.specs.declared.copy_taker.Over.TheVariants.{Nothing}
 use Rattle.nx_receiver.proofs.lemmas.receiver.Feeds.{awaits_nothing, awaits_to, fed_before, fed_none}
 use Rattle.nx_receiver.proofs.lemmas.receiver.Feeds.{fed_on, none_finished, piece_is, piece_within}
 use Rattle.nx_receiver.proofs.lemmas.receiver.Feeds.{prints_none}

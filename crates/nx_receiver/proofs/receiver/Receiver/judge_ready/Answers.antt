@@ -7,7 +7,7 @@ use Rattle.nx_memory.specs.Memory.{most_entries}
 use Rattle.nx_receiver.specs.Events.{elements_among, first_setting, setting_after_all, settings}
 use Rattle.nx_receiver.specs.Printing.{entry_made, is_printed}
 use Rattle.nx_receiver.specs.Receiver.{Receiving}
-use Rattle.nx_receiver.specs.declared.over.CopyTag.{CopyTag}
+use Rattle.nx_receiver.specs.declared.copy_taker.CopyTag.{CopyTag}
 use Rattle.nx_receiver.specs.private.Awaiting.{Awaits, AwaitsOver, behind_copy}
 use Rattle.nx_receiver.specs.private.Heads.{headed_copy}
 use Rattle.nx_receiver.proofs.lemmas.receiver.Given.{IsJudged, has_head, ready_judged}

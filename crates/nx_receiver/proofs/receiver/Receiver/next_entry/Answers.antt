@@ -1,5 +1,5 @@
 use Rattle.std.proofs.Common.{◌≡◌, ◌+◌, ◌≤◌, List, Bool, None, arith, take, drop, length, length-drop, rules}
-use Rattle.nx_receiver.specs.declared.over.Over.TheVariants.{Nothing}
+use Rattle.nx_receiver.specs.declared.copy_taker.Over.TheVariants.{Nothing}
 use Rattle.nx_receiver.proofs.lemmas.receiver.Feeds.{Finished, fed_before, fed_none, fed_on, fed_to}
 use Rattle.nx_receiver.proofs.lemmas.receiver.Feeds.{is_none, none_finished, packed_piece, prints_none}
 use Rattle.nx_receiver.proofs.receiver.Receiver.next_entry.Goals as goal

@@ -3,7 +3,7 @@ use Rattle.std.proofs.Common.{drop, length, length-drop, refl, rules, subst, sym
 use Rattle.nx_receiver.specs.Events.{elements}
 use Rattle.nx_receiver.specs.Listener.{IsSpelled}
 use Rattle.nx_receiver.specs.Receiver.{Stands}
-use Rattle.nx_receiver.specs.declared.over.Over.TheVariants.{Nothing}
+use Rattle.nx_receiver.specs.declared.copy_taker.Over.TheVariants.{Nothing}
 use Rattle.nx_receiver.proofs.lemmas.receiver.Feeds.{Finished, fed_before, fed_by, fed_none, fed_on}
 use Rattle.nx_receiver.proofs.lemmas.receiver.Feeds.{fed_to, none_finished, packed_piece, prints_none}
 use Rattle.nx_receiver.proofs.receiver.Receiver.next_spelled.Goals as goal

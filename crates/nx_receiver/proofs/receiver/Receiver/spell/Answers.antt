@@ -11,7 +11,7 @@ use Rattle.nx_receiver.specs.Log.{IsEntry}
 use Rattle.nx_receiver.specs.Receiver.{Receiving}
 use Rattle.nx_receiver.specs.Shares.{marked}
 use Rattle.nx_receiver.specs.Watching.{Watching}
-use Rattle.nx_receiver.specs.declared.over.CopyTag.{CopyTag}
+use Rattle.nx_receiver.specs.declared.copy_taker.CopyTag.{CopyTag}
 use Rattle.nx_receiver.specs.private.Heads.{headed_copy, headed_list}
 use Rattle.nx_receiver.specs.private.LockReader.{is_open}
 use Rattle.nx_receiver.proofs.lemmas.receiver.Given.{over_not_open}

@@ -1,5 +1,6 @@
 use Rattle.std.proofs.Common.{sym, subst, ◌∙◌}
-use Rattle.nx_receiver.specs.Watching.{Watching}
+use Rattle.nx_receiver.specs.declared.copy_taker.CopyTaker.{CopyTaker}
+use Rattle.nx_receiver.specs.private.CopyTaker.{watch_of}
 use Rattle.nx_receiver.specs.private.Watch.{IsOver, LockIsOver}
 use Rattle.nx_receiver.proofs.lemmas.watch.Takes.{closed_over, lock_closed}
 use Rattle.nx_receiver.proofs.watch.Watch.close_text.Goals as goal
@@ -7,13 +8,8 @@ use Rattle.nx_receiver.proofs.watch.Watch.close_text.Goals as goal
 pub returns-clause-lock : goal.returns-clause-lock
 returns-clause-lock c first h s copies over =
     let reader = c.close-is_copy_over.new.self in
-    let watch : Watching = record {
-      synchroniser = c.self.inside.synchroniser;
-      reader = reader;
-      refused = c.self.inside.selection;
-      moment = c.self.inside.moment;
-      tag = c.self.inside.tag;
-    } in
+    let taker : CopyTaker = record c.self.inside.taker { reader = reader } in
+    let watch = watch_of c.self.inside.synchroniser taker in
     subst (λ o. IsOver first watch h s copies o)
     (sym c.of.ensures)
     (lock_closed first _ reader h s copies c.close-is_copy_over.result

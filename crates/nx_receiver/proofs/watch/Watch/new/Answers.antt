@@ -3,4 +3,4 @@ use Rattle.nx_receiver.proofs.watch.Watch.new.Goals as goal
 
 pub returns-clause-stands : goal.returns-clause-stands
 returns-clause-stands c first =
-    nothing_heard first _ c.in_ok-synchroniser.ensures.stands (record { fresh = c.new-2.ensures })
+    nothing_heard first _ c.in_ok-synchroniser.ensures.stands c.new-2.ensures.fresh

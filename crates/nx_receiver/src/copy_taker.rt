@@ -1,0 +1,150 @@
+//! The taker of copies: it reads the words that a synchroniser hears, and says what is over with
+//! them. What runs for each element or each word is inlined always, since its answers would go
+//! through memory otherwise.
+
+ghost use Rattle.std.specs.Prelude.{◌≡◌, ◌≢◌, Option, Some};
+ghost use Rattle.nx_receiver.specs.declared.copy_taker.Over.TheVariants.{Nothing};
+ghost use Rattle.nx_receiver.specs.private.CopyTaker.{ReadsStep, over_by};
+ghost use Rattle.nx_receiver.specs.private.Watch.{IsFresh, over_with};
+
+use crate::lock_reader::LockReader;
+use nx_code::{WORDS_AT_ONCE, Word};
+use nx_envelope::TextEvent;
+use nx_memory::Selection;
+use nx_sync::{Step, StepTaker};
+
+/// What is over with an element that was heard. It is copied for each element, so it is small; a
+/// copy that is over is left with the finder.
+#[derive(Clone, Copy, Debug, PartialEq, Eq)]
+pub(crate) enum Over {
+    /// No copy and no lock.
+    Nothing,
+    /// A copy, which can be taken.
+    Copy,
+    /// The lock: its text ends.
+    Lock,
+    /// A copy, which can be taken, and the lock.
+    CopyAndLock,
+}
+
+impl Over {
+    /// What is over, by whether a copy is and whether the lock is.
+    #[inline(always)]
+    pub(crate) fn of(is_copy_over: bool, is_lock_over: bool) -> Over
+        ensures { result ≡ over_with is_copy_over is_lock_over }
+    {
+        match (is_copy_over, is_lock_over) {
+            (false, false) => Over::Nothing,
+            (true, false) => Over::Copy,
+            (false, true) => Over::Lock,
+            (true, true) => Over::CopyAndLock,
+        }
+    }
+
+    /// What is over, if anything is.
+    #[inline(always)]
+    fn some(self) -> Option<Over>
+        ensures is { over_by result ≡ self }
+        ensures some { result ≢ Some Nothing }
+    {
+        match self {
+            Over::Nothing => None,
+            Over::Copy | Over::Lock | Over::CopyAndLock => Some(self),
+        }
+    }
+}
+
+/// What was in force at the second digit of a header.
+#[derive(Clone, Copy, Debug)]
+pub(crate) struct CopyTag {
+    /// The moment, in whole seconds since 1970-01-01 00:00:00 UTC.
+    pub(crate) moment: u64,
+    /// Whether the copy's station and subject were selected.
+    pub(crate) is_selected: bool,
+}
+
+/// Finds the copies in what a synchroniser hears, each with the moment and the selection in force
+/// at its second digit.
+///
+/// It holds what the reader of a lock holds, what is refused, the moment, and what was in force at
+/// the header that was heard last. That it holds nothing else, the `inverse` of `Watch` and the
+/// proved size show.
+#[derive(Drop)]
+pub(crate) struct CopyTaker {
+    pub(crate) reader: LockReader,
+    pub(crate) selection: Selection,
+    pub(crate) moment: u64,
+    pub(crate) tag: CopyTag,
+}
+
+impl CopyTaker {
+    /// A taker that has taken nothing, from this moment on, with what is selected at first.
+    pub(crate) fn new(moment: u64, selection: Selection) -> CopyTaker
+        ensures fresh { IsFresh result.reader }
+        ensures selection { result.selection ≡ selection }
+        ensures moment { result.moment ≡ moment }
+        ensures tag { result.tag.moment ≡ moment }
+    {
+        // No room for a field of a type whose own model forgets what it holds.
+        prove!(size_of::<CopyTaker>() == size_of::<LockReader>() + 80);
+        CopyTaker {
+            reader: LockReader::new(),
+            selection,
+            moment,
+            tag: CopyTag {
+                moment,
+                is_selected: false,
+            },
+        }
+    }
+
+    /// Reads the word that a step of the synchroniser completes, if it completes one.
+    #[inline(always)]
+    fn read(&mut self, step: Step) -> Over
+        ensures { ReadsStep self.old self.new step result }
+    {
+        let Step { word, change } = step;
+        let Some((word, role)) = word else {
+            return Over::Nothing;
+        };
+        let is_changed = change.is_some();
+        match self.reader.take_word(word, role) {
+            TextEvent::Nothing => Over::of(false, is_changed),
+            TextEvent::Header(identity) => {
+                self.tag = CopyTag {
+                    moment: self.moment,
+                    is_selected: self.selection.admits(&identity),
+                };
+                Over::of(false, is_changed)
+            }
+            TextEvent::CopyOver => Over::of(true, is_changed),
+        }
+    }
+}
+
+impl StepTaker for CopyTaker {
+    ghost use Rattle.nx_receiver.specs.private.CopyTaker.{HasRoom, Hears};
+    ghost use Rattle.nx_receiver.specs.private.CopyTakerLaws.{heard-both, heard-none};
+
+    type Over = Over;
+
+    ghost can_take = { HasRoom };
+
+    ghost hears = { Hears };
+
+    #[inline(always)]
+    fn take(&mut self, _count: usize, step: Step) -> Option<Over> {
+        self.read(step).some()
+    }
+
+    #[inline(always)]
+    fn take_eight(&mut self, words: &[Word; WORDS_AT_ONCE]) -> bool {
+        self.reader.hear_eight(words)
+    }
+
+    ghost none = { heard-none };
+
+    ghost both = { heard-both };
+
+    ghost fewer = { λ taker n more can. can };
+}
