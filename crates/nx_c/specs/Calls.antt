@@ -5,6 +5,7 @@ use Rattle.std.specs.Prelude.{Result, Ok, Err, IfErr}
 use Rattle.std.specs.declared.alloc.AllocError.{AllocError}
 use Rattle.nx_c.specs.Faults.{resume_told}
 use Rattle.nx_c.specs.Told.{Answer, IsPut, IsTold, Room, answer, ended_told}
+use Rattle.nx_fec.specs.Transfers.{whole_input}
 use Rattle.nx_fec.specs.Runs.{AnswersEncoding, AnswersWordRun, IsDecoded, file_limit}
 use Rattle.nx_fec.specs.declared.fault.RunFault.{RunFault}
 use Rattle.nx_fec.specs.declared.fault.RunFault.TheVariants as run
@@ -33,8 +34,7 @@ use Rattle.nx_station.specs.declared.sending.Sent.{Sent}
 -- memory for it
 pub record ListensFrom (starts : Starts) (air log : List ℕ) (outcome : Result Report ListenFault)
     : Type 0 where
-  pub answers : AnswersListening starts (Unit {0}) (λ more. Unit {0}) (Some []) (Some log)
-      outcome air
+  pub answers : AnswersListening starts whole_input (Some []) (Some log) outcome air
   pub memory : (error : AllocError) → outcome ≡ Err (Memory error) → log ≡ []
 
 abbrev pub ListensTo : List ℕ → List ℕ → Result Report ListenFault → Type 0
@@ -65,7 +65,7 @@ GoesOnTo states air log left (Err (Write written)) =
 -- there is no log.
 abbrev pub ResumesTo : List ℕ → List ℕ → List ℕ → List ℕ → Result Report ResumeFault → Type 0
 ResumesTo state air log left (Err (State fault)) =
-    ExplainsState (Unit {0}) (λ more. Unit {0}) state fault × (log ≡ []) × (left ≡ [])
+    ExplainsState whole_input state fault × (log ≡ []) × (left ≡ [])
 ResumesTo state air log left outcome =
     BeginsWith state (λ states more. GoesOnTo states air log left outcome)
 
@@ -107,12 +107,12 @@ pub record EncodesTo (text air : List ℕ) (outcome : Result ℕ RunFault) : Typ
 -- a run that sends this message file of a station, from a moment on, writes these bytes, or none
 pub record SendsTo (station moment : ℕ) (file air : List ℕ) (outcome : Result Sent SendRunFault)
     : Type 0 where
-  pub answers : AnswersSending (Unit {0}) file_limit station moment file (Some [])
-      (Some air) outcome
+  pub answers : AnswersSending whole_input file_limit station moment file (Some []) (Some air)
+      outcome
   pub unwritten : IfErr outcome (λ why. ((written : ℕ) → why ≢ sending.Write written) → air ≡ [])
 
 -- a run that checks these bytes writes this text, or none
 pub record ChecksTo (air text : List ℕ) (outcome : Result ℕ CheckFault) : Type 0 where
-  pub answers : AnswersChecking (Unit {0}) file_limit air (Some []) (Some text) outcome
+  pub answers : AnswersChecking whole_input file_limit air (Some []) (Some text) outcome
   pub unwritten : IfErr outcome (λ why.
       ((written : ℕ) → why ≢ Run (run.Write written)) → text ≡ [])

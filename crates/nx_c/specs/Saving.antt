@@ -1,5 +1,6 @@
 -- What saving a receiver answers, and opening one from what is saved (this profile).
 use Rattle.std.specs.Prelude.{◌≡◌, ◌⊎◌, ℕ, List, [], length, Option, Some, None, Result, Ok, Err, Box}
+use Rattle.nx_fec.specs.Transfers.{whole_input}
 use Rattle.nx_fec.specs.declared.air_files.channel.Channel.{Channel}
 use Rattle.nx_memory.specs.Saved.{AreSavedStates, SavedStates}
 use Rattle.nx_receiver.specs.air_file_runs.Chain.{Leaves}
@@ -46,7 +47,7 @@ Restores bytes (Ok kept) =
     BeginsWith bytes (λ states more. HasHeard (starts_from states) (Some kept.value) [] [])
 Restores bytes (Err why) =
     (BeginsWith bytes (λ states more. Unit {0}) × (why ≡ status.Memory))
-    ⊎ ((fault : StateFault) × ExplainsState (Unit {0}) (λ more. Unit {0}) bytes fault
+    ⊎ ((fault : StateFault) × ExplainsState whole_input bytes fault
     × (why ≡ (state_told fault).status))
 
 -- These bytes begin with a state, and a receiver is opened that starts with it and has heard
@@ -55,7 +56,7 @@ abbrev pub OpensFrom : List ℕ → Option Kept → ℕ → Type 0
 OpensFrom bytes new answer =
     BeginsWith bytes (λ states more. ((answer ≡ 0) × HasHeard (starts_from states) new [] [])
     ⊎ ((answer ≡ number_of status.Memory) × (new ≡ None)))
-    ⊎ ((fault : StateFault) × ExplainsState (Unit {0}) (λ more. Unit {0}) bytes fault
+    ⊎ ((fault : StateFault) × ExplainsState whole_input bytes fault
     × (answer ≡ number_of (state_told fault).status) × (new ≡ None))
 
 -- Opening a closed receiver from what is saved; one that is open stays as it was.

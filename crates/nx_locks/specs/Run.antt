@@ -1,14 +1,14 @@
 -- A run that shows the locks of an air file on channel 0: the report of its lines, and its first
 -- fault (this profile). It reads the file as a run that listens does, with the same faults, which
 -- are those of all channels.
-use Rattle.std.specs.Prelude.{◌≡◌, ◌⊎◌, ℕ, ◌+◌, ◌≤◌, Bool, List, [], ◌++◌, length, map, Option}
+use Rattle.std.specs.Prelude.{◌≡◌, ◌⊎◌, ℕ, ◌+◌, ◌≤◌, Bool, List, ◌++◌, length, map, Option}
 use Rattle.std.specs.Prelude.{Result, Ok, Err, ⊤}
 use Rattle.std.specs.Io.KnownBytes.{Appends}
 use Rattle.nx_fec.specs.air_files.AirFile.{Line}
 use Rattle.nx_fec.specs.air_files.Lines.{StopsAt, air_limit}
 use Rattle.nx_fec.specs.air_files.Lines.{IsAirFile, file_of}
 use Rattle.nx_fec.specs.declared.air_files.channel.Channel.TheVariants.{Zero}
-use Rattle.nx_fec.specs.Transfers.{Devices, IsReadOut, Transfers, on_the_way}
+use Rattle.nx_fec.specs.Transfers.{Devices, Extent, Transfers, as_read, on_the_way, whole_input}
 use Rattle.nx_receiver.specs.Events.{elements_among, first_setting, settings}
 use Rattle.nx_receiver.specs.air_file_runs.Listen.{AreTaken, HasListenFault, HasLoggedSome, events_on}
 use Rattle.nx_receiver.specs.air_file_runs.Listen.{moment_after}
@@ -68,41 +68,41 @@ pub record HasShownAll (old new : Option (List ℕ)) (file : List ℕ) (answer :
       ≡ past_headers (elements_on_0 lines) report.report.locks
       + now_headers (elements_on_0 lines) report.report.now
 
--- What a fault of a run that shows locks says of the bytes that were read. The report so far of the
+-- What a fault of a run that shows locks says of bytes of this extent. The report so far of the
 -- whole lines before it was written, and nothing is closed but what was released. A failed read
--- comes behind whole lines and the beginning of one more. `IsLeft` says what may come behind these:
--- nothing in the bytes that were read, anything in the bytes of the whole file. After a failed
+-- comes behind whole lines and the beginning of one more, and leaves what follows. After a failed
 -- write the first bytes of the report of the lines that were read whole are written, closed if the
 -- file had ended. A want of memory says nothing of them. Each other fault is the first of the file;
 -- that of its end comes at its end.
-abbrev pub ExplainsShowing : Type 0 → (List ℕ → Type 0) → Option (List ℕ) → Option (List ℕ)
-    → List ℕ → ListenFault → Type 0
-ExplainsShowing AtEnd IsLeft old new bytes (Memory error) = ⊤
-ExplainsShowing AtEnd IsLeft old new bytes Read =
+abbrev pub ExplainsShowing : Extent → Option (List ℕ) → Option (List ℕ) → List ℕ → ListenFault
+    → Type 0
+ExplainsShowing extent old new bytes (Memory error) = ⊤
+ExplainsShowing extent old new bytes Read =
     StopsAt bytes (λ lines rest more.
-    (length (file_of lines ++ rest) ≤ air_limit) × IsLeft more × HasShown old new lines)
-ExplainsShowing AtEnd IsLeft old new bytes (Write written) =
+    (length (file_of lines ++ rest) ≤ air_limit) × extent.is_left more × HasShown old new lines)
+ExplainsShowing extent old new bytes (Write written) =
     StopsAt bytes (λ lines rest more. HasLoggedSome (IsReportOfLines lines) old new written)
-    ⊎ (AtEnd × HasLoggedSome (IsReportOf bytes) old new written)
-ExplainsShowing AtEnd IsLeft old new bytes (LineCut line) =
-    AtEnd × HasListenFault all_at_zero (HasShown old new) bytes (LineCut line)
-ExplainsShowing AtEnd IsLeft old new bytes fault =
+    ⊎ (extent.at_end × HasLoggedSome (IsReportOf bytes) old new written)
+ExplainsShowing extent old new bytes (LineCut line) =
+    extent.at_end × HasListenFault all_at_zero (HasShown old new) bytes (LineCut line)
+ExplainsShowing extent old new bytes fault =
     HasListenFault all_at_zero (HasShown old new) bytes fault
 
--- what such a run answers of these bytes: counts, where the report of the file was written; or a
--- fault
-abbrev pub AnswersShowing : Type 0 → (List ℕ → Type 0) → Option (List ℕ) → Option (List ℕ)
+-- what such a run answers of bytes of this extent: counts, where the report of the file was
+-- written; or a fault
+abbrev pub AnswersShowing : Extent → Option (List ℕ) → Option (List ℕ)
     → Result LocksReport ListenFault → List ℕ → Type 0
-AnswersShowing AtEnd IsLeft old new (Ok answer) bytes = AtEnd × HasShownAll old new bytes answer
-AnswersShowing AtEnd IsLeft old new (Err fault) bytes =
-    ExplainsShowing AtEnd IsLeft old new bytes fault
+AnswersShowing extent old new (Ok answer) bytes =
+    extent.at_end × HasShownAll old new bytes answer
+AnswersShowing extent old new (Err fault) bytes =
+    ExplainsShowing extent old new bytes fault
 
 -- A run that shows locks: it answers so to the bytes that it read, and to the whole file, however
 -- it came. It writes what the lines that it read give before each further read.
 abbrev pub ShowsLocks : {R W : Type 0} → Devices R W → Result LocksReport ListenFault → Type 0
 ShowsLocks d outcome =
     Transfers Read (λ _. ⊥) (λ written. Write written) on_the_way d outcome (λ _. ⊤)
-    (λ bytes. AnswersShowing (IsReadOut d) (λ more. more ≡ []) (d.contents d.writer.inner)
-    (d.contents d.writer_after.inner) outcome bytes)
-    (λ bytes. AnswersShowing (Unit {0}) (λ more. Unit {0}) (d.contents d.writer.inner)
-    (d.contents d.writer_after.inner) outcome bytes)
+    (AnswersShowing (as_read d) (d.contents d.writer.inner) (d.contents d.writer_after.inner)
+    outcome)
+    (AnswersShowing whole_input (d.contents d.writer.inner) (d.contents d.writer_after.inner)
+    outcome)

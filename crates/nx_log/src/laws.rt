@@ -5,6 +5,7 @@ ghost use Rattle.std.specs.Io.KnownBytes.{IsAtEnd};
 ghost use Rattle.nx_code.specs.Lists.{last_of};
 ghost use Rattle.nx_envelope.specs.Moment.{IsShownAs};
 ghost use Rattle.nx_fec.specs.air_files.AirFile.{Line};
+ghost use Rattle.nx_fec.specs.Transfers.{read_to};
 ghost use Rattle.nx_fec.specs.declared.air_files.channel.Channel.{Channel};
 ghost use Rattle.nx_memory.specs.Memory.{most_entries};
 ghost use Rattle.nx_memory.specs.Saved.{SavedStates};
@@ -70,11 +71,11 @@ pub fn a_run_writes_a_log()
         → All IsLogged copies }
     ensures listened { (starts : Starts) (left_after old new : Option (List ℕ))
         (outcome : Result Report ListenFault) (bytes : List ℕ)
-        → AnswersListening starts (IsAtEnd left_after) (λ more. more ≡ []) old new outcome bytes
+        → AnswersListening starts (read_to (IsAtEnd left_after)) old new outcome bytes
         → WroteEntries old new outcome }
     ensures resumed { (left_after old new : Option (List ℕ)) (outcome : Result Report ResumeFault)
         (input : List ℕ)
-        → AnswersResuming Log (IsAtEnd left_after) (λ more. more ≡ []) old new outcome input
+        → AnswersResuming Log (read_to (IsAtEnd left_after)) old new outcome input
         → ResumedEntries old new outcome }
 {}
 

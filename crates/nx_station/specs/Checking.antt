@@ -2,7 +2,7 @@
 use Rattle.std.specs.Prelude.{◌≡◌, ℕ, Bool, List, [], ◌∷◌, ◌++◌, codes, length, map, Option, Result, Ok, Err}
 use Rattle.std.specs.Io.KnownBytes.{Appends}
 use Rattle.nx_envelope.specs.Message.{MessageView}
-use Rattle.nx_fec.specs.Transfers.{WroteSome, Devices, IsReadOut, Transfers, at_the_end}
+use Rattle.nx_fec.specs.Transfers.{WroteSome, Devices, Extent, Transfers, as_read, at_the_end, whole_input}
 use Rattle.nx_fec.specs.air_files.Lines.{IsBitFile, IsFaultless, line_end}
 use Rattle.nx_fec.specs.Runs.{ExplainsReading, IsOutside, file_limit}
 use Rattle.nx_fec.specs.declared.fault.RunFault.TheVariants as run
@@ -32,29 +32,31 @@ pub record IsChecked (limit : ℕ) (air written : List ℕ) (count : ℕ) : Type
   pub whole : written ≡ report station messages
   pub counted : count ≡ length messages
 
--- What a fault of checking says of the air file that was read: a fault of reading its elements, or
--- of writing, or of its elements.
-abbrev pub ExplainsChecking : Type 0 → ℕ → List ℕ → Option (List ℕ) → Option (List ℕ)
+-- What a fault of checking says of bytes of this extent of an air file: a fault of reading its
+-- elements, or of writing, or of its elements.
+abbrev pub ExplainsChecking : Extent → ℕ → List ℕ → Option (List ℕ) → Option (List ℕ)
     → CheckFault → Type 0
-ExplainsChecking AtEnd limit air old new (Run (run.Write written)) =
-    AtEnd × (text : List ℕ) × (count : ℕ) × IsChecked limit air text count
+ExplainsChecking extent limit air old new (Run (run.Write written)) =
+    extent.at_end × (text : List ℕ) × (count : ℕ) × IsChecked limit air text count
     × WroteSome old new text written
-ExplainsChecking AtEnd limit air old new (Run fault) = ExplainsReading AtEnd limit air fault
-ExplainsChecking AtEnd limit air old new (Emission fault) =
-    AtEnd × (bits : List Bool) × IsBitFile limit air bits × ExplainsEmission bits fault
+ExplainsChecking extent limit air old new (Run fault) =
+    ExplainsReading extent.at_end limit air fault
+ExplainsChecking extent limit air old new (Emission fault) =
+    extent.at_end × (bits : List Bool) × IsBitFile limit air bits × ExplainsEmission bits fault
 
 -- the fault is of the reader or of memory, while the elements are read or their report is made
 abbrev pub IsOutsideChecking : CheckFault → Type 0
 IsOutsideChecking (Run fault) = IsOutside fault
 IsOutsideChecking (Emission fault) = ⊥
 
--- what checking answers to an air file: the count of its messages, whose report was written, or a
--- fault
-abbrev pub AnswersChecking : Type 0 → ℕ → List ℕ → Option (List ℕ) → Option (List ℕ)
+-- what checking answers to bytes of this extent of an air file: the count of its messages, whose
+-- report was written, or a fault
+abbrev pub AnswersChecking : Extent → ℕ → List ℕ → Option (List ℕ) → Option (List ℕ)
     → Result ℕ CheckFault → Type 0
-AnswersChecking AtEnd limit air old new (Ok count) =
-    AtEnd × (text : List ℕ) × IsChecked limit air text count × Appends old new text
-AnswersChecking AtEnd limit air old new (Err fault) = ExplainsChecking AtEnd limit air old new fault
+AnswersChecking extent limit air old new (Ok count) =
+    extent.at_end × (text : List ℕ) × IsChecked limit air text count × Appends old new text
+AnswersChecking extent limit air old new (Err fault) =
+    ExplainsChecking extent limit air old new fault
 
 -- A run that checks: it answers so to the bytes that it read, and to the whole file, however it
 -- came; and it writes nothing before all else succeeded.
@@ -62,7 +64,7 @@ abbrev pub Checks : {R W : Type 0} → Devices R W → Result ℕ CheckFault →
 Checks d outcome =
     Transfers (Run run.Read) IsOutsideChecking (λ written. Run (run.Write written)) at_the_end d
     outcome (IsFaultless file_limit)
-    (λ bytes. AnswersChecking (IsReadOut d) file_limit bytes
+    (λ bytes. AnswersChecking (as_read d) file_limit bytes
     (d.contents d.writer.inner) (d.contents d.writer_after.inner) outcome)
-    (λ bytes. AnswersChecking (Unit {0}) file_limit bytes
+    (λ bytes. AnswersChecking whole_input file_limit bytes
     (d.contents d.writer.inner) (d.contents d.writer_after.inner) outcome)

@@ -5,7 +5,7 @@ use Rattle.std.specs.Io.KnownBytes.{Appends}
 use Rattle.nx_code.specs.Word.{value_of}
 use Rattle.nx_fec.specs.air_files.AirFile.{Line, elements}
 use Rattle.nx_fec.specs.air_files.Channels.{channel_of}
-use Rattle.nx_fec.specs.Transfers.{WroteSome, Devices, IsReadOut, Transfers, on_the_way}
+use Rattle.nx_fec.specs.Transfers.{WroteSome, Devices, Extent, Transfers, as_read, on_the_way, whole_input}
 use Rattle.nx_fec.specs.air_files.LineRuns.{IsPlaced}
 use Rattle.nx_fec.specs.air_files.Lines.{StopsAt, air_limit, IsAirFile, IsCause, elements_on, file_of}
 use Rattle.nx_fec.specs.declared.air_files.channel.Channel.{Channel}
@@ -86,48 +86,48 @@ pub record IsDamaged (damage : Damage) (limit : ℕ) (air written : List ℕ) (c
   pub counted : count ≡ inverted_count damage 0 (flat_map (elements_on Zero) lines)
 
 -- the air file has this fault, its first, and the whole lines before it were written
-abbrev pub StopsFor : Type 0 → ℕ → Damage → Option (List ℕ) → Option (List ℕ) → List ℕ → LineFault
+abbrev pub StopsFor : Extent → ℕ → Damage → Option (List ℕ) → Option (List ℕ) → List ℕ → LineFault
     → Type 0
-StopsFor AtEnd limit damage old new air why =
-    IsPlaced AtEnd why
+StopsFor extent limit damage old new air why =
+    IsPlaced extent.at_end why
     × StopsAt air (λ lines rest more.
     IsCause limit (length (file_of lines ++ rest)) lines rest more why
     × Appends old new (damaged_file damage lines))
 
--- What a fault says of the air file that was read. A failed read comes behind whole lines and the
--- beginning of one more; `IsLeft` says what may come behind these: no byte that was read, but any
--- of the file. The whole lines before it were written, as before a fault of the file. A write that
--- failed wrote a part.
-abbrev pub ExplainsDamaging : Type 0 → (List ℕ → Type 0) → ℕ → Damage
-    → Option (List ℕ) → Option (List ℕ) → List ℕ → DamageFault → Type 0
-ExplainsDamaging AtEnd IsLeft limit damage old new air Read =
-    StopsAt air (λ lines rest more. (length (file_of lines ++ rest) ≤ limit) × IsLeft more
+-- What a fault says of bytes of this extent of the air file. A failed read comes behind whole lines
+-- and the beginning of one more, and leaves what follows. The whole lines before it were written,
+-- as before a fault of the file. A write that failed wrote a part.
+abbrev pub ExplainsDamaging : Extent → ℕ → Damage → Option (List ℕ) → Option (List ℕ) → List ℕ
+    → DamageFault → Type 0
+ExplainsDamaging extent limit damage old new air Read =
+    StopsAt air (λ lines rest more. (length (file_of lines ++ rest) ≤ limit) × extent.is_left more
     × Appends old new (damaged_file damage lines))
-ExplainsDamaging AtEnd IsLeft limit damage old new air AirTooLong =
-    StopsFor AtEnd limit damage old new air file.TooLong
-ExplainsDamaging AtEnd IsLeft limit damage old new air (LineLong line) =
-    StopsFor AtEnd limit damage old new air (file.LineLong line)
-ExplainsDamaging AtEnd IsLeft limit damage old new air (LineCut line) =
-    StopsFor AtEnd limit damage old new air (file.LineCut line)
-ExplainsDamaging AtEnd IsLeft limit damage old new air (BadLine line) =
-    StopsFor AtEnd limit damage old new air (file.BadLine line)
-ExplainsDamaging AtEnd IsLeft limit damage old new air (Write written) =
+ExplainsDamaging extent limit damage old new air AirTooLong =
+    StopsFor extent limit damage old new air file.TooLong
+ExplainsDamaging extent limit damage old new air (LineLong line) =
+    StopsFor extent limit damage old new air (file.LineLong line)
+ExplainsDamaging extent limit damage old new air (LineCut line) =
+    StopsFor extent limit damage old new air (file.LineCut line)
+ExplainsDamaging extent limit damage old new air (BadLine line) =
+    StopsFor extent limit damage old new air (file.BadLine line)
+ExplainsDamaging extent limit damage old new air (Write written) =
     StopsAt air (λ lines rest more. WroteSome old new (damaged_file damage lines) written)
 
--- what damaging answers to an air file: the count of the elements that it inverted, or a fault
-abbrev pub AnswersDamaging : Type 0 → (List ℕ → Type 0) → ℕ → Damage
-    → Option (List ℕ) → Option (List ℕ) → Result ℕ DamageFault → List ℕ → Type 0
-AnswersDamaging AtEnd IsLeft limit damage old new (Ok count) air =
-    AtEnd × (text : List ℕ) × IsDamaged damage limit air text count × Appends old new text
-AnswersDamaging AtEnd IsLeft limit damage old new (Err fault) air =
-    ExplainsDamaging AtEnd IsLeft limit damage old new air fault
+-- what damaging answers to bytes of this extent of an air file: the count of the elements that it
+-- inverted, or a fault
+abbrev pub AnswersDamaging : Extent → ℕ → Damage → Option (List ℕ) → Option (List ℕ)
+    → Result ℕ DamageFault → List ℕ → Type 0
+AnswersDamaging extent limit damage old new (Ok count) air =
+    extent.at_end × (text : List ℕ) × IsDamaged damage limit air text count × Appends old new text
+AnswersDamaging extent limit damage old new (Err fault) air =
+    ExplainsDamaging extent limit damage old new air fault
 
 -- A run that damages: it answers so to the bytes that it read, and to the whole file, however it
 -- came; and it writes the whole lines that it read before each further read.
 abbrev pub Damages : {R W : Type 0} → Damage → Devices R W → Result ℕ DamageFault → Type 0
 Damages damage d outcome =
     Transfers Read (λ _. ⊥) (λ written. Write written) on_the_way d outcome (λ _. ⊤)
-    (λ bytes. AnswersDamaging (IsReadOut d) (λ more. more ≡ []) air_limit damage
-    (d.contents d.writer.inner) (d.contents d.writer_after.inner) outcome bytes)
-    (λ bytes. AnswersDamaging (Unit {0}) (λ more. Unit {0}) air_limit damage
-    (d.contents d.writer.inner) (d.contents d.writer_after.inner) outcome bytes)
+    (AnswersDamaging (as_read d) air_limit damage (d.contents d.writer.inner)
+    (d.contents d.writer_after.inner) outcome)
+    (AnswersDamaging whole_input air_limit damage (d.contents d.writer.inner)
+    (d.contents d.writer_after.inner) outcome)

@@ -4,7 +4,7 @@ use Rattle.std.specs.Io.KnownBytes.{Appends}
 use Rattle.nx_envelope.specs.Message.{MessageView}
 use Rattle.nx_fec.specs.air_files.AirFile.{moment}
 use Rattle.nx_fec.specs.air_files.BitLines.{bit_lines}
-use Rattle.nx_fec.specs.Transfers.{WroteSome, Devices, IsReadOut, Transfers, at_the_end}
+use Rattle.nx_fec.specs.Transfers.{WroteSome, Devices, Extent, Transfers, as_read, at_the_end, whole_input}
 use Rattle.nx_fec.specs.emissions.Emission.{SentPosition, bits_of, emission}
 use Rattle.nx_fec.specs.air_files.Lines.{file_of}
 use Rattle.nx_fec.specs.Runs.{IsWithin, file_limit}
@@ -69,22 +69,22 @@ ExplainsFile file (Open line) = HasFirstFault file (not_ended line)
 ExplainsFile file (Memory error) = ⊤
 ExplainsFile file _ = ⊥
 
--- What a fault of sending says of the file. That it is the first means that it is that of the whole
--- file, so `AtEnd` holds: the file was read to its end. A read that failed and a want of memory say
--- nothing of it.
-abbrev pub ExplainsSending : Type 0 → ℕ → ℕ → ℕ → List ℕ → Option (List ℕ) → Option (List ℕ)
+-- What a fault of sending says of bytes of this extent of the file. That it is the first means that
+-- it is that of the whole file, so they are all of it: the file was read to its end. A read that
+-- failed and a want of memory say nothing of it.
+abbrev pub ExplainsSending : Extent → ℕ → ℕ → ℕ → List ℕ → Option (List ℕ) → Option (List ℕ)
     → SendRunFault → Type 0
-ExplainsSending AtEnd limit station from file old new Read = ⊤
-ExplainsSending AtEnd limit station from file old new (Memory error) = ⊤
-ExplainsSending AtEnd limit station from file old new FileTooLong = limit < length file
-ExplainsSending AtEnd limit station from file old new (Send refused) =
-    AtEnd × (length file ≤ limit) × ExplainsRefusal station from file refused
-ExplainsSending AtEnd limit station from file old new (Write written) =
-    AtEnd × (length file ≤ limit)
+ExplainsSending extent limit station from file old new Read = ⊤
+ExplainsSending extent limit station from file old new (Memory error) = ⊤
+ExplainsSending extent limit station from file old new FileTooLong = limit < length file
+ExplainsSending extent limit station from file old new (Send refused) =
+    extent.at_end × (length file ≤ limit) × ExplainsRefusal station from file refused
+ExplainsSending extent limit station from file old new (Write written) =
+    extent.at_end × (length file ≤ limit)
     × (air : List ℕ) × (sent : Sent) × IsTransmission station from file air sent
     × WroteSome old new air written
-ExplainsSending AtEnd limit station from file old new fault =
-    AtEnd × (length file ≤ limit) × ExplainsFile file fault
+ExplainsSending extent limit station from file old new fault =
+    extent.at_end × (length file ≤ limit) × ExplainsFile file fault
 
 -- the fault is of the reader or of memory
 abbrev pub IsOutside : SendRunFault → Type 0
@@ -92,21 +92,21 @@ IsOutside Read = ⊤
 IsOutside (Memory error) = ⊤
 IsOutside _ = ⊥
 
--- what sending answers to a message file, which is written as an air file
-abbrev pub AnswersSending : Type 0 → ℕ → ℕ → ℕ → List ℕ → Option (List ℕ) → Option (List ℕ)
+-- what sending answers to bytes of this extent of a message file, which is written as an air file
+abbrev pub AnswersSending : Extent → ℕ → ℕ → ℕ → List ℕ → Option (List ℕ) → Option (List ℕ)
     → Result Sent SendRunFault → Type 0
-AnswersSending AtEnd limit station from file old new (Ok sent) =
-    AtEnd × (length file ≤ limit)
+AnswersSending extent limit station from file old new (Ok sent) =
+    extent.at_end × (length file ≤ limit)
     × (air : List ℕ) × IsTransmission station from file air sent × Appends old new air
-AnswersSending AtEnd limit station from file old new (Err fault) =
-    ExplainsSending AtEnd limit station from file old new fault
+AnswersSending extent limit station from file old new (Err fault) =
+    ExplainsSending extent limit station from file old new fault
 
 -- A run that sends: it answers so to the bytes that it read, and to the whole file, however it
 -- came; and it writes nothing before all else succeeded.
 abbrev pub Sends : {R W : Type 0} → Devices R W → ℕ → ℕ → Result Sent SendRunFault → Type 0
 Sends d station from outcome =
     Transfers Read IsOutside (λ written. Write written) at_the_end d outcome (IsWithin file_limit)
-    (λ bytes. AnswersSending (IsReadOut d) file_limit station from bytes
+    (λ bytes. AnswersSending (as_read d) file_limit station from bytes
     (d.contents d.writer.inner) (d.contents d.writer_after.inner) outcome)
-    (λ bytes. AnswersSending (Unit {0}) file_limit station from bytes
+    (λ bytes. AnswersSending whole_input file_limit station from bytes
     (d.contents d.writer.inner) (d.contents d.writer_after.inner) outcome)

@@ -1,7 +1,7 @@
 -- A run that goes on from the state with which some bytes begin.
 use Rattle.std.proofs.Common.{◌≡◌, ℕ, List, IfSome, Option, Some, Result, Ok, Err, OnOk}
 use Rattle.std.proofs.Common.{subst, sym}
-use Rattle.nx_fec.specs.Transfers.{Devices}
+use Rattle.nx_fec.specs.Transfers.{Devices, whole_input}
 use Rattle.nx_fec.proofs.lemmas.devices.TransferLaws.{IfSome-end}
 use Rattle.nx_memory.specs.Saved.{SavedStates}
 use Rattle.nx_receiver.specs.air_file_runs.Chain.{HasGoneOn}
@@ -14,7 +14,7 @@ use Rattle.nx_c.specs.Calls.{GoesOnTo, HasResumed, ResumesTo}
 
 -- what holds of the state that was read holds of the one with which the bytes begin
 begins-with : (input : List ℕ) (states : SavedStates) (P : SavedStates → Type 0)
-    → AnswersState (Unit {0}) (λ more. Unit {0}) input (Ok states) → P states
+    → AnswersState whole_input input (Ok states) → P states
     → BeginsWith input (λ others more. P others)
 begins-with input states P h p = record {
   text = h.text;
@@ -27,7 +27,7 @@ begins-with input states P h p = record {
 
 module _ (input air log left : List ℕ) (states : SavedStates) where
   pub resumes-to : (outcome : Result Report ResumeFault)
-      → AnswersState (Unit {0}) (λ more. Unit {0}) input (Ok states)
+      → AnswersState whole_input input (Ok states)
       → GoesOnTo states air log left outcome → ResumesTo input air log left outcome
   resumes-to (Ok report) h run =
       begins-with input states (λ others. GoesOnTo others air log left (Ok report)) h run

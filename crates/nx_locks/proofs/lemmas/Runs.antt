@@ -16,7 +16,7 @@ use Rattle.nx_fec.specs.Transfers.{CountedDevice, HasWritten}
 use Rattle.nx_fec.specs.air_files.LineRuns.{ExplainsLines, HasTaken, HasTakenAll, RunsLines}
 use Rattle.nx_fec.specs.air_files.Lines.{IsLineRefused, air_limit}
 use Rattle.nx_fec.specs.air_files.Lines.{file_of, line_bytes}
-use Rattle.nx_fec.specs.Transfers.{Devices, Extent, devices}
+use Rattle.nx_fec.specs.Transfers.{Devices, Extent, as_read, devices, whole_input}
 use Rattle.nx_fec.specs.declared.fault.LineFault.TheVariants as file
 use Rattle.nx_fec.specs.declared.air_files.line_taking.LinesFault.{LinesFault}
 use Rattle.nx_fec.specs.declared.air_files.line_taking.LinesFault.TheVariants as run
@@ -198,7 +198,7 @@ explains : (extent : Extent) (first now : Showing)
       writer_first = old;
       writer_now = new;
     }) extent (Appends old new) bytes fault
-    → ExplainsShowing extent.at_end extent.is_left old new bytes (lines_fault fault)
+    → ExplainsShowing extent old new bytes (lines_fault fault)
 explains extent first now old new bytes run.Read h =
     StopsAt-map bytes _ _ (λ lines rest more p. (p.0, p.1, shown first now old new lines p.2)) h
 explains extent first now old new bytes (run.Line file.TooLong) h =
@@ -270,8 +270,8 @@ pub shows-fault : {R W : Type 0} (first now : Showing) (d : Devices R W)
 shows-fault first now d fault h = record {
   reads = Reads-on d.remaining d.reader d.reader_after run.Read Read (Err fault)
       (Err (lines_fault fault)) _ _ _ _ h.reads
-      (λ bytes k. explains _ first now _ _ bytes fault k)
-      (λ bytes k. explains _ first now _ _ bytes fault k)
+      (λ bytes k. explains (as_read d) first now _ _ bytes fault k)
+      (λ bytes k. explains whole_input first now _ _ bytes fault k)
       (λ bytes k h outside. tt) (λ e. as-err _ _ (read-back fault (err-of _ _ e)))
       (λ e. as-err _ _ (ap lines_fault (run-err-of _ _ e)));
   writes = record {

@@ -9,7 +9,7 @@ use Rattle.nx_fec.specs.air_files.AirFile.{Line, moment, elements, refuse_statio
 use Rattle.nx_fec.specs.air_files.AirFile.{refuse_subject, accept_subject}
 use Rattle.nx_fec.specs.air_files.Channels.{channel_of}
 use Rattle.nx_fec.specs.declared.air_files.channel.Channel.{Channel}
-use Rattle.nx_fec.specs.Transfers.{Devices, IsReadOut, WroteSome}
+use Rattle.nx_fec.specs.Transfers.{Devices, Extent, WroteSome, as_read, whole_input}
 use Rattle.nx_fec.specs.air_files.Lines.{StopsAt, air_limit, IsAirFile, IsCause, IsLineRefused, elements_of}
 use Rattle.nx_fec.specs.air_files.Lines.{file_of}
 use Rattle.nx_fec.specs.declared.fault.LineFault.{LineFault}
@@ -154,37 +154,36 @@ HasListenFault starts holds bytes fault = StopsAt bytes (λ lines rest more.
     IsLineRefused (RefusesAfter starts fault) air_limit lines rest more (length lines + 1)
     × holds lines)
 
--- What a run that listens answers of the bytes that were read: a report, where the log of the file
--- was written; or a fault. Before a fault the log of the whole lines before it was written, and
--- nothing is closed. A failed read comes behind whole lines and the beginning of one more. `IsLeft`
--- says what may come behind these: nothing in the bytes that were read, anything in the bytes of
--- the whole file. After a failed write the first bytes of the log of the lines that were read whole
--- are written, closed if the file had ended. A want of memory says nothing of them. Each other
--- fault is the first of the file; that of its end comes at its end.
-abbrev pub AnswersListening : Starts → Type 0 → (List ℕ → Type 0) → Option (List ℕ)
-    → Option (List ℕ) → Result Report ListenFault → List ℕ → Type 0
-AnswersListening starts AtEnd IsLeft old new (Ok report) bytes =
-    AtEnd × HasListened starts old new bytes report
-AnswersListening starts AtEnd IsLeft old new (Err (Memory error)) bytes = ⊤
-AnswersListening starts AtEnd IsLeft old new (Err Read) bytes = StopsAt bytes (λ lines rest more.
-    (length (file_of lines ++ rest) ≤ air_limit) × IsLeft more × HasLogged starts old new lines)
-AnswersListening starts AtEnd IsLeft old new (Err (Write written)) bytes =
+-- What a run that listens answers of bytes of this extent: a report, where the log of the file was
+-- written; or a fault. Before a fault the log of the whole lines before it was written, and nothing
+-- is closed. A failed read comes behind whole lines and the beginning of one more, and leaves what
+-- follows. After a failed write the first bytes of the log of the lines that were read whole are
+-- written, closed if the file had ended. A want of memory says nothing of them. Each other fault is
+-- the first of the file; that of its end comes at its end.
+abbrev pub AnswersListening : Starts → Extent → Option (List ℕ) → Option (List ℕ)
+    → Result Report ListenFault → List ℕ → Type 0
+AnswersListening starts extent old new (Ok report) bytes =
+    extent.at_end × HasListened starts old new bytes report
+AnswersListening starts extent old new (Err (Memory error)) bytes = ⊤
+AnswersListening starts extent old new (Err Read) bytes = StopsAt bytes (λ lines rest more.
+    (length (file_of lines ++ rest) ≤ air_limit) × extent.is_left more
+    × HasLogged starts old new lines)
+AnswersListening starts extent old new (Err (Write written)) bytes =
     (log : List ℕ) × WroteSome old new log written
     × (StopsAt bytes (λ lines rest more. IsLogOfLines starts lines log)
-    ⊎ (AtEnd × (lines : List Line) × (copies : List MarkedCopy)
+    ⊎ (extent.at_end × (lines : List Line) × (copies : List MarkedCopy)
     × IsLogOfFile starts bytes lines copies log))
-AnswersListening starts AtEnd IsLeft old new (Err (LineCut line)) bytes =
-    AtEnd × HasListenFault starts (HasLogged starts old new) bytes (LineCut line)
-AnswersListening starts AtEnd IsLeft old new (Err fault) bytes =
+AnswersListening starts extent old new (Err (LineCut line)) bytes =
+    extent.at_end × HasListenFault starts (HasLogged starts old new) bytes (LineCut line)
+AnswersListening starts extent old new (Err fault) bytes =
     HasListenFault starts (HasLogged starts old new) bytes fault
 
 -- What such a run answers whose log isn't written: no write fails, and nothing is known of the log
 -- but that there is one.
-abbrev pub AnswersUnlogged : Starts → Type 0 → (List ℕ → Type 0) → Result Report ListenFault
-    → List ℕ → Type 0
-AnswersUnlogged starts AtEnd IsLeft (Err (Write written)) bytes = ⊥
-AnswersUnlogged starts AtEnd IsLeft outcome bytes =
-    AnswersListening starts AtEnd IsLeft None None outcome bytes
+abbrev pub AnswersUnlogged : Starts → Extent → Result Report ListenFault → List ℕ → Type 0
+AnswersUnlogged starts extent (Err (Write written)) bytes = ⊥
+AnswersUnlogged starts extent outcome bytes =
+    AnswersListening starts extent None None outcome bytes
 
 -- A run that listens, with this start. It answers so to the bytes that it read, and to the whole
 -- file, however it came; and it writes the log of the lines that it read before each further read.
@@ -193,10 +192,10 @@ pub record Listens {R W : Type 0} (starts : Starts) (d : Devices R W)
     (outcome : Result Report ListenFault) : Type 0 where
   pub bytes : List ℕ
   pub consumed : Consumes (d.remaining d.reader.inner) (d.remaining d.reader_after.inner) bytes
-  pub answer : AnswersListening starts (IsReadOut d) (λ more. more ≡ [])
-      (d.contents d.writer.inner) (d.contents d.writer_after.inner) outcome bytes
-  pub file : IfSome (d.remaining d.reader.inner) (AnswersListening starts (Unit {0})
-      (λ more. Unit {0}) (d.contents d.writer.inner) (d.contents d.writer_after.inner) outcome)
+  pub answer : AnswersListening starts (as_read d) (d.contents d.writer.inner)
+      (d.contents d.writer_after.inner) outcome bytes
+  pub file : IfSome (d.remaining d.reader.inner) (AnswersListening starts whole_input
+      (d.contents d.writer.inner) (d.contents d.writer_after.inner) outcome)
   pub unread : IsErrOf outcome Read ↔ (d.reader_after.failures ≡ 1)
   pub read_once : d.reader_after.failures ≤ 1
   pub unwritten : ((written : ℕ) × (outcome ≡ Err (Write written)))

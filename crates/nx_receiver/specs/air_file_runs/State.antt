@@ -4,7 +4,7 @@ use Rattle.std.specs.Prelude.{Ok, Err, ⊤}
 use Rattle.std.specs.List.{flat_map}
 use Rattle.std.specs.Io.KnownBytes.{IsAtEnd}
 use Rattle.nx_fec.specs.air_files.Lines.{line_end}
-use Rattle.nx_fec.specs.Transfers.{CountedDevice, Reads}
+use Rattle.nx_fec.specs.Transfers.{CountedDevice, Extent, Reads, read_to, whole_input}
 use Rattle.nx_memory.specs.Saved.{SavedStates}
 use Rattle.nx_memory.specs.StateText.{BeginsNoText, BeginsText, IsShortLine, IsStateText, text_2, longest_saved_line}
 use Rattle.nx_receiver.specs.declared.air_file_runs.state_fault.StateFault.{StateFault}
@@ -52,32 +52,30 @@ pub record StopsInText (input : List ℕ) (holds : List (List ℕ) → List ℕ 
 
 -- After the lines and the beginning of one more comes a byte that is no part of any text of a
 -- state. It is the line feed of a line with which none goes on, or the 17th byte of a line.
--- `IsLeft` holds of what follows.
-abbrev pub IsNotUnderstood : (List ℕ → Type 0) → List (List ℕ) → List ℕ → List ℕ → Type 0
-IsNotUnderstood IsLeft lines rest [] = ⊥
-IsNotUnderstood IsLeft lines rest (byte ∷ more) =
-    IsLeft more × (((byte ≡ line_end) × BeginsNoText (lines ++ rest ∷ []))
+-- What follows is left.
+abbrev pub IsNotUnderstood : Extent → List (List ℕ) → List ℕ → List ℕ → Type 0
+IsNotUnderstood extent lines rest [] = ⊥
+IsNotUnderstood extent lines rest (byte ∷ more) =
+    extent.is_left more × (((byte ≡ line_end) × BeginsNoText (lines ++ rest ∷ []))
     ⊎ ((byte ≢ line_end) × (length rest ≡ longest_saved_line)))
 
--- What a fault of reading a state says of the input: its line, from 1, is the one in which the
--- fault stands. Behind the byte that shows it, or where a read failed, `IsLeft` says what may come:
--- nothing in the bytes that were read, anything in the whole input. That of the end comes at the
--- end.
-abbrev pub ExplainsState : Type 0 → (List ℕ → Type 0) → List ℕ → StateFault → Type 0
-ExplainsState AtEnd IsLeft input Read = StopsInText input (λ lines rest more. IsLeft more)
-ExplainsState AtEnd IsLeft input (StateLine line) =
+-- What a fault of reading a state says of bytes of this extent of the input: its line, from 1, is
+-- the one in which the fault stands. What follows the byte that shows it, or a failed read, is
+-- left. That of the end comes at the end.
+abbrev pub ExplainsState : Extent → List ℕ → StateFault → Type 0
+ExplainsState extent input Read = StopsInText input (λ lines rest more. extent.is_left more)
+ExplainsState extent input (StateLine line) =
     StopsInText input (λ lines rest more. (line ≡ length lines + 1)
-    × IsNotUnderstood IsLeft lines rest more)
-ExplainsState AtEnd IsLeft input (StateCut line) =
-    AtEnd × StopsInText input (λ lines rest more. (line ≡ length lines + 1) × (more ≡ []))
+    × IsNotUnderstood extent lines rest more)
+ExplainsState extent input (StateCut line) =
+    extent.at_end × StopsInText input (λ lines rest more. (line ≡ length lines + 1) × (more ≡ []))
 
--- What reading a state answers to the input. It is what the text stands for with which the input
--- begins, behind which `IsLeft` holds of what comes; or a fault.
-abbrev pub AnswersState : Type 0 → (List ℕ → Type 0) → List ℕ → Result SavedStates StateFault
-    → Type 0
-AnswersState AtEnd IsLeft input (Ok states) =
-    BeginsWith input (λ others more. (states ≡ others) × IsLeft more)
-AnswersState AtEnd IsLeft input (Err fault) = ExplainsState AtEnd IsLeft input fault
+-- What reading a state answers to bytes of this extent of the input. It is what the text stands for
+-- with which the input begins, and what follows it is left; or a fault.
+abbrev pub AnswersState : Extent → List ℕ → Result SavedStates StateFault → Type 0
+AnswersState extent input (Ok states) =
+    BeginsWith input (λ others more. (states ≡ others) × extent.is_left more)
+AnswersState extent input (Err fault) = ExplainsState extent input fault
 
 -- A run that reads a state: it answers so to the bytes that it read, behind which it read no more;
 -- and to the whole input, however it came.
@@ -85,5 +83,5 @@ abbrev pub ReadsState : {R : Type 0} → (R → Option (List ℕ)) → CountedDe
     → Result SavedStates StateFault → Type 0
 ReadsState remaining old new outcome =
     Reads remaining old new Read (λ _. ⊥) outcome (λ _. ⊤)
-    (λ bytes. AnswersState (IsAtEnd (remaining new.inner)) (λ more. more ≡ []) bytes outcome)
-    (λ input. AnswersState (Unit {0}) (λ more. Unit {0}) input outcome)
+    (λ bytes. AnswersState (read_to (IsAtEnd (remaining new.inner))) bytes outcome)
+    (λ input. AnswersState whole_input input outcome)

@@ -1,9 +1,9 @@
 -- A run that listens and goes on from what is saved, and writes no log; and how its listener
 -- stands: nothing is said of the log but that there is one (this profile).
-use Rattle.std.specs.Prelude.{◌≡◌, ℕ, List, [], None, Option, Result, IfOk, ⊤}
+use Rattle.std.specs.Prelude.{ℕ, List, None, Option, Result, IfOk, ⊤}
 use Rattle.std.specs.Io.KnownBytes.{IsAtEnd}
 use Rattle.nx_fec.specs.air_files.AirFile.{Line}
-use Rattle.nx_fec.specs.Transfers.{CountedDevice, Reads}
+use Rattle.nx_fec.specs.Transfers.{CountedDevice, Extent, Reads, read_to, whole_input}
 use Rattle.nx_fec.specs.declared.air_files.line_hearing.HearFault.{HearFault}
 use Rattle.nx_fec.specs.declared.air_files.line_hearing.HearFault.TheVariants as hear
 use Rattle.nx_fec.specs.declared.air_files.line_taking.LinesFault.{LinesFault}
@@ -39,10 +39,10 @@ as_run_fault (hear.Line why) = run.Line why
 as_run_fault (hear.Refused line why) = run.Refused line why
 
 -- what such a run answers, and what it leaves
-abbrev pub AnswersLeaving : SavedStates → Type 0 → (List ℕ → Type 0)
+abbrev pub AnswersLeaving : SavedStates → Extent
     → Result (Report × SavedStates) ListenFault → List ℕ → Type 0
-AnswersLeaving saved AtEnd IsLeft outcome bytes =
-    AnswersUnlogged (starts_from saved) AtEnd IsLeft (reported outcome) bytes
+AnswersLeaving saved extent outcome bytes =
+    AnswersUnlogged (starts_from saved) extent (reported outcome) bytes
     × IfOk outcome (λ answer. HasGoneOn saved None None bytes answer.1)
 
 -- such a run, of its reader
@@ -50,6 +50,5 @@ abbrev pub ListensUnlogged : {R : Type 0} → SavedStates → (R → Option (Lis
     → CountedDevice R → Result (Report × SavedStates) ListenFault → Type 0
 ListensUnlogged saved remaining old new outcome =
     Reads remaining old new Read (λ _. ⊥) outcome (λ _. ⊤)
-    (λ bytes. AnswersLeaving saved (IsAtEnd (remaining new.inner)) (λ more. more ≡ []) outcome
-    bytes)
-    (λ bytes. AnswersLeaving saved (Unit {0}) (λ more. Unit {0}) outcome bytes)
+    (AnswersLeaving saved (read_to (IsAtEnd (remaining new.inner))) outcome)
+    (AnswersLeaving saved whole_input outcome)

@@ -2,6 +2,7 @@
 //! the one before it wrote. Each function does nothing; its contract is the law.
 
 ghost use Rattle.std.specs.Prelude.{◌≡◌, ◌≢◌, ℕ, List, [], ◌++◌, Some, Result, Ok, Err};
+ghost use Rattle.nx_fec.specs.Transfers.{whole_input};
 ghost use Rattle.nx_fec.specs.declared.air_files.channel.Channel.{Channel};
 ghost use Rattle.nx_memory.specs.Saved.{AreSavedStates, SavedStates};
 ghost use Rattle.nx_memory.specs.StateText.{IsText1, IsText2};
@@ -38,8 +39,8 @@ pub fn a_state_is_told_by_its_bytes()
 /// begins, or the first fault, with its line.
 pub fn an_input_has_one_state()
     ensures { (input : List ℕ) (answer other : Result SavedStates StateFault)
-        → AnswersState (Unit {0}) (λ more. Unit {0}) input answer
-        → AnswersState (Unit {0}) (λ more. Unit {0}) input other
+        → AnswersState whole_input input answer
+        → AnswersState whole_input input other
         → answer ≢ Err Read → other ≢ Err Read → answer ≡ other }
 {}
 
@@ -65,11 +66,11 @@ pub fn texts_make_a_chain()
 /// leave.
 pub fn a_run_writes_its_log_or_its_state()
     ensures log { (input old new : List ℕ) (report : Report)
-        → AnswersResuming Log (Unit {0}) (λ more. Unit {0}) (Some old) (Some new) (Ok report) input
+        → AnswersResuming Log whole_input (Some old) (Some new) (Ok report) input
         → (text air log : List ℕ) × (input ≡ text ++ air) × WritesLog text air log
         × (new ≡ old ++ log) }
     ensures state { (input old new : List ℕ) (report : Report)
-        → AnswersResuming State (Unit {0}) (λ more. Unit {0}) (Some old) (Some new) (Ok report)
-        input → (text air state : List ℕ) × (input ≡ text ++ air) × WritesState text air state
+        → AnswersResuming State whole_input (Some old) (Some new) (Ok report) input
+        → (text air state : List ℕ) × (input ≡ text ++ air) × WritesState text air state
         × (new ≡ old ++ state) }
 {}

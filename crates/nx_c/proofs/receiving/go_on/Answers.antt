@@ -1,5 +1,6 @@
 use Rattle.std.proofs.Common.{rules}
 use Rattle.std.proofs.Common.{Ok, ap, sym, ◌∙◌}
+use Rattle.nx_fec.specs.Transfers.{whole_input}
 use Rattle.nx_receiver.proofs.lemmas.once.Listen.{printed-once}
 use Rattle.nx_receiver.specs.air_file_runs.Chain.{HasGoneOn}
 use Rattle.nx_receiver.specs.air_file_runs.Listen.{AnswersListening}
@@ -16,8 +17,8 @@ returns-in-Ok-state_text c =
     let starts = starts_from c.args.states.now in
     let run = c.in-Ok.ensures.listens.listens.run in (
       record {
-        answers = moved (λ a b air. AnswersListening starts (Unit {0}) (λ more. Unit {0}) a b
-            (Ok c.in-Ok.report) air) old new read run.file;
+        answers = moved (λ a b air. AnswersListening starts whole_input a b (Ok c.in-Ok.report)
+            air) old new read run.file;
         memory = λ error e. cc;
       },
       record {

@@ -1,6 +1,7 @@
 use Rattle.std.proofs.Common.{arith}
 use Rattle.std.proofs.lemmas.Grind.{common_steps}
 use Rattle.std.proofs.Common.{Some, ap, sym, ◌∙◌, subst}
+use Rattle.nx_fec.specs.Transfers.{whole_input}
 use Rattle.nx_receiver.proofs.lemmas.once.Listen.{printed-once}
 use Rattle.nx_receiver.specs.air_file_runs.Listen.{AnswersListening}
 use Rattle.nx_receiver.specs.laws.ListenOnce.{HasPrintedOnce}
@@ -18,7 +19,7 @@ returns-clause-once c = λ zero.
     let read = ap (λ r. r.now) c.new-2.ensures.inner in
     elim c.match-listen.branch [
       | in-Ok w ↦
-          let run = subst (λ o. AnswersListening all_at_zero (Unit {0}) (λ more. Unit {0})
+          let run = subst (λ o. AnswersListening all_at_zero whole_input
           (Some c.new-writer.result.inner.items) (Some c.listen.new.writer.inner.items) o
           c.new-2.result.inner.now) w.in-Ok.is c.listen.ensures.listens.run.file in
           moved (λ a b air. HasPrintedOnce all_at_zero a b air) old new read

@@ -1,6 +1,7 @@
 -- What a run that listens writes is the log of logged entries.
 use Rattle.std.proofs.Common.{ℕ, List, Option, Result, Ok, Err, inl, inr}
 use Rattle.std.specs.Io.KnownBytes.{Appends}
+use Rattle.nx_fec.specs.Transfers.{Extent}
 use Rattle.nx_fec.specs.air_files.AirFile.{Line}
 use Rattle.nx_receiver.specs.air_file_runs.Listen.{AnswersListening, HasLogged, IsLogOfFile, IsLogOfLines}
 use Rattle.nx_receiver.specs.air_file_runs.Resume.{AnswersResuming}
@@ -29,13 +30,13 @@ file_logged starts bytes lines copies log l = record {
   log = l.spelled;
 }
 
-module _ (starts : Starts) (AtEnd : Type 0) (IsLeft : List ℕ → Type 0) (old new : Option (List ℕ))
+module _ (starts : Starts) (extent : Extent) (old new : Option (List ℕ))
   where
     some : (lines : List Line) → HasLogged starts old new lines → SomeLog (Appends old new)
     some lines h = (h.0, h.1.copies, lines_logged starts lines h.0 h.1, h.2)
 
     pub wrote_entries : (outcome : Result Report ListenFault) (bytes : List ℕ)
-        → AnswersListening starts AtEnd IsLeft old new outcome bytes → WroteEntries old new outcome
+        → AnswersListening starts extent old new outcome bytes → WroteEntries old new outcome
     wrote_entries (Ok report) bytes h =
         let l = h.1 in
         (l.log, l.copies, file_logged starts bytes l.lines l.copies l.log l.heard, l.written)
@@ -55,12 +56,12 @@ module _ (starts : Starts) (AtEnd : Type 0) (IsLeft : List ℕ → Type 0) (old 
     wrote_entries (Err (Moment line fault)) bytes h = some h.lines h.here.1
     wrote_entries (Err (Vital line subject)) bytes h = some h.lines h.here.1
 
-pub resumed_entries : (AtEnd : Type 0) (IsLeft : List ℕ → Type 0) (old new : Option (List ℕ))
+pub resumed_entries : (extent : Extent) (old new : Option (List ℕ))
     (outcome : Result Report ResumeFault) (input : List ℕ)
-    → AnswersResuming Log AtEnd IsLeft old new outcome input → ResumedEntries old new outcome
-resumed_entries AtEnd IsLeft old new (Ok report) input h =
-    wrote_entries (starts_from h.states) AtEnd IsLeft old new (Ok report) h.more h.here.0
-resumed_entries AtEnd IsLeft old new (Err (resume.Listen fault)) input h =
-    wrote_entries (starts_from h.states) AtEnd IsLeft old new (Err fault) h.more h.here
-resumed_entries AtEnd IsLeft old new (Err (resume.State fault)) input h = tt
-resumed_entries AtEnd IsLeft old new (Err (resume.Write written)) input h = tt
+    → AnswersResuming Log extent old new outcome input → ResumedEntries old new outcome
+resumed_entries extent old new (Ok report) input h =
+    wrote_entries (starts_from h.states) extent old new (Ok report) h.more h.here.0
+resumed_entries extent old new (Err (resume.Listen fault)) input h =
+    wrote_entries (starts_from h.states) extent old new (Err fault) h.more h.here
+resumed_entries extent old new (Err (resume.State fault)) input h = tt
+resumed_entries extent old new (Err (resume.Write written)) input h = tt

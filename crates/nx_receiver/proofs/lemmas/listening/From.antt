@@ -1,9 +1,10 @@
 -- What a run that goes on from what is saved answers and leaves.
-use Rattle.std.proofs.Common.{◌≡◌, ℕ, List, [], Option, Result, Ok, Err, IsErr, IsErrAnd, sym, subst}
+use Rattle.std.proofs.Common.{◌≡◌, ℕ, List, Option, Result, Ok, Err, IsErr, IsErrAnd, sym, subst}
 use Rattle.std.specs.Prelude.{⊤}
-use Rattle.std.specs.Io.KnownBytes.{Appends, IsAtEnd}
+use Rattle.std.specs.Io.KnownBytes.{Appends}
 use Rattle.nx_fec.specs.air_files.AirFile.{Line}
-use Rattle.nx_fec.specs.Transfers.{CountedDevice, Devices, HasWritten, Reads, devices}
+use Rattle.nx_fec.specs.Transfers.{CountedDevice, Devices, Extent, HasWritten, Reads, as_read}
+use Rattle.nx_fec.specs.Transfers.{devices, whole_input}
 use Rattle.nx_fec.proofs.lemmas.devices.TransferLaws.{Ok-not_err, Reads-on, Writes-none}
 use Rattle.nx_fec.specs.declared.air_files.line_taking.LinesFault.TheVariants as run
 use Rattle.nx_fec.specs.air_files.LineRuns.{HasTakenAll, RunsLines}
@@ -79,21 +80,21 @@ goes-on remaining contents saved left first now' reader reader_after writer mid 
     let d = devices remaining contents reader reader_after writer new in
     let old = contents writer.inner in
     let now = contents new.inner in
-    let heard : (AtEnd : Type 0) (IsLeft : List ℕ → Type 0) (bytes : List ℕ)
-    → AtEnd × HasTakenAll StandsFrom first now' old (contents mid.inner) air_limit bytes read
-    → AnswersListening (starts_of first) AtEnd IsLeft old now (Ok report) bytes
-    × HasGoneOn saved old now bytes left = λ AtEnd IsLeft bytes k. (
+    let heard : (extent : Extent) (bytes : List ℕ) → extent.at_end
+    × HasTakenAll StandsFrom first now' old (contents mid.inner) air_limit bytes read
+    → AnswersListening (starts_of first) extent old now (Ok report) bytes
+    × HasGoneOn saved old now bytes left = λ extent bytes k. (
       (k.0, listened first now' _ _ _ bytes read report k.1 closed counted),
       gone saved left first now' _ _ _ bytes read report begins k.1 closed leaves,
     ) in
     let r : Reads remaining reader reader_after Read (λ _. ⊥) (Ok report) (λ _. ⊤)
-    (λ bytes. AnswersListening (starts_of first) (IsAtEnd (remaining reader_after.inner))
-    (λ more. more ≡ []) old now (Ok report) bytes × HasGoneOn saved old now bytes left)
-    (λ bytes. AnswersListening (starts_of first) (Unit {0}) (λ more. Unit {0}) old now (Ok report)
-    bytes × HasGoneOn saved old now bytes left) =
+    (λ bytes. AnswersListening (starts_of first) (as_read d) old now (Ok report) bytes
+    × HasGoneOn saved old now bytes left)
+    (λ bytes. AnswersListening (starts_of first) whole_input old now (Ok report) bytes
+    × HasGoneOn saved old now bytes left) =
     Reads-on remaining reader reader_after run.Read Read (Ok read) (Ok report) _ _ _ _ h.reads
-    (λ bytes k. heard (IsAtEnd (remaining reader_after.inner)) (λ more. more ≡ []) bytes k)
-    (λ bytes k. heard (Unit {0}) (λ more. Unit {0}) bytes k)
+    (λ bytes k. heard (as_read d) bytes k)
+    (λ bytes k. heard whole_input bytes k)
     (λ bytes k h. h) (λ e. absurd (Ok-not_err _ _ e)) (λ e. absurd (Ok-not_err _ _ e)) in
     let writes = Writes-none new (λ written. Write written) (Ok report)
     (λ written. Ok-not_err _ _) none in

@@ -10,8 +10,8 @@ use Rattle.std.proofs.KnownBytes.{Consumes-nil}
 use Rattle.std.proofs.lemmas.List.{length-map}
 use Rattle.nx_fec.specs.air_files.AirFile.{Line, moment, elements, refuse_station, accept_station}
 use Rattle.nx_fec.specs.air_files.AirFile.{refuse_subject, accept_subject, element_digit, mark_bytes}
-use Rattle.nx_fec.specs.Transfers.{CountedDevice, Devices, Extent, HasWritten, IsReadOut, Reads}
-use Rattle.nx_fec.specs.Transfers.{Writes, devices}
+use Rattle.nx_fec.specs.Transfers.{CountedDevice, Devices, Extent, HasWritten, Reads, Writes}
+use Rattle.nx_fec.specs.Transfers.{as_read, devices, whole_input}
 use Rattle.nx_fec.specs.air_files.LineRuns.{ExplainsLines, HasTaken, HasTakenAll, RunsLines}
 use Rattle.nx_fec.specs.air_files.Lines.{IsLineRefused, air_limit, elements_of, file_of, line_bytes}
 use Rattle.nx_fec.specs.declared.fault.LineFault.TheVariants as file
@@ -108,8 +108,7 @@ pub explains : (extent : Extent) (first now : Listening)
       writer_first = old;
       writer_now = new;
     }) extent (Appends old new) bytes fault
-    → AnswersListening (starts_of first) extent.at_end extent.is_left old new
-    (Err (lines_fault fault)) bytes
+    → AnswersListening (starts_of first) extent old new (Err (lines_fault fault)) bytes
 explains extent first now old new bytes run.Read h =
     StopsAt-map bytes _ _ (λ lines rest more p. (p.0, p.1, logged first now old new lines p.2)) h
 explains extent first now old new bytes (run.Line file.TooLong) h =
@@ -196,9 +195,9 @@ as-err {N} {F} a b e = let out : F → Result N F = λ x. Err x in ap out e
 listens-by : {R W : Type 0} (starts : Starts) (d : Devices R W)
     (outcome : Result Report ListenFault)
     → Reads d.remaining d.reader d.reader_after Read (λ _. ⊥) outcome (λ _. ⊤)
-    (AnswersListening starts (IsReadOut d) (λ more. more ≡ []) (d.contents d.writer.inner)
+    (AnswersListening starts (as_read d) (d.contents d.writer.inner)
     (d.contents d.writer_after.inner) outcome)
-    (AnswersListening starts (Unit {0}) (λ more. Unit {0}) (d.contents d.writer.inner)
+    (AnswersListening starts whole_input (d.contents d.writer.inner)
     (d.contents d.writer_after.inner) outcome)
     → Writes d.writer_after (λ written. Write written) outcome → Listens starts d outcome
 listens-by starts d outcome r w = record {
@@ -221,8 +220,8 @@ listens-fault first now d fault h =
     listens-by (starts_of first) d (Err (lines_fault fault))
     (Reads-on d.remaining d.reader d.reader_after run.Read Read (Err fault)
     (Err (lines_fault fault)) _ _ _ _ h.reads
-    (λ bytes k. explains _ first now _ _ bytes fault k)
-    (λ bytes k. explains _ first now _ _ bytes fault k)
+    (λ bytes k. explains (as_read d) first now _ _ bytes fault k)
+    (λ bytes k. explains whole_input first now _ _ bytes fault k)
     (λ bytes k h outside. tt) (λ e. as-err _ _ (read-back fault (err-of _ _ e)))
     (λ e. as-err _ _ (ap lines_fault (run-err-of _ _ e))))
     (record {

@@ -11,7 +11,7 @@ use Rattle.nx_fec.specs.air_files.LineRuns.{StopsLines}
 use Rattle.nx_fec.specs.declared.air_files.line_hearing.HearFault.{HearFault}
 use Rattle.nx_fec.specs.declared.air_files.line_hearing.HearFault.TheVariants as hear
 use Rattle.nx_fec.specs.air_files.Lines.{air_limit}
-use Rattle.nx_fec.specs.Transfers.{CountedDevice, Extent}
+use Rattle.nx_fec.specs.Transfers.{CountedDevice, Extent, read_to, whole_input}
 use Rattle.nx_fec.specs.declared.fault.LineFault.TheVariants as file
 use Rattle.nx_fec.specs.declared.air_files.line_taking.LinesFault.TheVariants as run
 use Rattle.nx_fec.specs.declared.air_files.line_taking.LinesRead.{LinesRead}
@@ -85,7 +85,7 @@ explains-unlogged : (extent : Extent) (first now : Listening)
     (bytes : List ℕ) (fault : HearFault LineRefusal)
     → StopsLines (RefusesFrom first) (StandsUnlogged first now) extent.at_end extent.is_left
     air_limit bytes fault
-    → AnswersUnlogged (starts_of first) extent.at_end extent.is_left
+    → AnswersUnlogged (starts_of first) extent
     (Err (lines_fault (as_run_fault fault))) bytes
 explains-unlogged extent first now bytes hear.Read h =
     explains extent first now None None bytes run.Read
@@ -130,18 +130,19 @@ pub unlogged-fault : {R : Type 0} (saved : SavedStates) (first now : Listening)
     (Err fault)
     → ListensUnlogged saved remaining old new (Err (lines_fault (as_run_fault fault)))
 unlogged-fault saved first now remaining old new fault begun h =
-    let said : (AtEnd : Type 0) (IsLeft : List ℕ → Type 0) (bytes : List ℕ)
-    → StopsLines (RefusesFrom first) (StandsUnlogged first now) AtEnd IsLeft air_limit bytes fault
-    → AnswersLeaving saved AtEnd IsLeft (Err (lines_fault (as_run_fault fault))) bytes =
-    λ AtEnd IsLeft bytes k. (
-      subst (λ (starts : Starts). AnswersUnlogged starts AtEnd IsLeft
+    let said : (extent : Extent) (bytes : List ℕ)
+    → StopsLines (RefusesFrom first) (StandsUnlogged first now) extent.at_end extent.is_left
+    air_limit bytes fault
+    → AnswersLeaving saved extent (Err (lines_fault (as_run_fault fault))) bytes =
+    λ extent bytes k. (
+      subst (λ (starts : Starts). AnswersUnlogged starts extent
           (Err (lines_fault (as_run_fault fault))) bytes) begun
-          (explains-unlogged (record { at_end = AtEnd; is_left = IsLeft }) first now bytes
-          fault k),
+          (explains-unlogged extent first now bytes fault k),
       tt,
     ) in
     Reads-on remaining old new hear.Read Read (Err fault) (Err (lines_fault (as_run_fault fault)))
-    _ _ _ _ h (λ bytes k. said _ _ bytes k) (λ bytes k. said _ _ bytes k)
+    _ _ _ _ h (λ bytes k. said (read_to (IsAtEnd (remaining new.inner))) bytes k)
+    (λ bytes k. said whole_input bytes k)
     (λ bytes k h outside. tt)
     (λ e. as-err _ _ (unread-back fault (read-back (as_run_fault fault) (err-of _ _ e))))
     (λ e. as-err _ _ (ap (λ f. lines_fault (as_run_fault f)) (hear-err-of _ _ e)))
@@ -174,13 +175,13 @@ pub unlogged-ok : {R : Type 0} (saved left : SavedStates) (first now : Listening
     → LeavesEach (starts_of first) lines left)
     → report.lines ≡ count → ListensUnlogged saved remaining old new (Ok (report, left))
 unlogged-ok saved left first now remaining old new count report begun h closed leaves counted =
-    let said : (AtEnd : Type 0) (IsLeft : List ℕ → Type 0) (bytes : List ℕ)
-    → AtEnd × HasHeardAll (StandsUnlogged first now) air_limit bytes count
-    → AnswersLeaving saved AtEnd IsLeft (Ok (report, left)) bytes =
-    λ AtEnd IsLeft bytes k.
+    let said : (extent : Extent) (bytes : List ℕ)
+    → extent.at_end × HasHeardAll (StandsUnlogged first now) air_limit bytes count
+    → AnswersLeaving saved extent (Ok (report, left)) bytes =
+    λ extent bytes k.
     let all : LinesRead = record { lines = count; written = count_of (length k.1.here.0) } in
     let told = told-all first now bytes count k.1 in (
-      subst (λ (starts : Starts). AnswersUnlogged starts AtEnd IsLeft (Ok report) bytes) begun (
+      subst (λ (starts : Starts). AnswersUnlogged starts extent (Ok report) bytes) begun (
         k.0,
         listened first now None None None bytes all report told
             (λ lines given s w. closed lines given s) counted,
@@ -192,11 +193,10 @@ unlogged-ok saved left first now remaining old new count report begun h closed l
     (λ bytes. IsAtEnd (remaining new.inner)
     × HasHeardAll (StandsUnlogged first now) air_limit bytes count)
     (λ bytes. Unit {0} × HasHeardAll (StandsUnlogged first now) air_limit bytes count)
-    (λ bytes. AnswersLeaving saved (IsAtEnd (remaining new.inner)) (λ more. more ≡ [])
-    (Ok (report, left)) bytes)
-    (λ bytes. AnswersLeaving saved (Unit {0}) (λ more. Unit {0}) (Ok (report, left)) bytes)
-    h (λ bytes k. said (IsAtEnd (remaining new.inner)) (λ more. more ≡ []) bytes k)
-    (λ bytes k. said (Unit {0}) (λ more. Unit {0}) bytes k)
+    (AnswersLeaving saved (read_to (IsAtEnd (remaining new.inner))) (Ok (report, left)))
+    (AnswersLeaving saved whole_input (Ok (report, left)))
+    h (λ bytes k. said (read_to (IsAtEnd (remaining new.inner))) bytes k)
+    (λ bytes k. said whole_input bytes k)
     (λ bytes k h. h) (λ e. absurd (Ok-not_err _ _ e)) (λ e. absurd (Ok-not_err _ _ e))
 
 whatever-twice : (o : Option (List ℕ)) → IfSome o (λ _. ⊤ × ⊤)

@@ -4,6 +4,7 @@ use Rattle.std.proofs.Common.{Some, IfSome, Result, Ok, Err, MatchResult, inl, i
 use Rattle.std.proofs.Common.{◌∙◌, subst, append_assoc, append-nil, arith}
 use Rattle.std.specs.List.{AllByRecursion}
 use Rattle.std.proofs.lemmas.List.{length-append}
+use Rattle.nx_fec.specs.Transfers.{whole_input}
 use Rattle.nx_memory.specs.Saved.{SavedStates, AreSavedStates}
 use Rattle.nx_memory.specs.StateText.{BeginsNoText, BeginsText, IsShortLine, IsStateText, text_2}
 use Rattle.nx_memory.proofs.lemmas.StateLaws.{none_begins, one_state, text_short}
@@ -294,7 +295,7 @@ ended-done input states h =
 
 ended-line : (number : ℕ) {input : List ℕ} (lines : List (List ℕ)) (rest more : List ℕ)
     → BeginsText lines → IsShortLine rest → input ≡ (ended_lines lines ++ rest) ++ more
-    → number ≡ length lines + 1 → IsNotUnderstood (λ left. Unit {0}) lines rest more
+    → number ≡ length lines + 1 → IsNotUnderstood whole_input lines rest more
     → HasEnded input (Err (StateLine number))
 ended-line number lines rest [] begins part whole count h = absurd h
 ended-line number lines rest (byte ∷ more) begins part whole count h = record {
@@ -318,7 +319,7 @@ is_told (Err (StateLine number)) other = tt
 is_told (Err (StateCut number)) other = tt
 
 ended-of : (input : List ℕ) (answer : Answer) → IsTold answer
-    → AnswersState (Unit {0}) (λ more. Unit {0}) input answer → HasEnded input answer
+    → AnswersState whole_input input answer → HasEnded input answer
 ended-of input (Ok states) told h = ended-done input states (record {
   text = h.text;
   more = h.more;
@@ -348,8 +349,8 @@ ended-of input (Err (StateCut number)) told h =
 
 -- an input has one answer, but for a failed read
 pub one_answer : (input : List ℕ) (answer other : Answer)
-    → AnswersState (Unit {0}) (λ more. Unit {0}) input answer
-    → AnswersState (Unit {0}) (λ more. Unit {0}) input other
+    → AnswersState whole_input input answer
+    → AnswersState whole_input input other
     → answer ≢ Err Read → other ≢ Err Read → answer ≡ other
 one_answer input answer other h k told also =
     same_ended input answer other (ended-of input answer (is_told answer told) h)
@@ -357,7 +358,7 @@ one_answer input answer other h k told also =
 
 -- so what an input says that begins with a text is the answer
 pub good_answer : (o : Option (List ℕ)) (answer : Answer)
-    → IfSome o (λ input. AnswersState (Unit {0}) (λ more. Unit {0}) input answer)
+    → IfSome o (λ input. AnswersState whole_input input answer)
     → IfSome o (λ input. (states : SavedStates) → BeginsWithState input states
     → MatchResult answer (λ it. it ≡ states) (λ fault. fault ≡ Read))
 good_answer None answer h = tt

@@ -4,7 +4,7 @@ use Rattle.std.proofs.Common.{inl, inr, refl, sym, ap, ◌∙◌, subst, append_
 use Rattle.std.specs.Io.KnownBytes.{Consumes}
 use Rattle.std.proofs.KnownBytes.{Consumes-trans}
 use Rattle.nx_fec.specs.air_files.Lines.{line_end}
-use Rattle.nx_fec.specs.Transfers.{CountedDevice}
+use Rattle.nx_fec.specs.Transfers.{CountedDevice, whole_input}
 use Rattle.nx_fec.proofs.lemmas.devices.TransferLaws.{IfSome-end, IfSome-front, Ok-not_err, read_failed-none}
 use Rattle.nx_memory.specs.Saved.{SavedStates}
 use Rattle.nx_memory.specs.StateText.{BeginsNoText, BeginsText, IsShortLine, IsStateText}
@@ -79,7 +79,7 @@ module _ {R : Type 0} (remaining : R → Option (List ℕ)) (old mid new : Count
           stands_for = stands;
           here = (refl, refl);
         };
-        file = IfSome-front _ _ text (λ input. AnswersState (Unit {0}) (λ more. Unit {0}) input
+        file = IfSome-front _ _ text (λ input. AnswersState whole_input input
             (Ok states)) all (λ more. record {
               text = text;
               more = more;
@@ -105,7 +105,7 @@ module _ {R : Type 0} (remaining : R → Option (List ℕ)) (old mid new : Count
         consumed = all;
         answer = stops-here lines line (line_end ∷ []) _ begins part
             (count, (refl, inl (refl, bad)));
-        file = IfSome-front _ _ _ (λ input. AnswersState (Unit {0}) (λ more. Unit {0}) input
+        file = IfSome-front _ _ _ (λ input. AnswersState whole_input input
             (Err (StateLine number))) all
             (λ more. stops lines line (line_end ∷ []) more _ begins part
             (count, (tt, inl (refl, bad))));
@@ -126,7 +126,7 @@ module _ {R : Type 0} (remaining : R → Option (List ℕ)) (old mid new : Count
         consumed = all;
         answer = stops-here lines h.line (byte ∷ []) _ begins h.part
             (count, (refl, inr (h.here.2, h.here.3)));
-        file = IfSome-front _ _ _ (λ input. AnswersState (Unit {0}) (λ more. Unit {0}) input
+        file = IfSome-front _ _ _ (λ input. AnswersState whole_input input
             (Err (StateLine number))) all
             (λ more. stops lines h.line (byte ∷ []) more _ begins h.part
             (count, (tt, inr (h.here.2, h.here.3))));
@@ -145,7 +145,7 @@ module _ {R : Type 0} (remaining : R → Option (List ℕ)) (old mid new : Count
         bytes = ended_lines lines ++ (h.line ++ []);
         consumed = all;
         answer = (h.here.1, stops-here lines h.line [] _ begins h.part (count, refl));
-        file = IfSome-end _ _ _ (λ input. AnswersState (Unit {0}) (λ more. Unit {0}) input
+        file = IfSome-end _ _ _ (λ input. AnswersState whole_input input
             (Err (StateCut number))) all h.here.1
             (tt, stops-here lines h.line [] _ begins h.part (count, refl));
         before = λ e. tt;
@@ -163,7 +163,7 @@ module _ {R : Type 0} (remaining : R → Option (List ℕ)) (old mid new : Count
         bytes = ended_lines lines ++ (h.line ++ []);
         consumed = all;
         answer = stops-here lines h.line [] _ begins h.part refl;
-        file = IfSome-front _ _ _ (λ input. AnswersState (Unit {0}) (λ more. Unit {0}) input
+        file = IfSome-front _ _ _ (λ input. AnswersState whole_input input
             (Err Read)) all (λ more. stops lines h.line [] more _ begins h.part tt);
         before = λ e. tt;
         failed = (λ e. h.here.1, λ e. refl);

@@ -7,7 +7,7 @@ use Rattle.std.proofs.lemmas.List.Elements.{All-from_recursion}
 use Rattle.std.proofs.lemmas.List.Quantifiers.{position-Some}
 use Rattle.std.specs.Io.KnownBytes.{Appends}
 use Rattle.nx_envelope.specs.Message.{MessageView}
-use Rattle.nx_fec.specs.Transfers.{WroteSome, Devices, IsReadOut, Reads}
+use Rattle.nx_fec.specs.Transfers.{WroteSome, Devices, Extent, IsReadOut, Reads, as_read, whole_input}
 use Rattle.nx_fec.specs.emissions.Emission.{SentPosition, bits_of, emission}
 use Rattle.nx_fec.specs.air_files.BitLines.{bit_lines}
 use Rattle.nx_fec.specs.air_files.Lines.{file_of, line_bytes}
@@ -29,8 +29,8 @@ use Rattle.nx_station.specs.declared.fault.SendRunFault.TheVariants.{Read, Write
 use Rattle.nx_station.specs.declared.sending.Sent.{Sent}
 
 -- an outcome of reading a file whole
-abbrev pub as_read : {N : Type 0} → Result N ReadFault → Result N ReadFault
-as_read outcome = outcome
+abbrev pub reading : {N : Type 0} → Result N ReadFault → Result N ReadFault
+reading outcome = outcome
 
 -- the fault is of no device
 abbrev pub IsInside : SendRunFault → Type 0
@@ -51,12 +51,12 @@ write-read written e = cc
 
 -- ---- the file isn't read whole
 
-whole-explains : (AtEnd : Type 0) (station from : ℕ) (bytes : List ℕ) (old new : Option (List ℕ))
+whole-explains : (extent : Extent) (station from : ℕ) (bytes : List ℕ) (old new : Option (List ℕ))
     (why : ReadFault) → ExplainsWhole file_limit bytes why
-    → ExplainsSending AtEnd file_limit station from bytes old new (read_fault why)
-whole-explains AtEnd station from bytes old new read.Read h = tt
-whole-explains AtEnd station from bytes old new read.FileTooLong h = h
-whole-explains AtEnd station from bytes old new (read.Memory error) h = tt
+    → ExplainsSending extent file_limit station from bytes old new (read_fault why)
+whole-explains extent station from bytes old new read.Read h = tt
+whole-explains extent station from bytes old new read.FileTooLong h = h
+whole-explains extent station from bytes old new (read.Memory error) h = tt
 
 whole-read : {N : Type 0} (why : ReadFault)
     → ◌≡◌ {A = Result Sent SendRunFault} (Err (read_fault why)) (Err Read)
@@ -81,15 +81,15 @@ whole-write read.FileTooLong written e = cc
 whole-write (read.Memory error) written e = cc
 
 pub unread : {R W N : Type 0} (d : Devices R W) (station from : ℕ) (why : ReadFault)
-    → Reads d.remaining d.reader d.reader_after read.Read IsOutsideWhole (as_read {N = N} (Err why))
+    → Reads d.remaining d.reader d.reader_after read.Read IsOutsideWhole (reading {N = N} (Err why))
     (IsWithin file_limit) (λ bytes. ExplainsWhole file_limit bytes why)
     (λ bytes. ExplainsWhole file_limit bytes why)
     → d.writer_after ≡ d.writer → d.writer.failures ≡ 0
     → Sends d station from (Err (read_fault why))
 unread d station from why reads same none = record {
   reads = Reads-on _ _ _ _ _ _ _ _ _ _ _ reads
-      (λ bytes k. whole-explains _ station from bytes _ _ why k)
-      (λ bytes k. whole-explains _ station from bytes _ _ why k)
+      (λ bytes k. whole-explains (as_read d) station from bytes _ _ why k)
+      (λ bytes k. whole-explains whole_input station from bytes _ _ why k)
       (λ bytes k h outside. h (whole-outside why outside)) (whole-read why) (read-whole why);
   writes = record {
     failed = (
@@ -108,22 +108,22 @@ unread d station from why reads same none = record {
 -- the fault comes before anything is written
 pub unsent : {R W N : Type 0} (d : Devices R W) (station from : ℕ) (text : N) (items : List ℕ)
     (fault : SendRunFault)
-    → Reads d.remaining d.reader d.reader_after read.Read IsOutsideWhole (as_read {N = N} (Ok text))
+    → Reads d.remaining d.reader d.reader_after read.Read IsOutsideWhole (reading {N = N} (Ok text))
     (IsWithin file_limit) (λ bytes. IsReadOut d × (length bytes ≤ file_limit) × (items ≡ bytes))
     (λ bytes. (length bytes ≤ file_limit) × (items ≡ bytes))
     → d.writer_after ≡ d.writer → d.writer.failures ≡ 0 → IsInside fault
-    → ((AtEnd : Type 0) → AtEnd → length items ≤ file_limit
-    → ExplainsSending AtEnd file_limit station from items (d.contents d.writer.inner)
+    → ((extent : Extent) → extent.at_end → length items ≤ file_limit
+    → ExplainsSending extent file_limit station from items (d.contents d.writer.inner)
     (d.contents d.writer_after.inner) fault)
     → Sends d station from (Err fault)
 unsent d station from text items fault reads same none inside explains = record {
   reads = Reads-on _ _ _ _ _ _ _ _ _ _ _ reads
-      (λ bytes k. subst (λ l. ExplainsSending (IsReadOut d) file_limit station from l
+      (λ bytes k. subst (λ l. ExplainsSending (as_read d) file_limit station from l
       (d.contents d.writer.inner) (d.contents d.writer_after.inner) fault) k.2
-      (explains (IsReadOut d) k.0 (subst (λ l. length l ≤ file_limit) (sym k.2) k.1)))
-      (λ bytes k. subst (λ l. ExplainsSending (Unit {0}) file_limit station from l
+      (explains (as_read d) k.0 (subst (λ l. length l ≤ file_limit) (sym k.2) k.1)))
+      (λ bytes k. subst (λ l. ExplainsSending whole_input file_limit station from l
       (d.contents d.writer.inner) (d.contents d.writer_after.inner) fault) k.1
-      (explains (Unit {0}) tt (subst (λ l. length l ≤ file_limit) (sym k.1) k.0)))
+      (explains whole_input tt (subst (λ l. length l ≤ file_limit) (sym k.1) k.0)))
       (λ bytes k h outside. k.1) (λ e. absurd (inside-read fault inside e))
       (λ e. absurd (Ok-not_err text read.Read e));
   writes = record {
@@ -141,7 +141,7 @@ unsent d station from text items fault reads same none inside explains = record 
 -- the file is written, or a part of it
 pub unwritten : {R W N : Type 0} (d : Devices R W) (station from : ℕ) (text : N)
     (items air : List ℕ) (sent : Sent) (written : ℕ)
-    → Reads d.remaining d.reader d.reader_after read.Read IsOutsideWhole (as_read {N = N} (Ok text))
+    → Reads d.remaining d.reader d.reader_after read.Read IsOutsideWhole (reading {N = N} (Ok text))
     (IsWithin file_limit) (λ bytes. IsReadOut d × (length bytes ≤ file_limit) × (items ≡ bytes))
     (λ bytes. (length bytes ≤ file_limit) × (items ≡ bytes))
     → d.writer_after.failures ≡ 1 → IsTransmission station from items air sent
@@ -173,7 +173,7 @@ unwritten d station from text items air sent written reads one is wrote = record
 
 pub sent-all : {R W N : Type 0} (d : Devices R W) (station from : ℕ) (text : N) (items air : List ℕ)
     (sent : Sent)
-    → Reads d.remaining d.reader d.reader_after read.Read IsOutsideWhole (as_read {N = N} (Ok text))
+    → Reads d.remaining d.reader d.reader_after read.Read IsOutsideWhole (reading {N = N} (Ok text))
     (IsWithin file_limit) (λ bytes. IsReadOut d × (length bytes ≤ file_limit) × (items ≡ bytes))
     (λ bytes. (length bytes ≤ file_limit) × (items ≡ bytes))
     → d.writer_after.failures ≡ 0 → IsTransmission station from items air sent
@@ -219,19 +219,20 @@ pub same-station : (one other : ℕ) (messages : List MessageView) → AreOf one
 same-station one other [] h k = absurd (h.some refl)
 same-station one other (m ∷ ms) h k = sym h.each.0 ∙ k.each.0
 
-pub refusal-explains : (AtEnd : Type 0) (station from slot : ℕ) (file : List ℕ)
-    (messages : List MessageView) (old new : Option (List ℕ)) (why : SendFault) → AtEnd
+pub refusal-explains : (extent : Extent) (station from slot : ℕ) (file : List ℕ)
+    (messages : List MessageView) (old new : Option (List ℕ)) (why : SendFault) → extent.at_end
     → length file ≤ file_limit
     → IsMessageFile file (map file_message_of messages) → AreOf station messages
     → IsNextSlot station from slot → IsRefusal messages why
-    → ExplainsSending AtEnd file_limit station from file old new (send_fault why)
-refusal-explains AtEnd station from slot file messages old new refusal.NoMessages end few is of next
-    h = absurd (of.some h)
-refusal-explains AtEnd station from slot file messages old new (refusal.MixedStations at) end few is
-    of next h = absurd (of_one-None station messages at of h)
-refusal-explains AtEnd station from slot file messages old new refusal.NoSlot end few is of next h =
+    → ExplainsSending extent file_limit station from file old new (send_fault why)
+refusal-explains extent station from slot file messages old new refusal.NoMessages end few is of
+    next h = absurd (of.some h)
+refusal-explains extent station from slot file messages old new (refusal.MixedStations at) end few
+    is of next h = absurd (of_one-None station messages at of h)
+refusal-explains extent station from slot file messages old new refusal.NoSlot end few is of next
+    h =
     absurd (h.2 (subst HasSlots (same-station station h.0 messages of h.1) next.is_slot.has_slots))
-refusal-explains AtEnd station from slot file messages old new (refusal.SlotFull count) end few is
+refusal-explains extent station from slot file messages old new (refusal.SlotFull count) end few is
     of next h = (
       end,
       few,
@@ -246,7 +247,7 @@ refusal-explains AtEnd station from slot file messages old new (refusal.SlotFull
         too_many = h.too_many;
       },
     )
-refusal-explains AtEnd station from slot file messages old new (refusal.Memory error) end few is of
+refusal-explains extent station from slot file messages old new (refusal.Memory error) end few is of
     next h = tt
 
 pub refusal-inside : (why : SendFault) → IsInside (send_fault why)

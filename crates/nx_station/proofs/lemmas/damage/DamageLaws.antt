@@ -13,7 +13,7 @@ use Rattle.nx_fec.specs.air_files.AirFile.{Line, IsLine, element_digit, mark_byt
 use Rattle.nx_fec.specs.air_files.AirFile.{refuse_station, accept_station, refuse_subject, accept_subject}
 use Rattle.nx_fec.specs.air_files.AirFile.{spelling}
 use Rattle.nx_fec.specs.air_files.Channels.{channel_of, same_channel}
-use Rattle.nx_fec.specs.Transfers.{WroteSome, Devices}
+use Rattle.nx_fec.specs.Transfers.{WroteSome, Devices, Extent, as_read, whole_input}
 use Rattle.nx_fec.specs.air_files.LineRuns.{Beginning, HasTaken, HasTakenAll, HasTakenSome, IsPlaced}
 use Rattle.nx_fec.specs.air_files.LineRuns.{Refusing, RunsLines, Standing}
 use Rattle.nx_fec.specs.air_files.Lines.{StopsAt, IsCause, elements_on, file_of, line_bytes}
@@ -452,28 +452,28 @@ damaged-write d first now written h = record {
   unwritten = tt;
 }
 
-stopped : (AtEnd : Type 0) (first now : Damager) (old new : Option (List ℕ)) (bytes : List ℕ)
-    (why : LineFault) (IsLeft : List ℕ → Type 0)
-    → IsPlaced AtEnd why × StopsAt bytes
+stopped : (extent : Extent) (first now : Damager) (old new : Option (List ℕ)) (bytes : List ℕ)
+    (why : LineFault)
+    → IsPlaced extent.at_end why × StopsAt bytes
     (λ lines rest more. IsCause 268435456 (length (file_of lines ++ rest)) lines rest more why
     × HasTaken stands first now lines (Appends old new))
-    → ExplainsDamaging AtEnd IsLeft 268435456 (damage_of first) old new bytes (line_fault why)
-stopped AtEnd first now old new bytes file.TooLong left k = (
+    → ExplainsDamaging extent 268435456 (damage_of first) old new bytes (line_fault why)
+stopped extent first now old new bytes file.TooLong k = (
   k.0,
   StopsAt-map bytes _ _
       (λ lines rest more p. (p.0, taken-appends first now lines old new p.1)) k.1,
 )
-stopped AtEnd first now old new bytes (file.LineLong line) left k = (
+stopped extent first now old new bytes (file.LineLong line) k = (
   k.0,
   StopsAt-map bytes _ _
       (λ lines rest more p. (p.0, taken-appends first now lines old new p.1)) k.1,
 )
-stopped AtEnd first now old new bytes (file.LineCut line) left k = (
+stopped extent first now old new bytes (file.LineCut line) k = (
   k.0,
   StopsAt-map bytes _ _
       (λ lines rest more p. (p.0, taken-appends first now lines old new p.1)) k.1,
 )
-stopped AtEnd first now old new bytes (file.BadLine line) left k = (
+stopped extent first now old new bytes (file.BadLine line) k = (
   k.0,
   StopsAt-map bytes _ _
       (λ lines rest more p. (p.0, taken-appends first now lines old new p.1)) k.1,
@@ -482,8 +482,9 @@ stopped AtEnd first now old new bytes (file.BadLine line) left k = (
 damaged-line : {R W : Type 0} (d : Devices R W) (first now : Damager) (why : LineFault)
     → Ran first now d (Err (run.Line why)) → Damages (damage_of first) d (Err (line_fault why))
 damaged-line d first now why h = record {
-  reads = Reads-on _ _ _ _ _ _ _ _ _ _ _ h.reads (λ bytes k. stopped _ first now _ _ bytes why _ k)
-      (λ bytes k. stopped _ first now _ _ bytes why _ k)
+  reads = Reads-on _ _ _ _ _ _ _ _ _ _ _ h.reads
+      (λ bytes k. stopped (as_read d) first now _ _ bytes why k)
+      (λ bytes k. stopped whole_input first now _ _ bytes why k)
       (λ bytes k h outside. tt) (λ e. absurd (line-read why e)) (λ e. absurd (run-line-read why e));
   writes = record {
     failed = (

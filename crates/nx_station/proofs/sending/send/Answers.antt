@@ -29,7 +29,7 @@ returns-in_default g c =
     c.args.writer.now c.args.writer.now) c.args.station.byte c.args.moment
     c.in_ok-file.file c.in_ok-file.file.items (Send refusal.NoSlot) c.in_ok-file.ensures refl
     c.requires.writer tt
-    (λ AtEnd end few. (
+    (λ extent end few. (
       end,
       few,
       record {
@@ -59,7 +59,7 @@ returns-in_err-positions g c =
     c.args.moment
     c.in_ok-file.file c.in_ok-file.file.items (send_fault why) c.in_ok-file.ensures refl
     c.requires.writer (refusal-inside why)
-    (λ AtEnd end few. refusal-explains AtEnd c.args.station.byte c.args.moment c.in-Some.slot
+    (λ extent end few. refusal-explains extent c.args.station.byte c.args.moment c.in-Some.slot
     c.in_ok-file.file.items messages.items _ _ why end few file
     record { some = some; each = c.in_ok-messages.ensures.station } c.in-Some.ensures.next
     refused)))

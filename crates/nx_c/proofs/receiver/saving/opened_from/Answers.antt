@@ -1,4 +1,5 @@
 use Rattle.std.proofs.Common.{◌≡◌, inl, refl, subst, Ok}
+use Rattle.nx_fec.specs.Transfers.{whole_input}
 use Rattle.nx_receiver.specs.air_file_runs.State.{AnswersState}
 use Rattle.nx_c.proofs.lemmas.Saving.{begins-as, restored}
 use Rattle.nx_c.proofs.receiver.saving.opened_from.Goals as goal
@@ -8,7 +9,7 @@ returns-in_default c =
     inl (
       begins-as c.args.state.now (λ others more. (c.in-Ok.states ≡ others) × Unit {0})
           (λ others more. Unit {0}) (λ others more same. tt)
-          (subst (λ r. AnswersState (Unit {0}) (λ more. Unit {0}) r.now (Ok c.in-Ok.states))
+          (subst (λ r. AnswersState whole_input r.now (Ok c.in-Ok.states))
           c.new.ensures.inner c.in-Ok.ensures.reads.file),
       refl,
     )
@@ -16,6 +17,6 @@ returns-in_default c =
 pub returns : goal.returns
 returns c =
     restored c.args.state.now c.in-Ok.states c.kept_of.result c.in-Ok-starting.listener
-    (subst (λ r. AnswersState (Unit {0}) (λ more. Unit {0}) r.now (Ok c.in-Ok.states))
+    (subst (λ r. AnswersState whole_input r.now (Ok c.in-Ok.states))
     c.new.ensures.inner c.in-Ok.ensures.reads.file)
     c.kept_of.ensures.hears c.kept_of.ensures.refused c.in-Ok-starting.ensures.heard
