@@ -32,7 +32,7 @@ abbrev pub space : ℕ
 space = 32
 
 -- what a combination prints in a shift: the line feed a newline, the space combination a space,
--- else the character of its row
+-- else the character of its row in the column of the shift, where one character stands there
 unfoldable pub character_of : ℕ → Shift → Option ℕ
 character_of number shift =
     if number == line_feed then Some newline

@@ -27,14 +27,15 @@ pub record HoldsWord (word text : List ℕ) : Type 0 where
   pub back : List ℕ
   pub spelled : text ≡ front ++ word ++ back
 
--- the text ends with the header of the identity
+-- the text ends with the header of the identity: ZCZC, one or more spaces, two letters, two digits
 pub record EndsWithHeader (text : List ℕ) (identity : Identity) : Type 0 where
   pub front : List ℕ
   pub more_spaces : ℕ
   pub spelled :
       text ≡ front ++ start_marker ++ replicate (more_spaces + 1) space ++ identity_bytes identity
 
--- the text ends with the marker that ends a copy in this way: NNNN as full, ZCZC as cut
+-- the text ends with the marker that ends a copy in this way: NNNN as full, ZCZC as cut; no marker
+-- ends a long one
 abbrev pub EndsWithMarker : List ℕ → How → Type 0
 EndsWithMarker text Full = EndsWith text end_marker
 EndsWithMarker text Cut = EndsWith text start_marker

@@ -71,9 +71,9 @@ pub record HasShownAll (old new : Option (List ℕ)) (file : List ℕ) (answer :
 -- What a fault of a run that shows locks says of bytes of this extent. The report so far of the
 -- whole lines before it was written, and nothing is closed but what was released. A failed read
 -- comes behind whole lines and the beginning of one more, and leaves what follows. After a failed
--- write the first bytes of the report of the lines that were read whole are written, closed if the
--- file had ended. A want of memory says nothing of them. Each other fault is the first of the file;
--- that of its end comes at its end.
+-- write the first bytes of a report are written: of some of the lines that were read, from the
+-- first on, or of the whole file, closed, if it had ended. A want of memory says nothing of the
+-- bytes. Each other fault is the first of the file; `LineCut` comes only where the file ends.
 abbrev pub ExplainsShowing : Extent → Option (List ℕ) → Option (List ℕ) → List ℕ → ListenFault
     → Type 0
 ExplainsShowing extent old new bytes (Memory error) = ⊤

@@ -14,8 +14,8 @@ HavePrinted starts given copies =
     → HasPrinted (start_on starts channel) (share channel given) (copies_on channel copies)
 
 -- What is printed of the copies that have ended, in the order in which they end: what is printed of
--- a beginning of what is given is so many of them, from the first on. What is given at once ends
--- copies of one channel alone.
+-- a beginning of what is given is so many of them, from the first on. A line has elements of one
+-- channel, so this fixes the order.
 pub record PrintsInTurn (starts : Starts) (given : List Given) (copies : List MarkedCopy)
     : Type 0 where
   pub each : HavePrinted starts given copies

@@ -59,14 +59,15 @@ pub record IsSpelled (message : MessageView) (numbers : List ℕ) : Type 0 where
 abbrev pub AreSpelled : List MessageView → List (List ℕ) → Type 0
 AreSpelled = AllZip IsSpelled
 
--- how many positions of phasing come before the first message, and before each further one, and how
--- many positions end an emission
+-- how many positions of phasing come before the first message
 abbrev pub first_phasing : ℕ
 first_phasing = 72
 
+-- how many positions of phasing come before each further message
 abbrev pub further_phasing : ℕ
 further_phasing = 36
 
+-- how many positions end an emission
 abbrev pub end_positions : ℕ
 end_positions = 3
 

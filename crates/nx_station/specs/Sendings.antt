@@ -55,15 +55,15 @@ abbrev pub positions_before : List (List ℕ) → ℕ
 positions_before [] = first_phasing
 positions_before (numbers ∷ more) = (length numbers + further_phasing) + positions_before more
 
--- the place of the second digit among the positions of a message, and the slot in which a position
--- is sent as RX
+-- the place of the second digit among the positions of a message
 abbrev pub second_digit : ℕ
 second_digit = 10
 
+-- the slot in which a position is sent as RX
 abbrev pub rx_slot : ℕ → ℕ
 rx_slot position = 2 * position + 5
 
--- the slot of the RX of the second digit of message i
+-- the slot in which the second digit of message i is sent as RX; messages count from 0
 abbrev pub digit_slot : List (List ℕ) → ℕ → ℕ
 digit_slot spellings i = rx_slot (positions_before (take i spellings) + second_digit)
 

@@ -12,9 +12,9 @@ round_seconds = 14400
 abbrev pub slot_seconds : ℕ
 slot_seconds = 600
 
--- A slot of the station begins at this moment. In each round of 14,400 seconds each station has
--- one, which begins 600 seconds after that of the station before it; that of A begins with the
--- round.
+-- A slot of the station begins at this moment. In each round of 14,400 seconds each of the stations
+-- A to X has one. It begins 600 seconds after that of the station before it; that of A begins with
+-- the round.
 pub record IsSlot (station moment : ℕ) : Type 0 where
   pub has_slots : HasSlots station
   pub round : ℕ

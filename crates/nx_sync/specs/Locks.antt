@@ -34,15 +34,16 @@ pub record IsPattern (bits : List Bool) (t : ℕ) : Type 0 where
   pub heard : t ≤ length bits
   pub pattern : (last_28 bits t ≡ before_dx) ⊎ (last_28 bits t ≡ before_rx)
 
--- A search from p finds t: the least bit count greater than p with a pattern before it (this
--- profile).
+-- A search from p finds t: the least bit count greater than p with a pattern before it. The 28 bits
+-- of the pattern may begin before p (this profile).
 pub record Finds (bits : List Bool) (p t : ℕ) : Type 0 where
   pub after : p < t
   pub here : IsPattern bits t
   pub least : (s : ℕ) → p < s → s < t → IsPattern bits s → ⊥
 
 -- Word k is the second of two DX words in a row that are phasing signal 1: it is a DX word, at
--- least word 2, and it and word k - 2 are phasing signal 1 (the end of an emission: M.625, mode B).
+-- least word 2, and it and word k - 2 are phasing signal 1. That is the end of an emission (M.625,
+-- mode B).
 pub record IsSecondPhasing1 (first : Role) (words : ℕ → ℕ) (k : ℕ) : Type 0 where
   pub two : 2 ≤ k
   pub dx : role_of first k ≡ Dx

@@ -11,7 +11,7 @@ use Rattle.nx_sync.specs.declared.step.Role.TheVariants.{Dx, Rx}
 abbrev pub marked_words : ℕ
 marked_words = 64
 
--- how many wrong ones among them lose it (this profile)
+-- how many wrong words among the last 64 lose a lock (this profile)
 abbrev pub losing_count : ℕ
 losing_count = 40
 
@@ -42,7 +42,7 @@ is_dx Rx = false
 abbrev pub first_of_last : ℕ → ℕ → ℕ
 first_of_last n k = k + 1 - n
 
--- how many of the words from word i to word k have the wrong weight
+-- how many of the words from word i to word k, both among them, have the wrong weight
 abbrev pub wrong_between : (ℕ → ℕ) → ℕ → ℕ → ℕ
 wrong_between words i k = wrong_in words i (k + 1 - i)
 

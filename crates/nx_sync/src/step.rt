@@ -32,7 +32,8 @@ impl Role {
 pub enum Change {
     /// A lock was found: its first word begins with the next element.
     Locked,
-    /// The lock is over, since two DX words in a row were phasing signal 1.
+    /// The lock is over: its last word is the third after two DX words in a row that were phasing
+    /// signal 1.
     Ended,
     /// The lock is over, since too many of its last words had the wrong weight.
     LostLock,

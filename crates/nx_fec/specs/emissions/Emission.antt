@@ -46,7 +46,7 @@ pub record IsEmission (positions : List SentPosition) (sent : List ℕ) : Type 0
   pub first_rx : 1 < length sent → slice_index sent 1 ≡ phasing_1
   pub second_rx : 3 < length sent → slice_index sent 3 ≡ phasing_1
 
--- the word of a slot, and the words of all slots
+-- the word that is sent in a slot
 unfoldable pub word_sent : List SentPosition → ℕ → ℕ
 word_sent positions slot =
     if slot % 2 == 0 then dx_word (position_at positions (slot / 2))

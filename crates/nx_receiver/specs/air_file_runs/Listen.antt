@@ -63,8 +63,8 @@ is_moment_line _ = false
 abbrev pub has_moment : List Line → Bool
 has_moment lines = list_any is_moment_line lines
 
--- Why a line is refused after these lines, as a fault says it. It is of elements, and there was no
--- moment yet; or a moment that is out of range or goes back; or the refusal of a vital subject
+-- Why a line is refused after these lines, as a fault says it. It has elements, and no moment came
+-- before it; or it is a moment out of range, or before the last one; or it refuses a vital subject
 -- (ITU-R M.540). Lines count from 1.
 abbrev pub RefusesAfter : Starts → ListenFault → List Line → Line → Type 0
 RefusesAfter starts (NoMoment number) lines (elements mark bits) =
@@ -157,9 +157,10 @@ HasListenFault starts holds bytes fault = StopsAt bytes (λ lines rest more.
 -- What a run that listens answers of bytes of this extent: a report, where the log of the file was
 -- written; or a fault. Before a fault the log of the whole lines before it was written, and nothing
 -- is closed. A failed read comes behind whole lines and the beginning of one more, and leaves what
--- follows. After a failed write the first bytes of the log of the lines that were read whole are
--- written, closed if the file had ended. A want of memory says nothing of them. Each other fault is
--- the first of the file; that of its end comes at its end.
+-- follows. After a failed write the first bytes of a log are written: of some of the lines that
+-- were read, from the first on, or of the whole file, closed, if it had ended. A want of memory
+-- says nothing of the bytes. Each other fault is the first of the file; `LineCut` comes only where
+-- the file ends.
 abbrev pub AnswersListening : Starts → Extent → Option (List ℕ) → Option (List ℕ)
     → Result Report ListenFault → List ℕ → Type 0
 AnswersListening starts extent old new (Ok report) bytes =
@@ -186,7 +187,8 @@ AnswersUnlogged starts extent outcome bytes =
     AnswersListening starts extent None None outcome bytes
 
 -- A run that listens, with this start. It answers so to the bytes that it read, and to the whole
--- file, however it came; and it writes the log of the lines that it read before each further read.
+-- file, however it came. Where a read fails, the log of the whole lines before it was written
+-- already; so it is written before each further read.
 -- A read failed, at most one, exactly where the outcome is `Read`, and a write where it is `Write`.
 pub record Listens {R W : Type 0} (starts : Starts) (d : Devices R W)
     (outcome : Result Report ListenFault) : Type 0 where

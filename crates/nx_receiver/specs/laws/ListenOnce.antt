@@ -35,8 +35,8 @@ pub record HasPrintedOnce (starts : Starts) (old new : Option (List ℕ)) (file 
       → IsHeardInTimeOn channel starts file message
       → IsPrintedOnce message (copies_on channel listened.copies)
 
--- A run that listens, with this start, and where it reads its file to the end, keeps both halves of
--- the headline for the bytes that it read.
+-- A run that listens, with this start, and where it answers Ok, keeps both halves of the headline
+-- for the bytes that it read.
 pub record ListensOnce {R W : Type 0} (starts : Starts) (d : Devices R W)
     (outcome : Result Report ListenFault) : Type 0 where
   pub run : Listens starts d outcome

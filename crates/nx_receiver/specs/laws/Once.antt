@@ -48,6 +48,7 @@ pub record IsHeardInTime (start : Start) (events : List Event) (parts : List Par
   -- It is not numbered 00.
   pub numbered : 0 < message.identity.number
   -- Each copy that is found with its identity is one of its sendings, so all carry the same text.
+  -- A copy of a badly received sending breaks this, and so does another message of its identity.
   pub locks : List Lock
   pub now : Now
   pub stands : IsNow (elements_among events) locks now
@@ -60,8 +61,8 @@ pub record IsHeardInTime (start : Start) (events : List Event) (parts : List Par
   pub close : (one other : ℕ) → IsSentAt parts message one → IsSentAt parts message other
       → (setting_at (first_setting start) events one).moment
       < (setting_at (first_setting start) events other).moment + seconds_known
-  -- At its first copy no entry of its identity is live: an entry that the first list has of it is
-  -- 66 hours old by then, or 200 came after it.
+  -- At its first copy no entry of its identity is live: one that the receiver began with is 66
+  -- hours old by then, or 200 came after it. With an empty memory this always holds.
   pub unknown : IsUnknownAtFirst start.entries message.identity
       (tagged_copies (first_setting start) events (found_to_end (elements_among events) locks now))
   -- 200 identities suffice: fewer than 200 entries are made between its first copy and any later
