@@ -5,8 +5,6 @@ ghost use Rattle.std.specs.List.{All, AllZip};
 ghost use Rattle.nx_envelope.specs.Moment.{last_moment};
 ghost use Rattle.nx_fec.specs.air_files.AirFile.{Line, elements};
 ghost use Rattle.nx_fec.specs.Transfers.{CountedDevice, FailsOnce};
-ghost use Rattle.nx_kept.specs.Log.{Keeps};
-ghost use Rattle.nx_log.specs.Entries.{IsWholeEntry};
 ghost use Rattle.nx_log.specs.Logged.{IsLoggedAs};
 ghost use Rattle.nx_memory.specs.Selection.{is_vital};
 ghost use Rattle.nx_receiver.specs.Events as events;
@@ -14,13 +12,13 @@ ghost use Rattle.nx_receiver.specs.InTurn.{PrintAllToEnd};
 ghost use Rattle.nx_receiver.specs.air_file_runs.Listen.{given_by};
 ghost use Rattle.nx_receiver.specs.Listener.{HearsGiven, last_copies, moment_in_force, starts_of, then_command, then_elements, then_moment};
 ghost use Rattle.nx_receiver.specs.Shares.{Given, MarkedCopy, Starts};
-ghost use Rattle.nx_watch.specs.Watch.{AnswersStarted, HasCause, watch_devices};
+ghost use Rattle.nx_watch.specs.Watch.{watch_devices};
 ghost use Rattle.nx_watch.specs.Watching.{StandsWith, WithWriter, with_writer};
 ghost use Rattle.nx_watch.specs.declared.kept_log.keeper.Keeper.{Keeper as TheKeeper};
 ghost use Rattle.nx_watch.specs.declared.watcher.Watcher.{Watcher as TheWatcher};
 ghost use Rattle.nx_watch.specs.Watching.{TellsOfLines};
 ghost use Rattle.nx_watch.specs.private.Keeping.{HasKept, KeepsWith, disk_of};
-ghost use Rattle.nx_watch.specs.private.Watcher.{HasClosed, IsCopyInRange, IsLineInRange, KeepsHeard, WatcherStands};
+ghost use Rattle.nx_watch.specs.private.Watcher.{HasClosed, HasRun, IsCopyInRange, IsLineInRange, KeepsHeard, WatcherStands};
 
 use crate::kept_log::keeper::Keeper;
 use crate::lines::any_scanner::MOST_BYTES;
@@ -174,32 +172,16 @@ impl<D: DiskFile + Drop> Watcher<D> {
         requires reader { reader.old.failures ≡ 0 }
         requires writer { writer.old.failures ≡ 0 }
         requires faults { faults.old.failures ≡ 0 }
-        ensures answers { first ≡ (starts_of self.listener).moment
+        ensures runs { first ≡ (starts_of self.listener).moment
             → (starts_of self.listener).moment ≤ last_moment
             → HearsGiven (starts_of self.listener) self.listener [] []
             → HasKept (disk_of D.explains D.seen D.may_leave D.moment D.left_since D.faults
             D.has_failed_to_write) self.keeper self.keeper [] []
-            → (content : List ℕ) (entries : List MarkedCopy) (texts : List (List ℕ))
-            → AllZip IsLoggedAs entries texts
-            → Keeps (D.seen content) (D.may_leave content) IsWholeEntry texts self.keeper.log
-            → AnswersStarted (watch_devices (D.seen content) (D.may_leave content) D.moment
+            → HasRun (disk_of D.explains D.seen D.may_leave D.moment D.left_since D.faults
+            D.has_failed_to_write) D.has_failed_to_read self
+            (λ content. watch_devices (D.seen content) (D.may_leave content) D.moment
             (D.left_since content) self.keeper.log.device result.1 R.remaining reader.old reader.new
-            W.contents writer.old writer.new F.contents faults.old faults.new)
-            (starts_of self.listener) entries result.0 }
-        ensures cause { first ≡ (starts_of self.listener).moment
-            → (starts_of self.listener).moment ≤ last_moment
-            → HearsGiven (starts_of self.listener) self.listener [] []
-            → HasKept (disk_of D.explains D.seen D.may_leave D.moment D.left_since D.faults
-            D.has_failed_to_write) self.keeper self.keeper [] []
-            → HasCause D.faults D.has_failed_to_read D.has_failed_to_write result.0
-            self.keeper.log.device result.1 }
-        ensures explained { first ≡ (starts_of self.listener).moment
-            → (starts_of self.listener).moment ≤ last_moment
-            → HearsGiven (starts_of self.listener) self.listener [] []
-            → HasKept (disk_of D.explains D.seen D.may_leave D.moment D.left_since D.faults
-            D.has_failed_to_write) self.keeper self.keeper [] []
-            → (content : List ℕ) → D.explains content result.1
-            → D.explains content self.keeper.log.device }
+            W.contents writer.old writer.new F.contents faults.old faults.new) result.0 result.1 }
         ensures told { first ≡ (starts_of self.listener).moment
             → (starts_of self.listener).moment ≤ last_moment
             → HearsGiven (starts_of self.listener) self.listener [] []

@@ -1,7 +1,7 @@
 -- Logged entries are a grammar: none is empty, none is longer than the longest, and none begins
 -- another.
 use Rattle.std.specs.Prelude.{◌≡◌, ℕ, ◌<◌, ◌≤◌, List, [], ◌++◌, length}
-use Rattle.std.proofs.Common.{refl, sym, append-nil, arith}
+use Rattle.std.proofs.Common.{sym, append-nil, arith}
 use Rattle.nx_log.specs.Entries.{IsWholeEntry}
 use Rattle.nx_log.proofs.lemmas.reading.Entries.{entry_bounded as bounded_one, entry_is_some, one_entry}
 

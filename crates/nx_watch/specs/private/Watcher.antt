@@ -1,5 +1,5 @@
 -- How the receivers of a watch stand, and what is kept of what they print.
-use Rattle.std.specs.Prelude.{◌≡◌, ℕ, ◌≤◌, List, ⊤, Option}
+use Rattle.std.specs.Prelude.{ℕ, ◌≤◌, List, ⊤, Option, Result}
 use Rattle.std.specs.List.{All, AllZip}
 use Rattle.nx_envelope.specs.Moment.{last_moment}
 use Rattle.nx_fec.specs.air_files.AirFile.{Line, moment}
@@ -9,9 +9,12 @@ use Rattle.nx_receiver.specs.air_file_runs.Listen.{given_by}
 use Rattle.nx_receiver.specs.Listener.{HearsGiven, starts_of}
 use Rattle.nx_receiver.specs.InTurn.{PrintAllToEnd}
 use Rattle.nx_receiver.specs.Shares.{Given, MarkedCopy, Starts}
+use Rattle.nx_watch.specs.Watch.{AnswersStarted, HasCause, WatchDevices}
 use Rattle.nx_watch.specs.declared.kept_log.keeper.Keeper.{Keeper}
+use Rattle.nx_watch.specs.declared.watch_fault.WatchFault.{WatchFault}
+use Rattle.nx_watch.specs.declared.watch_report.WatchReport.{WatchReport}
 use Rattle.nx_watch.specs.declared.watcher.Watcher.{Watcher}
-use Rattle.nx_watch.specs.private.Keeping.{DiskOf, HasKept, KeepsWith}
+use Rattle.nx_watch.specs.private.Keeping.{DiskOf, HasKept, KeepsTexts, KeepsWith}
 
 -- the moment of a line, if it says one, is in range
 abbrev pub IsLineInRange : Line → Type 0
@@ -56,3 +59,16 @@ module _ {D : Type 0} (disk : DiskOf D) where
     pub texts : List (List ℕ)
     pub each : AllZip IsLoggedAs copies texts
     pub kept : KeepsWith disk contents start now before after texts
+
+  -- A watcher that had heard and kept nothing ran over its input: with what it had at hand, by each
+  -- first content of the file, it answers so of the entries that its log kept. The outcome has its
+  -- cause, and the file after it tells of itself what it told before.
+  pub record HasRun {R W E : Type 0} (to_read : D → Type 0) (watcher : Watcher D)
+      (at_hand : List ℕ → WatchDevices D R W E) (outcome : Result WatchReport WatchFault)
+      (device : D) : Type 0 where
+    pub answers : (content : List ℕ) (entries : List MarkedCopy) (texts : List (List ℕ))
+        → AllZip IsLoggedAs entries texts → KeepsTexts disk content texts watcher.keeper
+        → AnswersStarted (at_hand content) (starts_of watcher.listener) entries outcome
+    pub cause : HasCause disk.faults to_read disk.to_write outcome watcher.keeper.log.device device
+    pub explained : (content : List ℕ) → disk.explains content device
+        → disk.explains content watcher.keeper.log.device

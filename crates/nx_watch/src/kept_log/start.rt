@@ -1,10 +1,11 @@
 //! What a watch remembers of its log when it starts.
 
-ghost use Rattle.std.specs.Prelude.{◌≡◌, ◌<◌, ◌≤◌, ◌+◌, [], ◌++◌, length, filter};
+ghost use Rattle.std.specs.Prelude.{◌≡◌, ◌<◌, ◌≤◌, ◌+◌, Bool, List, [], ◌++◌, length, filter};
 ghost use Rattle.std.specs.FinSet as set;
 ghost use Rattle.std.specs.List.{All, list_any};
 ghost use Rattle.nx_envelope.specs.Moment.{last_moment};
 ghost use Rattle.nx_memory.specs.Saved.{AreSavedEntries};
+ghost use Rattle.nx_memory.specs.declared.memories.entry.MemoryEntry.{MemoryEntry};
 ghost use Rattle.nx_watch.specs.Start.{is_in_order, is_last_known, is_near, passing, remembered_at, renews};
 
 use arrayvec::ArrayVec;
@@ -23,8 +24,8 @@ pub fn remembered(moment: u64, entries: &[MemoryEntry]) -> Saved
     ensures subjects { result.refused.subjects ≡ set.empty }
 {
     let near = near_entries(moment, entries);
-    let in_order = entries_in_order(near.as_slice());
-    let last_known = entries_last_known(in_order.as_slice());
+    let in_order = entries_passing(near.as_slice(), stands_in_order);
+    let last_known = entries_passing(in_order.as_slice(), is_last);
     saved_of(last_known.as_slice())
 }
 
@@ -43,17 +44,24 @@ fn near_entries(moment: u64, entries: &[MemoryEntry]) -> ArrayVec<MemoryEntry, C
     near
 }
 
-/// Those entries behind which none with an earlier moment stands.
-fn entries_in_order(entries: &[MemoryEntry]) -> ArrayVec<MemoryEntry, CAPACITY>
-    requires { length entries.now ≤ 200 }
-    ensures in_order { result.items ≡ passing is_in_order entries.now }
+/// Those entries that pass a test of them and of the entries behind them.
+fn entries_passing<P: Fn(&MemoryEntry, &[MemoryEntry]) -> bool>(
+    entries: &[MemoryEntry],
+    passes: P,
+) -> ArrayVec<MemoryEntry, CAPACITY>
+    requires few { length entries.now ≤ 200 }
+    requires callable { P.IsAlwaysCallable passes }
+    ensures passing { (test : MemoryEntry → List MemoryEntry → Bool)
+        → ((entry : _) (behind : _) (answer : Bool) → P.post passes entry behind answer
+        → answer ≡ test entry.now behind.now)
+        → result.items ≡ passing test entries.now }
     ensures few { length result.items ≤ 200 }
 {
     let mut kept = ArrayVec::new();
     for place in 0..entries.len() {
         let entry = entries[place];
         let behind = &entries[place + 1..];
-        if stands_in_order(&entry, behind) {
+        if passes(&entry, behind) {
             kept.push(entry);
         }
     }
@@ -65,24 +73,6 @@ fn stands_in_order(entry: &MemoryEntry, behind: &[MemoryEntry]) -> bool
     ensures { result ≡ is_in_order entry.now behind.now }
 {
     behind.iter().all(|other| entry.moment <= other.moment)
-}
-
-/// Those entries behind which none of their identity stands less than
-/// 66 hours later.
-fn entries_last_known(entries: &[MemoryEntry]) -> ArrayVec<MemoryEntry, CAPACITY>
-    requires { length entries.now ≤ 200 }
-    ensures last_known { result.items ≡ passing is_last_known entries.now }
-    ensures few { length result.items ≤ 200 }
-{
-    let mut kept = ArrayVec::new();
-    for place in 0..entries.len() {
-        let entry = entries[place];
-        let behind = &entries[place + 1..];
-        if is_last(&entry, behind) {
-            kept.push(entry);
-        }
-    }
-    kept
 }
 
 /// Whether none of its identity stands less than 66 hours later behind an entry.

@@ -1,8 +1,8 @@
 -- What a watch answers in the end.
-use Rattle.std.proofs.Common.{◌≡◌, ◌⊎◌, ◌↔◌, inl, inr, ⊎_elim, ℕ, ◌+◌, ◌-◌, ◌<◌, ◌≤◌, ◌^◌, suc, zero, Bool, true, false, List}
-use Rattle.std.proofs.Common.{[], ◌∷◌, ◌++◌, length, take, drop, min, Option, Result, Ok, Err, refl, sym, ◌∙◌, ap}
-use Rattle.std.proofs.Common.{subst, arith, append-nil}
-use Rattle.std.specs.List.{AllZip, concat}
+use Rattle.std.proofs.Common.{◌≡◌, ◌⊎◌, ◌↔◌, inl, inr, ⊎_elim, ℕ, ◌+◌, ◌≤◌, suc, zero, Bool, true, false, List}
+use Rattle.std.proofs.Common.{[], ◌∷◌, ◌++◌, length, take, drop, Option, Result, Ok, Err, refl, sym, ap}
+use Rattle.std.proofs.Common.{subst, arith}
+use Rattle.std.specs.List.{AllZip}
 use Rattle.std.specs.Io.KnownBytes.{Consumes, IsAtEnd}
 use Rattle.std.proofs.lemmas.List.Elements.{All-nil}
 use Rattle.nx_envelope.specs.Moment.{last_moment}
@@ -10,8 +10,7 @@ use Rattle.nx_fec.specs.air_files.AirFile.{Line}
 use Rattle.nx_fec.specs.Transfers.{CountedDevice}
 use Rattle.nx_kept.specs.Disk.{LeavesOnly}
 use Rattle.nx_kept.specs.Kept.{closed_gate}
-use Rattle.nx_kept.proofs.lemmas.Stages.{joined, weaker}
-use Rattle.nx_log.specs.Entries.{IsWholeEntry}
+use Rattle.nx_kept.proofs.lemmas.Stages.{weaker}
 use Rattle.nx_log.specs.Logged.{IsLoggedAs}
 use Rattle.nx_receiver.specs.air_file_runs.Listen.{given_by}
 use Rattle.nx_receiver.specs.Listener.{HearsGiven, starts_of}
@@ -24,9 +23,9 @@ use Rattle.nx_watch.specs.Watching.{HasTold, WereGiven, told_of}
 use Rattle.nx_watch.specs.declared.kept_log.keeper.Keeper.{Keeper}
 use Rattle.nx_watch.specs.declared.watch_report.WatchReport.{WatchReport}
 use Rattle.nx_watch.specs.declared.watch_fault.WatchFault.{WatchFault}
-use Rattle.nx_watch.specs.declared.watch_fault.WatchFault.TheVariants.{Disk}
+use Rattle.nx_watch.specs.declared.watch_fault.WatchFault.TheVariants as fault
 use Rattle.nx_watch.specs.private.Keeping.{AllKept, DiskOf, HasKept, HasKeptSo, KeepsTexts, SomeKept, StandsForFirst, StandsForTexts}
-use Rattle.nx_watch.specs.private.Watcher.{IsLineInRange, WatcherStands}
+use Rattle.nx_watch.specs.private.Watcher.{HasRun, IsLineInRange, WatcherStands}
 use Rattle.nx_watch.specs.declared.watcher.Watcher.{Watcher}
 use Rattle.nx_watch.proofs.lemmas.log.Keeping.{keeps-stands}
 use Rattle.nx_watch.proofs.lemmas.log.Watcher.{log-of}
@@ -169,7 +168,7 @@ module _ {D R W E : Type 0} (disk : DiskOf D) (content : List ℕ) (start : Keep
         → KeepsTexts disk content texts start → HasKept disk start now more given
         → WereGiven contents writer writer_after given
         → HasWatched (at-hand now.log.device) starts entries stop lines copies
-        → (now.has_failed ≡ true → outcome ≡ Err Disk)
+        → (now.has_failed ≡ true → outcome ≡ Err fault.Disk)
         → (now.has_failed ≡ false → AllKept disk start now more given
         → AnswersStop starts.moment stop lines copies outcome)
         → AnswersStarted (at-hand now.log.device) starts entries outcome
@@ -181,7 +180,7 @@ module _ {D R W E : Type 0} (disk : DiskOf D) (content : List ℕ) (start : Keep
         so : (b : Bool) → now.has_failed ≡ b → HasKeptSo disk b start now more given
             → (KeepsAll (at-hand now.log.device) entries copies
             × AnswersStop starts.moment stop lines copies outcome)
-            ⊎ (KeepsSome (at-hand now.log.device) entries copies × (outcome ≡ Err Disk))
+            ⊎ (KeepsSome (at-hand now.log.device) entries copies × (outcome ≡ Err fault.Disk))
         so false is k =
             inl (all-kept entries copies texts more now given each zip keeps k wrote, well is k)
         so true is k =
@@ -192,7 +191,7 @@ module _ {D R W E : Type 0} (disk : DiskOf D) (content : List ℕ) (start : Keep
 module _ {D : Type 0} (disk : DiskOf D) (to_read : D → Type 0) where
   pub cause-of : (start now : Keeper D) (more : List (List ℕ)) (given : List ℕ)
       (outcome : Result WatchReport WatchFault) → HasKept disk start now more given
-      → (now.has_failed ≡ true → outcome ≡ Err Disk)
+      → (now.has_failed ≡ true → outcome ≡ Err fault.Disk)
       → (now.has_failed ≡ false → AllKept disk start now more given
       → HasCause disk.faults to_read disk.to_write outcome start.log.device now.log.device)
       → HasCause disk.faults to_read disk.to_write outcome start.log.device now.log.device
@@ -251,57 +250,115 @@ stands-first disk watcher range heard kept = record {
   kept = kept;
 }
 
-module _ {D R W E : Type 0} (disk : DiskOf D) (content : List ℕ) (start : Keeper D)
+-- where a watch answers how it stopped, the disk isn't blamed
+stop-cause : {D : Type 0} (faults : D → ℕ) (to_read to_write : D → Type 0) (old new : D)
+    (first : ℕ) (stop : Stop) (lines : List (Option Line)) (copies : List MarkedCopy)
+    (outcome : Result WatchReport WatchFault) → AnswersStop first stop lines copies outcome
+    → faults new ≡ faults old → HasCause faults to_read to_write outcome old new
+stop-cause faults to_read to_write old new first stop lines copies (Ok report) h well = well
+stop-cause faults to_read to_write old new first stop lines copies (Err fault.Read) h well = well
+stop-cause faults to_read to_write old new first stop lines copies (Err fault.Memory) h well = well
+stop-cause faults to_read to_write old new first stop lines copies (Err (fault.Damaged line)) h
+    well = well
+stop-cause faults to_read to_write old new first stop lines copies
+    (Err (fault.Back line last given)) h well = well
+stop-cause faults to_read to_write old new first at_end lines copies (Err fault.Open) h well =
+    absurd h
+stop-cause faults to_read to_write old new first (back l m n) lines copies (Err fault.Open) h well =
+    absurd h
+stop-cause faults to_read to_write old new first unread lines copies (Err fault.Open) h well =
+    absurd h
+stop-cause faults to_read to_write old new first unwritten lines copies (Err fault.Open) h well =
+    absurd h
+stop-cause faults to_read to_write old new first at_end lines copies (Err fault.Disk) h well =
+    absurd h
+stop-cause faults to_read to_write old new first (back l m n) lines copies (Err fault.Disk) h well =
+    absurd h
+stop-cause faults to_read to_write old new first unread lines copies (Err fault.Disk) h well =
+    absurd h
+stop-cause faults to_read to_write old new first unwritten lines copies (Err fault.Disk) h well =
+    absurd h
+
+module _ {D R W E : Type 0} (disk : DiskOf D) (watcher : Watcher D) (first : ℕ)
     (remaining : R → Option (List ℕ)) (reader reader_after : CountedDevice R)
     (contents : W → Option (List ℕ)) (writer writer_after : CountedDevice W)
     (told : E → Option (List ℕ)) (faults faults_after : CountedDevice E)
   where
-    -- what a watch answers that stopped so, by all that is known of it
-    pub ended : (starts : Starts) (entries copies : List MarkedCopy) (texts more : List (List ℕ))
-        (now : Keeper D) (given : List ℕ) (stop : Stop) (lines : List (Option Line))
-        (bytes : List ℕ) (first : ℕ) (outcome : Result WatchReport WatchFault)
-        → first ≡ starts.moment
-        → AllZip IsLoggedAs entries texts → AllZip IsLoggedAs copies more
-        → KeepsTexts disk content texts start → HasKept disk start now more given
-        → WereGiven contents writer writer_after given
-        → Consumes (remaining reader.inner) (remaining reader_after.inner) bytes
-        → length bytes ≤ most_bytes
-        → HasRead (IsAtEnd (remaining reader_after.inner) ⊎ (length bytes ≡ most_bytes)) first stop
-        bytes lines
-        → PrintsUntil stop starts (given_by (acting_lines first lines)) copies
-        → (stop ≡ unread) ↔ (reader_after.failures ≡ 1)
-        → (stop ≡ unwritten → writer_after.failures ≡ 1)
-        → HasTold (told faults.inner) (told faults_after.inner) faults_after.failures
-        (told_of first lines)
-        → (now.has_failed ≡ true → outcome ≡ Err Disk)
-        → (now.has_failed ≡ false → AllKept disk start now more given
-        → AnswersStop first stop lines copies outcome)
-        → AnswersStarted (watch_devices (disk.seen content) (disk.may_leave content) disk.clock
-        (disk.left_since content) start.log.device now.log.device remaining reader reader_after
-        contents writer writer_after told faults faults_after) starts entries outcome
-    ended starts entries copies texts more now given stop lines bytes first outcome is each zip
-        keeps
-        kept wrote consumed within read printed failed_read failed_write said failed well =
-        answers-started disk content start remaining reader reader_after contents writer
-        writer_after
-        told faults faults_after starts entries copies texts more now given stop lines outcome each
-        zip
-        keeps kept wrote (record {
-          bytes = bytes;
-          consumed = consumed;
-          within = within;
+    -- A run stopped so: its lines print these copies, of which it gave the texts to its keeper, and
+    -- this is the keeper that it left.
+    pub record HasStopped (stop : Stop) (now : Keeper D) : Type 0 where
+      pub lines : List (Option Line)
+      pub copies : List MarkedCopy
+      pub texts : List (List ℕ)
+      pub given : List ℕ
+      pub bytes : List ℕ
+      pub each : AllZip IsLoggedAs copies texts
+      pub kept : HasKept disk watcher.keeper now texts given
+      pub wrote : WereGiven contents writer writer_after given
+      pub consumed : Consumes (remaining reader.inner) (remaining reader_after.inner) bytes
+      pub within : length bytes ≤ most_bytes
+      pub read : HasRead (IsAtEnd (remaining reader_after.inner) ⊎ (length bytes ≡ most_bytes))
+          first stop bytes lines
+      pub printed : PrintsUntil stop (starts_of watcher.listener)
+          (given_by (acting_lines first lines)) copies
+      pub failed_read : (stop ≡ unread) ↔ (reader_after.failures ≡ 1)
+      pub failed_write : stop ≡ unwritten → writer_after.failures ≡ 1
+      pub said : HasTold (told faults.inner) (told faults_after.inner) faults_after.failures
+          (told_of first lines)
+
+    abbrev at-hand-with : D → List ℕ → WatchDevices D R W E
+    at-hand-with device content =
+        watch_devices (disk.seen content) (disk.may_leave content) disk.clock
+        (disk.left_since content) watcher.keeper.log.device device remaining reader reader_after
+        contents writer writer_after told faults faults_after
+
+    answers-stopped : (stop : Stop) (now : Keeper D) (h : HasStopped stop now)
+        (outcome : Result WatchReport WatchFault) → first ≡ (starts_of watcher.listener).moment
+        → (now.has_failed ≡ true → outcome ≡ Err fault.Disk)
+        → (now.has_failed ≡ false → AllKept disk watcher.keeper now h.texts h.given
+        → AnswersStop first stop h.lines h.copies outcome)
+        → (content : List ℕ) (entries : List MarkedCopy) (texts : List (List ℕ))
+        → AllZip IsLoggedAs entries texts → KeepsTexts disk content texts watcher.keeper
+        → AnswersStarted (at-hand-with now.log.device content) (starts_of watcher.listener) entries
+        outcome
+    answers-stopped stop now h outcome is failed well content entries texts each keeps =
+        answers-started disk content watcher.keeper remaining reader reader_after contents writer
+        writer_after told faults faults_after (starts_of watcher.listener) entries h.copies texts
+        h.texts now h.given stop h.lines outcome each h.each keeps h.kept h.wrote (record {
+          bytes = h.bytes;
+          consumed = h.consumed;
+          within = h.within;
           read = subst (λ f. HasRead (IsAtEnd (remaining reader_after.inner)
-              ⊎ (length bytes ≡ most_bytes)) f stop bytes lines) is read;
-          printed = subst (λ f. PrintsUntil stop starts (given_by (acting_lines f lines)) copies) is
-              printed;
-          any_moment = moments-of disk content start remaining reader reader_after contents writer
-              writer_after told faults faults_after entries copies texts more now given each zip
-              keeps kept;
-          failed_read = failed_read;
-          failed_write = failed_write;
+              ⊎ (length h.bytes ≡ most_bytes)) f stop h.bytes h.lines) is h.read;
+          printed = subst (λ f. PrintsUntil stop (starts_of watcher.listener)
+              (given_by (acting_lines f h.lines)) h.copies) is h.printed;
+          any_moment = moments-of disk content watcher.keeper remaining reader reader_after contents
+              writer writer_after told faults faults_after entries h.copies texts h.texts now
+              h.given each h.each keeps h.kept;
+          failed_read = h.failed_read;
+          failed_write = h.failed_write;
           faults_told = subst (λ f. HasTold (told faults.inner) (told faults_after.inner)
-              faults_after.failures (told_of f lines)) is said;
-        }) failed (λ w all. subst (λ f. AnswersStop f stop lines copies outcome) is (well w all))
+              faults_after.failures (told_of f h.lines)) is h.said;
+        }) failed
+        (λ w all. subst (λ f. AnswersStop f stop h.lines h.copies outcome) is (well w all))
+
+    -- what such a run answers, whose device is that of its keeper
+    pub has-run : (to_read : D → Type 0) (stop : Stop) (now : Keeper D) (h : HasStopped stop now)
+        (outcome : Result WatchReport WatchFault) (device : D)
+        → first ≡ (starts_of watcher.listener).moment → device ≡ now.log.device
+        → (now.has_failed ≡ true → outcome ≡ Err fault.Disk)
+        → (now.has_failed ≡ false → AllKept disk watcher.keeper now h.texts h.given
+        → AnswersStop first stop h.lines h.copies outcome)
+        → HasRun disk to_read watcher (at-hand-with device) outcome device
+    has-run to_read stop now h outcome device is same failed well =
+        subst (λ (d : D). HasRun disk to_read watcher (at-hand-with d) outcome d) (sym same)
+        (record {
+          answers = answers-stopped stop now h outcome is failed well;
+          cause = cause-of disk to_read watcher.keeper now h.texts h.given outcome h.kept failed
+              (λ w all. stop-cause disk.faults to_read disk.to_write watcher.keeper.log.device
+              now.log.device first stop h.lines h.copies outcome (well w all) all.well);
+          explained = explained-of disk to_read watcher.keeper now h.texts h.given h.kept;
+        })
 
 -- a writer whose write failed was given bytes, so not all was kept
 pub wrote-some : {D W : Type 0} {disk : DiskOf D} {contents : W → Option (List ℕ)}

@@ -1,12 +1,12 @@
 -- What a watch answers that opens its log and starts.
-use Rattle.std.proofs.Common.{◌≡◌, ◌⊎◌, inl, inr, ⊎_elim, ℕ, zero, suc, ◌+◌, ◌≤◌, Bool, true, false, List, []}
+use Rattle.std.proofs.Common.{◌≡◌, ◌⊎◌, inl, inr, ⊎_elim, ℕ, suc, ◌≤◌, List, []}
 use Rattle.std.proofs.Common.{◌∷◌, ◌++◌, length, take, Option, Result, Ok, Err, refl, sym, ◌∙◌, ap, subst}
 use Rattle.std.proofs.Common.{append-nil, arith}
 use Rattle.std.specs.List.{AllZip}
 use Rattle.nx_fec.specs.air_files.AirFile.{Line}
 use Rattle.nx_fec.specs.Transfers.{CountedDevice}
-use Rattle.nx_kept.specs.Disk.{FailedOnce, LeavesOnly}
-use Rattle.nx_kept.specs.Kept.{IsBehindOpenGates, IsKeptLog, IsTail, StandsFor}
+use Rattle.nx_kept.specs.Disk.{LeavesOnly}
+use Rattle.nx_kept.specs.Kept.{IsBehindOpenGates, IsTail}
 use Rattle.nx_kept.specs.Open as opening
 use Rattle.nx_kept.specs.declared.fault.OpenFault.{OpenFault}
 use Rattle.nx_kept.specs.declared.fault.OpenFault.TheVariants as why

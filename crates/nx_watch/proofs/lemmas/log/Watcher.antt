@@ -1,10 +1,10 @@
 -- The receivers of a watch take lines, and their entries are kept.
-use Rattle.std.proofs.Common.{◌≡◌, ℕ, zero, ◌+◌, ◌≤◌, ◌<◌, Bool, true, false, cond, List, [], ◌∷◌, ◌++◌, length}
-use Rattle.std.proofs.Common.{map, take, drop, max, nat_le, Option, Some, None, Result, Ok, Err, refl, sym, ◌∙◌, ap, subst, arith}
-use Rattle.std.proofs.Common.{append-nil, append_assoc}
+use Rattle.std.proofs.Common.{◌≡◌, ℕ, ◌≤◌, ◌<◌, Bool, true, false, cond, List, [], ◌∷◌, ◌++◌}
+use Rattle.std.proofs.Common.{map, max, nat_le, Option, Some, None, Result, Ok, Err, refl, sym, ◌∙◌, ap, ap₂, subst, arith}
+use Rattle.std.proofs.Common.{append-nil}
 use Rattle.std.specs.Prelude.{IfSome, IsErr, IsTrue, MatchResult, OnOk}
 use Rattle.std.specs.List.{All, AllZip, concat}
-use Rattle.std.proofs.lemmas.Bool.{leb-true, leb-false}
+use Rattle.std.proofs.lemmas.Bool.{leb-false}
 use Rattle.std.proofs.lemmas.List.Concat.{flat_map-append}
 use Rattle.std.proofs.lemmas.List.Elements.{All-nil, All-cons, All-head, All-tail, All-append}
 use Rattle.nx_envelope.specs.Moment.{last_moment}
@@ -17,7 +17,7 @@ use Rattle.nx_log.specs.Entries.{IsWholeEntry}
 use Rattle.nx_log.specs.Logged.{IsLogged, IsLoggedAs}
 use Rattle.nx_log.proofs.lemmas.printed.Moments.{AreInRange, IsInRange, end_logged, given_logged}
 use Rattle.nx_receiver.specs.Events as fed
-use Rattle.nx_receiver.specs.Events.{Event, Refuses, at_moment, command}
+use Rattle.nx_receiver.specs.Events.{Command, Event, Refuses, at_moment, command}
 use Rattle.nx_receiver.specs.FoundCopies.{TaggedCopy, copy_of}
 use Rattle.nx_receiver.specs.InTurn.{PrintAllToEnd}
 use Rattle.nx_receiver.specs.air_file_runs.Listen.{given_by, given_of}
@@ -33,7 +33,7 @@ use Rattle.nx_receiver.specs.declared.fault.MomentFault.TheVariants.{Back, Range
 use Rattle.nx_receiver.proofs.lemmas.listening.Listener.{given_by-one}
 use Rattle.nx_watch.proofs.lemmas.log.Heard.{none-heard}
 use Rattle.nx_watch.specs.Acting.{in_force, moments_said}
-use Rattle.nx_watch.specs.Watching.{MayAct, StandsWith, WereGiven, WithWriter, force_behind, with_writer}
+use Rattle.nx_watch.specs.Watching.{StandsWith, WithWriter, with_writer}
 use Rattle.nx_watch.specs.private.Keeping.{DiskOf, HasKept, KeepsWith}
 use Rattle.nx_watch.specs.private.Watcher.{IsCopyInRange, IsLineInRange, KeepsHeard, WatcherStands}
 use Rattle.nx_watch.specs.declared.watcher.Watcher.{Watcher}
@@ -196,6 +196,26 @@ module _ {D W : Type 0} (disk : DiskOf D) (contents : W → Option (List ℕ)) w
         },
         h.2,
       )
+
+  -- the same of a line that says a command, which was taken for its channel and its letter
+  pub next-command : (start : WithWriter (Watcher D) W) (old new : Watcher D)
+      (writer : CountedDevice W) (lines : List Line) (line is : Line) (make : ℕ → Command)
+      (mark : Option Channel) (letter : ℕ) {channel : Channel} {byte : ℕ}
+      → given_of is ≡ to_one (channel_of mark) (command (make letter) ∷ []) → IsLineInRange is
+      → line ≡ is → channel ≡ channel_of mark → byte ≡ letter → new.keeper ≡ old.keeper
+      → ((copies : List MarkedCopy)
+      → HearsGiven (starts_of start.taker.listener) old.listener (given_by lines) copies
+      → HearsGiven (starts_of start.taker.listener) new.listener
+      (given_by lines ++ to_one channel (command (make byte) ∷ []) ∷ []) copies)
+      → StandsWith (WatcherStands disk) contents start (with_writer old writer) lines
+      → StandsWith (WatcherStands disk) contents start (with_writer new writer) (lines ++ line ∷ [])
+  next-command start old new writer lines line is make mark letter gives within said at same kept
+      step h =
+      subst (λ l. StandsWith (WatcherStands disk) contents start (with_writer new writer)
+      (lines ++ l ∷ [])) (sym said) (next-line start old new writer lines is kept within
+      (λ copies heard. subst (λ one. HearsGiven (starts_of start.taker.listener) new.listener
+      (given_by lines ++ one ∷ []) copies)
+      (ap₂ (λ to b. to_one to (command (make b) ∷ [])) at same ∙ sym gives) (step copies heard)) h)
 
   -- a line of elements, of which nothing was heard yet
   pub none-yet : (start : WithWriter (Watcher D) W) (now : Watcher D) (writer : CountedDevice W)

@@ -1,11 +1,9 @@
-use Rattle.std.proofs.Common.{◌≡◌, ◌≤◌, ◌⊎◌, ◌∙◌, ◌++◌, ◌∷◌, [], List, ℕ, Result, Err, false, ap, inl, refl, subst, sym}
+use Rattle.std.proofs.Common.{◌≡◌, ◌≤◌, ◌∙◌, [], ℕ, Result, Err, ap, inl, refl, subst, sym}
 use Rattle.std.specs.Prelude.{unwrap_or}
 use Rattle.std.specs.List.{AllZip}
-use Rattle.nx_kept.specs.Kept.{closed_gate}
 use Rattle.nx_kept.specs.Log.{Keeps}
 use Rattle.nx_log.specs.Entries.{IsWholeEntry}
 use Rattle.nx_log.specs.Logged.{IsLoggedAs}
-use Rattle.nx_memory.specs.Saved.{SavedStates, newest_of_all}
 use Rattle.nx_envelope.specs.Moment.{last_moment}
 use Rattle.nx_receiver.specs.Listener.{HearsGiven, starts_of}
 use Rattle.nx_watch.specs.declared.watch_report.WatchReport.{WatchReport}
@@ -13,12 +11,13 @@ use Rattle.nx_watch.specs.declared.watch_fault.WatchFault.{WatchFault}
 use Rattle.nx_watch.specs.declared.watch_fault.WatchFault.TheVariants.{Damaged, Memory}
 use Rattle.nx_receiver.specs.Shares.{Starts, starts_from}
 use Rattle.nx_watch.specs.Watch.{AnswersStarted, AnswersWatching, HasCause, HasOpened, starts_at, watch_devices}
-use Rattle.nx_watch.specs.private.Keeping.{HasKept, StandsForTexts, disk_of}
+use Rattle.nx_watch.specs.private.Keeping.{HasKept, disk_of}
 use Rattle.nx_watch.proofs.lemmas.log.Keeping.{fresh-keeper, keeps-stands, kept-none}
 use Rattle.nx_watch.proofs.lemmas.log.Opening.{answers-opening, answers-watching, cause-behind, cause-opening, damage-named, entries-of, has-opened, not-damaged, same-texts, started-before}
 use Rattle.nx_watch.proofs.lemmas.log.Remembering.{took-all}
 use Rattle.nx_watch.proofs.lemmas.lines.Run.{nothing}
 use Rattle.nx_watch.proofs.watching.watch.Goals as goal
+use Rattle.nx_watch.proofs.watching.watch.Goals.{After-run}
 
 abbrev err : WatchFault → Result WatchReport WatchFault
 err fault = Err fault
@@ -122,24 +121,38 @@ returns-in_default-clause-explained g c = λ start ex.
 
 -- ---- it was started
 
+-- the run begins with a watcher that has heard and kept nothing
+begins : (g : _) → (c : After-run g)
+    → (c.unwrap_or-first.result ≡ (starts_of c.in-Ok-starting.listener).moment)
+    × ((starts_of c.in-Ok-starting.listener).moment ≤ last_moment)
+    × HearsGiven (starts_of c.in-Ok-starting.listener) c.in-Ok-starting.listener [] []
+    × HasKept (disk_of g.D.DiskFile.explains g.D.DiskFile.seen g.D.DiskFile.may_leave
+    g.D.DiskFile.moment g.D.DiskFile.left_since g.D.DiskFile.faults
+    g.D.DiskFile.has_failed_to_write) (fresh-keeper c.in-Ok.log) (fresh-keeper c.in-Ok.log) [] []
+begins g c =
+    let d = g.D.DiskFile in
+    let disk = disk_of d.explains d.seen d.may_leave d.moment d.left_since d.faults
+    d.has_failed_to_write in
+    let listener = c.in-Ok-starting.listener in
+    let start = c.in-Ok-starting.ensures.start in (
+      c.unwrap_or-first.ensures ∙ ap (λ o. unwrap_or o 0) c.newest.ensures
+          ∙ sym (ap (λ (s : Starts). s.moment) start),
+      subst (λ (s : Starts). s.moment ≤ last_moment) (sym start) c.in-Ok-starting.ensures.range,
+      subst (λ (s : Starts). HearsGiven s listener [] []) (sym start)
+          c.in-Ok-starting.ensures.heard,
+      kept-none disk (fresh-keeper c.in-Ok.log) refl refl
+          (λ content file left. g.met.D.DiskFile.only_now content c.in-Ok.log.device file left),
+    )
+
 pub returns-clause-watched : goal.returns-clause-watched
 returns-clause-watched g c = λ start entries ex stands.
     let d = g.D.DiskFile in
     let disk = disk_of d.explains d.seen d.may_leave d.moment d.left_since d.faults
     d.has_failed_to_write in
     let log = c.in-Ok.log in
-    let listener = c.in-Ok-starting.listener in
-    let keeper = fresh-keeper log in
-    let fresh = kept-none disk keeper refl refl
-    (λ content file left. g.met.D.DiskFile.only_now content log.device file left) in
-    let first = c.unwrap_or-first.ensures ∙ ap (λ o. unwrap_or o 0) c.newest.ensures
-    ∙ sym (ap (λ (s : Starts). s.moment) c.in-Ok-starting.ensures.start) in
-    let range = subst (λ (s : Starts). s.moment ≤ last_moment) (sym c.in-Ok-starting.ensures.start)
-    c.in-Ok-starting.ensures.range in
-    let heard = subst (λ (s : Starts). HearsGiven s listener [] [])
-    (sym c.in-Ok-starting.ensures.start)
-    c.in-Ok-starting.ensures.heard in
-    let explained = c.run.ensures.explained first range heard fresh start ex in
+    let b = begins g (goal.at.returns-clause-watched g c).After-run in
+    let run = c.run.ensures.runs b.0 b.1 b.2 b.3 in
+    let explained = run.explained start ex in
     let o = c.in-Ok.ensures.opened start explained in
     let same = same-texts stands.texts o.records o.front o.tail (d.seen start c.args.device)
     stands.stands o.kept o.end o.split in
@@ -149,9 +162,9 @@ returns-clause-watched g c = λ start entries ex stands.
     let saved = c.saved_at-saved.ensures entries
     (took-all c.new-memory.result c.open.new.taker entries o.records c.new-memory.ensures each
     o.taken) in
-    let starts : starts_of listener ≡ starts_at c.args.moment entries =
+    let starts : starts_of c.in-Ok-starting.listener ≡ starts_at c.args.moment entries =
     c.in-Ok-starting.ensures.start ∙ ap starts_from saved in
-    let answer = c.run.ensures.answers first range heard fresh start entries o.records each keeps in
+    let answer = run.answers start entries o.records each keeps in
     answers-watching _ entries c.args.moment c.run.result.0
     (started-before disk start c.args.device log.device c.run.result.1 g.R.Read.remaining
     c.args.reader.now c.run.new.reader g.W.Write.contents c.args.writer.now c.run.new.writer
@@ -164,7 +177,7 @@ returns-clause-watched g c = λ start entries ex stands.
       end = o.end;
       split = o.split;
     }))
-    (λ file left. keeps-stands disk start o.records keeper keeps file left)
+    (λ file left. keeps-stands disk start o.records (fresh-keeper log) keeps file left)
     (subst (λ s. AnswersStarted (watch_devices (d.seen start) (d.may_leave start) d.moment
     (d.left_since start) log.device c.run.result.1 g.R.Read.remaining c.args.reader.now
     c.run.new.reader g.W.Write.contents c.args.writer.now c.run.new.writer g.F.Write.contents
@@ -173,80 +186,35 @@ returns-clause-watched g c = λ start entries ex stands.
 pub returns-clause-cause : goal.returns-clause-cause
 returns-clause-cause g c =
     let d = g.D.DiskFile in
-    let disk = disk_of d.explains d.seen d.may_leave d.moment d.left_since d.faults
-    d.has_failed_to_write in
-    let log = c.in-Ok.log in
-    let keeper = fresh-keeper log in
-    let fresh = kept-none disk keeper refl refl
-    (λ content file left. g.met.D.DiskFile.only_now content log.device file left) in
-    let first = c.unwrap_or-first.ensures ∙ ap (λ o. unwrap_or o 0) c.newest.ensures
-    ∙ sym (ap (λ (s : Starts). s.moment) c.in-Ok-starting.ensures.start) in
-    let range = subst (λ (s : Starts). s.moment ≤ last_moment) (sym c.in-Ok-starting.ensures.start)
-    c.in-Ok-starting.ensures.range in
-    let heard = subst (λ (s : Starts). HearsGiven s c.in-Ok-starting.listener [] [])
-    (sym c.in-Ok-starting.ensures.start) c.in-Ok-starting.ensures.heard in
+    let b = begins g (goal.at.returns-clause-cause g c).After-run in
     cause-behind d.faults d.has_failed_to_read d.has_failed_to_write c.run.result.0 c.args.device
-    log.device c.run.result.1 c.in-Ok.ensures.faults (c.run.ensures.cause first range heard fresh)
+    c.in-Ok.log.device c.run.result.1 c.in-Ok.ensures.faults
+    (c.run.ensures.runs b.0 b.1 b.2 b.3).cause
 
 pub returns-clause-explained : goal.returns-clause-explained
 returns-clause-explained g c = λ start ex.
-    let d = g.D.DiskFile in
-    let disk = disk_of d.explains d.seen d.may_leave d.moment d.left_since d.faults
-    d.has_failed_to_write in
-    let log = c.in-Ok.log in
-    let keeper = fresh-keeper log in
-    let fresh = kept-none disk keeper refl refl
-    (λ content file left. g.met.D.DiskFile.only_now content log.device file left) in
-    let first = c.unwrap_or-first.ensures ∙ ap (λ o. unwrap_or o 0) c.newest.ensures
-    ∙ sym (ap (λ (s : Starts). s.moment) c.in-Ok-starting.ensures.start) in
-    let range = subst (λ (s : Starts). s.moment ≤ last_moment) (sym c.in-Ok-starting.ensures.start)
-    c.in-Ok-starting.ensures.range in
-    let heard = subst (λ (s : Starts). HearsGiven s c.in-Ok-starting.listener [] [])
-    (sym c.in-Ok-starting.ensures.start) c.in-Ok-starting.ensures.heard in
-    c.in-Ok.ensures.explained start (c.run.ensures.explained first range heard fresh start ex)
+    let b = begins g (goal.at.returns-clause-explained g c).After-run in
+    c.in-Ok.ensures.explained start ((c.run.ensures.runs b.0 b.1 b.2 b.3).explained start ex)
 
 pub returns-clause-damaged : goal.returns-clause-damaged
 returns-clause-damaged g c = λ start line ex e.
     let d = g.D.DiskFile in
-    let disk = disk_of d.explains d.seen d.may_leave d.moment d.left_since d.faults
-    d.has_failed_to_write in
     let log = c.in-Ok.log in
-    let keeper = fresh-keeper log in
-    let fresh = kept-none disk keeper refl refl
-    (λ content file left. g.met.D.DiskFile.only_now content log.device file left) in
-    let first = c.unwrap_or-first.ensures ∙ ap (λ o. unwrap_or o 0) c.newest.ensures
-    ∙ sym (ap (λ (s : Starts). s.moment) c.in-Ok-starting.ensures.start) in
-    let range = subst (λ (s : Starts). s.moment ≤ last_moment) (sym c.in-Ok-starting.ensures.start)
-    c.in-Ok-starting.ensures.range in
-    let heard = subst (λ (s : Starts). HearsGiven s c.in-Ok-starting.listener [] [])
-    (sym c.in-Ok-starting.ensures.start) c.in-Ok-starting.ensures.heard in
-    let o = c.in-Ok.ensures.opened start
-    (c.run.ensures.explained first range heard fresh start ex) in
+    let b = begins g (goal.at.returns-clause-damaged g c).After-run in
+    let run = c.run.ensures.runs b.0 b.1 b.2 b.3 in
+    let o = c.in-Ok.ensures.opened start (run.explained start ex) in
     let found = entries-of o.records o.front o.kept in
     let keeps : Keeps (d.seen start) (d.may_leave start) IsWholeEntry o.records log =
     record { front = o.front; kept = o.kept; at_rest = o.at_rest } in
-    let answer = c.run.ensures.answers first range heard fresh start found.0 o.records found.1
-    keeps in
+    let answer = run.answers start found.0 o.records found.1 keeps in
     absurd (not-damaged _ found.0 (starts_of c.in-Ok-starting.listener) line
     (subst (AnswersStarted _ (starts_of c.in-Ok-starting.listener) found.0) e answer))
 
 pub returns-clause-foreign : goal.returns-clause-foreign
 returns-clause-foreign g c = λ start ex none.
-    let d = g.D.DiskFile in
-    let disk = disk_of d.explains d.seen d.may_leave d.moment d.left_since d.faults
-    d.has_failed_to_write in
-    let log = c.in-Ok.log in
-    let keeper = fresh-keeper log in
-    let fresh = kept-none disk keeper refl refl
-    (λ content file left. g.met.D.DiskFile.only_now content log.device file left) in
-    let first = c.unwrap_or-first.ensures ∙ ap (λ o. unwrap_or o 0) c.newest.ensures
-    ∙ sym (ap (λ (s : Starts). s.moment) c.in-Ok-starting.ensures.start) in
-    let range = subst (λ (s : Starts). s.moment ≤ last_moment) (sym c.in-Ok-starting.ensures.start)
-    c.in-Ok-starting.ensures.range in
-    let heard = subst (λ (s : Starts). HearsGiven s c.in-Ok-starting.listener [] [])
-    (sym c.in-Ok-starting.ensures.start) c.in-Ok-starting.ensures.heard in
-    let o = c.in-Ok.ensures.opened start
-    (c.run.ensures.explained first range heard fresh start ex) in
+    let b = begins g (goal.at.returns-clause-foreign g c).After-run in
+    let run = c.run.ensures.runs b.0 b.1 b.2 b.3 in
+    let o = c.in-Ok.ensures.opened start (run.explained start ex) in
     absurd (none (
       o.records,
       record {
@@ -270,17 +238,5 @@ returns-in_default-clause-told g c =
 
 pub returns-clause-told : goal.returns-clause-told
 returns-clause-told g c =
-    let d = g.D.DiskFile in
-    let disk = disk_of d.explains d.seen d.may_leave d.moment d.left_since d.faults
-    d.has_failed_to_write in
-    let log = c.in-Ok.log in
-    let keeper = fresh-keeper log in
-    let fresh = kept-none disk keeper refl refl
-    (λ content file left. g.met.D.DiskFile.only_now content log.device file left) in
-    let first = c.unwrap_or-first.ensures ∙ ap (λ o. unwrap_or o 0) c.newest.ensures
-    ∙ sym (ap (λ (s : Starts). s.moment) c.in-Ok-starting.ensures.start) in
-    let range = subst (λ (s : Starts). s.moment ≤ last_moment) (sym c.in-Ok-starting.ensures.start)
-    c.in-Ok-starting.ensures.range in
-    let heard = subst (λ (s : Starts). HearsGiven s c.in-Ok-starting.listener [] [])
-    (sym c.in-Ok-starting.ensures.start) c.in-Ok-starting.ensures.heard in
-    c.run.ensures.told first range heard fresh
+    let b = begins g (goal.at.returns-clause-told g c).After-run in
+    c.run.ensures.told b.0 b.1 b.2 b.3

@@ -1,4 +1,4 @@
-use Rattle.std.proofs.Common.{◌≡◌, ◌∙◌, [], append-nil, sym}
+use Rattle.std.proofs.Common.{◌∙◌, [], append-nil, sym}
 use Rattle.nx_watch.proofs.lemmas.log.Remembering.{kept-in-range, kept-numbered, seen-none, seen-some}
 use Rattle.nx_watch.proofs.kept_log.log_memory.found_in.Goals as goal
 

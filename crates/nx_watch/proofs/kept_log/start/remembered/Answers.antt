@@ -6,9 +6,10 @@ use Rattle.nx_watch.proofs.kept_log.start.remembered.Goals as goal
 
 pub saved_of-requires : goal.saved_of-requires
 saved_of-requires c =
-    let are = c.as_slice-3.ensures.value ∙ c.entries_last_known-last_known.ensures.last_known
+    let are = c.as_slice-3.ensures.value
+    ∙ c.entries_passing-last_known.ensures.passing is_last_known (λ entry behind answer p. p)
     ∙ ap (passing is_last_known) (c.as_slice-2.ensures.value
-    ∙ c.entries_in_order-in_order.ensures.in_order
+    ∙ c.entries_passing-in_order.ensures.passing is_in_order (λ entry behind answer p. p)
     ∙ ap (passing is_in_order) (c.as_slice.ensures.value ∙ c.near_entries-near.ensures.near)) in
     subst AreSavedEntries (sym are)
     (remembered-sound c.args.moment c.args.entries.now c.requires.few c.requires.numbered

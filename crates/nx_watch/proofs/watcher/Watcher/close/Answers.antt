@@ -1,4 +1,3 @@
-use Rattle.std.proofs.Common.{[], ◌++◌, subst, append-nil, sym}
 use Rattle.nx_receiver.specs.air_file_runs.Listen.{given_by}
 use Rattle.nx_receiver.specs.Listener.{starts_of}
 use Rattle.nx_watch.proofs.lemmas.log.Watcher.{last-in-range}

@@ -1,4 +1,4 @@
-use Rattle.std.proofs.Common.{◌≡◌, ◌-◌, ◌≤◌, ℕ, List, length, take}
+use Rattle.std.proofs.Common.{◌-◌, ◌≤◌, List, length, take}
 use Rattle.nx_fec.specs.air_files.AirFile.{Line}
 use Rattle.nx_receiver.specs.air_file_runs.Listen.{given_by}
 use Rattle.nx_receiver.specs.Listener.{then_elements}

@@ -1,4 +1,4 @@
-use Rattle.std.proofs.Common.{◌≡◌, ◌++◌, arith, drop, refl, subst, sym, take, true}
+use Rattle.std.proofs.Common.{drop, refl, subst, sym, take, true}
 use Rattle.nx_receiver.specs.air_file_runs.Listen.{given_by}
 use Rattle.nx_receiver.specs.Listener.{IsSpelled, starts_of}
 use Rattle.nx_watch.specs.private.Keeping.{disk_of}

@@ -1,17 +1,15 @@
-use Rattle.std.proofs.Common.{◌≡◌, ◌≤◌, ◌++◌, ◌∷◌, [], List, ap₂, arith, false, refl, sym, subst}
-use Rattle.nx_fec.specs.air_files.AirFile.{Line, moment, elements, refuse_station, accept_station}
+use Rattle.std.proofs.Common.{◌≡◌, ◌++◌, ◌∷◌, [], arith, false, refl, sym, subst}
+use Rattle.nx_fec.specs.air_files.AirFile.{moment, refuse_station, accept_station}
 use Rattle.nx_fec.specs.air_files.AirFile.{refuse_subject, accept_subject}
 use Rattle.nx_memory.specs.Selection.{is_vital}
 use Rattle.nx_receiver.specs.Events as events
-use Rattle.nx_receiver.specs.Events.{command}
 use Rattle.nx_receiver.specs.air_file_runs.Listen.{given_by}
-use Rattle.nx_receiver.specs.Listener.{HearsGiven, starts_of}
-use Rattle.nx_receiver.specs.Shares.{to_one}
+use Rattle.nx_receiver.specs.Listener.{starts_of}
 use Rattle.nx_receiver.proofs.lemmas.listening.Lines.{said, said-elements}
 use Rattle.nx_watch.specs.Watching.{MayAct, StandsWith, with_writer}
 use Rattle.nx_watch.specs.private.Keeping.{disk_of}
 use Rattle.nx_watch.specs.private.Watcher.{WatcherStands}
-use Rattle.nx_watch.proofs.lemmas.log.Watcher.{force-le, next-line, with_listener}
+use Rattle.nx_watch.proofs.lemmas.log.Watcher.{force-le, next-command, next-line, with_listener}
 use Rattle.nx_watch.proofs.watcher.WatcherActingTaker.take.Goals as goal
 
 pub returns-in-Elements-clause-taken : goal.returns-in-Elements-clause-taken
@@ -51,16 +49,11 @@ returns-in-RefuseStation-clause-taken g c = λ start lines line latest may h.
     let byte = c.in-RefuseStation.byte in
     let is = said _ _ _ _ line latest c.latest.ensures c.in-Some.is c.in-RefuseStation.is in
     let starts = starts_of start.taker.listener in
-    let new = with_listener c.args.self.now c.refuse_station.new.self in
-    subst (λ l. StandsWith (WatcherStands disk) g.W.Write.contents start
-    (with_writer new c.args.writer.now) (lines ++ l ∷ [])) (sym is)
-    (next-line disk g.W.Write.contents start c.args.self.now new c.args.writer.now lines
-    (refuse_station mark byte) refl tt
-    (λ copies heard. subst (λ one. HearsGiven starts new.listener (given_by lines ++ one ∷ [])
-    copies)
-    (ap₂ (λ channel b. to_one channel (command (events.refuse_station b) ∷ [])) c.of.ensures
-    c.of_capital.ensures)
-    (c.refuse_station.ensures.heard starts (given_by lines) copies heard)) h)
+    next-command disk g.W.Write.contents start c.args.self.now
+    (with_listener c.args.self.now c.refuse_station.new.self) c.args.writer.now lines line
+    (refuse_station mark byte) (λ letter. events.refuse_station letter) mark byte refl tt is
+    c.of.ensures c.of_capital.ensures refl
+    (λ copies heard. c.refuse_station.ensures.heard starts (given_by lines) copies heard) h
 
 pub returns-in-AcceptStation-clause-taken : goal.returns-in-AcceptStation-clause-taken
 returns-in-AcceptStation-clause-taken g c = λ start lines line latest may h.
@@ -71,17 +64,11 @@ returns-in-AcceptStation-clause-taken g c = λ start lines line latest may h.
     let byte = c.in-AcceptStation.byte in
     let is = said _ _ _ _ line latest c.latest.ensures c.in-Some.is c.in-AcceptStation.is in
     let starts = starts_of start.taker.listener in
-    let new = with_listener c.args.self.now c.accept_station.new.self in
-    subst (λ l. StandsWith (WatcherStands disk) g.W.Write.contents start
-    (with_writer new c.args.writer.now) (lines ++ l ∷ [])) (sym is)
-    (next-line disk g.W.Write.contents start c.args.self.now new c.args.writer.now lines
-    (accept_station mark byte) refl tt
-    (λ copies heard. subst (λ one. HearsGiven starts new.listener (given_by lines ++ one ∷ [])
-    copies)
-    (ap₂ (λ channel b. to_one channel (command (events.accept_station b) ∷ []))
-    c.of-in-AcceptStation.ensures
-    c.of_capital-in-AcceptStation.ensures)
-    (c.accept_station.ensures.heard starts (given_by lines) copies heard)) h)
+    next-command disk g.W.Write.contents start c.args.self.now
+    (with_listener c.args.self.now c.accept_station.new.self) c.args.writer.now lines line
+    (accept_station mark byte) (λ letter. events.accept_station letter) mark byte refl tt is
+    c.of-in-AcceptStation.ensures c.of_capital-in-AcceptStation.ensures refl
+    (λ copies heard. c.accept_station.ensures.heard starts (given_by lines) copies heard) h
 
 pub returns-in-RefuseSubject-clause-taken : goal.returns-in-RefuseSubject-clause-taken
 returns-in-RefuseSubject-clause-taken g c = λ start lines line latest may h.
@@ -92,19 +79,14 @@ returns-in-RefuseSubject-clause-taken g c = λ start lines line latest may h.
     let byte = c.in-RefuseSubject.byte in
     let is = said _ _ _ _ line latest c.latest.ensures c.in-Some.is c.in-RefuseSubject.is in
     let starts = starts_of start.taker.listener in
-    let new = c.refuse_subject.new.self in
-    subst (λ l. StandsWith (WatcherStands disk) g.W.Write.contents start
-    (with_writer new c.args.writer.now) (lines ++ l ∷ [])) (sym is)
-    (next-line disk g.W.Write.contents start c.args.self.now new c.args.writer.now lines
-    (refuse_subject mark byte) c.refuse_subject.ensures.keeper tt
-    (λ copies heard. subst (λ one. HearsGiven starts new.listener (given_by lines ++ one ∷ [])
-    copies)
-    (ap₂ (λ channel b. to_one channel (command (events.refuse_subject b) ∷ []))
-    c.of-in-RefuseSubject.ensures
-    c.of_capital-in-RefuseSubject.ensures)
-    (c.refuse_subject.ensures.heard starts (given_by lines) copies
+    next-command disk g.W.Write.contents start c.args.self.now
+    c.refuse_subject.new.self c.args.writer.now lines line
+    (refuse_subject mark byte) (λ letter. events.refuse_subject letter) mark byte refl tt is
+    c.of-in-RefuseSubject.ensures c.of_capital-in-RefuseSubject.ensures
+    c.refuse_subject.ensures.keeper
+    (λ copies heard. c.refuse_subject.ensures.heard starts (given_by lines) copies
     (subst (λ b. is_vital b ≡ false) (sym c.of_capital-in-RefuseSubject.ensures)
-    (subst (MayAct starts.moment lines) is may)) heard)) h)
+    (subst (MayAct starts.moment lines) is may)) heard) h
 
 pub returns-in-AcceptSubject-clause-taken : goal.returns-in-AcceptSubject-clause-taken
 returns-in-AcceptSubject-clause-taken g c = λ start lines line latest may h.
@@ -115,14 +97,8 @@ returns-in-AcceptSubject-clause-taken g c = λ start lines line latest may h.
     let byte = c.in-AcceptSubject.byte in
     let is = said _ _ _ _ line latest c.latest.ensures c.in-Some.is c.in-AcceptSubject.is in
     let starts = starts_of start.taker.listener in
-    let new = with_listener c.args.self.now c.accept_subject.new.self in
-    subst (λ l. StandsWith (WatcherStands disk) g.W.Write.contents start
-    (with_writer new c.args.writer.now) (lines ++ l ∷ [])) (sym is)
-    (next-line disk g.W.Write.contents start c.args.self.now new c.args.writer.now lines
-    (accept_subject mark byte) refl tt
-    (λ copies heard. subst (λ one. HearsGiven starts new.listener (given_by lines ++ one ∷ [])
-    copies)
-    (ap₂ (λ channel b. to_one channel (command (events.accept_subject b) ∷ []))
-    c.of-in-AcceptSubject.ensures
-    c.of_capital-in-AcceptSubject.ensures)
-    (c.accept_subject.ensures.heard starts (given_by lines) copies heard)) h)
+    next-command disk g.W.Write.contents start c.args.self.now
+    (with_listener c.args.self.now c.accept_subject.new.self) c.args.writer.now lines line
+    (accept_subject mark byte) (λ letter. events.accept_subject letter) mark byte refl tt is
+    c.of-in-AcceptSubject.ensures c.of_capital-in-AcceptSubject.ensures refl
+    (λ copies heard. c.accept_subject.ensures.heard starts (given_by lines) copies heard) h

@@ -1,5 +1,4 @@
-use Rattle.std.proofs.Common.{◌≡◌, ◌++◌, ◌∷◌, [], true, false, cond, append-nil, refl, subst, sym}
-use Rattle.nx_watch.specs.Watching.{WereGiven}
+use Rattle.std.proofs.Common.{◌++◌, ◌∷◌, [], cond, append-nil, subst}
 use Rattle.nx_watch.specs.private.Keeping.{HasKept, disk_of}
 use Rattle.nx_watch.proofs.lemmas.log.Keeping.{given-more}
 use Rattle.nx_watch.proofs.kept_log.keeper.Keeper.keep.Goals as goal

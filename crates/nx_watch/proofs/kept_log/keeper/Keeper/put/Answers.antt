@@ -1,4 +1,4 @@
-use Rattle.std.proofs.Common.{◌≡◌, ◌++◌, ◌∷◌, [], true, refl, subst, sym}
+use Rattle.std.proofs.Common.{◌++◌, ◌∷◌, [], refl, subst, sym}
 use Rattle.nx_watch.specs.private.Keeping.{HasKeptSo, disk_of}
 use Rattle.nx_watch.proofs.lemmas.log.Keeping.{kept-more, put-failed, put-kept}
 use Rattle.nx_watch.proofs.kept_log.keeper.Keeper.put.Goals as goal

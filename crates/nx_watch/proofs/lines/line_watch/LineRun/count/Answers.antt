@@ -1,4 +1,4 @@
-use Rattle.std.proofs.Common.{◌++◌, ◌∙◌, ap, ap₂, ℕ, List, Option, subst}
+use Rattle.std.proofs.Common.{◌++◌, ◌∙◌, ap₂, ℕ, List, Option, subst}
 use Rattle.nx_watch.specs.Watching.{HasTold, first_told, number_told}
 use Rattle.nx_watch.proofs.lines.line_watch.LineRun.count.Goals as goal
 
