@@ -6,6 +6,8 @@ use Rattle.std.specs.Ordering.{nat_cmp}
 use Rattle.std.specs.Str.{bytes_eq}
 use Rattle.clap.specs.Words.{App, Row, Rule, Text, first_of, new_app, new_rule, with_rule}
 use Rattle.clap.specs.declared.builder.action.ArgAction.TheVariants.{SetTrue}
+use Rattle.nx_code.specs.Reading.{newline}
+use Rattle.nx_envelope.specs.Identity.{digit_zero}
 use Rattle.nx_fec.specs.air_files.Channels.{channel_number}
 use Rattle.nx_fec.specs.declared.air_files.channel.Channel.{Channel}
 use Rattle.nx_log.specs.Query.{AreLetters, IsSetOf}
@@ -58,9 +60,9 @@ log_tree word =
 abbrev pub NamesLetters : Text → set.FinSet nat_cmp → Type 0
 NamesLetters text letters = AreLetters text × IsSetOf text letters
 
--- the text names this channel: it is its number, one digit (48 is the digit 0)
+-- the text names this channel: it is its number, one digit
 abbrev pub NamesChannel : Text → Channel → Type 0
-NamesChannel text channel = text ≡ (48 + channel_number channel) ∷ []
+NamesChannel text channel = text ≡ (digit_zero + channel_number channel) ∷ []
 
 -- an option that was not given asks for nothing, and one that was given for what its text names
 abbrev pub Asks : {T : Type 0} → (Text → T → Type 0) → Option Text → Option T → Type 0
@@ -120,12 +122,11 @@ pub record IsUnfit (arguments : List Row) (option : LogOption) (text : Text) : T
 
 -- the text that reports it, as clap reports a wrong value: two lines, with an empty one between
 -- them
--- (10 is a newline)
 abbrev pub value_report : LogOption → Text → Text
 value_report option text =
     codes "error: invalid value '" ++ text ++ codes "' for '--" ++ option_name option ++ codes " <"
-    ++ value_name option ++ codes ">'" ++ 10 ∷ 10 ∷ codes "For more information, try '--help'."
-    ++ 10 ∷ []
+    ++ value_name option ++ codes ">'" ++ newline ∷ newline
+    ∷ codes "For more information, try '--help'." ++ newline ∷ []
 
 -- an option was given a text that names nothing, and this is its report
 pub record IsReported (arguments : List Row) (report : Text) : Type 0 where

@@ -5,6 +5,7 @@ use Rattle.std.specs.Prelude.{alloc_error, codes, string_bytes}
 use Rattle.std.specs.Io.KnownBytes.{Appends}
 use Rattle.std.specs.declared.alloc.AllocError.{AllocError}
 use Rattle.clap.specs.Words.{Text}
+use Rattle.nx_code.specs.Reading.{newline, space}
 use Rattle.nx_envelope.specs.Moment.{IsShownAs}
 use Rattle.std.specs.Fmt.{decimal}
 use Rattle.nx_fec.specs.Transfers.{CountedDevice, WroteSome, Devices}
@@ -81,12 +82,12 @@ WritesText IsText contents old new (Err (run.Write written)) =
 WritesText IsText contents old new (Err (run.Memory want)) = new ≡ old
 WritesText IsText contents old new (Err _) = ⊥
 
--- the line of a slot: the moment at which it begins, in decimal, a space (32), its civil time and a
--- newline (10)
+-- the line of a slot: the moment at which it begins, in decimal, a space, its civil time and a
+-- newline
 pub record IsSlotLine (slot : ℕ) (line : List ℕ) : Type 0 where
   pub time : List ℕ
   pub shown : IsShownAs slot time
-  pub whole : line ≡ decimal slot ++ 32 ∷ time ++ 10 ∷ []
+  pub whole : line ≡ decimal slot ++ space ∷ time ++ newline ∷ []
 
 -- the line of the station's next slot was written, or it has none
 abbrev pub ShowsSlot : {W : Type 0} → ℕ → ℕ → (W → Option (List ℕ)) → CountedDevice W
@@ -159,10 +160,10 @@ pub record GivesHelp {R W : Type 0} (words : List Text) (d : Devices R W)
       (WritesText (λ text. ⊤) d.contents d.writer d.writer_after) outcome
 
 -- the text of the version: the program's name, its version, what `rt version` says of the kit and
--- of the logic that it is proved with, and a newline (10)
+-- of the logic that it is proved with, and a newline
 abbrev pub version_text : List ℕ
 version_text =
-    codes "navtex 1.0.0, proved with rattle-kit-13f logic dac8208d650f15bf" ++ 10 ∷ []
+    codes "navtex 1.0.0, proved with rattle-kit-13f logic dac8208d650f15bf" ++ newline ∷ []
 
 -- the words ask for the version, and its text was written
 pub record GivesVersion {R W : Type 0} (words : List Text) (d : Devices R W)

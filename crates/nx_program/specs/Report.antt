@@ -6,6 +6,7 @@ use Rattle.std.specs.IoError.{error_kind}
 use Rattle.std.specs.declared.io.Error.{Error}
 use Rattle.std.specs.declared.io.ErrorKind.TheVariants.{OutOfMemory}
 use Rattle.clap.specs.Words.{Text}
+use Rattle.nx_code.specs.Reading.{newline}
 use Rattle.nx_fec.specs.Transfers.{CountedDevice, WroteSome, Devices}
 use Rattle.nx_fec.specs.declared.fault.RunFault.TheVariants as run
 use Rattle.nx_program.specs.declared.fault.CallFault.TheVariants as call
@@ -15,19 +16,19 @@ use Rattle.nx_program.specs.Program.{EndsRun, IsUntouched}
 use Rattle.nx_program.specs.Status.{fault_status, status_of}
 use Rattle.nx_program.specs.Watching.{Beside, watch_fault_line, with_faults}
 
--- a line that reports a fault: `navtex: `, what the fault is shown as, and a newline (10)
+-- a line that reports a fault: `navtex: `, what the fault is shown as, and a newline
 pub record IsFaultLine (line : List ℕ) : Type 0 where
   pub shown : List ℕ
-  pub whole : line ≡ codes "navtex: " ++ shown ++ 10 ∷ []
+  pub whole : line ≡ codes "navtex: " ++ shown ++ newline ∷ []
 
 -- the text that reports a fault: clap's own answer to the words, the report of a value, or a line
 abbrev pub IsFaultText : Fault → List ℕ → Type 0
 IsFaultText (fault.Words answer) text = text ≡ string_bytes answer
 IsFaultText fault.NoText text =
-    text ≡ codes "navtex: a word of the command line is not UTF-8" ++ 10 ∷ []
+    text ≡ codes "navtex: a word of the command line is not UTF-8" ++ newline ∷ []
 IsFaultText fault.Station text =
-    text ≡ codes "navtex: station must be one letter A to Z" ++ 10 ∷ []
-IsFaultText fault.Kind text = text ≡ codes "navtex: kind must be dx, rx or all" ++ 10 ∷ []
+    text ≡ codes "navtex: station must be one letter A to Z" ++ newline ∷ []
+IsFaultText fault.Kind text = text ≡ codes "navtex: kind must be dx, rx or all" ++ newline ∷ []
 IsFaultText (fault.Value report) text = text ≡ string_bytes report
 IsFaultText (fault.Watch name why) text = text ≡ watch_fault_line name why
 IsFaultText (fault.Call why) text = IsFaultLine text

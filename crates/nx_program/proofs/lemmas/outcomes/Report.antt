@@ -10,6 +10,7 @@ use Rattle.std.proofs.Math.Seq.{take-append-add}
 use Rattle.std.proofs.lemmas.List.{take-append-le}
 use Rattle.std.proofs.lemmas.Bool.{le-leb}
 use Rattle.clap.specs.Words.{Text}
+use Rattle.nx_code.specs.Reading.{newline}
 use Rattle.nx_fec.specs.Transfers.{CountedDevice, Devices}
 use Rattle.nx_disk.specs.declared.file.FileFault.TheVariants as file
 use Rattle.nx_watch.specs.declared.watch_fault.WatchFault.TheVariants as watch
@@ -61,18 +62,18 @@ fault-text fault.Station = (_, refl)
 fault-text fault.Kind = (_, refl)
 fault-text (fault.Value report) = (string_bytes report, refl)
 fault-text (fault.Watch name why) = (watch_fault_line name why, refl)
-fault-text (fault.Call why) = (codes "navtex: " ++ 10 ∷ [], record { shown = []; whole = refl })
+fault-text (fault.Call why) = (codes "navtex: " ++ newline ∷ [], record { shown = []; whole = refl })
 
 -- the line of a failed watch is one
 record EndsLine (text : List ℕ) : Type 0 where
   shown : List ℕ
-  whole : text ≡ shown ++ 10 ∷ []
+  whole : text ≡ shown ++ newline ∷ []
 
 ends-behind : (front text : List ℕ) → EndsLine text → EndsLine (front ++ text)
 ends-behind front text ends = record {
   shown = front ++ ends.shown;
   whole = ap (λ (l : List ℕ). front ++ l) ends.whole
-      ∙ sym (append_assoc front ends.shown (10 ∷ []));
+      ∙ sym (append_assoc front ends.shown (newline ∷ []));
 }
 
 navtex-line : (text : List ℕ) → EndsLine text → IsFaultLine (codes "navtex: " ++ text)
@@ -81,7 +82,7 @@ navtex-line text ends = record {
   whole = ap (λ (l : List ℕ). codes "navtex: " ++ l) ends.whole;
 }
 
-line-of : (shown : List ℕ) → EndsLine (shown ++ 10 ∷ [])
+line-of : (shown : List ℕ) → EndsLine (shown ++ newline ∷ [])
 line-of shown = record { shown = shown; whole = refl }
 
 log-line : (name text : List ℕ) → EndsLine text
@@ -135,8 +136,8 @@ behind-another more text line = record {
   shown = more ++ (codes "navtex: " ++ line.shown);
   whole = append_assoc (codes "navtex: ") more text
       ∙ ap (λ (l : List ℕ). codes "navtex: " ++ l) (ap (λ (l : List ℕ). more ++ l) (line.whole
-      ∙ sym (append_assoc (codes "navtex: ") line.shown (10 ∷ [])))
-      ∙ sym (append_assoc more (codes "navtex: " ++ line.shown) (10 ∷ [])));
+      ∙ sym (append_assoc (codes "navtex: ") line.shown (newline ∷ [])))
+      ∙ sym (append_assoc more (codes "navtex: " ++ line.shown) (newline ∷ [])));
 }
 
 behind-first : (first : Option ℕ) (text : List ℕ) → IsFaultLine text

@@ -8,6 +8,7 @@ use Rattle.std.specs.Ordering.{nat_cmp}
 use Rattle.std.specs.Prelude.{◌==◌, ◌||◌}
 use Rattle.clap.specs.Words.{Row, Text}
 use Rattle.nx_code.specs.Reading.{IsCapital}
+use Rattle.nx_envelope.specs.Identity.{digit_zero}
 use Rattle.nx_fec.specs.air_files.Channels.{channel_number}
 use Rattle.nx_fec.specs.declared.air_files.channel.Channel.{Channel}
 use Rattle.nx_fec.specs.declared.air_files.channel.Channel.TheVariants.{One, Two, Zero}
@@ -67,7 +68,8 @@ channel_known text = elim (same_text text (codes "0")) [
   ]
 ]
 
-same_channels : (a b : Channel) → (48 + channel_number a) ∷ [] ≡ (48 + channel_number b) ∷ []
+same_channels : (a b : Channel) → (digit_zero + channel_number a) ∷ []
+    ≡ (digit_zero + channel_number b) ∷ []
     → a ≡ b
 same_channels Zero Zero e = refl
 same_channels Zero One e = absurd (differ _ _ refl e)

@@ -1,6 +1,7 @@
 use Rattle.std.proofs.Common.{◌≡◌, ◌∙◌, ◌∷◌, ◌++◌, ◌+◌, ◌<◌, [], arith, codes, length, refl}
 use Rattle.std.proofs.lemmas.List.{length-append}
 use Rattle.std.specs.Fmt.InlineText.{inline_text}
+use Rattle.nx_code.specs.Reading.{newline}
 use Rattle.nx_program.proofs.lemmas.outcomes.Report.{cut_to-fits}
 use Rattle.nx_program.proofs.fault.CallFault.line.Goals as goal
 
@@ -18,5 +19,5 @@ returns c =
     record {
       shown = shown;
       whole = c.and_str-3.ensures.within room
-          ∙ rw (front, cut_to-fits 1 (10 ∷ []) (omega arith)) refl;
+          ∙ rw (front, cut_to-fits 1 (newline ∷ []) (omega arith)) refl;
     }

@@ -1,4 +1,5 @@
 use Rattle.std.proofs.Common.{◌≡◌, ◌++◌, ◌∷◌, ℕ, List, [], append_assoc, codes}
+use Rattle.nx_code.specs.Reading.{newline}
 use Rattle.nx_program.proofs.log_words.LogOption.value_report.Goals as goal
 
 -- a text that is put together of seven, of which two are known by another name and the last is
@@ -12,7 +13,7 @@ joined_parts o p q r s t u v a b d e f g h i j x y k l m n z w c last name value
 pub returns : goal.returns
 returns c =
     joined_parts _ _ _ _ _ _ _ _ _ _ _ _ _ _ (codes ">'")
-    (10 ∷ 10 ∷ codes "For more information, try '--help'.") (10 ∷ []) _ _
+    (newline ∷ newline ∷ codes "For more information, try '--help'.") (newline ∷ []) _ _
     c.new-report.ensures.bytes
     c.in_ok-push_str.ensures.bytes c.in_ok-push_str-2.ensures.bytes
     c.in_ok-push_str-3.ensures.bytes c.in_ok-push_str-4.ensures.bytes
