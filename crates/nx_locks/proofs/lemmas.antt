@@ -10,3 +10,4 @@ pub mod PlainWords
 pub mod ReaderWords
 pub mod Runs
 pub mod Taking
+pub mod Watching

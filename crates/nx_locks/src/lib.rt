@@ -7,6 +7,7 @@ mod lock_report;
 mod reader;
 mod report_text;
 mod report_writer;
+mod taker;
 mod watch;
 
 pub use lock_report::{LocksReport, locks};

@@ -112,7 +112,7 @@ impl LockReader {
     /// if it prints one.
     // Inlined, since it is called for each word.
     #[inline(always)]
-    pub(crate) fn take_word(&mut self, word: Word, role: Role) -> Option<u8>
+    fn take_word(&mut self, word: Word, role: Role) -> Option<u8>
         ensures { HearsWord self.old self.new word role result }
     {
         self.count(word);
@@ -134,27 +134,26 @@ impl LockReader {
         }
     }
 
-    /// Hears the next eight words of the lock, of which the first is a DX word, and appends the
-    /// bytes that they print.
+    /// Hears the next word of the lock, which has that role, and appends the byte that it prints,
+    /// if it prints one.
     // Inlined, as `take_word`.
     #[inline(always)]
-    pub(crate) fn hear_eight(&mut self, words: &[Word; WORDS_AT_ONCE], shown: &mut Shown)
-        requires room { array_vec_len shown.old + 8 ≤ 57856 }
-        ensures few { array_vec_len shown.new ≤ array_vec_len shown.old + 8 }
-        ensures shows { ShowsWords self.old self.new DxRole words.now shown.old.items
-            shown.new.items }
+    pub(crate) fn hear_word(&mut self, word: Word, role: Role, shown: &mut Shown)
+        requires room { array_vec_len shown.old + 1 ≤ 57856 }
+        ensures few { array_vec_len shown.new ≤ array_vec_len shown.old + 1 }
+        ensures shows { ShowsWord self.old self.new word role shown.old.items shown.new.items }
     {
-        if self.hear_plain(words, shown) {
-            return;
+        if let Some(byte) = self.take_word(word, role) {
+            shown.push(byte);
         }
-        self.hear_each(words, shown);
     }
 
-    /// The same at once, where surely no header begins or ends in what they print: `true` where it
-    /// did. Else nothing changed, and they have to be heard one by one.
+    /// Hears the next eight words of the lock, of which the first is a DX word, at once, where
+    /// surely no header begins or ends in what they print, and appends that: `true` where it did.
+    /// Else nothing changed, and they have to be heard one by one.
     // Inlined, as `take_word`.
     #[inline(always)]
-    fn hear_plain(&mut self, words: &[Word; WORDS_AT_ONCE], shown: &mut Shown) -> bool
+    pub(crate) fn hear_eight(&mut self, words: &[Word; WORDS_AT_ONCE], shown: &mut Shown) -> bool
         requires room { array_vec_len shown.old + 8 ≤ 57856 }
         ensures few { array_vec_len shown.new ≤ array_vec_len shown.old + 8 }
         ensures shows { IsTrue result → ShowsWords self.old self.new DxRole words.now
@@ -175,38 +174,6 @@ impl LockReader {
         self.is_line_open = is_open_after(self.is_line_open, &four.bytes, four.count);
         append_some(shown, four.bytes, four.count);
         true
-    }
-
-    /// The same one word after the other.
-    #[inline(never)]
-    fn hear_each(&mut self, words: &[Word; WORDS_AT_ONCE], shown: &mut Shown)
-        requires room { array_vec_len shown.old + 8 ≤ 57856 }
-        ensures few { array_vec_len shown.new ≤ array_vec_len shown.old + 8 }
-        ensures shows { ShowsWords self.old self.new DxRole words.now shown.old.items
-            shown.new.items }
-    {
-        self.show(words[0], Role::Dx, shown);
-        self.show(words[1], Role::Rx, shown);
-        self.show(words[2], Role::Dx, shown);
-        self.show(words[3], Role::Rx, shown);
-        self.show(words[4], Role::Dx, shown);
-        self.show(words[5], Role::Rx, shown);
-        self.show(words[6], Role::Dx, shown);
-        self.show(words[7], Role::Rx, shown);
-    }
-
-    /// Hears the next word of the lock, which has that role, and appends the byte that it prints,
-    /// if it prints one.
-    // Inlined, as `take_word`.
-    #[inline(always)]
-    fn show(&mut self, word: Word, role: Role, shown: &mut Shown)
-        requires room { array_vec_len shown.old + 1 ≤ 57856 }
-        ensures few { array_vec_len shown.new ≤ array_vec_len shown.old + 1 }
-        ensures shows { ShowsWord self.old self.new word role shown.old.items shown.new.items }
-    {
-        if let Some(byte) = self.take_word(word, role) {
-            shown.push(byte);
-        }
     }
 
     /// Counts a word.

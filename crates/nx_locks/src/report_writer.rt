@@ -13,9 +13,7 @@ ghost use Rattle.nx_memory.specs.Selection.{is_vital};
 ghost use Rattle.nx_locks.specs.private.ReportWriter.{BeginsFrom, HasClosed, HasClosedSome, IsShowing, RefusesFrom, RefusesLine, Showing, StandsFrom};
 
 use crate::lock_report::LocksReport;
-use crate::report_text::Shown;
 use crate::watch::LockWatch;
-use arrayvec::ArrayVec;
 use nx_envelope::{LAST_MOMENT, Letter};
 use nx_fec::{
     Batch, Channel, Counting, LineKind, LineTaker, LinesRead, PackedElements, Scanner, TakeFault,
@@ -48,8 +46,6 @@ pub enum LineRefusal {
 pub(crate) struct ReportWriter {
     watch: LockWatch,
     has_moment: bool,
-    /// What the last line of elements of channel 0 showed.
-    shown: Shown,
 }
 
 impl Model for ReportWriter {
@@ -60,7 +56,6 @@ impl Model for ReportWriter {
     ghost view = { λ s. record {
       watch = s.watch;
       has_moment = s.has_moment;
-      shown = s.shown.items;
     } };
 
     // What contracts see gives every field back, so that no field for a history can stand beside
@@ -68,7 +63,6 @@ impl Model for ReportWriter {
     ghost inverse = { λ v. record {
       watch = v.watch;
       has_moment = v.has_moment;
-      shown = record { items = v.shown };
     } };
 }
 
@@ -78,12 +72,11 @@ impl ReportWriter {
         ensures { IfOk result (λ report_writer. IsShowing report_writer [] []) }
     {
         // No room for a field of a type whose own model forgets what it holds.
-        prove!(size_of::<ReportWriter>() == size_of::<LockWatch>() + size_of::<Shown>() + 8);
+        prove!(size_of::<ReportWriter>() == size_of::<LockWatch>() + 8);
         let watch = LockWatch::new(alloc)?;
         Ok(ReportWriter {
             watch,
             has_moment: false,
-            shown: ArrayVec::new(),
         })
     }
 
@@ -137,9 +130,8 @@ impl ReportWriter {
         if elements.len() as u64 > u64::MAX - self.watch.elements() {
             return Err(TakeFault::Refused(LineRefusal::TooMany));
         }
-        self.shown.clear();
-        self.watch.hear(elements, &mut self.shown);
-        if let Err(fault) = batch.give(writer, &self.shown) {
+        self.watch.hear(elements);
+        if let Err(fault) = batch.give(writer, self.watch.shown()) {
             return Err(TakeFault::Write(fault.written));
         }
         Ok(())
@@ -162,14 +154,14 @@ impl ReportWriter {
         ensures once { writer.new.failures ≤ 1 }
         ensures none { OnOk result (writer.new.failures ≡ 0) }
     {
-        self.shown.clear();
-        let (locks, copies) = self.watch.end(&mut self.shown);
-        if let Err(fault) = write_on(writer, read.written, &self.shown) {
+        let elements = self.watch.elements();
+        let (locks, copies) = self.watch.end();
+        if let Err(fault) = write_on(writer, read.written, self.watch.shown()) {
             return Err(fault);
         }
         Ok(LocksReport {
             lines: read.lines,
-            elements: self.watch.elements(),
+            elements,
             locks,
             copies,
         })

@@ -19,7 +19,7 @@ use Rattle.nx_locks.specs.Report.{AreShown, IsNowShown, IsOpened, IsPastShown, m
 use Rattle.nx_locks.specs.Report.{now_headers, now_locks, past_headers}
 use Rattle.nx_locks.specs.ReportText.{closing_lines, opening_line}
 use Rattle.nx_locks.specs.private.Reader.{HasHeardWords, HearsWord, IsFresh, Reading, ReadsLock}
-use Rattle.nx_locks.specs.private.Watch.{ReadsNow, Shows, closing_of}
+use Rattle.nx_locks.specs.private.Taker.{ReadsNow, Shows, closing_of}
 use Rattle.nx_locks.proofs.lemmas.Growing.{headers-more, missing_is, no_headers, none_shown, opened-more}
 use Rattle.nx_locks.proofs.lemmas.Growing.{past-more, past_headers-more, reads-on, shown_is}
 

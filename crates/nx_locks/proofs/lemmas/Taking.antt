@@ -30,7 +30,8 @@ use Rattle.nx_locks.specs.Run.{elements_on_0, ending_of, moments_on_0}
 use Rattle.nx_locks.specs.private.ReportWriter.{BeginsFrom, IsShowing, RefusesFrom, RefusesLine, Showing}
 use Rattle.nx_locks.specs.private.ReportWriter.{StandsFrom}
 use Rattle.nx_locks.specs.declared.report_writer.LineRefusal.{LineRefusal}
-use Rattle.nx_locks.specs.private.Watch.{HearsAll, Watching, WatchShows, all_at}
+use Rattle.nx_locks.specs.private.Taker.{all_at}
+use Rattle.nx_locks.specs.private.Watch.{HearsAll, Watching, WatchShows, at_moment}
 
 -- what a line gives to channel 0, and what is in force there after lines
 abbrev gives : Line → List Event
@@ -69,7 +70,7 @@ other_line : (old new : Showing) (lines : List Line) (line : Line) (given : List
     → IsShowing old lines given → IsTakenAfter all_at_zero lines line
     → elements_among (gives line) ≡ [] → moments_in (in_force lines) (gives line) ≡ []
     → new.has_moment ≡ has_moment (lines ++ line ∷ [])
-    → new.watch.moment ≡ moment_after (ending_of lines) (line ∷ [])
+    → new.watch.taker.moment ≡ moment_after (ending_of lines) (line ∷ [])
     → WatchShows new.watch (elements_on_0 lines) (moments_on_0 lines) given
     → IsShowing new (lines ++ line ∷ []) given
 other_line old new lines line given h taken none never said now shows = record {
@@ -102,17 +103,17 @@ given-elements mark bits b e = ap (λ (c : Bool). if c then events.elements bits
 
 -- a line of elements of channel 0
 pub element_line : (old new : Showing) (lines : List Line) (mark : Option Channel)
-    (bits : List Bool) (given shown : List ℕ)
+    (bits : List Bool) (given : List ℕ)
     → same_channel (channel_of mark) Zero ≡ true → IsShowing old lines given
     → has_moment lines ≡ true → new.has_moment ≡ old.has_moment
-    → HearsAll old.watch new.watch bits [] shown
+    → HearsAll old.watch new.watch bits
     → length (elements_on_0 lines) + length bits < 2 ^ 64
-    → IsShowing new (lines ++ elements mark bits ∷ []) (given ++ shown)
-element_line old new lines mark bits given shown zero h some same heard few =
+    → IsShowing new (lines ++ elements mark bits ∷ []) (given ++ new.watch.taker.shown)
+element_line old new lines mark bits given zero h some same heard few =
     let line = elements mark bits in
-    let g = heard.hears (elements_on_0 lines) (moments_on_0 lines) given h.shows few in
+    let shows = heard.hears (elements_on_0 lines) (moments_on_0 lines) given h.shows few in
     let gives_bits = given-elements mark bits true zero in
-    let times : moments_on_0 lines ++ all_at old.watch.moment bits
+    let times : moments_on_0 lines ++ all_at old.watch.taker.moment bits
     ≡ moments_on_0 (lines ++ line ∷ []) =
     ap (λ m. moments_on_0 lines ++ all_at m bits)
     (h.moment ∙ sym (moment-on Zero (first_setting (start_on all_at_zero Zero)) lines))
@@ -127,15 +128,13 @@ element_line old new lines mark bits given shown zero h some same heard few =
       taken = taken-one all_at_zero lines line h.taken some;
       has_moment = moment-other lines line _ (same ∙ h.has_moment) refl;
       moment = heard.moment ∙ h.moment ∙ sym (after-more 0 lines (line ∷ []));
-      shows = subst (λ l. WatchShows new.watch (elements_on_0 (lines ++ line ∷ []))
-          (moments_on_0 (lines ++ line ∷ [])) (given ++ l)) (sym g.grown)
-          (subst₂ (λ (x : List Bool) (y : List ℕ). WatchShows new.watch x y (given ++ g.more)) all
-          times g.shows);
+      shows = subst₂ (λ (x : List Bool) (y : List ℕ). WatchShows new.watch x y
+          (given ++ new.watch.taker.shown)) all times shows;
     }
 
 -- a taker that has taken nothing
 pub nothing_taken : (report_writer : Showing) → WatchShows report_writer.watch [] [] []
-    → report_writer.watch.moment ≡ 0
+    → report_writer.watch.taker.moment ≡ 0
     → report_writer.has_moment ≡ false → IsShowing report_writer [] []
 unfolding AreTakenAfter elements_among settings
 nothing_taken report_writer shows zero has = record {
@@ -147,20 +146,21 @@ nothing_taken report_writer shows zero has = record {
 
 -- a moment
 pub moment_line : (old new : Showing) (lines : List Line) (n : ℕ) (given : List ℕ)
-    → IsShowing old lines given → old.watch.moment ≤ n → n ≤ last_moment → new.has_moment ≡ true
-    → new.watch ≡ record old.watch { moment = n }
+    → IsShowing old lines given → old.watch.taker.moment ≤ n → n ≤ last_moment
+    → new.has_moment ≡ true → new.watch ≡ at_moment old.watch n
     → IsShowing new (lines ++ moment n ∷ []) given
 unfolding elements_among settings
 moment_line old new lines n given h after within said now =
     other_line old new lines (moment n) given h (subst (λ m. m ≤ n) h.moment after, within) refl
-    refl (said ∙ moment-one lines n) (ap (λ (w : Watching). w.moment) now)
+    refl (said ∙ moment-one lines n) (ap (λ (w : Watching). w.taker.moment) now)
     (subst (λ (w : Watching). WatchShows w (elements_on_0 lines) (moments_on_0 lines) given)
     (sym now) (record {
       synchroniser = h.shows.synchroniser;
-      elements = h.shows.elements;
-      room =
-          h.shows.room;
-      shows = h.shows.shows;
+      taker = record {
+        elements = h.shows.taker.elements;
+        room = h.shows.taker.room;
+        shows = h.shows.taker.shows;
+      };
     }))
 
 -- elements of another channel change nothing

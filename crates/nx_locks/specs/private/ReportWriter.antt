@@ -17,19 +17,17 @@ use Rattle.nx_locks.specs.declared.report_writer.LineRefusal.TheVariants.{NoMome
 use Rattle.nx_locks.specs.declared.lock_report.LocksReport.{LocksReport}
 use Rattle.nx_locks.specs.private.Watch.{Watching, WatchShows}
 
--- what contracts see of a taker: its watch, whether there was a moment, and the bytes that the last
--- line of elements gave
+-- what contracts see of a taker: its watch, and whether there was a moment
 pub record Showing : Type 0 where
   pub watch : Watching
   pub has_moment : Bool
-  pub shown : List ℕ
 
 -- The taker stands so after these lines, each taken after those before it; these bytes are their
 -- report so far.
 pub record IsShowing (report_writer : Showing) (lines : List Line) (given : List ℕ) : Type 0 where
   pub taken : AreTaken all_at_zero lines
   pub has_moment : report_writer.has_moment ≡ has_moment lines
-  pub moment : report_writer.watch.moment ≡ ending_of lines
+  pub moment : report_writer.watch.taker.moment ≡ ending_of lines
   pub shows : WatchShows report_writer.watch (elements_on_0 lines) (moments_on_0 lines) given
 
 -- there are more elements of channel 0, with those of the line, than a counter counts

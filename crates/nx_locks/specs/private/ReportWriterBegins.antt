@@ -4,7 +4,7 @@ use Rattle.nx_fec.specs.air_files.AirFile.{Line}
 use Rattle.nx_locks.specs.Report.{IsReportSoFar}
 use Rattle.nx_locks.specs.Run.{IsReportOfLines}
 use Rattle.nx_locks.specs.private.ReportWriter.{IsShowing, Showing}
-use Rattle.nx_locks.specs.private.Watch.{Shows}
+use Rattle.nx_locks.specs.private.Taker.{Shows}
 use Rattle.nx_locks.specs.private.Reader.{Reading}
 
 pub report-so_far : {reader : Reading} {locks copies : ℕ} {bits : _} {moments given : List ℕ}
@@ -23,4 +23,4 @@ report-so_far s = record {
 pub begins-report : (now : Showing) (lines : List Line) (given : List ℕ)
     → IsShowing now lines given → IsReportOfLines lines given
 begins-report now lines given h =
-    record { taken = h.taken; report = report-so_far h.shows.shows }
+    record { taken = h.taken; report = report-so_far h.shows.taker.shows }

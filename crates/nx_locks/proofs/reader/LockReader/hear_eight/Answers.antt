@@ -1,11 +1,42 @@
-use Rattle.std.proofs.Common.{rules}
+use Rattle.std.proofs.Common.{◌≡◌, ◌+◌, ◌-◌, ◌^◌, ◌∙◌, ap, refl, subst, take, length, rules}
+use Rattle.std.specs.Prelude.{IsTrue, min}
+use Rattle.nx_sync.specs.declared.step.Role.TheVariants.{Dx}
+use Rattle.nx_locks.specs.private.Reader.{Reading, ShowsWords}
+use Rattle.nx_locks.proofs.lemmas.PlainWords.{plain_shown}
 use Rattle.nx_locks.proofs.reader.LockReader.hear_eight.Goals as goal
 
-pub hear_each-requires : goal.hear_each-requires
-hear_each-requires c = search rules
-
-pub returns-clause-few : goal.returns-clause-few
-returns-clause-few c = search rules
-
 pub returns-clause-shows : goal.returns-clause-shows
-returns-clause-shows c = search rules
+returns-clause-shows c is =
+    let eight = c.eight-classes in
+    let four = c.print_four-four in
+    let count : length eight.result ≡ 4 = search rules in
+    let heard : IsTrue c.hear_plain.result = search rules in
+    let i = c.self.inside in
+    let old : Reading = record {
+      diversity = i.diversity;
+      printer = i.printer;
+      finder = i.finder;
+      words = i.words;
+      wrong = i.wrong;
+      copies = i.copies;
+      is_line_open = i.is_line_open;
+    } in
+    let new : Reading = record {
+      diversity = eight.new.self;
+      printer = four.new.self;
+      finder = c.hear_plain.new.self;
+      words = c.saturating_add-self-inside.result;
+      wrong = c.saturating_add-self-inside-2.result;
+      copies = i.copies;
+      is_line_open = c.is_open_after-self-inside.result;
+    } in
+    let before = c.args.shown.now.items in
+    let after = c.append_some.new.shown.items in
+    subst (λ r. ShowsWords r new Dx c.args.words.now before after) c.self.view_is
+    (plain_shown old new eight.result (take four.result.count four.result.bytes) c.args.words.now
+    before after c.told-words count eight.ensures.stands eight.ensures.taken four.ensures.shift
+    four.ensures.printed (c.hear_plain.ensures.stands heard) (c.hear_plain.ensures.brings heard)
+    c.saturating_add-self-inside.ensures
+    (c.saturating_add-self-inside-2.ensures
+    ∙ ap (λ n. min (i.wrong + n) (2 ^ 64 - 1)) c.wrong_among.ensures) refl
+    c.is_open_after-self-inside.ensures c.append_some.ensures.items)

@@ -7,11 +7,11 @@ pub returns-in-Err-clause-closed : goal.returns-in-Err-clause-closed
 returns-in-Err-clause-closed g c = rw (← c.self.view_is) (λ old lines given h w.
     let i = c.self.inside in
     let e = c.end-locks.ensures.ends (elements_on_0 lines) (moments_on_0 lines) given h.shows in
-    let r = reported i.watch (elements_on_0 lines) (moments_on_0 lines) given c.clear.new.self.items
-    c.end-locks.new.shown.items c.deref.result.now c.end-locks.result (ending_of lines)
-    c.clear.ensures c.deref.ensures.0 h.moment e in
+    let r = reported (elements_on_0 lines) (moments_on_0 lines) given
+    c.end-locks.new.self.taker.shown c.shown.result.now c.end-locks.result i.watch.taker.moment
+    (ending_of lines) c.shown.ensures h.moment e in
     record {
-      bytes = given ++ c.deref.result.now;
+      bytes = given ++ c.shown.result.now;
       report = r.report;
       some =
           c.in-Err.ensures.bytes old given w;
@@ -21,14 +21,14 @@ pub returns-clause-closed : goal.returns-clause-closed
 returns-clause-closed g c = rw (← c.self.view_is) (λ old lines given h w.
     let i = c.self.inside in
     let e = c.end-locks.ensures.ends (elements_on_0 lines) (moments_on_0 lines) given h.shows in
-    let r = reported i.watch (elements_on_0 lines) (moments_on_0 lines) given c.clear.new.self.items
-    c.end-locks.new.shown.items c.deref.result.now c.end-locks.result (ending_of lines)
-    c.clear.ensures c.deref.ensures.0 h.moment e in
+    let r = reported (elements_on_0 lines) (moments_on_0 lines) given
+    c.end-locks.new.self.taker.shown c.shown.result.now c.end-locks.result i.watch.taker.moment
+    (ending_of lines) c.shown.ensures h.moment e in
     record {
-      bytes = given ++ c.deref.result.now;
+      bytes = given ++ c.shown.result.now;
       report = r.report;
       written = (c.in_default.ensures.bytes old given w).appended;
-      elements = c.elements.ensures ∙ h.shows.elements;
+      elements = c.elements-elements.ensures ∙ h.shows.taker.elements;
       locks = r.locks;
       copies = r.copies;
     })

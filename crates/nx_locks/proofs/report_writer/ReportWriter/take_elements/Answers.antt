@@ -4,52 +4,39 @@ use Rattle.nx_fec.specs.air_files.AirFile as line
 use Rattle.nx_receiver.specs.air_file_runs.Listen.{has_moment}
 use Rattle.nx_locks.specs.private.ReportWriter.{IsShowing, Showing}
 use Rattle.nx_locks.specs.private.ReportWriterBegins.{begins-report}
-use Rattle.nx_locks.specs.private.Watch.{HearsAll}
 use Rattle.nx_locks.proofs.lemmas.Taking.{element_line, skipped_line}
 use Rattle.nx_locks.proofs.report_writer.ReportWriter.take_elements.Goals as goal
 
 pub returns-in-Err-clause-taken : goal.returns-in-Err-clause-taken
 returns-in-Err-clause-taken g c = rw (← c.self.view_is) (λ first old lines h.
     let i = c.self.inside in
-    let before : Showing = record
-    { watch = i.watch; has_moment = i.has_moment; shown = i.shown.items } in
-    let after : Showing = record
-    { watch = c.hear.new.self; has_moment = i.has_moment; shown = c.hear.new.shown.items } in
+    let before : Showing = record { watch = i.watch; has_moment = i.has_moment } in
+    let after : Showing = record { watch = c.hear.new.self; has_moment = i.has_moment } in
     let some : has_moment lines ≡ true = sym h.stood.has_moment ∙ c.if-not-self.false in
-    let heard : HearsAll i.watch c.hear.new.self c.args.elements.now [] c.hear.new.shown.items =
-    subst (λ l. HearsAll i.watch c.hear.new.self c.args.elements.now l c.hear.new.shown.items)
-    c.clear.ensures c.hear.ensures.hears in
-    let shown : c.deref.result.now ≡ c.hear.new.shown.items = c.deref.ensures.0 in
     let now = element_line before after lines c.args.mark c.args.elements.now h.given
-    c.hear.new.shown.items (sym c.is_on_0.ensures ∙ c.if-not-is_on_0.false) h.stood some refl
-    heard (omega (arith, h.stood.shows.elements)) in
+    (sym c.is_on_0.ensures ∙ c.if-not-is_on_0.false) h.stood some refl c.hear.ensures.hears
+    (omega (arith, h.stood.shows.taker.elements)) in
     let all = lines ++ line.elements c.args.mark c.args.elements.now ∷ [] in
     record {
-      given = h.given ++ c.deref.result.now;
-      begun = begins-report after all (h.given ++ c.deref.result.now)
-          (subst (λ l. IsShowing after all (h.given ++ l)) (sym shown) now);
+      given = h.given ++ c.shown.result.now;
+      begun = begins-report after all (h.given ++ c.shown.result.now)
+          (subst (λ l. IsShowing after all (h.given ++ l)) (sym c.shown.ensures) now);
       some = c.in-Err.ensures.bytes old h.given h.here;
     })
 
 pub returns-clause-taken : goal.returns-clause-taken
 returns-clause-taken g c = rw (← c.self.view_is) (λ first old lines h.
     let i = c.self.inside in
-    let before : Showing = record
-    { watch = i.watch; has_moment = i.has_moment; shown = i.shown.items } in
-    let after : Showing = record
-    { watch = c.hear.new.self; has_moment = i.has_moment; shown = c.hear.new.shown.items } in
+    let before : Showing = record { watch = i.watch; has_moment = i.has_moment } in
+    let after : Showing = record { watch = c.hear.new.self; has_moment = i.has_moment } in
     let some : has_moment lines ≡ true = sym h.stood.has_moment ∙ c.if-not-self.false in
-    let heard : HearsAll i.watch c.hear.new.self c.args.elements.now [] c.hear.new.shown.items =
-    subst (λ l. HearsAll i.watch c.hear.new.self c.args.elements.now l c.hear.new.shown.items)
-    c.clear.ensures c.hear.ensures.hears in
-    let shown : c.deref.result.now ≡ c.hear.new.shown.items = c.deref.ensures.0 in
     let now = element_line before after lines c.args.mark c.args.elements.now h.given
-    c.hear.new.shown.items (sym c.is_on_0.ensures ∙ c.if-not-is_on_0.false) h.stood some refl
-    heard (omega (arith, h.stood.shows.elements)) in
+    (sym c.is_on_0.ensures ∙ c.if-not-is_on_0.false) h.stood some refl c.hear.ensures.hears
+    (omega (arith, h.stood.shows.taker.elements)) in
     let all = lines ++ line.elements c.args.mark c.args.elements.now ∷ [] in
     record {
-      given = h.given ++ c.deref.result.now;
-      stood = subst (λ l. IsShowing after all (h.given ++ l)) (sym shown) now;
+      given = h.given ++ c.shown.result.now;
+      stood = subst (λ l. IsShowing after all (h.given ++ l)) (sym c.shown.ensures) now;
       here = c.in_default.ensures.bytes old h.given h.here;
     })
 

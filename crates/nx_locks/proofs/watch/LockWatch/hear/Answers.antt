@@ -1,30 +1,18 @@
-use Rattle.std.proofs.Common.{take_all, arith, subst}
-use Rattle.nx_locks.specs.private.Watch.{HearsAll}
-use Rattle.nx_locks.proofs.lemmas.Hears.{goes_first, goes_on}
+use Rattle.std.proofs.Common.{◌≡◌, take}
+use Rattle.nx_code.specs.Packed.{packed_part}
+use Rattle.nx_locks.proofs.lemmas.Watching.{heard_all, watch_hears}
 use Rattle.nx_locks.proofs.watch.LockWatch.hear.Goals as goal
-use Rattle.std.proofs.Common.{refl, take, ◌≡◌}
-
-pub loop-at-init : goal.loop-at-init
-loop-at-init c = record {
-  goes = goes_first c.args.self.now c.args.elements.now c.args.shown.now.items;
-  few = omega arith;
-}
-
-pub loop-at-preserved : goal.loop-at-preserved
-loop-at-preserved c =
-    let part = c.hear_part-at in
-    record {
-      goes = goes_on c.args.self.now c.loop-at.self part.new.self c.args.elements.now _
-          c.loop-at.at part.result _ _ _ c.loop-at.invariant.goes part.ensures.within refl
-          part.ensures.hears;
-      few = omega (arith, c.loop-at.invariant.few, part.ensures.few);
-    }
 
 pub returns : goal.returns
-returns c =
-    let bits = c.args.elements.now in
-    let all : take c.loop-at.at bits ≡ bits = take_all c.loop-at.at bits (omega arith) in
-    record {
-      hears = subst (λ l. HearsAll c.args.self.now c.loop-at.self l c.args.shown.now.items
-          c.loop-at.shown.items) all c.loop-at.invariant.goes.heard;
-    }
+returns c = rw (← c.self.view_is) (record {
+  hears =
+      let i = c.self.inside in
+      let all = c.args.elements.now in
+      let heard = c.hear.ensures.taken.taken in
+      let numbers = c.words.result.now in
+      let bits : take c.hear.result.0 (packed_part numbers 0 c.len.result) ≡ all =
+      heard_all all numbers c.len.result c.hear.result.0 c.words.ensures.elements
+      c.len.ensures.count (c.hear.ensures.all heard.none) in
+      watch_hears i.synchroniser c.hear.new.self i.taker c.clear.new.self c.hear.new.taker _ all
+      c.hear.result.1 c.clear.ensures bits heard;
+})

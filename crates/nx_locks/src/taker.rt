@@ -1,0 +1,234 @@
+//! What takes what the elements bring, and shows their locks. What runs for each word is inlined
+//! always.
+
+ghost use Rattle.std.specs.Prelude.{◌≡◌, ◌+◌, ◌≤◌, [], ◌++◌, length};
+ghost use Rattle.nx_envelope.specs.Moment.{last_moment};
+ghost use Rattle.nx_locks.specs.ReportText.{last_line};
+ghost use Rattle.nx_locks.specs.private.Taker.{Closes, HasRoom, Opens, ReadsWord, ShowsStep, TakerShows};
+
+use crate::reader::LockReader;
+use crate::report_text::{Counts, Shown, close_lock, end_report, open_lock};
+use arrayvec::ArrayVec;
+use nx_code::{ELEMENTS, WORDS_AT_ONCE, Word};
+use nx_envelope::NEWLINE;
+use nx_sync::{Change, Role, Step, StepTaker};
+use std::marker::Model;
+
+/// How many elements eight words have.
+const EIGHT_WORDS: u64 = (WORDS_AT_ONCE * ELEMENTS) as u64;
+
+/// Takes what the elements bring, and shows their locks.
+///
+/// It holds what the reader of a lock holds, the moment in force, counts, and what was shown since
+/// it was last cleared. No field can be added whose meaning contracts see (`inverse`); that no
+/// field's own type forgets, the proved size shows.
+#[derive(Drop)]
+pub(crate) struct LockTaker {
+    reader: LockReader,
+    /// The moment in force, in whole seconds since 1970-01-01 00:00:00 UTC.
+    moment: u64,
+    /// How many elements were heard.
+    elements: u64,
+    /// How many locks began.
+    locks: u64,
+    /// How many headers stand in the texts of the locks that are over.
+    copies: u64,
+    shown: Shown,
+}
+
+impl Model for LockTaker {
+    ghost use Rattle.std.specs.Prelude.{◌≤◌};
+    ghost use Rattle.nx_envelope.specs.Moment.{last_moment};
+    ghost use Rattle.nx_locks.specs.private.Taker.{Taking};
+
+    ghost Value = { Taking };
+
+    ghost view = { λ t. record {
+      reader = t.reader;
+      moment = t.moment;
+      elements = t.elements;
+      locks = t.locks;
+      copies = t.copies;
+      shown = t.shown.items;
+    } };
+
+    ghost invariant = { λ t. t.moment ≤ last_moment };
+
+    // What contracts see gives every field back, so that no field for a history can stand beside
+    // them.
+    ghost inverse = { λ v. record {
+      reader = v.reader;
+      moment = v.moment;
+      elements = v.elements;
+      locks = v.locks;
+      copies = v.copies;
+      shown = record { items = v.shown };
+    } };
+}
+
+impl LockTaker {
+    /// A taker that has taken nothing, at moment 0.
+    pub(crate) fn new() -> LockTaker
+        ensures shows { TakerShows result [] [] [] }
+        ensures moment { result.moment ≡ 0 }
+    {
+        // No room for a field of a type whose own model forgets what it holds.
+        prove!(size_of::<LockTaker>() == size_of::<LockReader>() + size_of::<Shown>() + 32);
+        LockTaker {
+            reader: LockReader::new(),
+            moment: 0,
+            elements: 0,
+            locks: 0,
+            copies: 0,
+            shown: ArrayVec::new(),
+        }
+    }
+
+    /// The moment in force.
+    pub(crate) fn moment(&self) -> u64
+        ensures { result ≡ self.now.moment }
+    {
+        self.moment
+    }
+
+    /// Sets the moment in force, which is at most the last one.
+    pub(crate) fn set_moment(&mut self, moment: u64)
+        requires { moment ≤ last_moment }
+        ensures { self.new ≡ record self.old { moment = moment } }
+    {
+        self.moment = moment;
+    }
+
+    /// How many elements were heard.
+    pub(crate) fn elements(&self) -> u64
+        ensures { result ≡ self.now.elements }
+    {
+        self.elements
+    }
+
+    /// What was shown since it was last cleared.
+    pub(crate) fn shown(&self) -> &[u8]
+        ensures { result.now ≡ self.now.shown }
+    {
+        self.shown.as_slice()
+    }
+
+    /// Clears what was shown.
+    pub(crate) fn clear(&mut self)
+        ensures { self.new ≡ record self.old { shown = [] } }
+    {
+        self.shown.clear();
+    }
+
+    /// Shows what a step of the synchroniser brings.
+    // Inlined, so that the step is read where it is made.
+    #[inline(always)]
+    fn show(&mut self, step: Step)
+        requires room { HasRoom self.old 1 }
+        ensures few { length self.new.shown ≤ length self.old.shown + 113 }
+        ensures shows { ShowsStep self.old self.new step }
+        ensures moment { self.new.moment ≡ self.old.moment }
+    {
+        let Step { word, change } = step;
+        match word {
+            Some((word, role)) => self.read(word, role, change),
+            None => {
+                if change.is_some() {
+                    self.open();
+                }
+            }
+        }
+    }
+
+    /// Opens a lock that was found.
+    #[inline(never)]
+    fn open(&mut self)
+        requires room { HasRoom self.old 1 }
+        ensures few { length self.new.shown ≤ length self.old.shown + 113 }
+        ensures opens { Opens self.old self.new }
+    {
+        self.locks = self.locks.saturating_add(1);
+        open_lock(&mut self.shown, self.moment, self.elements);
+    }
+
+    /// Reads a word of the lock, which may end it.
+    // Inlined, since it is called for each word.
+    #[inline(always)]
+    fn read(&mut self, word: Word, role: Role, change: Option<Change>)
+        requires room { HasRoom self.old 1 }
+        ensures few { length self.new.shown ≤ length self.old.shown + 113 }
+        ensures reads { ReadsWord self.old self.new word role change }
+    {
+        self.reader.hear_word(word, role, &mut self.shown);
+        if let Some(how) = change {
+            self.close(how);
+        }
+    }
+
+    /// Closes the text of the lock, of which this came, and begins anew for the next one.
+    #[inline(never)]
+    pub(crate) fn close(&mut self, how: Change)
+        requires room { length self.old.shown + 112 ≤ 57856 }
+        ensures few { length self.new.shown ≤ length self.old.shown + 112 }
+        ensures closes { Closes self.old self.new how }
+    {
+        if self.reader.is_line_open() {
+            self.shown.push(NEWLINE);
+        }
+        let counts = Counts {
+            words: self.reader.words(),
+            wrong: self.reader.wrong(),
+            copies: self.reader.copies(),
+        };
+        close_lock(&mut self.shown, self.moment, how, counts);
+        self.copies = self.copies.saturating_add(self.reader.copies());
+        self.reader.restart();
+    }
+
+    /// Ends the report, all locks of which are closed: shows the last line. Answers how many locks
+    /// there are, and how many headers stand in their texts.
+    pub(crate) fn end(&mut self) -> (u64, u64)
+        requires room { length self.old.shown + 87 ≤ 57856 }
+        ensures line { self.new.shown
+            ≡ self.old.shown ++ last_line self.old.elements self.old.locks self.old.copies }
+        ensures counts { result ≡ (self.old.locks, self.old.copies) }
+    {
+        end_report(&mut self.shown, self.elements, self.locks, self.copies);
+        (self.locks, self.copies)
+    }
+}
+
+impl StepTaker for LockTaker {
+    ghost use Rattle.nx_locks.specs.private.Taker.{HasRoom, Hears};
+    ghost use Rattle.nx_locks.specs.private.TakerLaws.{hears_both, hears_none, room_for_fewer};
+
+    // Nothing is ever over: the next lock is shown as this one is.
+    type Over = ();
+
+    ghost can_take = { HasRoom };
+
+    ghost hears = { Hears };
+
+    #[inline(always)]
+    fn take(&mut self, count: usize, step: Step) -> Option<()> {
+        self.elements = self.elements.saturating_add(count as u64);
+        self.show(step);
+        None
+    }
+
+    #[inline(always)]
+    fn take_eight(&mut self, words: &[Word; WORDS_AT_ONCE]) -> bool {
+        if !self.reader.hear_eight(words, &mut self.shown) {
+            return false;
+        }
+        self.elements = self.elements.saturating_add(EIGHT_WORDS);
+        true
+    }
+
+    ghost none = { λ held taker. hears_none held taker };
+
+    ghost both = { λ old mid new first between last xs ys over one rest.
+        hears_both old mid new first between last xs ys over one rest };
+
+    ghost fewer = { λ taker n more room. room_for_fewer taker n more room };
+}
