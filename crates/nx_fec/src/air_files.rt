@@ -7,6 +7,5 @@ pub(crate) mod line_hearing;
 pub(crate) mod line_taking;
 pub(crate) mod lines;
 pub(crate) mod packed;
-pub(crate) mod packed_words;
 pub(crate) mod reading;
 pub(crate) mod scanner;

@@ -1,7 +1,7 @@
--- The elements of a line that are packed: those behind a place, and one place behind another.
+-- The elements of a line that are packed: those behind a place.
 use Rattle.std.proofs.Common.{◌≡◌, ℕ, ◌+◌, ◌-◌, ◌≤◌, Bool, List, length, take}
 use Rattle.std.proofs.Common.{drop, sym, ap, ◌∙◌, arith, length-drop}
-use Rattle.std.proofs.lemmas.List.{drop-drop, drop-take, take_all}
+use Rattle.std.proofs.lemmas.List.{drop-take, take_all}
 use Rattle.nx_code.specs.Packed.{elements_of_words, packed_part}
 
 -- the elements behind a place among the first so many
@@ -22,8 +22,3 @@ all_is bits numbers place is room =
 pub rest_is : (bits : List Bool) (at : ℕ) → take (length bits - at) (drop at bits) ≡ drop at bits
 rest_is bits at = let long = length-drop at bits in
     take_all (length bits - at) (drop at bits) (omega arith)
-
--- a place behind a place
-pub behind : {A : Type 0} (xs : List A) (place at n : ℕ)
-    → take n (drop (place + at) xs) ≡ take n (drop at (drop place xs))
-behind xs place at n = ap (take n) (sym (drop-drop at place xs))
