@@ -2,29 +2,32 @@
 use Rattle.std.specs.Prelude.{◌≡◌, ℕ, ◌+◌, ◌*◌, ◌-◌, nat_le, refl, Bool, true, false, Option, Some, None}
 use Rattle.std.proofs.Math.Nat.{add-le-add, mul-le-mul_right}
 use Rattle.std.proofs.lemmas.Bool.{leb-true}
+use Rattle.nx_code.specs.Reading.{capital_a, capital_z}
+use Rattle.nx_envelope.specs.Identity.{digit_zero}
 use Rattle.nx_envelope.specs.declared.digit.Digit.{Digit}
 use Rattle.nx_envelope.specs.declared.identity.Identity.{Identity}
 use Rattle.nx_envelope.specs.declared.letter.Letter.{Letter}
 
 -- the letter of a byte, and the digit of one
-unfoldable pub letter_from : (b : ℕ) (low high : Bool) → nat_le 65 b ≡ low → nat_le b 90 ≡ high
-    → Option Letter
+unfoldable pub letter_from : (b : ℕ) (low high : Bool) → nat_le capital_a b ≡ low
+    → nat_le b capital_z ≡ high → Option Letter
 letter_from b true true l h =
-    Some (record { byte = b; in_range = (leb-true 65 b l, leb-true b 90 h) })
+    Some (record { byte = b; in_range = (leb-true capital_a b l, leb-true b capital_z h) })
 letter_from b true false l h = None
 letter_from b false high l h = None
 
 unfoldable pub letter_of : ℕ → Option Letter
-letter_of b = letter_from b (nat_le 65 b) (nat_le b 90) refl refl
+letter_of b = letter_from b (nat_le capital_a b) (nat_le b capital_z) refl refl
 
-unfoldable pub digit_from : (b : ℕ) (low high : Bool) → nat_le 48 b ≡ low
-    → nat_le (b - 48) 9 ≡ high → Option Digit
-digit_from b true true l h = Some (record { value = b - 48; below_ten = leb-true (b - 48) 9 h })
+unfoldable pub digit_from : (b : ℕ) (low high : Bool) → nat_le digit_zero b ≡ low
+    → nat_le (b - digit_zero) 9 ≡ high → Option Digit
+digit_from b true true l h =
+    Some (record { value = b - digit_zero; below_ten = leb-true (b - digit_zero) 9 h })
 digit_from b true false l h = None
 digit_from b false high l h = None
 
 unfoldable pub digit_of : ℕ → Option Digit
-digit_of b = digit_from b (nat_le 48 b) (nat_le (b - 48) 9) refl refl
+digit_of b = digit_from b (nat_le digit_zero b) (nat_le (b - digit_zero) 9) refl refl
 
 -- two things that are both there
 abbrev pub both : {A B : Type 0} → Option A → Option B → Option (A × B)
