@@ -68,7 +68,51 @@ impl Synchroniser {
     /// Hears packed elements for a taker, so many from a place on: up to and with the first one
     /// with which anything is over for it, all of them where nothing is. Says how many, and what is
     /// over. Element i is bit `i % 64` of number `i / 64`, set for B.
+    #[inline(always)]
     pub fn hear<T: StepTaker>(
+        &mut self,
+        taker: &mut T,
+        numbers: &[u64],
+        from: usize,
+        count: usize,
+    ) -> (usize, Option<T::Over>)
+        requires room { from + count ≤ packed_elements * length numbers.now }
+        requires counted { from + count < 2 ^ 64 }
+        requires can { T.can_take taker.old count }
+        ensures within { result.0 ≤ count }
+        ensures some { 0 < count → 0 < result.0 }
+        ensures all { result.1 ≡ None → result.0 ≡ count }
+        ensures taken { IsTaken T.hears T.can_take self.old taker.old
+            (take result.0 (packed_part numbers.now from count)) self.new taker.new result.1 }
+    {
+        if count == 1 {
+            return (1, self.hear_one(taker, numbers, from));
+        }
+        self.hear_parts(taker, numbers, from, count)
+    }
+
+    /// Hears the one element that there is to hear. Never inlined, since mostly it ends no word and
+    /// needs none of the registers that words do.
+    #[inline(never)]
+    fn hear_one<T: StepTaker>(
+        &mut self,
+        taker: &mut T,
+        numbers: &[u64],
+        from: usize,
+    ) -> Option<T::Over>
+        requires room { from + 1 ≤ packed_elements * length numbers.now }
+        requires can { T.can_take taker.old 1 }
+        ensures taken { IsTaken T.hears T.can_take self.old taker.old
+            (packed_part numbers.now from 1) self.new taker.new result }
+    {
+        let step = self.push(element(numbers, from));
+        taker.take(1, step)
+    }
+
+    /// Hears these elements part by part, as `hear` does. Never inlined, so that its loop has the
+    /// registers to itself.
+    #[inline(never)]
+    fn hear_parts<T: StepTaker>(
         &mut self,
         taker: &mut T,
         numbers: &[u64],

@@ -2,7 +2,7 @@ use Rattle.std.proofs.Common.{◌≡◌, ◌+◌, ◌-◌, None, take, arith, ru
 use Rattle.nx_code.specs.Packed.{packed_part}
 use Rattle.nx_sync.specs.Taking.{IsTaken}
 use Rattle.nx_sync.proofs.lemmas.words.TakenSteps.{takes_first, takes_on, takes_part}
-use Rattle.nx_sync.proofs.synchroniser.Synchroniser.hear.Goals as goal
+use Rattle.nx_sync.proofs.synchroniser.Synchroniser.hear_parts.Goals as goal
 
 pub loop-heard-init : goal.loop-heard-init
 loop-heard-init g c =

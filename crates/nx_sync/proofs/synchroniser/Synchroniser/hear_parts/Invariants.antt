@@ -1,7 +1,7 @@
 use Rattle.std.proofs.Common.{◌-◌, ◌≤◌}
 use Rattle.nx_code.specs.Packed.{packed_part}
 use Rattle.nx_sync.proofs.lemmas.words.TakenSteps.{Takes}
-use Rattle.nx_sync.proofs.synchroniser.Synchroniser.hear.Given as goal
+use Rattle.nx_sync.proofs.synchroniser.Synchroniser.hear_parts.Given as goal
 
 abbrev pub invariant-loop-heard : goal.invariant-loop-heard
 invariant-loop-heard g l = record {
