@@ -7,7 +7,7 @@ CRATE =
 
 help:
 	@echo 'make check CRATE=nx_sync  prove one crate, and those below it that have changed'
-	@echo 'make test                 run all tests that need no proof: some two minutes on two processors'
+	@echo 'make test                 run all tests that need no proof: two to three minutes on two processors'
 	@echo 'make ci                   the merge gate: prove all from nothing, wrong bodies, tests, programs: hours'
 	@echo 'make bench                measure the built program'
 	@echo 'make install              put the built program, its man page, its completion, the tools for sound and a service below PREFIX ($(PREFIX))'
