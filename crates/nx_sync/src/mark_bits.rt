@@ -1,7 +1,7 @@
-//! The marks of the last words of a lock in one number, for a line of words at once. What runs for
-//! each word is inlined always, since its answers would go through memory otherwise.
+//! The marks of the last words of a lock, in one number. What runs for each word is inlined always,
+//! since its answers would go through memory otherwise.
 
-ghost use Rattle.std.specs.Prelude.{◌≡◌, ◌∷◌, ◌++◌, ◌≤◌, ◌<◌, ◌^◌, ◌+◌, ◌-◌, [], Bool, length, drop, nat_le, IsTrue};
+ghost use Rattle.std.specs.Prelude.{◌≡◌, ◌∷◌, ◌++◌, ◌≤◌, ◌<◌, ◌^◌, ◌+◌, [], Bool, nat_le};
 ghost use Rattle.std.specs.List.{count_by};
 ghost use Rattle.circular_buffer.specs.Buffer.{keep_last};
 ghost use Rattle.nx_code.specs.Word.{number_of};
@@ -13,7 +13,7 @@ use nx_code::{Word, check_bits};
 use std::marker::Model;
 
 /// How many marks of its last words a lock keeps, whether each was wrong (this profile).
-pub(crate) const MARKS: usize = 64;
+const MARKS: u32 = 64;
 
 /// How many wrong words among the marked ones lose the lock (this profile).
 const LOSING_COUNT: u32 = 40;
@@ -60,7 +60,7 @@ impl Marks {
         ensures { self.new ≡ keep_last marked_words (self.old ++ is_wrong ∷ []) }
     {
         self.bits = (self.bits >> 1) + (u64::from(is_wrong) << 63);
-        self.count = (self.count + 1).min(MARKS as u32);
+        self.count = (self.count + 1).min(MARKS);
     }
 
     /// Adds the marks of eight words; of more than 64 the oldest go.
@@ -69,7 +69,7 @@ impl Marks {
         ensures { self.new ≡ marks_after_words self.old words.now }
     {
         self.bits = (self.bits >> 8) + (wrong_bits(words) << 56);
-        self.count = (self.count + 8).min(MARKS as u32);
+        self.count = (self.count + 8).min(MARKS);
     }
 
     /// How many of the marks are set.
@@ -95,36 +95,6 @@ impl Marks {
         ensures { result ≡ nat_le (count_by (λ b. b) self.now + 8 + 1) losing_count }
     {
         self.wrong_count() + (EIGHT as u32) < LOSING_COUNT
-    }
-
-    /// Whether there are 64 marks, and none of them is set.
-    #[inline(always)]
-    pub(crate) fn is_clear(&self) -> bool
-        ensures all { IsTrue result → length self.now ≡ marked_words }
-        ensures none { IsTrue result → count_by (λ b. b) self.now ≡ 0 }
-    {
-        (self.bits == 0) & (self.count == MARKS as u32)
-    }
-
-    /// How many marks there are.
-    #[inline(always)]
-    pub(crate) fn len(&self) -> usize
-        ensures count { result ≡ length self.now }
-        ensures within { result ≤ 64 }
-    {
-        self.count as usize
-    }
-
-    /// The marks, behind as many that aren't set as are missing to 64.
-    pub(crate) fn padded(&self) -> [bool; MARKS]
-        ensures { drop (64 - length self.now) result ≡ self.now }
-    {
-        let bits = self.bits;
-        let mut marks = [false; MARKS];
-        for place in 0..MARKS {
-            marks[place] = (bits >> place) % 2 == 1;
-        }
-        marks
     }
 }
 

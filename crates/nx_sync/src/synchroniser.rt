@@ -2,19 +2,17 @@
 //! last words. Calls that run for each element, each word or each stride are inlined always, since
 //! their answers would go through memory otherwise.
 
-ghost use Rattle.std.specs.Prelude.{◌≡◌, ◌+◌, ◌-◌, ◌*◌, ◌/◌, ◌^◌, ◌<◌, ◌≤◌, ◌↔◌, List, Bool, false, [], ◌∷◌, ◌++◌, length, take, min, nat_le, not, IsTrue, IfOk};
-ghost use Rattle.std.specs.List.{count_by};
+ghost use Rattle.std.specs.Prelude.{◌≡◌, ◌+◌, ◌-◌, ◌*◌, ◌/◌, ◌^◌, ◌<◌, ◌≤◌, ◌↔◌, List, Bool, false, [], ◌∷◌, ◌++◌, length, take, min, not, IsTrue, IsOk, IfOk};
 ghost use Rattle.nx_sync.specs.declared.step.Change.TheVariants.{Locked};
 ghost use Rattle.nx_code.specs.Word.{elements_from};
 ghost use Rattle.nx_code.specs.Packed.{packed_elements, packed_part};
-ghost use Rattle.nx_sync.specs.Words.{marked_words, losing_count};
 ghost use Rattle.nx_sync.specs.Locks.{pattern_elements};
 ghost use Rattle.nx_sync.specs.Steps.{step, LockStands, LimitStands, IsStep, HuntsThrough, IsWordStep};
 ghost use Rattle.nx_sync.specs.private.Windows as spec;
-ghost use Rattle.nx_sync.specs.private.Calls.{heard_one, with_mark, track_from, BeginsLock, Fills, Completes, Passes, Skips, SkipsSome, SkipsEarly};
+ghost use Rattle.nx_sync.specs.private.Calls.{heard_one, track_from, BeginsLock, Fills, Completes, Passes, Skips, SkipsSome, SkipsEarly};
 ghost use Rattle.nx_sync.specs.Synchroniser.{StandsAfter, is_hunting, is_between_words};
 
-use crate::mark_bits::{MARKS, Marks};
+use crate::mark_bits::Marks;
 use crate::packed::{PACKED, count_before_lock_in, element, has_no_lock};
 use crate::phasing::{PATTERN, may_lock, role_after};
 use crate::step::{Role, Step};
@@ -25,13 +23,12 @@ use crate::windows_after::{
     windows_after,
 };
 use crate::word_synchroniser::WordSynchroniser;
-use circular_buffer::HeapCircularBuffer;
 use nx_code::{ELEMENTS, Word, check_bits};
 use std::alloc::{AllocError, Global};
 use std::marker::Model;
 
 /// How many bytes the fields take (on the target of this toolchain).
-const BYTES: usize = 64;
+const BYTES: usize = 32;
 
 /// The synchroniser of a receiver. It keeps no history but the last 28 elements, and whether each
 /// of the last 64 words of a lock was wrong.
@@ -43,18 +40,12 @@ pub struct Synchroniser {
     seen: u32,
     track: Option<Track>,
     /// Whether each of the last words of the lock was wrong.
-    wrong: HeapCircularBuffer<bool>,
-    /// The same marks in one number.
     marks: Marks,
 }
 
 impl Model for Synchroniser {
-    ghost use Rattle.std.specs.Prelude.{◌≡◌, ◌≤◌, ◌<◌, ◌^◌, length};
-    ghost use Rattle.std.specs.List.{count_by};
+    ghost use Rattle.std.specs.Prelude.{◌≡◌, ◌≤◌, ◌<◌, ◌^◌};
     ghost use Rattle.std.specs.Option.{ForSome};
-    ghost use Rattle.std.proofs.Common.{sym, ap₂};
-    ghost use Rattle.circular_buffer.specs.Buffer.{buffer};
-    ghost use Rattle.nx_sync.specs.Words.{marked_words};
     ghost use Rattle.nx_sync.specs.Locks.{pattern_elements};
     ghost use Rattle.nx_sync.specs.Synchroniser.{Held};
 
@@ -64,14 +55,11 @@ impl Model for Synchroniser {
       recent = s.recent;
       seen = s.seen;
       track = s.track;
-      wrong = s.wrong.items;
+      wrong = s.marks;
     } };
 
     ghost invariant = { λ s. (s.recent < 2 ^ pattern_elements)
         × (s.seen ≤ pattern_elements)
-        × (s.wrong.capacity ≡ marked_words)
-        × (length s.wrong.items ≤ marked_words)
-        × (s.marks ≡ s.wrong.items)
         × ForSome s.track (λ t. (t.filled < 7) × (s.seen ≡ pattern_elements)) };
 
     // What contracts see gives each field back, so that no history can be kept beside them. Of a
@@ -80,29 +68,23 @@ impl Model for Synchroniser {
       recent = h.recent;
       seen = h.seen;
       track = h.track;
-      wrong = buffer h.wrong marked_words;
       marks = h.wrong;
     } };
-
-    ghost inverse_ok = { λ s h.
-        ap₂ (λ n m. record s { wrong = buffer s.wrong.items n; marks = m })
-        (sym h.2) (sym h.4) };
 }
 
 impl Synchroniser {
-    /// A synchroniser that has heard nothing, and hunts. Fails where there is no memory for its 64
-    /// marks.
-    pub fn new(alloc: Global) -> Result<Synchroniser, AllocError>
+    /// A synchroniser that has heard nothing, and hunts. It takes no memory of the allocator, so
+    /// this never fails: the call stays as it was when it took some.
+    pub fn new(_alloc: Global) -> Result<Synchroniser, AllocError>
+        ensures always { IsOk result }
         ensures stands { IfOk result (λ s. StandsAfter s []) }
         ensures hunting { IfOk result (λ s. IsTrue (is_hunting s)) }
     {
         prove!(size_of::<Synchroniser>() == BYTES);
-        let wrong = HeapCircularBuffer::with_capacity(alloc, MARKS)?;
         Ok(Synchroniser {
             recent: 0,
             seen: 0,
             track: None,
-            wrong,
             marks: Marks::none(),
         })
     }
@@ -181,7 +163,7 @@ impl Synchroniser {
         self.recent = words.recent();
         self.seen = PATTERN;
         self.track = words.track();
-        self.set_marks(words.marks());
+        self.marks = words.marks();
     }
 
     /// Hunts through these elements: hears those before the first one that locks, all of them where
@@ -268,7 +250,6 @@ impl Synchroniser {
         ensures { self.new ≡ record self.old { track = Some (track_from role); wrong = [] } }
     {
         // No word of this lock was heard yet.
-        self.wrong.clear();
         self.marks = Marks::none();
         self.track = Some(Track::begin(role));
     }
@@ -288,48 +269,10 @@ impl Synchroniser {
             return Step::NOTHING;
         }
         let word = last_word(self.recent);
-        let is_lost = self.mark(!check_bits(word));
-        let (next, step) = track.complete(word, is_lost);
+        self.marks.push(!check_bits(word));
+        let (next, step) = track.complete(word, self.marks.loses_lock());
         self.track = next;
         step
-    }
-
-    /// Adds the mark of a word, whether it is wrong, to those of the last words, and says whether
-    /// as many of these are wrong now as lose the lock. They stay as they are where there are all
-    /// of them and neither the word nor any of them is wrong.
-    #[inline(always)]
-    fn mark(&mut self, is_wrong: bool) -> bool
-        ensures marks { self.new ≡ with_mark self.old is_wrong }
-        ensures lost { result ≡ nat_le losing_count (count_by (λ b. b) self.new.wrong) }
-    {
-        if !is_wrong && self.marks.is_clear() {
-            return false;
-        }
-        self.wrong.push_back(is_wrong);
-        self.marks.push(is_wrong);
-        self.marks.loses_lock()
-    }
-
-    /// Puts these marks in place of those that there were.
-    #[inline(always)]
-    fn set_marks(&mut self, marks: Marks)
-        ensures { self.new ≡ record self.old { wrong = marks } }
-    {
-        if marks.is_clear() && self.marks.is_clear() {
-            return;
-        }
-        self.replace_marks(marks);
-    }
-
-    /// Puts these marks in place of those that there were, one and all.
-    #[inline(never)]
-    fn replace_marks(&mut self, marks: Marks)
-        ensures { self.new ≡ record self.old { wrong = marks } }
-    {
-        let padded = marks.padded();
-        self.wrong.clear();
-        self.wrong.extend_from_slice(&padded[MARKS - marks.len()..]);
-        self.marks = marks;
     }
 
     /// Hears the packed elements that come too early to be the last of 28, and says how many.

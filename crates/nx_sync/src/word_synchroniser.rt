@@ -25,7 +25,7 @@ use std::marker::Model;
 const BYTES: usize = 24;
 
 /// A synchroniser at work on whole words of a lock: what `Synchroniser` holds then, but for the
-/// buffer of the marks, which it keeps as bits of one number.
+/// count of elements, which are 28 by then.
 #[derive(Drop)]
 pub struct WordSynchroniser {
     /// The last 28 elements, the oldest in the least place.

@@ -82,10 +82,6 @@ heard_one held bit = record held {
   seen = min (held.seen + 1) pattern_elements;
 }
 
--- what is held with the mark of one more word, whether it was wrong
-abbrev pub with_mark : Held → Bool → Held
-with_mark held wrong = record held { wrong = keep_last marked_words (held.wrong ++ wrong ∷ []) }
-
 -- what is held after these elements were heard, before any is looked at
 abbrev pub heard_all : Held → List Bool → Held
 heard_all held bits = record held {

@@ -198,32 +198,6 @@ count_set count bits within fits is =
     ones_counted 64 bits fits
     ∙ (ap (count_by (λ b. b)) (unset count bits is ∙ front) ∙ omega (arith, none, parts, both))
 
--- a bit of a number
-pub bit_at : (n x k : ℕ) → k < n → get_or (elements_from n x) k false ≡ (x / 2 ^ k % 2 == 1)
-unfolding elements_from
-bit_at zero x k h = absurd (omega arith)
-bit_at (suc n) x zero h =
-    let e : x ≡ x / 2 ^ 0 = omega arith in
-    ap (λ v. v % 2 == 1) e
-bit_at (suc n) x (suc k) h =
-    let e : 1 + k ≡ suc k = omega arith in
-    bit_at n (x / 2) k (omega arith)
-    ∙ ap (λ v. v % 2 == 1) (shr-shr x 1 k ∙ ap (λ j. x / 2 ^ j) e)
-
--- the first bits, and one more
-pub more_bits : (marks : List Bool) (bits place : ℕ) → length marks ≡ 64 → place < 64
-    → take place marks ≡ take place (elements_from 64 bits)
-    → take (place + 1) (set marks place (bits / 2 ^ place % 2 == 1))
-    ≡ take (place + 1) (elements_from 64 bits)
-more_bits marks bits place long h same =
-    let e : place + 1 ≡ suc place = omega arith in
-    let bit : Bool = bits / 2 ^ place % 2 == 1 in
-    ap (λ n. take n (set marks place bit)) e
-    ∙ (take-suc-set marks place bit (omega (arith, long))
-    ∙ (ap₂ (λ xs b. xs ++ b ∷ []) same (sym (bit_at 64 bits place h))
-    ∙ sym (take_more (elements_from 64 bits) place false
-    (omega (arith, length-elements_from 64 bits)))))
-
 -- the number of the bits from one place on, and from the place before it
 pub bits_before : (marks : List Bool) (place : ℕ) → 0 < place → place ≤ length marks
     → number_of (drop (place - 1) marks)

@@ -182,25 +182,3 @@ pub change_of-change_at : (first : Role) (f : ℕ → ℕ) (k : ℕ) (track : Tr
 unfolding change_at
 change_of-change_at first f k track wrong r m w =
     rw (fills_releasing_word-is first f k track r m, w, count-last_marks f k) refl
-
-none_marked : (xs : List Bool) → count_by (λ b. b) xs ≡ 0 → xs ≡ replicate (length xs) false
-none_marked [] h = refl
-none_marked (true ∷ xs) h = absurd (omega (arith, sum_by-cons (λ b. cond b 1 0) true xs))
-none_marked (false ∷ xs) h =
-    ap (λ ys. false ∷ ys) (none_marked xs (omega (arith, sum_by-cons (λ b. cond b 1 0) false xs)))
-
--- marks of which none is set are the same, where there are 64
-pub same_marks : (xs ys : List Bool) → length xs ≡ marked_words → count_by (λ b. b) xs ≡ 0
-    → length ys ≡ marked_words → count_by (λ b. b) ys ≡ 0 → xs ≡ ys
-same_marks xs ys l none m unset =
-    none_marked xs none
-    ∙ (ap (λ n. replicate n false) (l ∙ sym m) ∙ sym (none_marked ys unset))
-
--- where none of 64 words is wrong, and one more isn't either, their marks stay
-pub marks_stay : (xs : List Bool) (is_wrong : Bool) → length xs ≡ marked_words
-    → count_by (λ b. b) xs ≡ 0 → is_wrong ≡ false
-    → xs ≡ keep_last marked_words (xs ++ is_wrong ∷ [])
-marks_stay xs is_wrong l none right =
-    let e : xs ≡ replicate marked_words false =
-    none_marked xs none ∙ ap (λ n. replicate n false) l in
-    subst (λ ys. ys ≡ keep_last marked_words (ys ++ is_wrong ∷ [])) (sym e) (rw right refl)

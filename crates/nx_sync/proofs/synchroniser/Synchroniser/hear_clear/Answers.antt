@@ -15,7 +15,7 @@ returns-clause-heard c h =
       seen = c.self.inside.seen;
       track =
           c.self.inside.track;
-      wrong = c.self.inside.wrong.items;
+      wrong = c.self.inside.marks;
     } in
     let view : held ≡ c.args.self.now = c.self.view_is in
     let late : 27 ≤ held.seen = omega (arith, c.requires, ap (λ h. h.seen) view) in

@@ -29,7 +29,7 @@ returns-in-Some-clause-stands c bits a =
     (good_locked c.args.self.now c.shift_in.new.self c.follow.new.self bits c.args.bit
     c.follow.result c.in-Some.track a c.shift_in.ensures
     (sym (ap (λ y. y.track) c.self.view_is) ∙ c.in-Some.is)
-    (c.self.invariant.5 c.in-Some.track c.in-Some.is).0
+    (c.self.invariant.2 c.in-Some.track c.in-Some.is).0
     (record { inner = c.follow.ensures.inside; whole = c.follow.ensures.whole })).stands
 
 pub returns-in-Some-clause-step : goal.returns-in-Some-clause-step
@@ -37,5 +37,5 @@ returns-in-Some-clause-step c bits a =
     (good_locked c.args.self.now c.shift_in.new.self c.follow.new.self bits c.args.bit
     c.follow.result c.in-Some.track a c.shift_in.ensures
     (sym (ap (λ y. y.track) c.self.view_is) ∙ c.in-Some.is)
-    (c.self.invariant.5 c.in-Some.track c.in-Some.is).0
+    (c.self.invariant.2 c.in-Some.track c.in-Some.is).0
     (record { inner = c.follow.ensures.inside; whole = c.follow.ensures.whole })).step

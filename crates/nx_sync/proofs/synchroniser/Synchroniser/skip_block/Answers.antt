@@ -15,10 +15,7 @@ invariant_of-self c =
     let within = n.within in (
       c.windows_after-windows.ensures.within (c.count_before_lock-count.result - 1) (omega arith),
       omega arith,
-      i.2,
-      i.3,
-      i.4,
-      λ track is. ((i.5 track is).0, refl),
+      λ track is. ((i.2 track is).0, refl),
     )
 
 pub returns-then-count-gt0 : goal.returns-then-count-gt0
@@ -31,7 +28,7 @@ returns-then-count-gt0 c =
       seen = c.self.inside.seen;
       track =
           c.self.inside.track;
-      wrong = c.self.inside.wrong.items;
+      wrong = c.self.inside.marks;
     } in
     let n : Counted windows (length block) count =
     counted_by windows (length block) count (omega arith) c.count_before_lock-count.ensures in

@@ -15,7 +15,7 @@ returns c =
       seen = c.self-2.inside.seen;
       track =
           c.self-2.inside.track;
-      wrong = c.self-2.inside.wrong.items;
+      wrong = c.self-2.inside.marks;
     } in
     let view : held ≡ c.args.self.now = c.self-2.view_is in
     let late : 27 ≤ held.seen = omega (arith, c.requires.seen, ap (λ h. h.seen) view) in
