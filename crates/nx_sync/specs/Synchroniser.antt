@@ -1,9 +1,10 @@
 -- What a synchroniser holds, and after which bits: the layer contract. How it is held is this
 -- profile's.
-use Rattle.std.specs.Prelude.{◌≡◌, ℕ, zero, suc, ◌+◌, ◌-◌, ◌*◌, ◌/◌, ◌%◌, ◌<◌, ◌==◌, nat_le, min}
+use Rattle.std.specs.Prelude.{◌≡◌, ℕ, zero, suc, ◌+◌, ◌-◌, ◌*◌, ◌<◌, ◌==◌, nat_le, min}
 use Rattle.std.specs.Prelude.{Bool, false, not, is_some, ◌&&◌, ◌||◌, List, [], ◌∷◌, ◌++◌, length}
 use Rattle.std.specs.Prelude.{replicate, count_by, slice_index, Option, Some, None}
 use Rattle.circular_buffer.specs.Buffer.{keep_last}
+use Rattle.nx_sync.specs.declared.step.Role.{Role}
 use Rattle.nx_sync.specs.declared.track.Track.{Track}
 use Rattle.nx_code.specs.Table.{phasing_1}
 use Rattle.nx_code.specs.Word.{number_of, is_wrong}
@@ -36,9 +37,7 @@ is_between_words held = is_at_limit held.track
 -- which the track keeps whether they were phasing signal 1, was that
 abbrev pub awaits_free_dx : Option Track → Bool
 awaits_free_dx None = false
-awaits_free_dx (Some track) =
-    (track.filled == 0) && is_dx track.role
-    && (track.was_p1 / 2 % 2 == 0) && (track.was_p1 / 8 % 2 == 0)
+awaits_free_dx (Some track) = (track.filled == 0) && is_dx track.role && (track.was_p1 == 0)
 
 -- whether one of the words 0, 2, 4 and 6 is phasing signal 1
 abbrev pub has_dx_phasing_1 : List ℕ → Bool
@@ -60,15 +59,16 @@ unfoldable pub wrong_marks : (ℕ → ℕ) → ℕ → List Bool
 wrong_marks words zero = []
 wrong_marks words (suc n) = wrong_marks words n ++ is_wrong (words n) ∷ []
 
--- whether word i - 5 is there and is phasing signal 1
-abbrev pub was_p1 : (ℕ → ℕ) → ℕ → Bool
-was_p1 words i = nat_le 5 i && (words (i - 5) == phasing_1)
+-- whether word i - 5 is there, is a DX word, and is phasing signal 1, by the role of word 0
+abbrev pub was_p1 : Role → (ℕ → ℕ) → ℕ → Bool
+was_p1 first words i =
+    nat_le 5 i && is_dx (role_of first (i - 5)) && (words (i - 5) == phasing_1)
 
--- whether each of the five words before word n is phasing signal 1
-unfoldable pub p1_marks : (ℕ → ℕ) → ℕ → List Bool
-p1_marks words n =
-    was_p1 words n ∷ was_p1 words (n + 1) ∷ was_p1 words (n + 2)
-    ∷ was_p1 words (n + 3) ∷ was_p1 words (n + 4) ∷ []
+-- whether each of the five words before word n is a DX word that is phasing signal 1
+unfoldable pub p1_marks : Role → (ℕ → ℕ) → ℕ → List Bool
+p1_marks first words n =
+    was_p1 first words n ∷ was_p1 first words (n + 1) ∷ was_p1 first words (n + 2)
+    ∷ was_p1 first words (n + 3) ∷ was_p1 first words (n + 4) ∷ []
 
 -- the track follows the lock at t: `whole` words are complete, and `filled` bits of the next one
 -- were heard
@@ -77,7 +77,8 @@ pub record Follows (bits : List Bool) (t : ℕ) (wrong : List Bool) (track : Tra
   pub place : length bits ≡ t + (7 * whole + track.filled)
   pub short : track.filled < 7
   pub role : track.role ≡ role_of (first_role bits t) whole
-  pub phasing : track.was_p1 ≡ number_of (p1_marks (word_of_lock bits t) whole)
+  pub phasing : track.was_p1
+      ≡ number_of (p1_marks (first_role bits t) (word_of_lock bits t) whole)
   pub marks : wrong ≡ keep_last marked_words (wrong_marks (word_of_lock bits t) whole)
 
 pub record IsFollowed (bits : List Bool) (t : ℕ) (wrong : List Bool) (track : Option Track)

@@ -4,7 +4,6 @@
 ghost use Rattle.std.specs.Prelude.{◌≡◌, Some, None};
 ghost use Rattle.nx_sync.specs.declared.step.Change.{Change};
 ghost use Rattle.nx_sync.specs.private.Calls.{track_from, track_after, change_by};
-ghost use Rattle.nx_sync.specs.private.Eight.{last_five_marks};
 ghost use Rattle.nx_sync.specs.Synchroniser as held;
 
 use crate::phasing::PHASING_1;
@@ -21,8 +20,8 @@ pub(crate) struct Track {
     pub(crate) role: Role,
     /// How many of its elements were heard.
     pub(crate) filled: u8,
-    /// Which of the five words before it were phasing signal 1, as bits, the oldest word in the
-    /// least place. A word that isn't there was none.
+    /// Which of the five words before it were DX words that were phasing signal 1, as bits, the
+    /// oldest word in the least place. A word that isn't there was none.
     pub(crate) was_p1: u8,
 }
 
@@ -44,28 +43,11 @@ impl Track {
     fn after(self, word: Word) -> Track
         ensures { result ≡ track_after self word }
     {
+        let is_p1 = self.role == Role::Dx && word.number() == PHASING_1;
         Track {
             role: self.role.other(),
             filled: 0,
-            was_p1: (self.was_p1 >> 1) + (u8::from(word.number() == PHASING_1) << 4),
-        }
-    }
-
-    /// The track after eight words, from the first element of one on. Eight turns of the role are
-    /// none, and of the marks those of the last five words are left.
-    #[inline(always)]
-    pub(crate) fn after_eight(self, words: &[Word; EIGHT]) -> Track
-        ensures { result ≡ record self { filled = 0; was_p1 = last_five_marks words.now } }
-    {
-        let older = u8::from(words[3].number() == PHASING_1)
-            + (u8::from(words[4].number() == PHASING_1) << 1);
-        let newer = (u8::from(words[5].number() == PHASING_1) << 2)
-            + (u8::from(words[6].number() == PHASING_1) << 3)
-            + (u8::from(words[7].number() == PHASING_1) << 4);
-        Track {
-            role: self.role,
-            filled: 0,
-            was_p1: older + newer,
+            was_p1: (self.was_p1 >> 1) + (u8::from(is_p1) << 4),
         }
     }
 
@@ -75,10 +57,7 @@ impl Track {
     pub(crate) fn awaits_free_dx(self) -> bool
         ensures { result ≡ held.awaits_free_dx (Some self) }
     {
-        (self.filled == 0)
-            & (self.role == Role::Dx)
-            & (self.was_p1 / 2 % 2 == 0)
-            & (self.was_p1 / 8 % 2 == 0)
+        (self.filled == 0) & (self.role == Role::Dx) & (self.was_p1 == 0)
     }
 
     /// What the word that was being filled brings, now that it is complete, by whether it loses the
@@ -92,7 +71,7 @@ impl Track {
     {
         // A lock has ended where the words three and five before, which are DX words, are both
         // phasing signal 1.
-        let is_ended = self.role == Role::Rx && self.was_p1 % 2 == 1 && self.was_p1 / 4 % 2 == 1;
+        let is_ended = self.was_p1 % 2 == 1 && self.was_p1 / 4 % 2 == 1;
         // Most words bring no change.
         let change = if !is_ended && !is_lost {
             None

@@ -156,24 +156,12 @@ impl WordSynchroniser {
         ensures steps { (h : List Bool) → StandsAfter self.old h → AreQuietWords h Dx words.now }
         ensures between { IsTrue (is_between_words self.new) }
     {
-        match self.track {
-            None => unreachable!(),
-            Some(track) => self.follow_eight(track, words),
-        }
-    }
-
-    /// Follows a lock over eight words that bring no change.
-    #[inline(always)]
-    fn follow_eight(&mut self, track: Track, words: &[Word; EIGHT])
-        ensures held { self.new ≡ after_eight self.old track words.now }
-        ensures small { (k : ℕ) → k < 8 → slice_index words.now k < 128 }
-        ensures between { IsTrue (is_between_words self.new) }
-    {
         // Each word is one of 128. That is all that this says, and nothing runs for it.
-        let _ = numbers(words);
+        let _words = numbers(words);
+        // The track stays: the next word is a DX word again, and none of the DX words before it
+        // was phasing signal 1.
         self.marks.push_eight(words);
         self.recent = window_after_eight(words);
-        self.track = Some(track.after_eight(words));
     }
 }
 

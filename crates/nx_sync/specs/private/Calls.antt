@@ -1,7 +1,7 @@
 -- What the parts of a push, a word and a hunt answer, for the contracts of the synchroniser's
 -- private functions. The contracts of the public ones speak of the locks over all bits.
 use Rattle.std.specs.Prelude.{◌≡◌, ℕ, ◌+◌, ◌*◌, ◌/◌, ◌%◌, ◌^◌, ◌<◌, ◌≤◌, ◌==◌, nat_le, min, Bool}
-use Rattle.std.specs.Prelude.{not, ◌&&◌, ◌⊎◌, List, [], ◌∷◌, ◌++◌, length, take, count_by, Option}
+use Rattle.std.specs.Prelude.{◌&&◌, ◌⊎◌, List, [], ◌∷◌, ◌++◌, length, take, count_by, Option}
 use Rattle.std.specs.Prelude.{Some, None, if◌then◌else◌}
 use Rattle.circular_buffer.specs.Buffer.{keep_last}
 use Rattle.nx_code.specs.Table.{phasing_1}
@@ -31,14 +31,13 @@ abbrev pub track_after : Track → ℕ → Track
 track_after track word = record {
   role = other_role track.role;
   filled = 0;
-  was_p1 = track.was_p1 / 2 + 2 ^ 4 * value_of (word == phasing_1);
+  was_p1 = track.was_p1 / 2 + 2 ^ 4 * value_of (is_dx track.role && (word == phasing_1));
 }
 
--- whether the word that the track fills releases the lock as Ended: it is an RX word, and the words
--- three and five before it are phasing signal 1
+-- whether the word that the track fills releases the lock as Ended: the words three and five before
+-- it are DX words, and phasing signal 1
 abbrev pub fills_releasing_word : Track → Bool
-fills_releasing_word track =
-    not (is_dx track.role) && (track.was_p1 % 2 == 1) && (track.was_p1 / 4 % 2 == 1)
+fills_releasing_word track = (track.was_p1 % 2 == 1) && (track.was_p1 / 4 % 2 == 1)
 
 -- which change a word brings, by the track before it and by whether it loses the lock
 abbrev pub change_by : Track → Bool → Option Change

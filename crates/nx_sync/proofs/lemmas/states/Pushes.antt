@@ -2,7 +2,7 @@
 use Rattle.std.specs.Prelude.{◌↔◌, IsTrue}
 use Rattle.std.proofs.Common.{◌≡◌, ℕ, suc, ◌+◌, ◌-◌, ◌*◌, ◌/◌, ◌^◌, ◌<◌, ◌≤◌, ◌==◌, min, ◌⊎◌, List}
 use Rattle.std.proofs.Common.{[], ◌∷◌, ◌++◌, length, take, drop, replicate, Bool, true, false}
-use Rattle.std.proofs.Common.{is_some, refl, sym, ap, ap₂, subst, subst₂, ◌∙◌, inl, inr, arith}
+use Rattle.std.proofs.Common.{◌&&◌, is_some, refl, sym, ap, ap₂, subst, subst₂, ◌∙◌, inl, inr, arith}
 use Rattle.std.proofs.Common.{Some, None, Option}
 use Rattle.std.proofs.lemmas.List.{length_push}
 use Rattle.std.proofs.lemmas.Bool.{cases_lt}
@@ -15,7 +15,7 @@ use Rattle.nx_sync.specs.declared.step.Change.TheVariants.{Locked}
 use Rattle.nx_sync.specs.declared.step.Step.{Step}
 use Rattle.nx_sync.specs.declared.track.Track.{Track}
 use Rattle.nx_code.specs.Table.{phasing_1}
-use Rattle.nx_sync.specs.Words.{marked_words, other_role, word_of_lock, first_role, role_of}
+use Rattle.nx_sync.specs.Words.{marked_words, other_role, is_dx, word_of_lock, first_role, role_of}
 use Rattle.nx_sync.specs.private.Releases.{release}
 use Rattle.nx_sync.specs.Locks.{before_dx, before_rx, last_28, IsPattern, Lock, Now, hunting}
 use Rattle.nx_sync.specs.Locks.{locked, IsHunting, IsLocked, IsNow}
@@ -115,7 +115,8 @@ module _ (s : Held) (bits : List Bool) (b : Bool) (a : StandsAfter s bits) where
           place = omega (arith, length_push bits b);
           short = omega arith;
           role = sym first;
-          phasing = sym (p1_number-none (word_of_lock (bits ++ b ∷ []) (length bits + 1)));
+          phasing = sym (p1_number-none (first_role (bits ++ b ∷ []) (length bits + 1))
+              (word_of_lock (bits ++ b ∷ []) (length bits + 1)));
           marks = refl;
         };
       };
@@ -242,8 +243,10 @@ module _ (s : Held) (bits : List Bool) (b : Bool) (a : StandsAfter s bits) where
               role = f.role ∙ ap (λ first. role_of first f.whole)
                   (sym (first_role-more bits (b ∷ []) t low within));
               phasing = f.phasing ∙ ap number_of
-                  (p1_marks-same (word_of_lock bits t) (word_of_lock (bits ++ b ∷ []) t) f.whole
-                  words);
+                  (p1_marks-same (first_role bits t) (word_of_lock bits t)
+                  (word_of_lock (bits ++ b ∷ []) t) f.whole words
+                  ∙ ap (λ first. p1_marks first (word_of_lock (bits ++ b ∷ []) t) f.whole)
+                  (sym (first_role-more bits (b ∷ []) t low within)));
               marks = f.marks ∙ ap (keep_last marked_words)
                   (wrong_marks-same (word_of_lock bits t) (word_of_lock (bits ++ b ∷ []) t) f.whole
                   words);
@@ -289,9 +292,12 @@ module _ (s : Held) (bits : List Bool) (b : Bool) (a : StandsAfter s bits) where
     role_is : track.role ≡ role_of (first_role (bits ++ b ∷ []) t) f.whole
     role_is = f.role ∙ ap (λ first. role_of first f.whole) first_same
 
-    phasing_is : track.was_p1 ≡ number_of (p1_marks (word_of_lock (bits ++ b ∷ []) t) f.whole)
+    phasing_is : track.was_p1 ≡ number_of (p1_marks (first_role (bits ++ b ∷ []) t)
+        (word_of_lock (bits ++ b ∷ []) t) f.whole)
     phasing_is = f.phasing ∙ ap number_of
-        (p1_marks-same (word_of_lock bits t) (word_of_lock (bits ++ b ∷ []) t) f.whole words_same)
+        (p1_marks-same (first_role bits t) (word_of_lock bits t)
+        (word_of_lock (bits ++ b ∷ []) t) f.whole words_same
+        ∙ ap (λ first. p1_marks first (word_of_lock (bits ++ b ∷ []) t) f.whole) first_same)
 
     marks_are : x.wrong ≡ keep_last marked_words
         (wrong_marks (word_of_lock (bits ++ b ∷ []) t) (f.whole + 1))
@@ -308,7 +314,7 @@ module _ (s : Held) (bits : List Bool) (b : Bool) (a : StandsAfter s bits) where
 
     change_is : r.change ≡ release (bits ++ b ∷ []) t f.whole
     change_is = c.change ∙ change_of-change_at (first_role (bits ++ b ∷ []) t)
-        (word_of_lock (bits ++ b ∷ []) t) f.whole track x.wrong role_is phasing_is marks_are
+        (word_of_lock (bits ++ b ∷ []) t) f.whole track x.wrong phasing_is marks_are
 
     word_is : r.word ≡ Some (
       word_of_lock (bits ++ b ∷ []) t f.whole,
@@ -358,8 +364,14 @@ module _ (s : Held) (bits : List Bool) (b : Bool) (a : StandsAfter s bits) where
                 place = omega (arith, place_after, length_push bits b);
                 short = omega arith;
                 role = ap other_role role_is ∙ ap (role_of (first_role (bits ++ b ∷ []) t)) (sym e);
-                phasing = ap₂ (λ n w. n / 2 + 2 ^ 4 * value_of (w == phasing_1)) phasing_is
-                    number_is ∙ p1_number-next (word_of_lock (bits ++ b ∷ []) t) f.whole;
+                phasing = ap₂ (λ n w. n / 2
+                    + 2 ^ 4 * value_of (is_dx track.role && (w == phasing_1))) phasing_is number_is
+                    ∙ (ap (λ role. number_of (p1_marks (first_role (bits ++ b ∷ []) t)
+                    (word_of_lock (bits ++ b ∷ []) t) f.whole) / 2 + 2 ^ 4
+                    * value_of (is_dx role && (word_of_lock (bits ++ b ∷ []) t f.whole == phasing_1)))
+                    role_is
+                    ∙ p1_number-next (first_role (bits ++ b ∷ []) t)
+                    (word_of_lock (bits ++ b ∷ []) t) f.whole);
                 marks = marks_are;
               };
             };

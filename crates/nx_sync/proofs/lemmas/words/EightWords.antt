@@ -19,15 +19,13 @@ use Rattle.nx_sync.specs.declared.track.Track.{Track}
 use Rattle.nx_sync.specs.Words.{marked_words, losing_count, other_role, is_dx, word_of_lock}
 use Rattle.nx_sync.specs.Words.{role_of}
 use Rattle.nx_sync.specs.private.Windows.{next_word_window}
-use Rattle.nx_sync.specs.private.Calls.{track_after, fills_releasing_word, Completes}
-use Rattle.nx_sync.specs.private.Eight.{wrong_ones, last_four, last_five_marks, marks_after_words}
+use Rattle.nx_sync.specs.private.Calls.{track_from, track_after, fills_releasing_word, Completes}
+use Rattle.nx_sync.specs.private.Eight.{wrong_ones, last_four, marks_after_words}
 use Rattle.nx_sync.specs.private.Eight.{after_eight}
 use Rattle.nx_sync.specs.Steps.{step, IsWordStep, AreQuietWords}
-use Rattle.nx_sync.specs.Locks.{Now, hunting, locked}
-use Rattle.nx_sync.specs.Synchroniser.{Held, p1_marks, Tracks, StandsAfter, awaits_free_dx}
+use Rattle.nx_sync.specs.Synchroniser.{Held, StandsAfter, awaits_free_dx}
 use Rattle.nx_sync.specs.Synchroniser.{has_dx_phasing_1, keeps_lock}
 use Rattle.nx_code.proofs.lemmas.WordCounts.{one_if-le}
-use Rattle.nx_sync.proofs.lemmas.words.Marks.{length-p1_marks}
 use Rattle.nx_code.proofs.lemmas.Packed.{length-elements}
 use Rattle.nx_sync.proofs.lemmas.words.WholeWords.{word_stands, word_step}
 
@@ -127,38 +125,25 @@ window_after_eight xs r l h small =
     (slice_index xs 4)) (slice_index xs 5)) (slice_index xs 6)) (slice_index xs 7)) first
     ∙ second)
 
--- the track after eight words: their roles end where they began, and the marks of the last five
--- words are left
-eight_marks : (p a b c d e f g h : ℕ) → p < 32 → a ≤ 1 → b ≤ 1 → c ≤ 1 → d ≤ 1 → e ≤ 1
-    → f ≤ 1 → g ≤ 1 → h ≤ 1
-    → (((((((p / 2 + 2 ^ 4 * a) / 2 + 2 ^ 4 * b) / 2 + 2 ^ 4 * c) / 2 + 2 ^ 4 * d) / 2
-    + 2 ^ 4 * e) / 2 + 2 ^ 4 * f) / 2 + 2 ^ 4 * g) / 2 + 2 ^ 4 * h
-    ≡ d + 2 * e + 4 * f + 8 * g + 16 * h
-eight_marks p a b c d e f g h sp sa sb sc sd se sf sg sh =
-    let three : ((p / 2 + 2 ^ 4 * a) / 2 + 2 ^ 4 * b) / 2 + 2 ^ 4 * c
-    ≡ p / 8 + 4 * a + 8 * b + 16 * c = omega arith in
-    let five : ((p / 8 + 4 * a + 8 * b + 16 * c) / 2 + 2 ^ 4 * d) / 2 + 2 ^ 4 * e
-    ≡ a + 2 * b + 4 * c + 8 * d + 16 * e = omega arith in
-    let eight : (((a + 2 * b + 4 * c + 8 * d + 16 * e) / 2 + 2 ^ 4 * f) / 2 + 2 ^ 4 * g) / 2
-    + 2 ^ 4 * h ≡ d + 2 * e + 4 * f + 8 * g + 16 * h = omega arith in
-    rw (three, five) eight
+-- Pairs of words, of whose DX words none is phasing signal 1, leave the track as it is.
+dx_then_rx : (a b : ℕ) → (a == phasing_1) ≡ false
+    → track_after (track_after (track_from Dx) a) b ≡ track_from Dx
+dx_then_rx a b free = rw free refl
 
-eight_turns : (role : Role) → other_role (other_role (other_role (other_role (other_role
-    (other_role (other_role (other_role role))))))) ≡ role
-eight_turns Dx = refl
-eight_turns Rx = refl
-
-track_after_eight : (track : Track) (xs : List ℕ) → length xs ≡ 8 → track.was_p1 < 32
-    → track_after_words track xs ≡ record track { filled = 0; was_p1 = last_five_marks xs }
+track_after_eight : (xs : List ℕ) → length xs ≡ 8
+    → ((slice_index xs 0 == phasing_1) ≡ false) × ((slice_index xs 2 == phasing_1) ≡ false)
+    × ((slice_index xs 4 == phasing_1) ≡ false) × ((slice_index xs 6 == phasing_1) ≡ false)
+    → track_after_words (track_from Dx) xs ≡ track_from Dx
 unfolding track_after_words
-track_after_eight track xs l small =
-    let v : ℕ → ℕ = λ k. value_of (slice_index xs k == phasing_1) in
-    let le : (k : ℕ) → v k ≤ 1 = λ k. value_of-le (slice_index xs k == phasing_1) in
-    let make : Role → ℕ → Track = λ role p. record { role = role; filled = 0; was_p1 = p } in
-    ap (track_after_words track) (eight_items xs l)
-    ∙ ap₂ make (eight_turns track.role)
-    (eight_marks track.was_p1 (v 0) (v 1) (v 2) (v 3) (v 4) (v 5) (v 6) (v 7) small (le 0) (le 1)
-    (le 2) (le 3) (le 4) (le 5) (le 6) (le 7))
+track_after_eight xs l free =
+    let two : Track → ℕ → ℕ → Track = λ t i j.
+    track_after (track_after t (slice_index xs i)) (slice_index xs j) in
+    ap (track_after_words (track_from Dx)) (eight_items xs l)
+    ∙ (ap (λ t. two (two (two t 2 3) 4 5) 6 7)
+    (dx_then_rx (slice_index xs 0) (slice_index xs 1) free.0)
+    ∙ (ap (λ t. two (two t 4 5) 6 7) (dx_then_rx (slice_index xs 2) (slice_index xs 3) free.1)
+    ∙ (ap (λ t. two t 6 7) (dx_then_rx (slice_index xs 4) (slice_index xs 5) free.2)
+    ∙ dx_then_rx (slice_index xs 6) (slice_index xs 7) free.3)))
 
 -- none of these words ends the lock
 unfoldable NoneEnds : Track → List ℕ → Type 0
@@ -299,11 +284,8 @@ runs_on (word ∷ words) held track before a is full limit within goes_on small 
     }
 
 -- what the test of eight words says
-record Kept (held : Held) (track : Track) (words : List ℕ) : Type 0 where
-  filled : track.filled ≡ 0
-  dx : track.role ≡ Dx
-  two_before : track.was_p1 / 2 % 2 ≡ 0
-  four_before : track.was_p1 / 8 % 2 ≡ 0
+record Kept (held : Held) (words : List ℕ) : Type 0 where
+  is : held.track ≡ Some (track_from Dx)
   free : ((slice_index words 0 == phasing_1) ≡ false) × ((slice_index words 2 == phasing_1) ≡ false)
       × ((slice_index words 4 == phasing_1) ≡ false) × ((slice_index words 6 == phasing_1) ≡ false)
   few : count_by (λ b. b) held.wrong + 8 < losing_count
@@ -312,13 +294,11 @@ is_dx-true : (role : Role) → is_dx role ≡ true → role ≡ Dx
 is_dx-true Dx h = refl
 is_dx-true Rx h = absurd (cc)
 
-four_true : (a b c d : Bool) → (a && b && c && d) ≡ true
-    → (a ≡ true) × (b ≡ true) × (c ≡ true) × (d ≡ true)
-four_true true true true true h = (refl, refl, refl, refl)
-four_true true true true false h = absurd (cc)
-four_true true true false d h = absurd (cc)
-four_true true false c d h = absurd (cc)
-four_true false b c d h = absurd (cc)
+all_true : (a b c : Bool) → (a && b && c) ≡ true → (a ≡ true) × (b ≡ true) × (c ≡ true)
+all_true true true true h = (refl, refl, refl)
+all_true true true false h = absurd (cc)
+all_true true false c h = absurd (cc)
+all_true false b c h = absurd (cc)
 
 four_false : (a b c d : Bool) → (a || b || c || d) ≡ false
     → (a ≡ false) × (b ≡ false) × (c ≡ false) × (d ≡ false)
@@ -334,83 +314,47 @@ three_true true false false h = absurd (cc)
 three_true true true c h = absurd (cc)
 three_true false b c h = absurd (cc)
 
-kept : (held : Held) (track : Track) (words : List ℕ) → held.track ≡ Some track
-    → keeps_lock held words ≡ true → Kept held track words
-kept held track words is h =
+awaits_dx : (track : Option Track) → awaits_free_dx track ≡ true → track ≡ Some (track_from Dx)
+awaits_dx None h = absurd (cc)
+awaits_dx (Some track) h =
+    let free = all_true (track.filled == 0) (is_dx track.role) (track.was_p1 == 0) h in
+    let plain : ℕ → ℕ → Track = λ f p. record { role = Dx; filled = f; was_p1 = p } in
+    ap Some (ap (λ r. record { role = r; filled = track.filled; was_p1 = track.was_p1 })
+    (is_dx-true track.role free.1)
+    ∙ ap₂ plain (eqb-true track.filled 0 free.0) (eqb-true track.was_p1 0 free.2))
+
+kept : (held : Held) (words : List ℕ) → keeps_lock held words ≡ true → Kept held words
+kept held words h =
     let all = three_true (awaits_free_dx held.track) (has_dx_phasing_1 words)
     (nat_le (count_by (λ b. b) held.wrong + 8 + 1) losing_count) h in
-    let free = four_true (track.filled == 0) (is_dx track.role) (track.was_p1 / 2 % 2 == 0)
-    (track.was_p1 / 8 % 2 == 0) (sym (ap awaits_free_dx is) ∙ all.0) in
     record {
-      filled = eqb-true track.filled 0 free.0;
-      dx = is_dx-true track.role free.1;
-      two_before = eqb-true (track.was_p1 / 2 % 2) 0 free.2;
-      four_before = eqb-true (track.was_p1 / 8 % 2) 0 free.3;
+      is = awaits_dx held.track all.0;
       free = four_false _ _ _ _ all.1;
       few = let e = leb-true (count_by (λ b. b) held.wrong + 8 + 1) losing_count all.2 in
           omega arith;
     }
 
-within_by : (h : List Bool) (now : Now) (wrong : List Bool) (others : Option Track) (track : Track)
-    → Tracks h now wrong others → others ≡ Some track → track.was_p1 < 32
-within_by h (hunting p) wrong others track f is = absurd (cc)
-within_by h (locked p t) wrong others track f is =
-    let same : f.one ≡ track = let e = f.is in cc in
-    let marks : List Bool = p1_marks (word_of_lock h t) f.follows.whole in
-    let five : number_of marks < 2 ^ 5 =
-    subst (λ n. number_of marks < 2 ^ n) (length-p1_marks (word_of_lock h t) f.follows.whole)
-    (number_of-lt marks) in
-    subst (λ t. t.was_p1 < 32) same (omega (arith, five, f.follows.phasing))
-
--- the marks of phasing signal 1 that a track keeps are five
-marks_within : (held : Held) (h : List Bool) (track : Track) → StandsAfter held h
-    → held.track ≡ Some track → track.was_p1 < 32
-marks_within held h track a is = within_by h a.now held.wrong held.track track a.tracks is
-
--- an RX word whose oldest mark isn't set doesn't end the lock
-goes_on_at : (q : ℕ) → q % 2 ≡ 0 → ((q % 2 == 1) && (q / 4 % 2 == 1)) ≡ false
-goes_on_at q e = rw e refl
-
--- the oldest marks of phasing signal 1 before the words 1, 3, 5 and 7
-odd_marks : (p a b c d e f g : ℕ) → p < 32 → p / 2 % 2 ≡ 0 → p / 8 % 2 ≡ 0 → a ≡ 0 → c ≡ 0
-    → e ≡ 0 → g ≡ 0 → b ≤ 1 → d ≤ 1 → f ≤ 1
-    → ((p / 2 + 2 ^ 4 * a) % 2 ≡ 0)
-    × ((((p / 2 + 2 ^ 4 * a) / 2 + 2 ^ 4 * b) / 2 + 2 ^ 4 * c) % 2 ≡ 0)
-    × ((((((p / 2 + 2 ^ 4 * a) / 2 + 2 ^ 4 * b) / 2 + 2 ^ 4 * c) / 2 + 2 ^ 4 * d) / 2
-    + 2 ^ 4 * e) % 2 ≡ 0)
-    × ((((((((p / 2 + 2 ^ 4 * a) / 2 + 2 ^ 4 * b) / 2 + 2 ^ 4 * c) / 2 + 2 ^ 4 * d) / 2
-    + 2 ^ 4 * e) / 2 + 2 ^ 4 * f) / 2 + 2 ^ 4 * g) % 2 ≡ 0)
-odd_marks p a b c d e f g small two four za zc ze zg sb sd sf =
-    let three : ((p / 2 + 2 ^ 4 * a) / 2 + 2 ^ 4 * b) / 2 + 2 ^ 4 * c ≡ p / 8 + 8 * b =
-    omega arith in
-    let five : ((p / 8 + 8 * b) / 2 + 2 ^ 4 * d) / 2 + 2 ^ 4 * e ≡ 2 * b + 8 * d = omega arith in
-    let seven : ((2 * b + 8 * d) / 2 + 2 ^ 4 * f) / 2 + 2 ^ 4 * g ≡ 2 * d + 8 * f = omega arith in
-    let at_three : (p / 8 + 8 * b) % 2 ≡ 0 = omega (arith, four) in
-    let at_five : (2 * b + 8 * d) % 2 ≡ 0 = omega arith in
-    let at_seven : (2 * d + 8 * f) % 2 ≡ 0 = omega arith in (
-      omega (arith, two, za),
-      rw three at_three,
-      rw (three, five) at_five,
-      rw (three, five, seven) at_seven,
-    )
+-- none of pairs of words ends the lock, of whose DX words none is phasing signal 1
+pair_goes_on : (a b : ℕ) (words : List ℕ) → (a == phasing_1) ≡ false
+    → NoneEnds (track_from Dx) words → NoneEnds (track_from Dx) (a ∷ b ∷ words)
+unfolding NoneEnds
+pair_goes_on a b words free rest =
+    let one : fills_releasing_word (track_after (track_from Dx) a) ≡ false = rw free refl in
+    (refl, (one, subst (λ t. NoneEnds t words) (sym (dx_then_rx a b free)) rest))
 
 -- none of eight words that keep the lock ends it
-eight_go_on : (held : Held) (p : ℕ) (xs : List ℕ) → length xs ≡ 8 → p < 32
-    → Kept held (record { role = Dx; filled = 0; was_p1 = p }) xs
-    → NoneEnds (record { role = Dx; filled = 0; was_p1 = p }) xs
+eight_go_on : (held : Held) (xs : List ℕ) → length xs ≡ 8 → Kept held xs
+    → NoneEnds (track_from Dx) xs
 unfolding NoneEnds
-eight_go_on held p xs l small k =
-    let v : ℕ → ℕ = λ i. value_of (slice_index xs i == phasing_1) in
-    let le : (i : ℕ) → v i ≤ 1 = λ i. value_of-le (slice_index xs i == phasing_1) in
-    let odd = odd_marks p (v 0) (v 1) (v 2) (v 3) (v 4) (v 5) (v 6) small k.two_before k.four_before
-    (ap value_of k.free.0) (ap value_of k.free.1) (ap value_of k.free.2) (ap value_of k.free.3)
-    (le 1) (le 3) (le 5) in
-    let one = goes_on_at _ odd.0 in
-    let three = goes_on_at _ odd.1 in
-    let five = goes_on_at _ odd.2 in
-    let seven = goes_on_at _ odd.3 in
-    subst (NoneEnds (record { role = Dx; filled = 0; was_p1 = p })) (sym (eight_items xs l))
-    (refl, (one, (refl, (three, (refl, (five, (refl, (seven, tt))))))))
+eight_go_on held xs l k =
+    let v : ℕ → ℕ = slice_index xs in
+    let two : List ℕ = v 6 ∷ v 7 ∷ [] in
+    let four : List ℕ = v 4 ∷ v 5 ∷ two in
+    let six : List ℕ = v 2 ∷ v 3 ∷ four in
+    let on : NoneEnds (track_from Dx) two = pair_goes_on (v 6) (v 7) [] k.free.3 tt in
+    subst (NoneEnds (track_from Dx)) (sym (eight_items xs l))
+    (pair_goes_on (v 0) (v 1) six k.free.0 (pair_goes_on (v 2) (v 3) four k.free.1
+    (pair_goes_on (v 4) (v 5) two k.free.2 on)))
 
 pub record EightHeard (held : Held) (words : List ℕ) (before : List Bool) (new : Held)
     : Type 0 where
@@ -418,33 +362,22 @@ pub record EightHeard (held : Held) (words : List ℕ) (before : List Bool) (new
   pub steps : AreQuietWords before Dx words
 
 -- eight words that keep the lock
-pub eight_heard : (held : Held) (track : Track) (words : List ℕ) (before : List Bool) (new : Held)
-    → StandsAfter held before → held.track ≡ Some track → held.seen ≡ 28 → held.recent < 2 ^ 28
+pub eight_heard : (held : Held) (words : List ℕ) (before : List Bool) (new : Held)
+    → StandsAfter held before → held.seen ≡ 28 → held.recent < 2 ^ 28
     → keeps_lock held words ≡ true → length words ≡ 8
-    → ((k : ℕ) → k < 8 → slice_index words k < 128) → new ≡ after_eight held track words
+    → ((k : ℕ) → k < 8 → slice_index words k < 128) → new ≡ after_eight held words
     → EightHeard held words before new
-eight_heard held track words before new a is full within keeps l small e =
-    let k : Kept held track words = kept held track words is keeps in
-    let p : ℕ = track.was_p1 in
-    let few : p < 32 = marks_within held before track a is in
-    let plain : Track = record { role = Dx; filled = 0; was_p1 = p } in
-    let same : track ≡ plain =
-    ap₂ (λ r f. record { role = r; filled = f; was_p1 = track.was_p1 }) k.dx k.filled in
-    let on : NoneEnds plain words = eight_go_on held p words l few
-    (subst (λ t. Kept held t words) same k) in
-    let runs = runs_on words held plain before a (is ∙ ap Some same) full refl within on
-    (λ i h. small i (omega arith)) (omega (arith, k.few, l)) in
-    let after : after_words held plain words ≡ new =
+eight_heard held words before new a full within keeps l small e =
+    let k : Kept held words = kept held words keeps in
+    let runs = runs_on words held (track_from Dx) before a k.is full refl within
+    (eight_go_on held words l k) (λ i h. small i (omega arith)) (omega (arith, k.few, l)) in
+    let after : after_words held (track_from Dx) words ≡ new =
     ap₂ (λ r t. record held {
       recent = r;
-      track = Some t;
+      track = t;
       wrong = marks_after_words held.wrong words;
-    }) (window_after_eight words held.recent l within small) (track_after_eight plain words l few)
-    ∙ (ap (λ r. record held {
-      recent = last_four words;
-      track = Some (record { role = r; filled = 0; was_p1 = last_five_marks words });
-      wrong = marks_after_words held.wrong words;
-    }) (sym k.dx) ∙ sym e) in
+    }) (window_after_eight words held.recent l within small)
+    (ap Some (track_after_eight words l k.free) ∙ sym k.is) ∙ sym e in
     record {
       stands = subst (λ s. StandsAfter s (before ++ flat_map elements words)) after runs.stands;
       steps = runs.steps;

@@ -18,6 +18,7 @@ use Rattle.nx_sync.specs.private.Calls.{fills_releasing_word, change_of}
 use Rattle.nx_code.specs.Word.{number_of, value_of, is_wrong, wrong_in}
 use Rattle.nx_sync.proofs.lemmas.hunting.Numbers.{number_of-next, first_bit, third_on}
 use Rattle.nx_sync.proofs.lemmas.states.Lists.{keep_last-push}
+use Rattle.nx_sync.proofs.lemmas.words.Roles.{role_of-even}
 
 -- marks look at their words alone
 pub wrong_marks-same : (f g : ℕ → ℕ) (n : ℕ) → ((j : ℕ) → j < n → f j ≡ g j)
@@ -28,18 +29,19 @@ wrong_marks-same f g (suc n) same =
     ap₂ (λ xs w. xs ++ is_wrong w ∷ []) (wrong_marks-same f g n (λ j h. same j (omega arith)))
     (same n (omega arith))
 
-was_p1-same : (f g : ℕ → ℕ) (i : ℕ) → (5 ≤ i → f (i - 5) ≡ g (i - 5)) → was_p1 f i ≡ was_p1 g i
-was_p1-same f g i same = elim (cases_lt i 5) [
+was_p1-same : (first : Role) (f g : ℕ → ℕ) (i : ℕ) → (5 ≤ i → f (i - 5) ≡ g (i - 5))
+    → was_p1 first f i ≡ was_p1 first g i
+was_p1-same first f g i same = elim (cases_lt i 5) [
   | inl early ↦ rw (lt-leb 5 i early) refl
   | inr late ↦ rw (same late) refl
 ]
 
-pub p1_marks-same : (f g : ℕ → ℕ) (n : ℕ) → ((j : ℕ) → j < n → f j ≡ g j)
-    → p1_marks f n ≡ p1_marks g n
+pub p1_marks-same : (first : Role) (f g : ℕ → ℕ) (n : ℕ) → ((j : ℕ) → j < n → f j ≡ g j)
+    → p1_marks first f n ≡ p1_marks first g n
 unfolding p1_marks
-p1_marks-same f g n same =
-    let at : (i : ℕ) → i < n + 5 → was_p1 f i ≡ was_p1 g i =
-    λ i near. was_p1-same f g i (λ h. same (i - 5) (omega arith)) in
+p1_marks-same first f g n same =
+    let at : (i : ℕ) → i < n + 5 → was_p1 first f i ≡ was_p1 first g i =
+    λ i near. was_p1-same first f g i (λ h. same (i - 5) (omega arith)) in
     rw (
       at n (omega arith),
       at (n + 1) (omega arith),
@@ -50,88 +52,76 @@ p1_marks-same f g n same =
     ) refl
 
 -- the marks after one more word
-pub p1_marks-next : (f : ℕ → ℕ) (n : ℕ)
-    → drop 1 (p1_marks f n) ++ (f n == phasing_1) ∷ [] ≡ p1_marks f (n + 1)
+pub p1_marks-next : (first : Role) (f : ℕ → ℕ) (n : ℕ)
+    → drop 1 (p1_marks first f n) ++ (is_dx (role_of first n) && (f n == phasing_1)) ∷ []
+    ≡ p1_marks first f (n + 1)
 unfolding p1_marks
-p1_marks-next f n =
+p1_marks-next first f n =
     let e2 : n + 1 + 1 ≡ n + 2 = omega arith in
     let e3 : n + 1 + 2 ≡ n + 3 = omega arith in
     let e4 : n + 1 + 3 ≡ n + 4 = omega arith in
     let e5 : n + 1 + 4 - 5 ≡ n = omega arith in
     rw (e2, e3, e4, le-leb 5 (n + 1 + 4) (omega arith), e5) refl
 
-pub length-p1_marks : (f : ℕ → ℕ) (n : ℕ) → length (p1_marks f n) ≡ 4 + 1
+length-p1_marks : (first : Role) (f : ℕ → ℕ) (n : ℕ) → length (p1_marks first f n) ≡ 4 + 1
 unfolding p1_marks
-length-p1_marks f n = refl
+length-p1_marks first f n = refl
 
 -- as a number
-pub p1_number-next : (f : ℕ → ℕ) (n : ℕ)
-    → number_of (p1_marks f n) / 2 + 2 ^ 4 * value_of (f n == phasing_1)
-    ≡ number_of (p1_marks f (n + 1))
-p1_number-next f n = sym (number_of-next 4 (p1_marks f n) (f n == phasing_1) (length-p1_marks f n))
-    ∙ ap number_of (p1_marks-next f n)
+pub p1_number-next : (first : Role) (f : ℕ → ℕ) (n : ℕ)
+    → number_of (p1_marks first f n) / 2
+    + 2 ^ 4 * value_of (is_dx (role_of first n) && (f n == phasing_1))
+    ≡ number_of (p1_marks first f (n + 1))
+p1_number-next first f n =
+    sym (number_of-next 4 (p1_marks first f n) (is_dx (role_of first n) && (f n == phasing_1))
+    (length-p1_marks first f n))
+    ∙ ap number_of (p1_marks-next first f n)
 
 -- no word is there before the first
-pub p1_number-none : (f : ℕ → ℕ) → number_of (p1_marks f 0) ≡ 0
+pub p1_number-none : (first : Role) (f : ℕ → ℕ) → number_of (p1_marks first f 0) ≡ 0
 unfolding p1_marks number_of
-p1_number-none f = refl
-
--- three words on, the role is the other one
-three_turns : (role : Role) → is_dx role ≡ not (is_dx (other_role (other_role (other_role role))))
-three_turns Dx = refl
-three_turns Rx = refl
-
--- the role three words before
-role_of-three : (first : Role) (k : ℕ) → 3 ≤ k
-    → is_dx (role_of first (k - 3)) ≡ not (is_dx (role_of first k))
-unfolding role_of
-role_of-three first k h = let e : k ≡ suc (suc (suc (k - 3))) = omega arith in
-    three_turns (role_of first (k - 3)) ∙ ap (λ j. not (is_dx (role_of first j))) (sym e)
-
-and_no : (b : Bool) → (b && false) ≡ false
-and_no true = refl
-and_no false = refl
+p1_number-none first f = refl
 
 -- the oldest of the five marks, and the one two words later, from their number
-p1_oldest : (f : ℕ → ℕ) (k : ℕ) → (number_of (p1_marks f k) % 2 == 1) ≡ was_p1 f k
+p1_oldest : (first : Role) (f : ℕ → ℕ) (k : ℕ)
+    → (number_of (p1_marks first f k) % 2 == 1) ≡ was_p1 first f k
 unfolding p1_marks number_of
-p1_oldest f k = first_bit (was_p1 f k) _
+p1_oldest first f k = first_bit (was_p1 first f k) _
 
-p1_third : (f : ℕ → ℕ) (k : ℕ) → (number_of (p1_marks f k) / 4 % 2 == 1) ≡ was_p1 f (k + 2)
+p1_third : (first : Role) (f : ℕ → ℕ) (k : ℕ)
+    → (number_of (p1_marks first f k) / 4 % 2 == 1) ≡ was_p1 first f (k + 2)
 unfolding p1_marks number_of
-p1_third f k = ap (λ n. n % 2 == 1) (third_on (was_p1 f k) (was_p1 f (k + 1)) _)
-    ∙ first_bit (was_p1 f (k + 2)) _
+p1_third first f k =
+    ap (λ n. n % 2 == 1) (third_on (was_p1 first f k) (was_p1 first f (k + 1)) _)
+    ∙ first_bit (was_p1 first f (k + 2)) _
 
-and_turned : (a b c : Bool) → (a && b && c) ≡ (a && c && b)
-and_turned true true true = refl
-and_turned true true false = refl
-and_turned true false true = refl
-and_turned true false false = refl
-and_turned false b c = refl
+both_dx : (a b c : Bool) → ((a && b) && (a && c)) ≡ (a && c && b)
+both_dx true true true = refl
+both_dx true true false = refl
+both_dx true false true = refl
+both_dx true false false = refl
+both_dx false b c = refl
 
 -- the test of the track is the definition's
 pub fills_releasing_word-is : (first : Role) (f : ℕ → ℕ) (k : ℕ) (track : Track)
-    → track.role ≡ role_of first k → track.was_p1 ≡ number_of (p1_marks f k)
+    → track.was_p1 ≡ number_of (p1_marks first f k)
     → fills_releasing_word track ≡ releases_as_ended first f k
 unfolding releases_as_ended
-fills_releasing_word-is first f k track r m =
-    let tests : fills_releasing_word track
-    ≡ (not (is_dx (role_of first k)) && was_p1 f k && was_p1 f (k + 2)) =
-    rw (r, m, p1_oldest f k, p1_third f k) refl in
+fills_releasing_word-is first f k track m =
+    let tests : fills_releasing_word track ≡ (was_p1 first f k && was_p1 first f (k + 2)) =
+    rw (m, p1_oldest first f k, p1_third first f k) refl in
     tests
-    ∙ (and_turned (not (is_dx (role_of first k))) (was_p1 f k) (was_p1 f (k + 2))
     ∙ elim (cases_lt k 5) [
-      | inl early ↦ rw (lt-leb 5 k early) (and_no _)
+      | inl early ↦ rw (lt-leb 5 k early) refl
       | inr late ↦
           let e : k + 2 - 5 ≡ k - 3 = omega arith in
-          rw (
-            le-leb 5 k late,
-            le-leb 5 (k + 2) (omega arith),
-            e,
-            role_of-three first k
-                (omega arith),
-          ) refl
-    ])
+          let d : k - 5 + 2 * 1 ≡ k - 3 = omega arith in
+          let same : is_dx (role_of first (k - 5)) ≡ is_dx (role_of first (k - 3)) =
+          ap is_dx (sym (role_of-even first (k - 5) 1)) ∙ ap (λ j. is_dx (role_of first j)) d in
+          rw (le-leb 5 k late, le-leb 5 (k + 2) (omega arith), e, same)
+          (both_dx (is_dx (role_of first (k - 3))) (f (k - 5) == phasing_1)
+          (f (k - 3) == phasing_1))
+    ]
 
 pub length-wrong_marks : (f : ℕ → ℕ) (n : ℕ) → length (wrong_marks f n) ≡ n
 unfolding wrong_marks
@@ -176,9 +166,9 @@ wrong_marks-next f n =
 
 -- what the track and the marks decide is the definition's change
 pub change_of-change_at : (first : Role) (f : ℕ → ℕ) (k : ℕ) (track : Track) (wrong : List Bool)
-    → track.role ≡ role_of first k → track.was_p1 ≡ number_of (p1_marks f k)
+    → track.was_p1 ≡ number_of (p1_marks first f k)
     → wrong ≡ keep_last marked_words (wrong_marks f (k + 1))
     → change_of track wrong ≡ change_at first f k
 unfolding change_at
-change_of-change_at first f k track wrong r m w =
-    rw (fills_releasing_word-is first f k track r m, w, count-last_marks f k) refl
+change_of-change_at first f k track wrong m w =
+    rw (fills_releasing_word-is first f k track m, w, count-last_marks f k) refl

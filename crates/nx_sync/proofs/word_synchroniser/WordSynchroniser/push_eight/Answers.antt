@@ -1,27 +1,28 @@
-use Rattle.std.proofs.Common.{◌≡◌, ◌<◌, ◌^◌, Some, sym, ap, subst, ◌∙◌}
-use Rattle.nx_sync.specs.Synchroniser.{Held}
-use Rattle.nx_sync.specs.declared.track.Track.{Track}
-use Rattle.nx_sync.proofs.lemmas.words.EightWords.{eight_heard}
+use Rattle.std.proofs.Common.{◌≡◌, ◌<◌, ◌^◌, List, Bool, slice_index, sym, ap, ap₂, subst, ◌∙◌}
+use Rattle.nx_sync.specs.Synchroniser.{Held, StandsAfter}
+use Rattle.nx_sync.specs.private.Calls.{held_at_words}
+use Rattle.nx_sync.specs.private.Eight.{after_eight}
+use Rattle.nx_sync.proofs.lemmas.words.EightWords.{EightHeard, eight_heard}
 use Rattle.nx_sync.proofs.word_synchroniser.WordSynchroniser.push_eight.Goals as goal
 
-pub returns-clause-stands : goal.returns-clause-stands
-returns-clause-stands c h a =
+heard : (c : goal.After-self-1) (h : List Bool)
+    → StandsAfter c.args.self.now h
+    → EightHeard c.args.self.now c.args.words.now h
+    (held_at_words c.window_after_eight-self-inside.result c.self.inside.track c.push_eight.new.self)
+heard c h a =
     let old : Held = c.args.self.now in
-    let track : Track = c.in-Some.track in
-    let is : old.track ≡ Some track = sym (ap (λ s. s.track) c.self.view_is) ∙ c.in-Some.is in
     let full : old.seen ≡ 28 = sym (ap (λ s. s.seen) c.self.view_is) in
     let within : old.recent < 2 ^ 28 =
     subst (λ r. r < 2 ^ 28) (ap (λ s. s.recent) c.self.view_is) c.self.invariant.0 in
-    (eight_heard old track c.args.words.now h c.follow_eight.new.self a is full within c.requires
-    c.told-words c.follow_eight.ensures.small c.follow_eight.ensures.held).stands
+    eight_heard old c.args.words.now h _ a full within c.requires c.told-words
+    (λ k few. subst (λ xs. slice_index xs k < 128) c.numbers-words.ensures.value
+    (c.numbers-words.ensures.small k few))
+    (ap₂ (λ r m. held_at_words r c.self.inside.track m) c.window_after_eight-self-inside.ensures.value
+    c.push_eight.ensures
+    ∙ ap (λ (s : Held). after_eight s c.args.words.now) c.self.view_is)
+
+pub returns-clause-stands : goal.returns-clause-stands
+returns-clause-stands c h a = (heard c h a).stands
 
 pub returns-clause-steps : goal.returns-clause-steps
-returns-clause-steps c h a =
-    let old : Held = c.args.self.now in
-    let track : Track = c.in-Some.track in
-    let is : old.track ≡ Some track = sym (ap (λ s. s.track) c.self.view_is) ∙ c.in-Some.is in
-    let full : old.seen ≡ 28 = sym (ap (λ s. s.seen) c.self.view_is) in
-    let within : old.recent < 2 ^ 28 =
-    subst (λ r. r < 2 ^ 28) (ap (λ s. s.recent) c.self.view_is) c.self.invariant.0 in
-    (eight_heard old track c.args.words.now h c.follow_eight.new.self a is full within c.requires
-    c.told-words c.follow_eight.ensures.small c.follow_eight.ensures.held).steps
+returns-clause-steps c h a = (heard c h a).steps
