@@ -1,7 +1,7 @@
 //! The marks of the last words of a lock, in one number. What runs for each word is inlined always,
 //! since its answers would go through memory otherwise.
 
-ghost use Rattle.std.specs.Prelude.{◌≡◌, ◌∷◌, ◌++◌, ◌≤◌, ◌<◌, ◌^◌, ◌+◌, [], Bool, nat_le};
+ghost use Rattle.std.specs.Prelude.{◌≡◌, ◌∷◌, ◌++◌, ◌≤◌, ◌<◌, ◌^◌, ◌+◌, ◌==◌, [], map, nat_le};
 ghost use Rattle.std.specs.List.{count_by};
 ghost use Rattle.circular_buffer.specs.Buffer.{keep_last};
 ghost use Rattle.nx_code.specs.Word.{number_of};
@@ -9,14 +9,19 @@ ghost use Rattle.nx_sync.specs.Words.{losing_count, marked_words};
 ghost use Rattle.nx_sync.specs.private.Eight.{marks_after_words, wrong_ones};
 
 use crate::track::EIGHT;
-use nx_code::{Word, check_bits};
+use crate::word_synchroniser::numbers;
+use nx_code::{Word, class_of};
 use std::marker::Model;
+use std::simd::prelude::*;
 
 /// How many marks of its last words a lock keeps, whether each was wrong (this profile).
 const MARKS: u32 = 64;
 
 /// How many wrong words among the marked ones lose the lock (this profile).
 const LOSING_COUNT: u32 = 40;
+
+/// The class of a word of the wrong weight.
+const WRONG_CLASS: u8 = 0;
 
 /// The marks of the last words of a lock, at most 64, whether each was wrong.
 #[derive(Clone, Copy)]
@@ -98,33 +103,33 @@ impl Marks {
     }
 }
 
-/// The marks of eight words, whether each has the wrong weight.
-#[inline(always)]
-fn wrong_ones(words: &[Word; EIGHT]) -> [bool; EIGHT]
-    ensures { result ≡ wrong_ones words.now }
-{
-    [
-        !check_bits(words[0]),
-        !check_bits(words[1]),
-        !check_bits(words[2]),
-        !check_bits(words[3]),
-        !check_bits(words[4]),
-        !check_bits(words[5]),
-        !check_bits(words[6]),
-        !check_bits(words[7]),
-    ]
-}
-
-/// The marks of eight words as bits of a number, the first word's in the least place.
+/// The marks of eight words, whether each has the wrong weight, as bits of a number, the first
+/// word's in the least place.
 #[inline(always)]
 fn wrong_bits(words: &[Word; EIGHT]) -> u64
     ensures number { result ≡ number_of (wrong_ones words.now) }
     ensures within { result < 2 ^ 8 }
 {
-    let marks = wrong_ones(words);
-    let mut bits = 0;
-    for place in (0..EIGHT).rev() {
-        bits = 2 * bits + u64::from(marks[place]);
-    }
-    bits
+    u8x8::from_array(classes(words))
+        .simd_eq(u8x8::splat(WRONG_CLASS))
+        .to_bitmask()
+}
+
+/// The classes of eight words.
+#[inline(always)]
+fn classes(words: &[Word; EIGHT]) -> [u8; EIGHT]
+    ensures { map (λ class. class == 0) result ≡ wrong_ones words.now }
+{
+    // Each word is one of 128. That is all that this says, and nothing runs for it.
+    let _words = numbers(words);
+    [
+        class_of(words[0]),
+        class_of(words[1]),
+        class_of(words[2]),
+        class_of(words[3]),
+        class_of(words[4]),
+        class_of(words[5]),
+        class_of(words[6]),
+        class_of(words[7]),
+    ]
 }

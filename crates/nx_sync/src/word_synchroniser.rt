@@ -167,7 +167,7 @@ impl WordSynchroniser {
 
 /// The numbers of eight words.
 #[inline(always)]
-fn numbers(words: &[Word; EIGHT]) -> [u8; EIGHT]
+pub(crate) fn numbers(words: &[Word; EIGHT]) -> [u8; EIGHT]
     ensures value { result ≡ words.now }
     ensures small { (k : ℕ) → k < 8 → slice_index result k < 128 }
 {

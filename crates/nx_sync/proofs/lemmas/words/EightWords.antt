@@ -11,7 +11,9 @@ use Rattle.std.proofs.lemmas.Grind.{get_or_default_zero}
 use Rattle.std.proofs.lemmas.List.Sums.{sum_by_push, sum_by-take-drop}
 use Rattle.circular_buffer.specs.Buffer.{keep_last}
 use Rattle.nx_code.specs.Table.{phasing_1}
-use Rattle.nx_code.specs.Word.{elements, number_of, value_of, weight, is_wrong}
+use Rattle.nx_code.specs.Classes.{class_of}
+use Rattle.nx_code.specs.Word.{elements, number_of, is_wrong}
+use Rattle.nx_code.proofs.lemmas.Class.{weight-class_of}
 use Rattle.nx_code.proofs.lemmas.Word.{value_of-le, number_of-elements, number_of-lt}
 use Rattle.nx_sync.specs.declared.step.Role.{Role}
 use Rattle.nx_sync.specs.declared.step.Role.TheVariants.{Dx, Rx}
@@ -44,29 +46,27 @@ eight_items (a ∷ b ∷ c ∷ d ∷ e ∷ f ∷ g ∷ []) l = absurd (omega ari
 eight_items (a ∷ b ∷ c ∷ d ∷ e ∷ f ∷ g ∷ h ∷ []) l = refl
 eight_items (a ∷ b ∷ c ∷ d ∷ e ∷ f ∷ g ∷ h ∷ i ∷ xs) l = absurd (omega arith)
 
--- whether a word of a list is right
-right_at : (xs : List ℕ) (k x : ℕ) (right : Bool) → k < length xs
-    → (right ≡ true → weight (get_or xs k x) ≡ 4) × (weight (get_or xs k x) ≡ 4 → right ≡ true)
-    → right ≡ (weight (slice_index xs k) == 4)
-right_at xs k x true h both =
-    sym (eq-eqb _ _ (ap weight (sym (get_or_default_zero xs k x h)) ∙ both.0 refl))
-right_at xs k x false h both = sym (ne_eqb _ _ (λ e.
-    let t : false ≡ true = both.1 (ap weight (get_or_default_zero xs k x h) ∙ e) in cc))
+not_twice : (b : Bool) → b ≡ not (not b)
+not_twice true = refl
+not_twice false = refl
 
--- a word's place and its default, and whether it is right
-pub record Judged (xs : List ℕ) (k : ℕ) (right : Bool) : Type 0 where
-  pub is : right ≡ (weight (slice_index xs k) == 4)
+-- whether a word of a list is wrong, by its class
+pub record Judged (xs : List ℕ) (k : ℕ) (class : ℕ) : Type 0 where
+  pub is : (class == 0) ≡ is_wrong (slice_index xs k)
 
-pub judged : (xs : List ℕ) (k x : ℕ) (right : Bool) → length xs ≡ 8 → k < 8
-    → (right ≡ true → weight (get_or xs k x) ≡ 4) × (weight (get_or xs k x) ≡ 4 → right ≡ true)
-    → Judged xs k right
-judged xs k x right l h both = record { is = right_at xs k x right (omega arith) both }
+pub judged : (xs : List ℕ) (k x class : ℕ) → length xs ≡ 8 → k < 8 → slice_index xs k < 128
+    → class ≡ class_of (get_or xs k x) → Judged xs k class
+judged xs k x class l h small is =
+    let same : get_or xs k x ≡ slice_index xs k = get_or_default_zero xs k x (omega arith) in
+    let weighed = weight-class_of (slice_index xs k) small in
+    record { is = rw (is, same, weighed) (not_twice (class_of (slice_index xs k) == 0)) }
 
 -- the marks of eight words
-pub wrong_ones-eight : (xs : List ℕ) (a b c d e f g h : Bool) → length xs ≡ 8
+pub wrong_ones-eight : (xs : List ℕ) (a b c d e f g h : ℕ) → length xs ≡ 8
     → Judged xs 0 a → Judged xs 1 b → Judged xs 2 c → Judged xs 3 d
     → Judged xs 4 e → Judged xs 5 f → Judged xs 6 g → Judged xs 7 h
-    → not a ∷ not b ∷ not c ∷ not d ∷ not e ∷ not f ∷ not g ∷ not h ∷ [] ≡ wrong_ones xs
+    → (a == 0) ∷ (b == 0) ∷ (c == 0) ∷ (d == 0) ∷ (e == 0) ∷ (f == 0) ∷ (g == 0) ∷ (h == 0) ∷ []
+    ≡ wrong_ones xs
 wrong_ones-eight xs a b c d e f g h l ja jb jc jd je jf jg jh =
     rw (ja.is, jb.is, jc.is, jd.is, je.is, jf.is, jg.is, jh.is)
     (sym (ap wrong_ones (eight_items xs l)))

@@ -7,6 +7,7 @@ use Rattle.std.proofs.Common.{inl, inr, arith, append_assoc, append-nil, length-
 use Rattle.std.proofs.Common.{drop-drop}
 use lib.Count.{ones_step}
 use Rattle.std.specs.Int.RustNames.{count_ones}
+use Rattle.std.specs.Simd.Lanes.{mask_l}
 use Rattle.std.proofs.Math.Nat.{pow-succ', pow-le-pow_right}
 use Rattle.std.proofs.Math.Pow.{shr_lt}
 use Rattle.std.proofs.Math.Seq.{drop-append-add, take-suc-set}
@@ -198,23 +199,9 @@ count_set count bits within fits is =
     ones_counted 64 bits fits
     ∙ (ap (count_by (λ b. b)) (unset count bits is ∙ front) ∙ omega (arith, none, parts, both))
 
--- the number of the bits from one place on, and from the place before it
-pub bits_before : (marks : List Bool) (place : ℕ) → 0 < place → place ≤ length marks
-    → number_of (drop (place - 1) marks)
-    ≡ value_of (get_or marks (place - 1) false) + 2 * number_of (drop place marks)
+-- the bits of a mask are those of the number
+pub mask_is_number : (bits : List Bool) → mask_l bits ≡ number_of bits
 unfolding number_of
-bits_before marks place some h =
-    let e : place - 1 + 1 ≡ place = omega arith in
-    ap number_of (drop_more marks (place - 1) false (omega arith))
-    ∙ ap (λ n. value_of (get_or marks (place - 1) false) + 2 * number_of (drop n marks)) e
-
-pub few_bits : (marks : List Bool) (place : ℕ) → length marks ≡ 8
-    → number_of (drop place marks) < 2 ^ 8
-few_bits marks place l =
-    let n : length (drop place marks) ≤ 8 = simp length-drop (omega arith) in
-    let p : 2 ^ length (drop place marks) ≤ 2 ^ 8 = pow-le-pow_right (omega arith) n in
-    omega (arith, number_of-lt (drop place marks), p)
-
-pub no_bits : (marks : List Bool) → length marks ≡ 8 → 0 ≡ number_of (drop 8 marks)
-unfolding number_of
-no_bits marks l = sym (ap number_of (drop_all 8 marks (omega arith)))
+mask_is_number [] = refl
+mask_is_number (true ∷ bits) = ap (λ n. 1 + 2 * n) (mask_is_number bits)
+mask_is_number (false ∷ bits) = ap (λ n. 0 + 2 * n) (mask_is_number bits)

@@ -1,45 +1,32 @@
-use Rattle.std.proofs.Common.{◌<◌, ◌+◌, ◌-◌, ◌*◌, ◌^◌, ℕ, List, Bool, false}
-use Rattle.std.proofs.Common.{get_or, arith, rules}
-use Rattle.nx_code.proofs.lemmas.Word.{value_of-bool_byte, value_of-le}
-use Rattle.nx_sync.proofs.lemmas.words.MarkBits.{bits_before, few_bits, no_bits}
+use Rattle.std.proofs.Common.{◌≡◌, ◌==◌, ◌∙◌, ◌<◌, ◌^◌, ℕ, List, Bool, length, map, ap, sym, eqb, subst, w8, arith}
+use Rattle.std.specs.Simd.Lanes.{mask_l}
+use Rattle.std.proofs.lemmas.List.{length-map}
+use Rattle.std.proofs.lemmas.Simd.{bitmask_splat, mask_l-lt}
+use Rattle.nx_code.specs.Word.{number_of, is_wrong}
+use Rattle.nx_sync.specs.private.Eight.{wrong_ones}
+use Rattle.nx_sync.proofs.lemmas.words.MarkBits.{mask_is_number}
 use Rattle.nx_sync.proofs.mark_bits.wrong_bits.Goals as goal
 
-pub loop-place-init : goal.loop-place-init
-loop-place-init c = (no_bits c.wrong_ones-marks.result (omega arith), omega arith)
+eight : (classes words : List ℕ) → map (λ class. class == 0) classes ≡ wrong_ones words
+    → length words ≡ 8 → length classes ≡ 8
+eight classes words is l =
+    let same : length (map (λ class. class == 0) classes) ≡ length (wrong_ones words) =
+    ap length is in
+    omega (arith, same, length-map classes (λ class. class == 0), length-map words is_wrong, l)
 
-pub overflow_mul-bits : goal.overflow_mul-bits
-overflow_mul-bits c =
-    let few = few_bits c.wrong_ones-marks.result c.loop-place.place (omega arith) in
-    let fits : 2 * c.loop-place.bits < 2 ^ 64 = omega (arith, few, c.loop-place.invariant.0) in
-    search rules
-
-pub overflow_add-bits : goal.overflow_add-bits
-overflow_add-bits c =
-    let marks : List Bool = c.wrong_ones-marks.result in
-    let few = few_bits marks c.loop-place.place (omega arith) in
-    let bit : Bool = get_or marks (c.loop-place.place - 1) false in
-    let fits : 2 * c.loop-place.bits + c.from.result < 2 ^ 64 =
-    omega (
-      arith,
-      few,
-      c.loop-place.invariant.0,
-      c.from.ensures,
-      value_of-bool_byte bit,
-      value_of-le bit,
-    ) in
-    search rules
-
-pub loop-place-preserved : goal.loop-place-preserved
-loop-place-preserved c =
-    let marks : List Bool = c.wrong_ones-marks.result in
-    let place : ℕ = c.loop-place.place in
-    let more = bits_before marks place (omega arith) (omega (arith, c.loop-place.invariant.1)) in
-    let bit : Bool = get_or marks (place - 1) false in (
-      omega (arith, more, c.loop-place.invariant.0, c.from.ensures, value_of-bool_byte bit),
-      omega (arith, c.loop-place.invariant.1),
-    )
+pub returns-clause-number : goal.returns-clause-number
+returns-clause-number c =
+    let classes : List ℕ = c.classes.result in
+    bitmask_splat w8 eqb classes 8 0 (eight classes c.args.words.now c.classes.ensures c.told-words)
+    (omega arith)
+    ∙ (ap mask_l c.classes.ensures ∙ mask_is_number (wrong_ones c.args.words.now))
 
 pub returns-clause-within : goal.returns-clause-within
 returns-clause-within c =
-    let few = few_bits c.wrong_ones-marks.result c.loop-place.place (omega arith) in
-    omega (arith, few, c.loop-place.invariant.0)
+    let classes : List ℕ = c.classes.result in
+    let long : length classes ≡ 8 =
+    eight classes c.args.words.now c.classes.ensures c.told-words in
+    let mask = bitmask_splat w8 eqb classes 8 0 long (omega arith) in
+    let bits : List Bool = map (λ class. eqb class 0) classes in
+    let few : length bits ≡ 8 = omega (arith, length-map classes (λ class. class == 0), long) in
+    subst (λ n. n < 2 ^ 8) (sym mask) (subst (λ n. mask_l bits < 2 ^ n) few (mask_l-lt bits))
