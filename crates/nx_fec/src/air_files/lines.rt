@@ -20,6 +20,9 @@ pub const MAX_ELEMENTS: usize = 512;
 /// The most digits of a moment.
 const MAX_DIGITS: usize = 11;
 
+/// The byte of the digit 0.
+const ZERO: u64 = b'0' as u64;
+
 /// One line of an air file: what it means. It belongs to the channel that it names, or to channel 0
 /// where it names none; a moment belongs to all channels.
 #[derive(Debug, PartialEq, Drop)]
@@ -271,17 +274,18 @@ pub(crate) fn moment_front(bytes: &[u8]) -> (u64, usize)
     ensures found { 0 < result.1
         → (result.0 < 10 ^ 11) × (take result.1 bytes.now ≡ decimal result.0) }
 {
-    if bytes[0] == b'0' {
-        return (0, 1);
+    let mut value = u64::from(bytes[0]).wrapping_sub(ZERO);
+    if value == 0 || value > 9 {
+        return (0, usize::from(value == 0));
     }
-    let mut value: u64 = 0;
-    let mut count = 0;
+    let mut count = 1;
     while count < MAX_DIGITS {
-        let units = match bytes[count] {
-            digit @ b'0'..=b'9' => digit - b'0',
-            _ => return (value, count),
-        };
-        value = 10 * value + u64::from(units);
+        // More than 9 where the byte is no digit.
+        let units = u64::from(bytes[count]).wrapping_sub(ZERO);
+        if units > 9 {
+            return (value, count);
+        }
+        value = 10 * value + units;
         count += 1;
     }
     (value, count)
