@@ -1,8 +1,9 @@
 //! Bytes that lie in the value itself, at most so many of them. What appends some is inlined
-//! always, so that a length that is known makes a copy without a call.
+//! always, so that few are copied through a vector that stays in registers, without a call.
 ghost use Rattle.std.specs.Prelude.{◌≡◌, ◌+◌, ◌≤◌, [], ◌++◌, length, take};
 
 use std::marker::Model;
+use std::simd::prelude::*;
 
 /// The most bytes that are copied without a call.
 const SHORT: usize = 32;
@@ -72,11 +73,12 @@ impl<const CAPACITY: usize> BoundedBytes<CAPACITY> {
         requires room { length self.old + count ≤ CAPACITY }
         ensures { self.new ≡ self.old ++ take count bytes.now }
     {
-        let length = self.len();
-        // Few bytes are copied at once, with bytes after them, which then are dropped.
+        let length = self.length;
+        // Few bytes are copied at once, with bytes after them, which nothing reads.
         if count <= SHORT && SHORT <= bytes.len() && SHORT <= CAPACITY - length {
-            self.append(&bytes[..SHORT]);
-            self.truncate(length + count);
+            let places = &mut self.bytes[..];
+            u8x32::from_slice(bytes).copy_to_slice(&mut places[length..]);
+            self.length = length + count;
         } else {
             self.append(&bytes[..count]);
         }
