@@ -1,7 +1,7 @@
 //! A scanner of the lines of an air file, which takes one piece after the other. What runs for each
 //! line is inlined always, so that no large answer goes through memory. Most lines are taken whole,
 //! and have few elements; what runs for other lines is never inlined.
-ghost use Rattle.std.specs.Prelude.{◌≡◌, ◌≢◌, ◌+◌, ◌<◌, ◌≤◌, ℕ, List, [], ◌∷◌, ◌++◌, None, option_to_list, IfOk, IfErr, IfSome, OnOk, OnErr, IsSomeAnd, length, take, MatchResult};
+ghost use Rattle.std.specs.Prelude.{◌≡◌, ◌≢◌, ◌+◌, ◌<◌, ◌≤◌, ℕ, List, [], ◌∷◌, ◌++◌, None, option_to_list, codes, IfOk, IfErr, IfSome, OnOk, OnErr, IsSomeAnd, length, take, MatchResult};
 ghost use Rattle.std.specs.List.{AllByRecursion};
 ghost use Rattle.std.specs.Option.{option_map};
 ghost use Rattle.nx_fec.specs.air_files.AirFile.{IsLine, Line, spelling};
@@ -12,7 +12,7 @@ ghost use Rattle.nx_fec.specs.private.WholeLines.{TakesLine, Waits};
 use crate::air_files::bounded_bytes::BoundedBytes;
 use crate::air_files::line_feeds::{LINE_END, first_feed};
 use crate::air_files::lines::{
-    LineKind, MAX_ELEMENTS, after, digits_behind, moment_front, read_line, unpack,
+    LineKind, MAX_ELEMENTS, digits_behind, moment_front, read_line, unpack,
 };
 use crate::air_files::packed::{PackedElements, pack_near};
 use crate::fault::LineFault;
@@ -214,35 +214,35 @@ impl Scanner {
         if self.ended.is_none() || piece.len() < NEAR_BYTES || self.room < NEAR_BYTES as u64 {
             return 0;
         }
-        let count = self.take_near(piece);
-        if count > 0 {
-            return count;
+        match piece {
+            [b'B', b' ', digits @ ..] => {
+                let count = self.take_few(piece, digits);
+                if count > 0 {
+                    return count;
+                }
+                self.take_elements(piece)
+            }
+            [b'T', b' ', digits @ ..] => self.take_moment(piece, digits),
+            _ => self.take_elements(piece),
         }
-        let count = self.take_moment(piece);
-        if count > 0 {
-            return count;
-        }
-        self.take_far(piece)
     }
 
     /// Takes the line that a piece begins with as `take_whole` does, where it has few elements and
-    /// names no channel.
+    /// names no channel; the digits are what follows `B` and a space.
     #[inline(always)]
-    fn take_near(&mut self, piece: &[u8]) -> usize
+    fn take_few(&mut self, piece: &[u8], digits: &[u8]) -> usize
+        requires front { piece.now ≡ codes "B " ++ digits.now }
         requires empty { self.old.part ≡ [] }
         requires long { NEAR_BYTES ≤ length piece.now }
         requires room { NEAR_BYTES ≤ self.old.room }
         ensures taken { 0 < result → TakesLine self.old self.new piece.now result }
         ensures none { result ≡ 0 → self.new ≡ self.old }
     {
-        let Some(digits) = after(piece, b"B ") else {
-            return 0;
-        };
         let (word, count) = pack_near(digits);
-        if count == 0 || count > NEAR_ELEMENTS || digits[count] != LINE_END {
+        let end = 2 + count;
+        if count == 0 || count > NEAR_ELEMENTS || piece[end] != LINE_END {
             return 0;
         }
-        let end = 2 + count;
         self.kept.clear();
         self.kept.append_front(piece, end);
         self.elements.put(word, count);
@@ -252,23 +252,22 @@ impl Scanner {
         end + 1
     }
 
-    /// Takes the line that a piece begins with as `take_whole` does, where it is a moment.
+    /// Takes the line that a piece begins with as `take_whole` does, where it is a moment; the
+    /// digits are what follows `T` and a space.
     #[inline(always)]
-    fn take_moment(&mut self, piece: &[u8]) -> usize
+    fn take_moment(&mut self, piece: &[u8], digits: &[u8]) -> usize
+        requires front { piece.now ≡ codes "T " ++ digits.now }
         requires empty { self.old.part ≡ [] }
         requires long { NEAR_BYTES ≤ length piece.now }
         requires room { NEAR_BYTES ≤ self.old.room }
         ensures taken { 0 < result → TakesLine self.old self.new piece.now result }
         ensures none { result ≡ 0 → self.new ≡ self.old }
     {
-        let Some(digits) = after(piece, b"T ") else {
-            return 0;
-        };
         let (moment, count) = moment_front(digits);
-        if count == 0 || digits[count] != LINE_END {
+        let end = 2 + count;
+        if count == 0 || piece[end] != LINE_END {
             return 0;
         }
-        let end = 2 + count;
         self.kept.clear();
         self.kept.append_front(piece, end);
         self.elements.clear();
@@ -280,7 +279,7 @@ impl Scanner {
 
     /// Takes the line that a piece begins with as `take_whole` does, where it has elements.
     #[inline(never)]
-    fn take_far(&mut self, piece: &[u8]) -> usize
+    fn take_elements(&mut self, piece: &[u8]) -> usize
         requires { self.old.part ≡ [] }
         ensures taken { 0 < result → TakesLine self.old self.new piece.now result }
         ensures none { result ≡ 0 → Waits self.old self.new }

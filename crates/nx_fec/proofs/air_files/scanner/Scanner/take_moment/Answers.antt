@@ -1,4 +1,5 @@
-use Rattle.std.proofs.Common.{◌≡◌, ◌∙◌, ◌++◌, ◌+◌, ap, arith, length, refl, subst, sym, take}
+use Rattle.std.proofs.Common.{◌≡◌, ◌∙◌, ◌++◌, ◌+◌, ap, arith, codes, get_or, length, refl, subst, sym, take}
+use Rattle.std.proofs.lemmas.List.{get_or-append-add}
 use Rattle.nx_fec.specs.private.ScannerKept.{SpellsLine}
 use Rattle.nx_fec.specs.declared.air_files.lines.LineKind.TheVariants.{Moment}
 use Rattle.nx_fec.proofs.lemmas.lines.WholeLine.{moment-spells, takes-moment}
@@ -8,7 +9,7 @@ pub invariant_of-self : goal.invariant_of-self
 invariant_of-self c =
     let piece = c.args.piece.now in
     let count = c.moment_front-moment.result.1 in
-    let digits = c.in-Some.digits.now in
+    let digits = c.args.digits.now in
     let found = c.moment_front-moment.ensures.found (omega (arith, c.if-count-eq0.false)) in (
       omega (
         arith,
@@ -20,20 +21,23 @@ invariant_of-self c =
       subst (SpellsLine (Moment c.moment_front-moment.result.0) c.clear-2.new.self)
           (sym (c.append_front.ensures ∙ ap (λ l. l ++ take (2 + count) piece) c.clear.ensures))
           (moment-spells piece digits c.moment_front-moment.result.0 count c.clear-2.new.self
-          c.in-Some.ensures found c.clear-2.ensures),
+          c.requires.front found c.clear-2.ensures),
     )
 
 pub returns-clause-taken : goal.returns-clause-taken
 returns-clause-taken c = λ _.
     let piece = c.args.piece.now in
     let count = c.moment_front-moment.result.1 in
-    let digits = c.in-Some.digits.now in
-    let size : length piece ≡ 2 + length digits = omega (arith, ap length c.in-Some.ensures) in
+    let digits = c.args.digits.now in
+    let size : length piece ≡ 2 + length digits = omega (arith, ap length c.requires.front) in
     let found = c.moment_front-moment.ensures.found (omega (arith, c.if-count-eq0.false)) in
     takes-moment c.args.self.now _ piece digits c.moment_front-moment.result.0 count
-    c.in-Some.ensures found
+    c.requires.front found
     (omega (arith, size, c.requires.long, c.moment_front-moment.ensures.count))
-    c.if-digits-count-ne-LINE_END.false c.requires.empty
+    (sym (get_or-append-add (codes "T ") digits count 0)
+    ∙ ap (λ l. get_or l (2 + count) 0) (sym c.requires.front)
+    ∙ c.if-piece-end-ne-LINE_END.false)
+    c.requires.empty
     refl refl (ap (λ s. s.lines + 1) c.self.view_is)
     (omega (
       arith,

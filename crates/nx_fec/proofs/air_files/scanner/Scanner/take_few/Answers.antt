@@ -1,23 +1,26 @@
-use Rattle.std.proofs.Common.{◌≡◌, ◌+◌, ◌∙◌, ◌++◌, None, ap, arith, length, refl, subst, sym, take}
+use Rattle.std.proofs.Common.{◌≡◌, ◌+◌, ◌∙◌, ◌++◌, None, ap, arith, codes, get_or, length, refl, subst, sym, take}
+use Rattle.std.proofs.lemmas.List.{get_or-append-add}
 use Rattle.nx_fec.specs.private.ScannerKept.{SpellsLine}
 use Rattle.nx_fec.specs.declared.air_files.lines.LineKind.TheVariants.{Elements}
 use Rattle.nx_fec.proofs.lemmas.lines.WholeLine.{Digits, digits-spell, takes-digits}
-use Rattle.nx_fec.proofs.air_files.scanner.Scanner.take_near.Goals as goal
+use Rattle.nx_fec.proofs.air_files.scanner.Scanner.take_few.Goals as goal
 
 pub invariant_of-self : goal.invariant_of-self
 invariant_of-self c =
     let piece = c.args.piece.now in
-    let digits = c.in-Some.digits.now in
+    let digits = c.args.digits.now in
     let count = c.pack_near-word.result.1 in
-    let size : length piece ≡ 2 + length digits = omega (arith, ap length c.in-Some.ensures) in
+    let size : length piece ≡ 2 + length digits = omega (arith, ap length c.requires.front) in
     let found : Digits piece None digits 2 count c.put.new.self = record {
-      whole = c.in-Some.ensures;
+      whole = c.requires.front;
       starts = omega (arith, size);
       some = omega (arith, c.if-count-eq0.false);
       fits = omega (arith, c.if-count-gt-NEAR_ELEMENTS.false);
       right = c.pack_near-word.ensures.right;
       within = omega (arith, size, c.requires.long, c.if-count-gt-NEAR_ELEMENTS.false);
-      feed = c.if-digits-count-ne-LINE_END.false;
+      feed = sym (get_or-append-add (codes "B ") digits count 0)
+          ∙ ap (λ l. get_or l (2 + count) 0) (sym c.requires.front)
+          ∙ c.if-piece-end-ne-LINE_END.false;
       are = c.put.ensures ∙ c.pack_near-word.ensures.word;
     } in (
       omega (
@@ -35,17 +38,19 @@ invariant_of-self c =
 pub returns-clause-taken : goal.returns-clause-taken
 returns-clause-taken c = λ _.
     let piece = c.args.piece.now in
-    let digits = c.in-Some.digits.now in
+    let digits = c.args.digits.now in
     let count = c.pack_near-word.result.1 in
-    let size : length piece ≡ 2 + length digits = omega (arith, ap length c.in-Some.ensures) in
+    let size : length piece ≡ 2 + length digits = omega (arith, ap length c.requires.front) in
     let found : Digits piece None digits 2 count c.put.new.self = record {
-      whole = c.in-Some.ensures;
+      whole = c.requires.front;
       starts = omega (arith, size);
       some = omega (arith, c.if-count-eq0.false);
       fits = omega (arith, c.if-count-gt-NEAR_ELEMENTS.false);
       right = c.pack_near-word.ensures.right;
       within = omega (arith, size, c.requires.long, c.if-count-gt-NEAR_ELEMENTS.false);
-      feed = c.if-digits-count-ne-LINE_END.false;
+      feed = sym (get_or-append-add (codes "B ") digits count 0)
+          ∙ ap (λ l. get_or l (2 + count) 0) (sym c.requires.front)
+          ∙ c.if-piece-end-ne-LINE_END.false;
       are = c.put.ensures ∙ c.pack_near-word.ensures.word;
     } in
     takes-digits c.args.self.now _ piece None digits 2 count c.put.new.self found c.requires.empty

@@ -2,7 +2,7 @@ use Rattle.std.proofs.Common.{◌+◌, ◌-◌, ◌∙◌, ◌++◌, ap, arith, 
 use Rattle.nx_fec.specs.private.ScannerKept.{SpellsLine}
 use Rattle.nx_fec.specs.declared.air_files.lines.LineKind.TheVariants.{Elements}
 use Rattle.nx_fec.proofs.lemmas.lines.WholeLine.{Digits, digits-spell, part-open, takes-digits}
-use Rattle.nx_fec.proofs.air_files.scanner.Scanner.take_far.Goals as goal
+use Rattle.nx_fec.proofs.air_files.scanner.Scanner.take_elements.Goals as goal
 
 pub invariant_of-self-2 : goal.invariant_of-self-2
 invariant_of-self-2 c =
