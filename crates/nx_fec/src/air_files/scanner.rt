@@ -165,7 +165,30 @@ impl Scanner {
         if count > 0 {
             return Ok(count);
         }
-        self.push_part(piece)
+        self.push_rest(piece)
+    }
+
+    /// Takes the bytes of a piece as `push_part` does. The place in memory of its answer is made
+    /// here, so that a line that is taken whole pays nothing for it.
+    #[inline(always)]
+    fn push_rest(&mut self, piece: &[u8]) -> Result<usize, LineFault>
+        requires { 0 < length piece.now }
+        ensures bytes { (limit : ℕ) (bytes : List ℕ) (lines : List Line)
+            → Scans limit self.old bytes lines →
+            MatchResult result
+            (λ count. Scans limit self.new (bytes ++ take count piece.now)
+            (lines ++ option_to_list self.new.latest))
+            (λ why. StopsIn limit self.new bytes piece.now lines why) }
+        ensures at_byte { IfErr result IsAtByte }
+        ensures some { IfOk result (λ count. (0 < count) × (count ≤ length piece.now)) }
+        ensures latest { OnOk result (IfSome self.new.latest IsLine) }
+        ensures whole { IfOk result (λ count. self.new.latest ≡ None → count ≡ length piece.now) }
+        ensures room { IfOk result (λ count. self.new.room + count ≡ self.old.room) }
+    {
+        match self.push_part(piece) {
+            Ok(count) => Ok(count),
+            Err(fault) => Err(fault),
+        }
     }
 
     /// Takes the bytes of a piece as `push_line` does, whatever line they are of.
