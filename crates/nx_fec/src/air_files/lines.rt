@@ -213,7 +213,7 @@ fn marked<'a>(line: &'a [u8], word: &[u8]) -> Option<(Channel, &'a [u8])>
 }
 
 /// What follows the word at the front of a line, if the line begins with that word.
-pub(crate) fn after<'a>(line: &'a [u8], word: &[u8]) -> Option<&'a [u8]>
+fn after<'a>(line: &'a [u8], word: &[u8]) -> Option<&'a [u8]>
     ensures { MatchOption result
         ((rest : List ℕ) → line.now ≢ word.now ++ rest)
         (λ rest. line.now ≡ word.now ++ rest.now) }
