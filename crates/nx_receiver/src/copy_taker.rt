@@ -2,9 +2,8 @@
 //! them. What runs for each element or each word is inlined always, since its answers would go
 //! through memory otherwise.
 
-ghost use Rattle.std.specs.Prelude.{◌≡◌, ◌≢◌, Option, Some};
-ghost use Rattle.nx_receiver.specs.declared.copy_taker.Over.TheVariants.{Nothing};
-ghost use Rattle.nx_receiver.specs.private.CopyTaker.{ReadsStep, over_by};
+ghost use Rattle.std.specs.Prelude.{◌≡◌};
+ghost use Rattle.nx_receiver.specs.private.CopyTaker.{ReadsStep};
 ghost use Rattle.nx_receiver.specs.private.Watch.{IsFresh, over_with};
 
 use crate::lock_reader::LockReader;
@@ -13,12 +12,10 @@ use nx_envelope::TextEvent;
 use nx_memory::Selection;
 use nx_sync::{Step, StepTaker};
 
-/// What is over with an element that was heard. It is copied for each element, so it is small; a
-/// copy that is over is left with the finder.
+/// What is over with an element that was heard, where anything is. It is copied for each element,
+/// so it is small; a copy that is over is left with the finder.
 #[derive(Clone, Copy, Debug, PartialEq, Eq)]
 pub(crate) enum Over {
-    /// No copy and no lock.
-    Nothing,
     /// A copy, which can be taken.
     Copy,
     /// The lock: its text ends.
@@ -30,26 +27,14 @@ pub(crate) enum Over {
 impl Over {
     /// What is over, by whether a copy is and whether the lock is.
     #[inline(always)]
-    pub(crate) fn of(is_copy_over: bool, is_lock_over: bool) -> Over
+    pub(crate) fn of(is_copy_over: bool, is_lock_over: bool) -> Option<Over>
         ensures { result ≡ over_with is_copy_over is_lock_over }
     {
         match (is_copy_over, is_lock_over) {
-            (false, false) => Over::Nothing,
-            (true, false) => Over::Copy,
-            (false, true) => Over::Lock,
-            (true, true) => Over::CopyAndLock,
-        }
-    }
-
-    /// What is over, if anything is.
-    #[inline(always)]
-    fn some(self) -> Option<Over>
-        ensures is { over_by result ≡ self }
-        ensures some { result ≢ Some Nothing }
-    {
-        match self {
-            Over::Nothing => None,
-            Over::Copy | Over::Lock | Over::CopyAndLock => Some(self),
+            (false, false) => None,
+            (true, false) => Some(Over::Copy),
+            (false, true) => Some(Over::Lock),
+            (true, true) => Some(Over::CopyAndLock),
         }
     }
 }
@@ -100,12 +85,12 @@ impl CopyTaker {
 
     /// Reads the word that a step of the synchroniser completes, if it completes one.
     #[inline(always)]
-    fn read(&mut self, step: Step) -> Over
+    fn read(&mut self, step: Step) -> Option<Over>
         ensures { ReadsStep self.old self.new step result }
     {
         let Step { word, change } = step;
         let Some((word, role)) = word else {
-            return Over::Nothing;
+            return None;
         };
         let is_changed = change.is_some();
         match self.reader.take_word(word, role) {
@@ -134,7 +119,7 @@ impl StepTaker for CopyTaker {
 
     #[inline(always)]
     fn take(&mut self, _count: usize, step: Step) -> Option<Over> {
-        self.read(step).some()
+        self.read(step)
     }
 
     #[inline(always)]

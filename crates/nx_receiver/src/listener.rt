@@ -384,7 +384,7 @@ impl Listener {
         channel: Channel,
         packed: &PackedElements,
         from: usize,
-    ) -> (usize, Over)
+    ) -> (usize, Option<Over>)
         requires { from ≤ length packed.now }
         ensures within { from + result.0 ≤ length packed.now }
         ensures stands { HearsUpTo content (receiver_on self.old channel)

@@ -2,7 +2,7 @@
 //! elements is inlined always. What finishes a copy is not, so that no loop over elements has a
 //! place for an entry or its head.
 
-ghost use Rattle.std.specs.Prelude.{◌≡◌, ◌≢◌, ◌↔◌, ℕ, Option, MatchResult, false, ◌+◌, ◌<◌, ◌≤◌, ◌==◌, ◌||◌, List, [], ◌++◌, length, take, drop, IfErr, IfOk, IfSome, IsErr, IsNone, IsSome, IsTrue, OnErr, OnOk, Bool, true};
+ghost use Rattle.std.specs.Prelude.{◌≡◌, ◌≢◌, ◌↔◌, ℕ, Option, MatchResult, false, ◌+◌, ◌<◌, ◌≤◌, ◌==◌, ◌||◌, List, [], ◌++◌, length, take, drop, IfErr, IfOk, IfSome, IsErr, IsNone, IsSome, IsTrue, None, OnErr, OnOk, Some, Bool, true};
 ghost use Rattle.nx_envelope.specs.Moment.{last_moment};
 ghost use Rattle.nx_code.specs.Lists.{last_of};
 ghost use Rattle.nx_memory.specs.Memory.{most_entries, newest_moment};
@@ -20,7 +20,7 @@ ghost use Rattle.nx_receiver.specs.private.Heads.{headed_list};
 ghost use Rattle.nx_receiver.specs.private.LockReader.{is_open};
 ghost use Rattle.nx_receiver.specs.FoundCopies.{TaggedCopy};
 ghost use Rattle.nx_receiver.specs.private.Watch.{handed_out};
-ghost use Rattle.nx_receiver.specs.declared.copy_taker.Over.TheVariants.{CopyAndLock, Lock, Nothing};
+ghost use Rattle.nx_receiver.specs.declared.copy_taker.Over.TheVariants.{CopyAndLock, Lock};
 ghost use Rattle.nx_envelope.specs.Copies.{Copy};
 ghost use Rattle.nx_envelope.specs.Finder.{HasReady};
 ghost use Rattle.nx_envelope.specs.Found.{IsHeadOf};
@@ -214,9 +214,9 @@ impl<M: Recall> Receiver<M> {
             let (count, over) = self.hear_bits(&bits[at..]);
             at += count;
             // Nothing is over with the last of all elements: no place for an entry is cleared.
-            if over == Over::Nothing {
+            let Some(over) = over else {
                 return (at, None);
-            }
+            };
             let entry = self.finish(over);
             if entry.is_some() {
                 return (at, entry);
@@ -248,9 +248,9 @@ impl<M: Recall> Receiver<M> {
         while heard < packed.len() - from {
             let (count, over) = self.hear(packed, from + heard);
             heard += count;
-            if over == Over::Nothing {
+            let Some(over) = over else {
                 return (heard, None);
-            }
+            };
             let entry = self.finish(over);
             if entry.is_some() {
                 return (heard, entry);
@@ -285,9 +285,9 @@ impl<M: Recall> Receiver<M> {
         while heard < packed.len() - from {
             let (count, over) = self.hear(packed, from + heard);
             heard += count;
-            if over == Over::Nothing {
+            let Some(over) = over else {
                 return (heard, false);
-            }
+            };
             if self.spell(over, channel, spelled) {
                 return (heard, true);
             }
@@ -303,7 +303,7 @@ impl<M: Recall> Receiver<M> {
         ensures stands { (copies : List TaggedCopy)
             × IsSpelled channel result copies spelled.new.items
             × ((start : Start) (history : List Event) (log : List TaggedCopy)
-            → Awaits M.content start self.old history log over
+            → Awaits M.content start self.old history log (Some over)
             → Stands M.content start self.new history (log ++ copies)) }
         ensures unchanged { result ≡ false → spelled.new ≡ spelled.old }
     {
@@ -337,39 +337,39 @@ impl<M: Recall> Receiver<M> {
     /// nothing is; says how many, and what is over: `finish` or `give` is due then, before anything
     /// else is heard.
     #[inline(always)]
-    pub(crate) fn hear(&mut self, packed: &PackedElements, from: usize) -> (usize, Over)
+    pub(crate) fn hear(&mut self, packed: &PackedElements, from: usize) -> (usize, Option<Over>)
         requires { from ≤ length packed.now }
         ensures within { from + result.0 ≤ length packed.now }
         ensures stands { HearsUpTo M.content self.old self.new
             (take result.0 (drop from packed.now)) result.1 }
         ensures first { HandsOutNoneBefore M.content self.old (drop from packed.now) result.0 }
-        ensures all { result.1 ≡ Nothing → from + result.0 ≡ length packed.now }
+        ensures all { result.1 ≡ None → from + result.0 ≡ length packed.now }
         ensures some { from < length packed.now → 0 < result.0 }
     {
         self.watch.hear(packed, from)
     }
 
     /// Hears elements that aren't packed, as `hear` does.
-    fn hear_bits(&mut self, bits: &[bool]) -> (usize, Over)
+    fn hear_bits(&mut self, bits: &[bool]) -> (usize, Option<Over>)
         ensures within { result.0 ≤ length bits.now }
         ensures stands { HearsUpTo M.content self.old self.new (take result.0 bits.now) result.1 }
         ensures first { HandsOutNoneBefore M.content self.old bits.now result.0 }
-        ensures all { result.1 ≡ Nothing → result.0 ≡ length bits.now }
+        ensures all { result.1 ≡ None → result.0 ≡ length bits.now }
         ensures some { 0 < length bits.now → 0 < result.0 }
     {
         let mut at = 0;
         while at < bits.len() {
             let (count, over) = self.hear_first(&bits[at..]);
             at += count;
-            if over != Over::Nothing {
+            if over.is_some() {
                 return (at, over);
             }
         }
-        (at, Over::Nothing)
+        (at, None)
     }
 
     /// Hears the first of some elements, at most 512.
-    fn hear_first(&mut self, bits: &[bool]) -> (usize, Over)
+    fn hear_first(&mut self, bits: &[bool]) -> (usize, Option<Over>)
         ensures within { result.0 ≤ length bits.now }
         ensures stands { HearsUpTo M.content self.old self.new (take result.0 bits.now) result.1 }
         ensures first { HandsOutNoneBefore M.content self.old bits.now result.0 }
@@ -384,13 +384,11 @@ impl<M: Recall> Receiver<M> {
     #[inline(never)]
     pub(crate) fn finish(&mut self, over: Over) -> Option<Entry>
         ensures stands { (start : Start) (history : List Event) (log : List TaggedCopy) →
-            Awaits M.content start self.old history log over
+            Awaits M.content start self.old history log (Some over)
             → Stands M.content start self.new history (log ++ entry_list result) }
-        ensures none { over ≡ Nothing → IsNone result }
         ensures moment { IfSome result (λ entry. entry.moment ≤ last_moment) }
     {
         let found = match over {
-            Over::Nothing => None,
             Over::Copy => self.watch.take_copy(),
             Over::Lock => self.watch.end_text(),
             Over::CopyAndLock => {
@@ -440,28 +438,28 @@ impl<M: Recall> Receiver<M> {
     /// Ends the text where the lock alone is over: the copy that stood open is over then. Answers
     /// what is over.
     #[inline(always)]
-    fn close_lock(&mut self, over: Over) -> Over
+    fn close_lock(&mut self, over: Over) -> Option<Over>
         ensures stands { (start : Start) (history : List Event) (log : List TaggedCopy)
-            → Awaits M.content start self.old history log over
+            → Awaits M.content start self.old history log (Some over)
             → Awaits M.content start self.new history log result }
-        ensures closed { result ≢ Lock }
+        ensures closed { result ≢ Some Lock }
     {
         match over {
             Over::Lock => self.watch.close_text(),
-            Over::Nothing | Over::Copy | Over::CopyAndLock => over,
+            Over::Copy | Over::CopyAndLock => Some(over),
         }
     }
 
     /// Leaves the lock where it was over with the copy, which was handed out.
     #[inline(always)]
-    fn leave_lock(&mut self, over: Over)
+    fn leave_lock(&mut self, over: Option<Over>)
         ensures { (start : Start) (history : List Event) (log : List TaggedCopy)
-            → over ≢ Lock
-            → (over ≡ CopyAndLock → is_open self.old.watch.reader.finder.copy ≡ false)
+            → over ≢ Some Lock
+            → (over ≡ Some CopyAndLock → is_open self.old.watch.reader.finder.copy ≡ false)
             → Awaits M.content start self.old history log (behind_copy over)
             → Stands M.content start self.new history log }
     {
-        if over == Over::CopyAndLock {
+        if let Some(Over::CopyAndLock) = over {
             self.watch.restart();
         }
     }
@@ -476,7 +474,7 @@ impl<M: Recall> Receiver<M> {
 
     /// Judges the copy that is over, where one is: its head where it is printed. The copy stays
     /// with the watch.
-    fn judge_ready(&mut self, over: Over) -> Option<FoundHead>
+    fn judge_ready(&mut self, over: Option<Over>) -> Option<FoundHead>
         ensures stands { (start : Start) (history : List Event) (log : List TaggedCopy)
             → Awaits M.content start self.old history log over
             → Awaits M.content start self.new history
@@ -486,6 +484,9 @@ impl<M: Recall> Receiver<M> {
         ensures ready { IfSome result (λ head. (copy : Copy)
             × HasReady self.old.watch.reader.finder copy × IsHeadOf copy head) }
     {
+        let Some(over) = over else {
+            return None;
+        };
         let (Over::Copy | Over::CopyAndLock) = over else {
             return None;
         };

@@ -2,7 +2,7 @@
 //! the selection in force at its second digit. What runs for each line of elements is inlined
 //! always.
 
-ghost use Rattle.std.specs.Prelude.{◌≡◌, ◌≢◌, ◌+◌, ◌<◌, ◌≤◌, List, Bool, [], ◌++◌, ◌↔◌, length, take, drop, false, IfOk, IfErr, IsErr, IsTrue, OnErr, OnOk};
+ghost use Rattle.std.specs.Prelude.{◌≡◌, ◌≢◌, ◌+◌, ◌<◌, ◌≤◌, List, Bool, [], ◌++◌, ◌↔◌, length, take, drop, false, None, Some, IfOk, IfErr, IsErr, IsTrue, OnErr, OnOk};
 ghost use Rattle.nx_memory.specs.Selection.{admits, is_vital};
 ghost use Rattle.nx_receiver.specs.Events as events;
 ghost use Rattle.nx_receiver.specs.Events.{Setting, Start, first_setting, refused_after};
@@ -10,7 +10,7 @@ ghost use Rattle.nx_receiver.specs.FoundCopies.{TaggedCopy};
 ghost use Rattle.nx_receiver.specs.private.Watch.{BothAreOver, CopyIsOver, HasEndedAll, HearsAll, IsOver, LockIsOver, TagGoesOn, WatchStands, handed_out};
 ghost use Rattle.nx_receiver.specs.private.LockReader.{is_open};
 ghost use Rattle.nx_receiver.specs.Watching.{in_force};
-ghost use Rattle.nx_receiver.specs.declared.copy_taker.Over.TheVariants.{Lock, Nothing};
+ghost use Rattle.nx_receiver.specs.declared.copy_taker.Over.TheVariants.{Lock};
 
 use crate::copy_taker::{CopyTag, CopyTaker, Over};
 use nx_envelope::{Finder, Found, Identity, Letter};
@@ -101,20 +101,18 @@ impl Watch {
     /// Hears elements up to and with the first one with which anything is over, all of them where
     /// nothing is; says how many, and what is over.
     #[inline(always)]
-    pub(crate) fn hear(&mut self, packed: &PackedElements, from: usize) -> (usize, Over)
+    pub(crate) fn hear(&mut self, packed: &PackedElements, from: usize) -> (usize, Option<Over>)
         requires { from ≤ length packed.now }
         ensures within { from + result.0 ≤ length packed.now }
         ensures hears { HearsAll self.old self.new (take result.0 (drop from packed.now)) result.1 }
-        ensures all { result.1 ≡ Nothing → from + result.0 ≡ length packed.now }
+        ensures all { result.1 ≡ None → from + result.0 ≡ length packed.now }
         ensures some { from < length packed.now → 0 < result.0 }
         ensures force { in_force self.new ≡ in_force self.old }
         ensures tag { TagGoesOn self.old self.new }
     {
         let left = packed.len() - from;
-        let (heard, over) = self
-            .synchroniser
-            .hear(&mut self.taker, packed.words(), from, left);
-        (heard, over.unwrap_or(Over::Nothing))
+        self.synchroniser
+            .hear(&mut self.taker, packed.words(), from, left)
     }
 
     /// The copy that is over, which can be taken.
@@ -140,11 +138,11 @@ impl Watch {
 
     /// Ends the text of a lock that is over. The copy that stands open, if one does, is over then,
     /// and can be taken.
-    pub(crate) fn close_text(&mut self) -> Over
+    pub(crate) fn close_text(&mut self) -> Option<Over>
         ensures lock { (first : Setting) (h : List Bool) (s : List Setting)
             (copies : List TaggedCopy) → LockIsOver first self.old h s copies
             → IsOver first self.new h s copies result }
-        ensures closed { result ≢ Lock }
+        ensures closed { result ≢ Some Lock }
         ensures force { in_force self.new ≡ in_force self.old }
         ensures tag { self.new.tag ≡ self.old.tag }
     {

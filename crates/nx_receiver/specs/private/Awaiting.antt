@@ -1,6 +1,7 @@
 -- What a receiver holds between its calls: what is over and awaits to be finished, and in which
 -- order its moments stand (this profile).
-use Rattle.std.specs.Prelude.{◌≡◌, ℕ, ◌≤◌, Bool, if◌then◌else◌, List, ◌++◌, length, map}
+use Rattle.std.specs.Prelude.{◌≡◌, ℕ, ◌≤◌, Bool, if◌then◌else◌, List, ◌++◌, length, map, None}
+use Rattle.std.specs.Prelude.{Option, Some}
 use Rattle.nx_code.specs.Lists.{last_of}
 use Rattle.nx_envelope.specs.Moment.{last_moment}
 use Rattle.nx_memory.specs.Memory.{most_entries}
@@ -22,7 +23,7 @@ use Rattle.nx_receiver.specs.Watching.{in_force}
 -- to be finished: the log is what is printed of the copies that ended before it.
 pub record AwaitsOver {M : Type 0} (content : M → List MemoryEntry) (start : Start)
     (receiver : Receiving M) (bits : List Bool) (settings : List Setting) (now : Setting)
-    (log : List TaggedCopy) (over : Over) : Type 0 where
+    (log : List TaggedCopy) (over : Option Over) : Type 0 where
   pub copies : List TaggedCopy
   pub watch : IsOver (first_setting start) receiver.watch bits settings copies over
   pub force : in_force receiver.watch ≡ now
@@ -30,7 +31,7 @@ pub record AwaitsOver {M : Type 0} (content : M → List MemoryEntry) (start : S
   pub memory : content receiver.memory ≡ last_of most_entries (entries_after start.entries copies)
 
 abbrev pub Awaits : {M : Type 0} → (M → List MemoryEntry) → Start → Receiving M → List Event
-    → List TaggedCopy → Over → Type 0
+    → List TaggedCopy → Option Over → Type 0
 Awaits content start receiver events log over =
     AwaitsOver content start receiver (elements_among events)
     (settings (first_setting start) events)
@@ -39,18 +40,18 @@ Awaits content start receiver events log over =
 -- whatever it was given before, the receiver hears these elements, and awaits what is over with the
 -- last of them
 abbrev pub HearsUpTo : {M : Type 0} → (M → List MemoryEntry) → Receiving M → Receiving M
-    → List Bool → Over → Type 0
+    → List Bool → Option Over → Type 0
 HearsUpTo content old new bits over =
     (start : Start) (history : List Event) (log : List TaggedCopy)
     → Stands content start old history log
     → Awaits content start new (history ++ elements bits) log over
 
 -- what is left of what is over, once the copy that ended was handed out
-abbrev pub behind_copy : Over → Over
-behind_copy over.Nothing = over.Nothing
-behind_copy over.Copy = over.Nothing
-behind_copy over.Lock = over.Lock
-behind_copy over.CopyAndLock = over.Lock
+abbrev pub behind_copy : Option Over → Option Over
+behind_copy None = None
+behind_copy (Some over.Copy) = None
+behind_copy (Some over.Lock) = Some over.Lock
+behind_copy (Some over.CopyAndLock) = Some over.Lock
 
 -- Whatever a receiver of this channel was given before, what awaited to be finished was: it handed
 -- out these copies, one where it says so and else none, and these bytes are their log.
@@ -59,7 +60,7 @@ pub record HandsOut {M : Type 0} (content : M → List MemoryEntry) (old new : R
     : Type 0 where
   pub copies : List TaggedCopy
   pub stands : (start : Start) (events : List Event) (log : List TaggedCopy)
-      → Awaits content start old events log over
+      → Awaits content start old events log (Some over)
       → Stands content start new events (log ++ copies)
   pub spelled : IsLog (map (marked channel) copies) bytes
   pub counted : length copies ≡ (if is_some then 1 else 0)

@@ -1,6 +1,6 @@
 -- What a taker of copies does with what the elements bring that a synchroniser hears (this
 -- profile). The two together are a watch.
-use Rattle.std.specs.Prelude.{◌≡◌, ◌≢◌, ℕ, ◌+◌, Bool, is_some, List, Option, Some, None, unwrap_or}
+use Rattle.std.specs.Prelude.{◌≡◌, ℕ, ◌+◌, Bool, is_some, List, Option, Some, None}
 use Rattle.nx_sync.specs.Synchroniser.{Held}
 use Rattle.nx_sync.specs.Words.{role_of}
 use Rattle.nx_sync.specs.declared.step.Step.{Step}
@@ -9,7 +9,6 @@ use Rattle.nx_envelope.specs.Finder.{is_over}
 use Rattle.nx_envelope.specs.declared.found.TextEvent.{TextEvent}
 use Rattle.nx_envelope.specs.declared.found.TextEvent.TheVariants as events
 use Rattle.nx_receiver.specs.declared.copy_taker.Over.{Over}
-use Rattle.nx_receiver.specs.declared.copy_taker.Over.TheVariants as over
 use Rattle.nx_receiver.specs.declared.copy_taker.CopyTag.{CopyTag}
 use Rattle.nx_receiver.specs.declared.copy_taker.CopyTaker.{CopyTaker}
 use Rattle.nx_receiver.specs.Events.{Setting}
@@ -31,10 +30,6 @@ watch_of held taker = record {
   tag = taker.tag;
 }
 
--- what is over by an answer, which is none where nothing is
-abbrev pub over_by : Option Over → Over
-over_by answer = unwrap_or answer over.Nothing
-
 -- the tag after what a word brings: a header takes what is in force
 abbrev pub tag_after : Setting → CopyTag → TextEvent → CopyTag
 tag_after now before events.Nothing = before
@@ -43,7 +38,7 @@ tag_after now before events.CopyOver = before
 
 -- a word was read, whichever lock it is of: what it brings to the text, what is over, and the tag
 pub record ReadsWord (old new : CopyTaker) (word : ℕ) (role : Role) (is_changed : Bool)
-    (answer : Over) : Type 0 where
+    (answer : Option Over) : Type 0 where
   pub event : TextEvent
   pub stands : (first : Role) (words : ℕ → ℕ) (n : ℕ) → ReadsLock old.reader first words n
       → words n ≡ word → role ≡ role_of first n → ReadsLock new.reader first words (n + 1)
@@ -56,8 +51,8 @@ pub record ReadsWord (old new : CopyTaker) (word : ℕ) (role : Role) (is_change
   pub is : answer ≡ over_with (is_over event) is_changed
 
 -- what a step brings is read: nothing where it completes no word
-pub record ReadsStep (old new : CopyTaker) (step : Step) (answer : Over) : Type 0 where
-  pub none : step.word ≡ None → (new ≡ old) × (answer ≡ over.Nothing)
+pub record ReadsStep (old new : CopyTaker) (step : Step) (answer : Option Over) : Type 0 where
+  pub none : step.word ≡ None → (new ≡ old) × (answer ≡ None)
   pub some : (word : ℕ) (role : Role) → step.word ≡ Some (word, role)
       → ReadsWord old new word role (is_some step.change) answer
 
@@ -65,10 +60,9 @@ pub record ReadsStep (old new : CopyTaker) (step : Step) (answer : Over) : Type 
 -- this is over with the last of them, if anything is. What is in force stays, but for the tag.
 pub record Hears (old : Held) (before : CopyTaker) (heard : List Bool) (new : Held)
     (after : CopyTaker) (answer : Option Over) : Type 0 where
-  pub hears : HearsAll (watch_of old before) (watch_of new after) heard (over_by answer)
+  pub hears : HearsAll (watch_of old before) (watch_of new after) heard answer
   pub force : setting_of after ≡ setting_of before
   pub kept : TagGoesOn (watch_of old before) (watch_of new after)
-  pub some : answer ≢ Some over.Nothing
 
 -- a taker has room for whatever the elements bring
 abbrev pub HasRoom : CopyTaker → ℕ → Type 0

@@ -8,11 +8,10 @@ use Rattle.nx_sync.specs.Synchroniser.{Held}
 use Rattle.nx_receiver.specs.declared.copy_taker.CopyTaker.{CopyTaker}
 use Rattle.nx_receiver.specs.declared.copy_taker.CopyTag.{CopyTag}
 use Rattle.nx_receiver.specs.declared.copy_taker.Over.{Over}
-use Rattle.nx_receiver.specs.declared.copy_taker.Over.TheVariants as over
 use Rattle.nx_receiver.specs.Events.{Setting}
 use Rattle.nx_receiver.specs.FoundCopies.{TaggedCopy}
 use Rattle.nx_receiver.specs.Watching.{Watching, in_force}
-use Rattle.nx_receiver.specs.private.CopyTaker.{Hears, over_by, watch_of}
+use Rattle.nx_receiver.specs.private.CopyTaker.{Hears, watch_of}
 use Rattle.nx_receiver.specs.private.Watch.{HasEnded, HearsBits, IsOver, TagGoesOn}
 use Rattle.nx_receiver.specs.private.Watch.{WatchStands, all_in_force, as_it_was, now_in_force}
 
@@ -28,7 +27,7 @@ all_in_force-same watch other xs e = ap (λ (s : Setting). map (λ (bit : Bool).
 
 none_heard : (first : Setting) (watch : Watching) (h : List Bool) (s : List Setting)
     (copies : List TaggedCopy) → WatchStands first watch h s copies
-    → HearsBits first watch watch h s copies [] over.Nothing
+    → HearsBits first watch watch h s copies [] None
 unfolding all_in_force
 none_heard first watch h s copies w = record {
   brings = subst₂ (λ (x : List Bool) (y : List Setting). WatchStands first watch x y copies)
@@ -46,8 +45,8 @@ take_into (x ∷ xs) ys (suc k) h = let e : k - length xs ≡ suc k - suc (lengt
 
 -- some elements are heard after others
 hears_on : (first : Setting) (old mid new : Watching) (h : List Bool) (s : List Setting)
-    (copies : List TaggedCopy) (xs ys : List Bool) (answer : Over)
-    → in_force mid ≡ in_force old → HearsBits first old mid h s copies xs over.Nothing
+    (copies : List TaggedCopy) (xs ys : List Bool) (answer : Option Over)
+    → in_force mid ≡ in_force old → HearsBits first old mid h s copies xs None
     → HearsBits first mid new (h ++ xs) (s ++ all_in_force old xs) copies ys answer
     → HearsBits first old new h s copies (xs ++ ys) answer
 hears_on first old mid new h s copies xs ys answer same f g =
@@ -93,7 +92,6 @@ heard-none held taker = record {
   };
   force = refl;
   kept = as_it_was refl;
-  some = λ e. cc;
 }
 
 -- elements after others bring what both do
@@ -108,10 +106,9 @@ heard-both old mid new first between last xs ys answer f g =
       hears = record {
         hears = λ start h s copies w.
             let here = f.hears.hears start h s copies w in
-            hears_on start a b c h s copies xs ys (over_by answer) f.force here
+            hears_on start a b c h s copies xs ys answer f.force here
             (g.hears.hears start (h ++ xs) (s ++ all_in_force a xs) copies here.brings);
       };
       force = g.force ∙ f.force;
       kept = tag_on a b c f.force f.kept g.kept;
-      some = g.some;
     }

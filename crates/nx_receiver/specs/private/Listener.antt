@@ -1,6 +1,6 @@
 -- How the taker of lines behind a run that listens stands after lines (this profile).
 use Rattle.std.specs.Prelude.{◌≡◌, ℕ, ◌+◌, ◌-◌, ◌^◌, ◌≤◌, Bool, false, List, ◌++◌, length}
-use Rattle.std.specs.Prelude.{map, take, Option, IsTrue}
+use Rattle.std.specs.Prelude.{map, take, Option, Some, IsTrue}
 use Rattle.std.specs.Io.KnownBytes.{Appends}
 use Rattle.nx_envelope.specs.declared.letter.Letter.{Letter}
 use Rattle.nx_fec.specs.air_files.AirFile.{Line, moment, elements, refuse_subject}
@@ -75,7 +75,7 @@ pub record HasFinished (old new : Listening) (channel : Channel) (over : Over) (
   pub copies : List TaggedCopy
   pub one : length copies ≤ 1
   pub stands : (start : Start) (events : List Event) (log : List TaggedCopy)
-      → Awaits content start (receiver_on old channel) events log over
+      → Awaits content start (receiver_on old channel) events log (Some over)
       → Stands content start (receiver_on new channel) events (log ++ copies)
   pub others : (other : Channel) → same_channel channel other ≡ false
       → receiver_on new other ≡ receiver_on old other

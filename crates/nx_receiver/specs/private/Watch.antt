@@ -137,11 +137,14 @@ pub record BothAreOver (first : Setting) (watch : Watching) (bits : List Bool)
   pub lock : LockIsOver first watch bits settings (copies ++ ready_copy copy watch.tag ∷ [])
 
 -- what is over with the last of these elements, before which these copies had ended
-abbrev pub IsOver : Setting → Watching → List Bool → List Setting → List TaggedCopy → Over → Type 0
-IsOver first watch bits settings copies over.Nothing = WatchStands first watch bits settings copies
-IsOver first watch bits settings copies over.Copy = CopyIsOver first watch bits settings copies
-IsOver first watch bits settings copies over.Lock = LockIsOver first watch bits settings copies
-IsOver first watch bits settings copies over.CopyAndLock =
+abbrev pub IsOver : Setting → Watching → List Bool → List Setting → List TaggedCopy → Option Over
+    → Type 0
+IsOver first watch bits settings copies None = WatchStands first watch bits settings copies
+IsOver first watch bits settings copies (Some over.Copy) =
+    CopyIsOver first watch bits settings copies
+IsOver first watch bits settings copies (Some over.Lock) =
+    LockIsOver first watch bits settings copies
+IsOver first watch bits settings copies (Some over.CopyAndLock) =
     BothAreOver first watch bits settings copies
 
 -- what is in force at each of these elements, where it doesn't change
@@ -152,13 +155,14 @@ all_in_force watch bits = map (λ bit. in_force watch) bits
 -- none before it any copy ended.
 pub record HearsBits (first : Setting) (old new : Watching) (bits : List Bool)
     (settings : List Setting) (copies : List TaggedCopy) (heard : List Bool)
-    (answer : Over) : Type 0 where
+    (answer : Option Over) : Type 0 where
   pub brings : IsOver first new (bits ++ heard) (settings ++ all_in_force old heard) copies answer
   pub none_before : (k : ℕ) → k + 1 ≤ length heard
       → HasEnded first (bits ++ take k heard) (settings ++ all_in_force old (take k heard)) copies
 
 -- whatever a watch heard before, it hears these elements after that, and this is over with the last
-pub record HearsAll (old new : Watching) (heard : List Bool) (answer : Over) : Type 0 where
+pub record HearsAll (old new : Watching) (heard : List Bool) (answer : Option Over)
+    : Type 0 where
   pub hears : (first : Setting) (bits : List Bool) (settings : List Setting)
       (copies : List TaggedCopy) → WatchStands first old bits settings copies
       → HearsBits first old new bits settings copies heard answer
@@ -169,11 +173,11 @@ handed_out None kept = []
 handed_out (Some found) kept = tagged_found found kept.moment kept.is_selected ∷ []
 
 -- what is over with a word, by whether a copy is and whether the word brings a change
-abbrev pub over_with : Bool → Bool → Over
-over_with false false = over.Nothing
-over_with true false = over.Copy
-over_with false true = over.Lock
-over_with true true = over.CopyAndLock
+abbrev pub over_with : Bool → Bool → Option Over
+over_with false false = None
+over_with true false = Some over.Copy
+over_with false true = Some over.Lock
+over_with true true = Some over.CopyAndLock
 
 -- the moment of the tag is as it was, or the one in force; all else that is in force stays
 pub data TagGoesOn (old new : Watching) : Type 0 where

@@ -257,9 +257,9 @@ impl Listener {
     {
         let (count, over) = self.hear_on(channel, packed, from);
         self.elements = self.elements.saturating_add(count as u64);
-        if over == Over::Nothing {
+        let Some(over) = over else {
             return Ok(count);
-        }
+        };
         let (is_printed, given) = self.finish_on(channel, over, writer, batch);
         self.entries = self.entries.saturating_add(u64::from(is_printed));
         given?;

@@ -41,7 +41,6 @@ use Rattle.nx_receiver.specs.Shares.{share, start_on, to_all, to_one}
 use Rattle.nx_receiver.specs.private.Awaiting.{Awaits, HandsOut, HearsUpTo}
 use Rattle.nx_receiver.specs.FoundCopies.{TaggedCopy}
 use Rattle.nx_receiver.specs.declared.copy_taker.Over.{Over}
-use Rattle.nx_receiver.specs.declared.copy_taker.Over.TheVariants as overs
 use Rattle.nx_receiver.proofs.lemmas.channels.Shares.{copies_on-append, copies_on-marked, copies_on-other}
 use Rattle.nx_receiver.proofs.lemmas.channels.Shares.{in_turn-more, in_turn-none, in_turn-other, same_channel-refl}
 use Rattle.nx_receiver.proofs.lemmas.channels.Shares.{share-one}
@@ -623,7 +622,7 @@ none-before starts old mid given channel part bits n copies next h hears k lt =
 -- These elements of a channel were heard, and so many counted; this is over with the last of them,
 -- and not yet finished.
 pub record HearsUntil (old new : Listening) (channel : Channel) (bits : List Bool) (n : ℕ)
-    (over : Over) : Type 0 where
+    (over : Option Over) : Type 0 where
   pub awaits : HearsUpTo content (receiver_on old channel) (receiver_on new channel) bits over
   pub others : (other : Channel) → same_channel channel other ≡ false
       → receiver_on new other ≡ receiver_on old other
@@ -632,7 +631,7 @@ pub record HearsUntil (old new : Listening) (channel : Channel) (bits : List Boo
 
 -- the receiver of the channel heard them, and then the listener counted them
 pub hears-until : (old heard now : Listening) (channel : Channel) (bits : List Bool) (n m : ℕ)
-    (over : Over) → heard ≡ with_receiver old channel (receiver_on heard channel)
+    (over : Option Over) → heard ≡ with_receiver old channel (receiver_on heard channel)
     → HearsUpTo content (receiver_on old channel) (receiver_on heard channel) bits over
     → now ≡ heard → m ≡ count_of (now.elements + n)
     → HearsUntil old (record now { elements = m }) channel bits n over
@@ -654,12 +653,12 @@ hears-until old heard now channel bits n m over only hears e counted =
 -- What was over with the last of these elements was finished, and these are the bytes of the entry,
 -- if one was made.
 pub heard-over : (starts : Starts) (old mid new : Listening) (given : List Given)
-    (channel : Channel) (part bits : List Bool) (n : ℕ) (bytes more : List ℕ) (over : Over)
-    → HasFinished mid new channel over more
+    (channel : Channel) (part bits : List Bool) (n : ℕ) (bytes more : List ℕ)
+    (left : Option Over) (over : Over) → left ≡ Some over → HasFinished mid new channel over more
     → HearsLog starts old (then_elements given channel part) bytes → n ≤ length bits → 0 < n
-    → HearsUntil old mid channel (take n bits) n over
+    → HearsUntil old mid channel (take n bits) n left
     → HearsLog starts new (then_elements given channel (part ++ take n bits)) (bytes ++ more)
-heard-over starts old mid new given channel part bits n bytes more over f h within least u =
+heard-over starts old mid new given channel part bits n bytes more left over is f h within least u =
     let next = f.copies in
     let few : length next ≤ 1 = f.one in
     let many : length (take n bits) ≡ n = length-take-le n bits within in
@@ -668,7 +667,8 @@ heard-over starts old mid new given channel part bits n bytes more over f h with
       hears = hears-more starts old new given channel part (take n bits) h.log next h.hears
           (omega (arith, few, many))
           (λ start events log s. f.stands start (events ++ fed.elements (take n bits)) log
-          (u.awaits start events log s))
+          (subst (Awaits content start (receiver_on mid channel)
+          (events ++ fed.elements (take n bits)) log) is (u.awaits start events log s)))
           (λ other not. f.others other not ∙ u.others other not)
           (f.elements ∙ u.elements ∙ ap (λ k. count_of (old.elements + k)) (sym many))
           (f.entries (omega (arith, h.hears.entries, u.entries))
@@ -679,8 +679,8 @@ heard-over starts old mid new given channel part bits n bytes more over f h with
 
 -- nothing was over with these elements
 pub heard-no-over : (starts : Starts) (old new : Listening) (given : List Given)
-    (channel : Channel) (part bits : List Bool) (n : ℕ) (bytes : List ℕ) (over : Over)
-    → over ≡ overs.Nothing
+    (channel : Channel) (part bits : List Bool) (n : ℕ) (bytes : List ℕ) (over : Option Over)
+    → over ≡ None
     → HearsLog starts old (then_elements given channel part) bytes → n ≤ length bits
     → HearsUntil old new channel (take n bits) n over
     → HearsLog starts new (then_elements given channel (part ++ take n bits)) bytes

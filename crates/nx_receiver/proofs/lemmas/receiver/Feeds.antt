@@ -7,13 +7,13 @@ use Rattle.std.proofs.lemmas.Bool.{cases_lt}
 use Rattle.std.proofs.lemmas.List.{drop-drop, length-take, map-append, take-take}
 use Rattle.nx_memory.specs.declared.memories.entry.MemoryEntry.{MemoryEntry}
 use Rattle.nx_receiver.specs.declared.copy_taker.Over.{Over}
-use Rattle.nx_receiver.specs.declared.copy_taker.Over.TheVariants as over
 use Rattle.nx_receiver.specs.declared.entry.Entry.{Entry}
 use Rattle.nx_receiver.specs.Events.{Event, Setting, Start, elements_among, element, first_setting}
 use Rattle.nx_receiver.specs.Events.{setting_after_all, settings, elements}
 use Rattle.nx_receiver.specs.Log.{HasPrinted}
-use Rattle.nx_receiver.specs.Receiver.{Receiving, Stands, StandsOver, entry_list}
-use Rattle.nx_receiver.specs.private.Awaiting.{Awaits, AwaitsOver}
+use Rattle.nx_receiver.specs.Receiver.{HandsOutNoneBefore, Receiving, Stands, StandsOver}
+use Rattle.nx_receiver.specs.Receiver.{entry_list}
+use Rattle.nx_receiver.specs.private.Awaiting.{Awaits, AwaitsOver, HearsUpTo}
 use Rattle.nx_receiver.specs.FoundCopies.{TaggedCopy}
 use Rattle.nx_receiver.specs.private.Watch.{HasEnded, HearsAll, IsOver, all_in_force}
 use Rattle.nx_receiver.specs.Watching.{Watching, in_force}
@@ -43,7 +43,7 @@ fed_none content old bits = record {
 
 -- a watch heard these elements, and what is over with the last of them is awaited
 pub awaits_on : {M : Type 0} (content : M → List MemoryEntry) (old : Receiving M) (watch : Watching)
-    (bits : List Bool) (answer : Over) → HearsAll old.watch watch bits answer
+    (bits : List Bool) (answer : Option Over) → HearsAll old.watch watch bits answer
     → in_force watch ≡ in_force old.watch
     → (start : Start) (events : List Event) (log : List TaggedCopy)
     → Stands content start old events log
@@ -76,7 +76,8 @@ awaits_on content old watch bits answer hears force start events log s =
 
 -- and nothing was printed before the last of them
 pub printed_before : {M : Type 0} (content : M → List MemoryEntry) (old : Receiving M)
-    (watch : Watching) (bits : List Bool) (answer : Over) → HearsAll old.watch watch bits answer
+    (watch : Watching) (bits : List Bool) (answer : Option Over)
+    → HearsAll old.watch watch bits answer
     → (start : Start) (events : List Event) (log : List TaggedCopy)
     → Stands content start old events log → (k : ℕ) → k < length bits
     → HasPrinted start (events ++ elements (take k bits)) log
@@ -95,7 +96,7 @@ printed_before content old watch bits answer hears start events log s k lt =
 -- where nothing is over, nothing is awaited
 pub nothing_awaited : {M : Type 0} (content : M → List MemoryEntry) (start : Start)
     (receiver : Receiving M) (h : List Bool) (s : List Setting) (now : Setting)
-    (log : List TaggedCopy) (left : Over) → left ≡ over.Nothing
+    (log : List TaggedCopy) (left : Option Over) → left ≡ None
     → AwaitsOver content start receiver h s now log left
     → StandsOver content start receiver h s now log
 nothing_awaited content start receiver h s now log left nothing a = record {
@@ -111,7 +112,7 @@ pub awaits_nothing : {M : Type 0} (content : M → List MemoryEntry) (start : St
     (receiver : Receiving M) (h : List Bool) (s : List Setting) (now : Setting)
     (log : List TaggedCopy)
     → StandsOver content start receiver h s now log
-    → AwaitsOver content start receiver h s now log over.Nothing
+    → AwaitsOver content start receiver h s now log None
 awaits_nothing content start receiver h s now log stands = record {
   copies = stands.copies;
   watch = stands.watch;
@@ -184,7 +185,7 @@ fed_by content old mid bits piece at n fed is start history log s P on =
 
 -- more of them are heard, and what is over is awaited
 pub awaits_to : {M : Type 0} (content : M → List MemoryEntry) (old mid new : Receiving M)
-    (bits piece : List Bool) (at n : ℕ) (left : Over)
+    (bits piece : List Bool) (at n : ℕ) (left : Option Over)
     → Fed content old mid bits at → piece ≡ take n (drop at bits)
     → ((start : Start) (history : List Event) (log : List TaggedCopy)
     → Stands content start mid history log
@@ -253,7 +254,7 @@ fed_on content old mid new bits piece at n entry fed is within f none = record {
 
 -- where nothing is over, no entry was handed out
 pub none_finished : {M : Type 0} (content : M → List MemoryEntry) (old new : Receiving M)
-    (bits : List Bool) (left : Over) → left ≡ over.Nothing
+    (bits : List Bool) (left : Option Over) → left ≡ None
     → ((start : Start) (history : List Event) (log : List TaggedCopy)
     → Stands content start old history log
     → Awaits content start new (history ++ elements bits) log left)
@@ -263,6 +264,23 @@ none_finished content old new bits left nothing stands before = record {
       subst (Stands content start new (history ++ elements bits)) (sym (append-nil log))
       (nothing_awaited content start new _ _ _ log left nothing (stands start history log s));
   before = before;
+}
+
+-- what was over with these elements was finished, and an entry was handed out, or none
+pub over_finished : {M : Type 0} (content : M → List MemoryEntry) (old mid new : Receiving M)
+    (bits : List Bool) (n : ℕ) (left : Option Over) (is_over : Over) (entry : Option Entry)
+    → left ≡ Some is_over → n ≤ length bits → HearsUpTo content old mid (take n bits) left
+    → HandsOutNoneBefore content old bits n
+    → ((start : Start) (history : List Event) (log : List TaggedCopy)
+    → Awaits content start mid history log (Some is_over)
+    → Stands content start new history (log ++ entry_list entry))
+    → Finished content old new (take n bits) entry
+over_finished content old mid new bits n left is_over entry is within hears none finishes = record {
+  stands = λ start history log s.
+      finishes start (history ++ elements (take n bits)) log
+      (subst (Awaits content start mid (history ++ elements (take n bits)) log) is
+      (hears start history log s));
+  before = prints_none content old bits n within none;
 }
 
 -- what was heard of the elements from the place on

@@ -115,7 +115,7 @@ shown false before head text kept copy same is = refl
 -- A copy that is over was judged, and is handed out where it is printed.
 judged : {M : Type 0} (content : M → List MemoryEntry) (start : Start) (watch : Watching)
     (old new : M) (h : List Bool) (s : List Setting) (now : Setting)
-    (copies log more : List TaggedCopy) (copy : TaggedCopy) (left : Over) (is_shown : Bool)
+    (copies log more : List TaggedCopy) (copy : TaggedCopy) (left : Option Over) (is_shown : Bool)
     → IsOver (first_setting start) watch h s (copies ++ copy ∷ []) left
     → in_force watch ≡ now
     → log ≡ printed_copies start.entries copies
@@ -153,7 +153,7 @@ pub record IsJudged {M : Type 0} (content : M → List MemoryEntry) (old new : M
 
 copy_judged : {M : Type 0} (content : M → List MemoryEntry) (start : Start) (watch : Watching)
     (old new : M) (h : List Bool) (s : List Setting) (now : Setting)
-    (copies log : List TaggedCopy) (head : FoundHead) (copy : Copy) (left : Over)
+    (copies log : List TaggedCopy) (head : FoundHead) (copy : Copy) (left : Option Over)
     (is_shown : Bool) → HasReady watch.reader.finder copy → IsHeadOf copy head
     → IsOver (first_setting start) watch h s (copies ++ ready_copy copy watch.tag ∷ []) left
     → in_force watch ≡ now
@@ -176,11 +176,18 @@ copy_judged content start watch old new h s now copies log head copy left is_sho
     (shown is_shown before head watch.reader.finder.text watch.tag (ready_copy copy watch.tag)
     same prints)
 
+-- a copy is over, alone or with the lock
+pub copy_is_over : (left : Option Over) (is_over : Over) → left ≡ Some is_over
+    → (is_over ≡ over.Copy) ⊎ (is_over ≡ over.CopyAndLock)
+    → (left ≡ Some over.Copy) ⊎ (left ≡ Some over.CopyAndLock)
+copy_is_over left is_over is (inl e) = inl (is ∙ ap Some e)
+copy_is_over left is_over is (inr e) = inr (is ∙ ap Some e)
+
 -- The copy that is over was judged where it lies: it is handed out where it is printed.
 pub ready_judged : {M : Type 0} (content : M → List MemoryEntry) (start : Start)
     (watch : Watching) (old new : M) (h : List Bool) (s : List Setting) (now : Setting)
-    (log : List TaggedCopy) (head : FoundHead) (is_over : Over) (is_shown : Bool)
-    → (is_over ≡ over.Copy) ⊎ (is_over ≡ over.CopyAndLock)
+    (log : List TaggedCopy) (head : FoundHead) (is_over : Option Over) (is_shown : Bool)
+    → (is_over ≡ Some over.Copy) ⊎ (is_over ≡ Some over.CopyAndLock)
     → ((copy : Copy) → HasReady watch.reader.finder copy → IsHeadOf copy head)
     → IsJudged content old new
     (headed_copy head watch.reader.finder.text watch.tag.moment watch.tag.is_selected) is_shown
@@ -188,24 +195,25 @@ pub ready_judged : {M : Type 0} (content : M → List MemoryEntry) (start : Star
     → AwaitsOver content start (record { watch = watch; memory = new }) h s now
     (log ++ cond is_shown (headed_copy head watch.reader.finder.text watch.tag.moment true ∷ []) [])
     (behind_copy is_over)
-ready_judged content start watch old new h s now log head over.Nothing is_shown some is j a =
+ready_judged content start watch old new h s now log head None is_shown some is j a =
     elim some [ inl e ↦ cc | inr e ↦ cc ]
-ready_judged content start watch old new h s now log head over.Copy is_shown some is j a =
-    copy_judged content start watch old new h s now a.copies log head a.watch.copy over.Nothing
+ready_judged content start watch old new h s now log head (Some over.Copy) is_shown some is j a =
+    copy_judged content start watch old new h s now a.copies log head a.watch.copy None
     is_shown a.watch.ready (is a.watch.copy a.watch.ready) a.watch.stands a.force a.printed
     a.memory j
-ready_judged content start watch old new h s now log head over.Lock is_shown some is j a =
+ready_judged content start watch old new h s now log head (Some over.Lock) is_shown some is j a =
     elim some [ inl e ↦ cc | inr e ↦ cc ]
-ready_judged content start watch old new h s now log head over.CopyAndLock is_shown some is j a =
-    copy_judged content start watch old new h s now a.copies log head a.watch.copy over.Lock
+ready_judged content start watch old new h s now log head (Some over.CopyAndLock) is_shown some is j
+    a =
+    copy_judged content start watch old new h s now a.copies log head a.watch.copy (Some over.Lock)
     is_shown a.watch.ready (is a.watch.copy a.watch.ready) a.watch.lock a.force a.printed
     a.memory j
 
 -- a copy that is over with the lock isn't open
 pub over_not_open : {M : Type 0} (content : M → List MemoryEntry) (start : Start)
     (r : Receiving M) (h : List Bool) (s : List Setting) (now : Setting) (log : List TaggedCopy)
-    (is_over : Over) → AwaitsOver content start r h s now log is_over
-    → is_over ≡ over.CopyAndLock → is_open r.watch.reader.finder.copy ≡ false
+    (is_over : Option Over) → AwaitsOver content start r h s now log is_over
+    → is_over ≡ Some over.CopyAndLock → is_open r.watch.reader.finder.copy ≡ false
 over_not_open content start r h s now log is_over a is =
     let both = subst (λ o. AwaitsOver content start r h s now log o) is a in
     ap is_open both.watch.ready.held

@@ -1,5 +1,5 @@
 -- What is over with some elements, and is then taken and ended: what the watch stands after.
-use Rattle.std.proofs.Common.{◌≡◌, ℕ, ◌+◌, Bool, List, [], ◌∷◌, ◌++◌, map, Option, None, sym, ap}
+use Rattle.std.proofs.Common.{◌≡◌, ℕ, ◌+◌, Bool, List, [], ◌∷◌, ◌++◌, map, Option, sym, ap}
 use Rattle.std.proofs.Common.{◌∙◌, subst, append-nil}
 use Rattle.nx_sync.specs.Locks.{Lock, hunting}
 use Rattle.nx_sync.specs.Words.{first_role, word_of_lock}
@@ -9,7 +9,6 @@ use Rattle.nx_envelope.specs.Finder.{HasReady, HoldsCopy, StandsAfter}
 use Rattle.nx_envelope.specs.declared.finder.Finder.{Finder}
 use Rattle.nx_envelope.specs.declared.found.Found.{Found}
 use Rattle.nx_receiver.specs.declared.copy_taker.CopyTag.{CopyTag}
-use Rattle.nx_receiver.specs.declared.copy_taker.Over.TheVariants as over
 use Rattle.nx_receiver.specs.Events.{Setting}
 use Rattle.nx_receiver.specs.FoundCopies.{ended_in, ended_so_far, found_copy, past_copies}
 use Rattle.nx_receiver.specs.FoundCopies.{past_text, TaggedCopy}
@@ -84,19 +83,3 @@ handed first old new watch found given tag h s copies same is its force stands =
       (subst (λ w. WatchStands first w h s (copies ++ handed_out found w.tag)) (sym same) stands);
   force = ap in_force same ∙ force;
 }
-
--- and where nothing was over
-pub none_handed : (first : Setting) (old : Watching) (h : List Bool) (s : List Setting)
-    (copies : List TaggedCopy) → WatchStands first old h s copies
-    → WatchStands first old h s (copies ++ handed_out None old.tag)
-none_handed first old h s copies stands =
-    subst (λ l. WatchStands first old h s l) (sym (append-nil copies)) stands
-
-pub apart-nothing : over.Nothing ≡ over.Copy → ⊥
-apart-nothing e = cc
-
-pub apart-nothing-lock : over.Nothing ≡ over.Lock → ⊥
-apart-nothing-lock e = cc
-
-pub apart-nothing-both : over.Nothing ≡ over.CopyAndLock → ⊥
-apart-nothing-both e = cc

@@ -27,7 +27,6 @@ use Rattle.nx_envelope.specs.Copies.{ended_copies, open_headers}
 use Rattle.nx_envelope.specs.Finder.{BringNothing, Keeps}
 use Rattle.nx_receiver.specs.declared.copy_taker.CopyTaker.{CopyTaker}
 use Rattle.nx_receiver.specs.declared.copy_taker.CopyTag.{CopyTag}
-use Rattle.nx_receiver.specs.declared.copy_taker.Over.TheVariants as over
 use Rattle.nx_receiver.specs.Events.{Setting}
 use Rattle.nx_receiver.specs.FoundCopies.{FoundCopy, ended_in, ended_so_far, found_copy}
 use Rattle.nx_receiver.specs.FoundCopies.{past_copies, standing_text, TaggedCopy, tag}
@@ -380,7 +379,7 @@ eight_heard : (first : Setting) (old : CopyTaker) (before after : Held) (reader 
     → length next ≡ 8 → ReadsEight old.reader reader next → BringsWords before after next
     → WatchStands first (watch_of before old) h s copies
     → HearsBits first (watch_of before old) (watch_of after (record old { reader = reader })) h s
-    copies (flat_map elements next) over.Nothing
+    copies (flat_map elements next) None
 eight_heard first old before after reader next h s copies eight reads brings w =
     let watch = watch_of before old in
     let o = w.reads in
@@ -407,5 +406,4 @@ eight_taken old reader next before after eight reads brings = record {
   };
   force = refl;
   kept = as_it_was refl;
-  some = λ e. cc;
 }

@@ -1,5 +1,5 @@
 -- What a watch hears: the elements of a step of its synchroniser, which its taker takes.
-use Rattle.std.proofs.Common.{◌≡◌, ◌≢◌, ℕ, zero, suc, ◌+◌, ◌-◌, ◌<◌, ◌≤◌, Bool, List, [], ◌∷◌}
+use Rattle.std.proofs.Common.{◌≡◌, ℕ, zero, suc, ◌+◌, ◌-◌, ◌<◌, ◌≤◌, Bool, List, [], ◌∷◌}
 use Rattle.std.proofs.Common.{false, ◌++◌, length, take, get_or, Option, Some, None, refl, sym, ap}
 use Rattle.std.proofs.Common.{◌∙◌, subst, subst₂, arith, append_assoc, append-nil, add-one}
 use Rattle.std.proofs.lemmas.List.{take_more, take_all}
@@ -12,13 +12,12 @@ use Rattle.nx_sync.specs.declared.step.Step.{Step}
 use Rattle.nx_receiver.specs.declared.copy_taker.CopyTaker.{CopyTaker}
 use Rattle.nx_receiver.specs.declared.copy_taker.CopyTag.{CopyTag}
 use Rattle.nx_receiver.specs.declared.copy_taker.Over.{Over}
-use Rattle.nx_receiver.specs.declared.copy_taker.Over.TheVariants as over
 use Rattle.nx_receiver.specs.Events.{Setting}
 use Rattle.nx_receiver.specs.Watching.{LockReading, Watching, in_force}
 use Rattle.nx_receiver.specs.FoundCopies.{TaggedCopy, past_copies}
 use Rattle.nx_envelope.specs.declared.found.TextEvent.{TextEvent}
 use Rattle.nx_envelope.specs.declared.found.TextEvent.TheVariants as events
-use Rattle.nx_receiver.specs.private.CopyTaker.{Hears, ReadsStep, over_by, setting_of}
+use Rattle.nx_receiver.specs.private.CopyTaker.{Hears, ReadsStep, setting_of}
 use Rattle.nx_receiver.specs.private.CopyTaker.{tag_after, watch_of}
 use Rattle.nx_receiver.specs.private.CopyTakerLaws.{all_in_force-append}
 use Rattle.nx_receiver.specs.private.Watch.{HasEnded, HearsBits, IsFresh, IsOver, ReadsOver}
@@ -38,7 +37,7 @@ has_ended first reader kept bits settings copies r =
 
 -- an element that is heard, whatever it brings
 element_over : (first : Setting) (old new : CopyTaker) (held : Held) (bit : Bool) (h : List Bool)
-    (s : List Setting) (copies : List TaggedCopy) (r : Step) (answer : Over)
+    (s : List Setting) (copies : List TaggedCopy) (r : Step) (answer : Option Over)
     → StandsAfter held (h ++ bit ∷ []) → IsStep (h ++ bit ∷ []) r → ReadsStep old new r answer
     → ReadsOver first old.reader old.tag h s copies
     → IsOver first (watch_of held new) (h ++ bit ∷ []) (s ++ setting_of old ∷ []) copies answer
@@ -101,7 +100,7 @@ quiet_bits first old h s copies bits (suc n) le quiet o =
 
 -- elements of which the last one brings a step, and those before it nothing
 step_heard : (first : Setting) (old new : CopyTaker) (before after : Held) (bits : List Bool)
-    (h : List Bool) (s : List Setting) (copies : List TaggedCopy) (r : Step) (answer : Over)
+    (h : List Bool) (s : List Setting) (copies : List TaggedCopy) (r : Step) (answer : Option Over)
     → 0 < length bits → StandsAfter after (h ++ bits) → IsLastStep h bits r
     → ReadsStep old new r answer → WatchStands first (watch_of before old) h s copies
     → HearsBits first (watch_of before old) (watch_of after new) h s copies bits answer
@@ -138,7 +137,7 @@ step_heard first old new before after bits h s copies r answer some stands is re
     }
 
 -- what is in force stays where a step is read
-step_force : (old new : CopyTaker) (r : Step) (answer : Over) → ReadsStep old new r answer
+step_force : (old new : CopyTaker) (r : Step) (answer : Option Over) → ReadsStep old new r answer
     → setting_of new ≡ setting_of old
 step_force old new r answer read =
     elim r.word as (λ (w : Option (ℕ × Role)). r.word ≡ w → setting_of new ≡ setting_of old) [
@@ -155,7 +154,7 @@ tag_by old new before after (events.Header identity) e =
     now_in_force (ap (λ (t : CopyTag). t.moment) e)
 tag_by old new before after events.CopyOver e = as_it_was e
 
-step_tag : (old new : CopyTaker) (before after : Held) (r : Step) (answer : Over)
+step_tag : (old new : CopyTaker) (before after : Held) (r : Step) (answer : Option Over)
     → ReadsStep old new r answer → TagGoesOn (watch_of before old) (watch_of after new)
 step_tag old new before after r answer read =
     elim r.word as (λ (w : Option (ℕ × Role)). r.word ≡ w
@@ -168,19 +167,15 @@ step_tag old new before after r answer read =
 
 -- a taker takes a step
 pub step_taken : (old new : CopyTaker) (before after : Held) (bits : List Bool) (r : Step)
-    (read : Over) (answer : Option Over) → 0 < length bits → ReadsStep old new r read
-    → over_by answer ≡ read → answer ≢ Some over.Nothing → BringsStep before after bits r
-    → Hears before old bits after new answer
-step_taken old new before after bits r read answer some reads is none brings = record {
+    (answer : Option Over) → 0 < length bits → ReadsStep old new r answer
+    → BringsStep before after bits r → Hears before old bits after new answer
+step_taken old new before after bits r answer some reads brings = record {
   hears = record {
-    hears = λ first h s copies w. subst (λ (o : Over). HearsBits first (watch_of before old)
-        (watch_of after new) h s copies bits o) (sym is)
-        (step_heard first old new before after bits h s copies r read some
-        (brings.stands h w.synchroniser) (brings.brings h w.synchroniser) reads w);
+    hears = λ first h s copies w. step_heard first old new before after bits h s copies r answer
+        some (brings.stands h w.synchroniser) (brings.brings h w.synchroniser) reads w;
   };
-  force = step_force old new r read reads;
-  kept = step_tag old new before after r read reads;
-  some = none;
+  force = step_force old new r answer reads;
+  kept = step_tag old new before after r answer reads;
 }
 
 -- a watch that has heard nothing

@@ -267,7 +267,7 @@ lock_closed first watch reader h s copies ready fresh ends is over =
     is
 
 -- what is over then is no lock
-pub closed_over : (ready : Bool) → over_with ready false ≢ over.Lock
+pub closed_over : (ready : Bool) → over_with ready false ≢ Some over.Lock
 closed_over true e = cc
 closed_over false e = cc
 

@@ -1,6 +1,6 @@
 -- What a word of the lock does to what a watch stands after, with its last element.
 use Rattle.std.proofs.Common.{◌≡◌, ℕ, ◌+◌, ◌*◌, ◌≤◌, Bool, true, false, is_some, List, [], ◌∷◌}
-use Rattle.std.proofs.Common.{◌++◌, length, Some, None, sym, ap, ◌∙◌, subst, arith, append_assoc}
+use Rattle.std.proofs.Common.{◌++◌, length, Option, Some, None, sym, ap, ◌∙◌, subst, arith, append_assoc}
 use Rattle.std.proofs.Common.{append-nil}
 use Rattle.std.proofs.lemmas.List.{length_push}
 use Rattle.nx_sync.specs.Laws.{OneMore, still_hunts, now_finds, still_stands, now_over}
@@ -69,8 +69,8 @@ be_over first watch bits settings copies new true brought stands =
 
 -- The last element of word k of the lock at t was heard after these elements.
 module _ (first : Setting) (bits : List Bool) (b : Bool) (settings : List Setting)
-    (many : length settings ≡ length bits) (old new : CopyTaker) (held : Held) (answer : Over)
-    (synchroniser : StandsAfter held (bits ++ b ∷ [])) where
+    (many : length settings ≡ length bits) (old new : CopyTaker) (held : Held)
+    (answer : Option Over) (synchroniser : StandsAfter held (bits ++ b ∷ [])) where
   abbrev bits' : List Bool
   bits' = bits ++ b ∷ []
 
@@ -257,7 +257,7 @@ module _ (first : Setting) (bits : List Bool) (b : Bool) (settings : List Settin
       (λ was at has. over_case w role locks p lock q was at has r one wr on z f) is reads k
 
 pub word_bit : (first : Setting) (bits : List Bool) (b : Bool) (settings : List Setting)
-    (copies : List TaggedCopy) (old new : CopyTaker) (held : Held) (answer : Over) (r : Step)
+    (copies : List TaggedCopy) (old new : CopyTaker) (held : Held) (answer : Option Over) (r : Step)
     (w : ℕ) (role : Role)
     → ReadsOver first old.reader old.tag bits settings copies → IsStep (bits ++ b ∷ []) r
     → r.word ≡ Some (w, role) → ReadsWord old new w role (is_some r.change) answer

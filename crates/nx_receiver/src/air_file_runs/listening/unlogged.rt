@@ -150,9 +150,9 @@ impl Listener {
     {
         let (count, over) = self.hear_on(channel, packed, from);
         self.elements = self.elements.saturating_add(count as u64);
-        if over == Over::Nothing {
+        let Some(over) = over else {
             return count;
-        }
+        };
         let is_printed = self.finish_unlogged(channel, over);
         self.entries = self.entries.saturating_add(u64::from(is_printed));
         count

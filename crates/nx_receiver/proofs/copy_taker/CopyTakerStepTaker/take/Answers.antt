@@ -5,5 +5,4 @@ use Rattle.nx_receiver.proofs.copy_taker.CopyTakerStepTaker.take.Goals as goal
 pub returns-clause-hears : goal.returns-clause-hears
 returns-clause-hears c = λ old new bits size brings.
     step_taken c.args.self.now c.read.new.self old new bits c.args.step c.read.result
-    c.some.result (omega (arith, size, c.requires.some)) c.read.ensures c.some.ensures.is
-    c.some.ensures.some brings
+    (omega (arith, size, c.requires.some)) c.read.ensures brings

@@ -1,13 +1,12 @@
-use Rattle.std.proofs.Common.{◌≡◌, ◌++◌, sym, refl, subst, ap, ◌∙◌, None, IsNone}
+use Rattle.std.proofs.Common.{◌≡◌, ◌++◌, Some, sym, subst, ap, ◌∙◌}
 use Rattle.nx_receiver.specs.Events.{elements_among, first_setting, setting_after_all, settings}
 use Rattle.nx_receiver.specs.Receiver.{entry_list}
 use Rattle.nx_receiver.specs.private.Watch.{IsOver, WatchStands, handed_out}
 use Rattle.nx_receiver.specs.Watching.{in_force}
-use Rattle.nx_receiver.proofs.lemmas.receiver.Over.{Handed, apart-nothing, apart-nothing-lock}
-use Rattle.nx_receiver.proofs.lemmas.receiver.Over.{apart-nothing-both, both_ended, handed, none_handed}
+use Rattle.nx_receiver.proofs.lemmas.receiver.Over.{Handed, both_ended, handed}
 use Rattle.nx_receiver.proofs.lemmas.receiver.Printing.{stands_with}
 use Rattle.nx_receiver.proofs.receiver.Receiver.finish.Goals as goal
-use Rattle.nx_receiver.proofs.receiver.Receiver.finish.Goals.{in-Nothing, in-Copy, in-Lock}
+use Rattle.nx_receiver.proofs.receiver.Receiver.finish.Goals.{in-Copy, in-Lock}
 use Rattle.nx_receiver.proofs.receiver.Receiver.finish.Goals.{in-CopyAndLock}
 
 pub returns-clause-stands : goal.returns-clause-stands
@@ -24,32 +23,27 @@ returns-clause-stands g c start history log awaits =
     let found = c.match-over.found in
     let tag = c.tag-tag.result in
     let its = c.tag-tag.ensures in
-    let before : IsOver first inside h s copies c.args.over =
-    subst (λ r. IsOver first r.watch h s copies c.args.over) (sym c.self.view_is) over in
+    let before : IsOver first inside h s copies (Some c.args.over) =
+    subst (λ r. IsOver first r.watch h s copies (Some c.args.over)) (sym c.self.view_is) over in
     let after : Handed first inside watch found tag h s copies =
     elim c.match-over.branch [
-      | in-Nothing w ↦
-          let is : watch ≡ inside = cc in
-          let stands = subst (λ o. IsOver first inside h s copies o) w.in-Nothing.is before in
-          handed first inside inside watch None found tag h s copies is w.found-is its refl
-          (none_handed first inside h s copies stands)
       | in-Copy w ↦
           let is : watch ≡ w.take_copy-found.new.self = cc in
           let call = w.take_copy-found.ensures in
           let stands = call.copy first h s copies
-          (subst (λ o. IsOver first inside h s copies o) w.in-Copy.is before) in
+          (subst (λ o. IsOver first inside h s copies (Some o)) w.in-Copy.is before) in
           handed first inside _ watch _ found tag h s copies is w.found-is its call.force stands
       | in-Lock w ↦
           let is : watch ≡ w.end_text-found.new.self = cc in
           let call = w.end_text-found.ensures in
           let stands = call.lock first h s copies
-          (subst (λ o. IsOver first inside h s copies o) w.in-Lock.is before) in
+          (subst (λ o. IsOver first inside h s copies (Some o)) w.in-Lock.is before) in
           handed first inside _ watch _ found tag h s copies is w.found-is its call.force stands
       | in-CopyAndLock w ↦
           let is : watch ≡ w.end_text.new.self = cc in
           let take = w.take_copy-found-in-CopyAndLock.ensures in
           let ends = w.end_text.ensures in
-          let both = subst (λ o. IsOver first inside h s copies o) w.in-CopyAndLock.is before in
+          let both = subst (λ o. IsOver first inside h s copies (Some o)) w.in-CopyAndLock.is before in
           let lock = take.both first h s copies both in
           let all = ends.lock first h s _ lock in
           let none = both_ended first inside _ _ h s copies _ _ both lock all in
@@ -61,7 +55,6 @@ returns-clause-stands g c start history log awaits =
     ] in
     let same : c.match-over.self-inside.memory ≡ c.self.inside.memory =
     elim c.match-over.branch [
-      | in-Nothing w ↦ ap (λ r. r.memory) w.self-inside-is
       | in-Copy w ↦ ap (λ r. r.memory) w.self-inside-is
       | in-Lock w ↦ ap (λ r. r.memory) w.self-inside-is
       | in-CopyAndLock w ↦ ap (λ r. r.memory) w.self-inside-is
@@ -74,14 +67,3 @@ returns-clause-stands g c start history log awaits =
     (ap content same ∙ ap (λ r. content r.memory) c.self.view_is ∙ awaits.memory)
     c.print_copy.ensures.printed
     c.print_copy.ensures.entered
-
-pub returns-clause-none : goal.returns-clause-none
-returns-clause-none g c nothing =
-    let none : c.match-over.found ≡ None =
-    elim c.match-over.branch [
-      | in-Nothing w ↦ w.found-is
-      | in-Copy w ↦ absurd (apart-nothing (sym nothing ∙ w.in-Copy.is))
-      | in-Lock w ↦ absurd (apart-nothing-lock (sym nothing ∙ w.in-Lock.is))
-      | in-CopyAndLock w ↦ absurd (apart-nothing-both (sym nothing ∙ w.in-CopyAndLock.is))
-    ] in
-    c.print_copy.ensures.none (subst IsNone (sym none) refl)

@@ -10,7 +10,7 @@ use Rattle.nx_receiver.specs.Receiver.{Receiving}
 use Rattle.nx_receiver.specs.declared.copy_taker.CopyTag.{CopyTag}
 use Rattle.nx_receiver.specs.private.Awaiting.{Awaits, AwaitsOver, behind_copy}
 use Rattle.nx_receiver.specs.private.Heads.{headed_copy}
-use Rattle.nx_receiver.proofs.lemmas.receiver.Given.{IsJudged, has_head, ready_judged}
+use Rattle.nx_receiver.proofs.lemmas.receiver.Given.{IsJudged, copy_is_over, has_head, ready_judged}
 use Rattle.nx_receiver.proofs.receiver.Receiver.judge_ready.Goals as goal
 
 pub judge_head-requires-clause-errors : goal.judge_head-requires-clause-errors
@@ -44,7 +44,7 @@ returns-then-not-judge_head-clause-stands g c start history log awaits =
     awaits in
     let all = ready_judged content start watch c.self.inside.memory c.judge_head.new.memory
     (elements_among history) (settings first history) now log head c.args.over
-    c.judge_head.result c.in-Copy.is
+    c.judge_head.result (copy_is_over c.args.over c.in-Some.over c.in-Some.is c.in-Copy.is)
     (λ copy ready. c.in_ok-head.ensures.head copy (subst (λ f. HasReady f copy) (sym at) ready)) j
     before in
     (subst (λ b. AwaitsOver content start
@@ -78,7 +78,7 @@ returns-clause-stands g c start history log awaits =
     awaits in
     let all = ready_judged content start watch c.self.inside.memory c.judge_head.new.memory
     (elements_among history) (settings first history) now log head c.args.over
-    c.judge_head.result c.in-Copy.is
+    c.judge_head.result (copy_is_over c.args.over c.in-Some.over c.in-Some.is c.in-Copy.is)
     (λ copy ready. c.in_ok-head.ensures.head copy (subst (λ f. HasReady f copy) (sym at) ready)) j
     before in
     subst (λ (r : Receiving g.row.M.Denot). AwaitsOver content start

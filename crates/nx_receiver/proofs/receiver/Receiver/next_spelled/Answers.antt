@@ -3,7 +3,7 @@ use Rattle.std.proofs.Common.{drop, length, length-drop, refl, rules, subst, sym
 use Rattle.nx_receiver.specs.Events.{elements}
 use Rattle.nx_receiver.specs.Listener.{IsSpelled}
 use Rattle.nx_receiver.specs.Receiver.{Stands}
-use Rattle.nx_receiver.specs.declared.copy_taker.Over.TheVariants.{Nothing}
+use Rattle.nx_receiver.specs.private.Awaiting.{Awaits}
 use Rattle.nx_receiver.proofs.lemmas.receiver.Feeds.{Finished, fed_before, fed_by, fed_none, fed_on}
 use Rattle.nx_receiver.proofs.lemmas.receiver.Feeds.{fed_to, none_finished, packed_piece, prints_none}
 use Rattle.nx_receiver.proofs.receiver.Receiver.next_spelled.Goals as goal
@@ -33,7 +33,9 @@ returns-then-spell-clause-stands g c =
           c.loop-heard.invariant.fed (packed_piece packed c.args.from at n) start history log stands
           (λ events. Stands content start new events (log ++ out.0))
           (λ events s. out.2 start (events ++ elements (take n rest)) log
-          (c.hear-count.ensures.stands start events log s)),
+          (subst (Awaits content start c.hear-count.new.self
+          (events ++ elements (take n rest)) log) c.in-Some.is
+          (c.hear-count.ensures.stands start events log s))),
     )
 
 pub returns-then-spell-clause-first : goal.returns-then-spell-clause-first
@@ -75,7 +77,9 @@ loop-heard-preserved g c =
           subst (λ copies. Stands content start new (history ++ elements (take n rest))
           (log ++ copies)) none
           (out.2 start (history ++ elements (take n rest)) log
-          (c.hear-count.ensures.stands start history log s));
+          (subst (Awaits content start c.hear-count.new.self
+          (history ++ elements (take n rest)) log) c.in-Some.is
+          (c.hear-count.ensures.stands start history log s)));
       before = prints_none content c.loop-heard.self rest n within c.hear-count.ensures.first;
     } in
     record {
@@ -85,8 +89,8 @@ loop-heard-preserved g c =
     }
 
 -- nothing is over, and all was heard
-pub returns-then-eq-clause-stands : goal.returns-then-eq-clause-stands
-returns-then-eq-clause-stands g c =
+pub returns-in_default-clause-stands : goal.returns-in_default-clause-stands
+returns-in_default-clause-stands g c =
     let content = g.M.Recall.content in
     let packed = c.args.packed.now in
     let bits = drop c.args.from packed in
@@ -95,10 +99,9 @@ returns-then-eq-clause-stands g c =
     let rest : List Bool = drop (c.args.from + at) packed in
     let within : n ≤ length rest =
     omega (arith, c.hear-count.ensures.within, length-drop (c.args.from + at) packed) in
-    let nothing : c.hear-count.result.1 ≡ Nothing = search rules in
     let none = prints_none content c.loop-heard.self rest n within c.hear-count.ensures.first in
     let done = none_finished content c.loop-heard.self c.hear-count.new.self (take n rest)
-    c.hear-count.result.1 nothing
+    c.hear-count.result.1 c.in_default.is
     (λ start history log s. c.hear-count.ensures.stands start history log s) none in (
       [],
       refl,
@@ -119,8 +122,8 @@ returns-clause-stands g c = (
       (sym (append-nil log)) (c.loop-heard.invariant.fed.stands start history log stands),
 )
 
-pub returns-then-eq-clause-first : goal.returns-then-eq-clause-first
-returns-then-eq-clause-first g c start history log stands k lt =
+pub returns-in_default-clause-first : goal.returns-in_default-clause-first
+returns-in_default-clause-first g c start history log stands k lt =
     let content = g.M.Recall.content in
     let packed = c.args.packed.now in
     let bits = drop c.args.from packed in
