@@ -3,11 +3,12 @@
 ghost use Rattle.std.specs.Prelude.{◌≡◌, Err};
 ghost use Rattle.nx_fec.specs.Transfers.{devices};
 ghost use Rattle.nx_locks.specs.Run.{ShowsLocks};
-ghost use Rattle.nx_locks.specs.private.ReportWriter.{lines_fault, refusal_fault};
+ghost use Rattle.nx_locks.specs.private.ReportWriter.{as_lines_fault};
+ghost use Rattle.nx_receiver.specs.air_file_runs.Listen.{lines_fault};
 ghost use Rattle.nx_receiver.specs.declared.air_file_runs.listen_fault.ListenFault.TheVariants.{Memory};
 
-use crate::report_writer::{LineRefusal, ReportWriter};
-use nx_fec::{Counting, LinesFault, run_lines};
+use crate::report_writer::{ReportRefusal, ReportWriter};
+use nx_fec::{Counting, LineFault, LinesFault, run_lines};
 use nx_receiver::ListenFault;
 use std::alloc::{AllocError, Global};
 use std::io::{Read, Write};
@@ -59,25 +60,20 @@ pub fn locks<R: Read, W: Write>(
 }
 
 /// The fault of the run that stands for one of its lines.
-fn run_fault(fault: LinesFault<LineRefusal>) -> ListenFault
-    ensures { result ≡ lines_fault fault }
+fn run_fault(fault: LinesFault<ReportRefusal>) -> ListenFault
+    ensures { result ≡ lines_fault (as_lines_fault fault) }
 {
-    match fault {
-        LinesFault::Read => ListenFault::Read,
-        LinesFault::Write(written) => ListenFault::Write { written },
-        LinesFault::Line(fault) => ListenFault::from(fault),
-        LinesFault::Refused { line, why } => refused_line(line, why),
-    }
-}
-
-/// The fault of a line that isn't taken.
-fn refused_line(line: u64, why: LineRefusal) -> ListenFault
-    ensures { result ≡ refusal_fault line why }
-{
-    match why {
-        LineRefusal::NoMoment => ListenFault::NoMoment { line },
-        LineRefusal::Moment(fault) => ListenFault::Moment { line, fault },
-        LineRefusal::Vital { subject } => ListenFault::Vital { line, subject },
-        LineRefusal::TooMany => ListenFault::AirTooLong,
-    }
+    ListenFault::from(match fault {
+        LinesFault::Read => LinesFault::Read,
+        LinesFault::Write(written) => LinesFault::Write(written),
+        LinesFault::Line(why) => LinesFault::Line(why),
+        LinesFault::Refused {
+            line,
+            why: ReportRefusal::Line(why),
+        } => LinesFault::Refused { line, why },
+        LinesFault::Refused {
+            why: ReportRefusal::TooMany,
+            ..
+        } => LinesFault::Line(LineFault::TooLong),
+    })
 }

@@ -20,20 +20,16 @@ use nx_fec::{
     WriteFault, taking_of, write_on,
 };
 use nx_memory::Selection;
-use nx_receiver::MomentFault;
+use nx_receiver::{LineRefusal, MomentFault};
 use std::alloc::{AllocError, Global};
 use std::io::Write;
 use std::marker::Model;
 
-/// Why a line of an air file isn't taken.
+/// Why a line isn't taken by what shows the locks.
 #[derive(Clone, Copy, Debug, Drop, PartialEq, Eq)]
-pub enum LineRefusal {
-    /// Elements come before any moment, on whichever channel.
-    NoMoment,
-    /// The moment is out of range, or before the last one.
-    Moment(MomentFault),
-    /// The subject can't be refused.
-    Vital { subject: Letter },
+pub enum ReportRefusal {
+    /// No run over an air file takes it, on whichever channel it stands.
+    Line(LineRefusal),
     /// There are more elements of channel 0 than are counted, and so than an air file has.
     TooMany,
 }
@@ -81,7 +77,7 @@ impl ReportWriter {
     }
 
     /// Takes a moment.
-    fn take_moment(&mut self, given: u64) -> Result<(), LineRefusal>
+    fn take_moment(&mut self, given: u64) -> Result<(), ReportRefusal>
         ensures taken { (lines : List Line) (bytes : List ℕ) → IsShowing self.old lines bytes
             → MatchResult result
             (λ _. IsShowing self.new (lines ++ line.moment given ∷ []) bytes)
@@ -89,11 +85,11 @@ impl ReportWriter {
         ensures unchanged { OnErr result (self.new ≡ self.old) }
     {
         if given > LAST_MOMENT {
-            return Err(LineRefusal::Moment(MomentFault::Range { given }));
+            return Err(ReportRefusal::Line(LineRefusal::Moment(MomentFault::Range { given })));
         }
         let last = self.watch.moment();
         if given < last {
-            return Err(LineRefusal::Moment(MomentFault::Back { last, given }));
+            return Err(ReportRefusal::Line(LineRefusal::Moment(MomentFault::Back { last, given })));
         }
         self.watch.set_moment(given);
         self.has_moment = true;
@@ -108,7 +104,7 @@ impl ReportWriter {
         elements: &PackedElements,
         writer: &mut Counting<W>,
         batch: &mut Batch,
-    ) -> Result<(), TakeFault<LineRefusal>>
+    ) -> Result<(), TakeFault<ReportRefusal>>
         requires none { writer.old.failures ≡ 0 }
         requires few { length elements.now ≤ 512 }
         ensures taken { (first : Showing) (old : Option (List ℕ)) (lines : List Line)
@@ -121,14 +117,14 @@ impl ReportWriter {
         ensures writes { Writes writer.new TakeFault.Write result }
     {
         if !self.has_moment {
-            return Err(TakeFault::Refused(LineRefusal::NoMoment));
+            return Err(TakeFault::Refused(ReportRefusal::Line(LineRefusal::NoMoment)));
         }
         // Only the locks of channel 0 are shown.
         if !is_on_0(mark) {
             return Ok(());
         }
         if elements.len() as u64 > u64::MAX - self.watch.elements() {
-            return Err(TakeFault::Refused(LineRefusal::TooMany));
+            return Err(TakeFault::Refused(ReportRefusal::TooMany));
         }
         self.watch.hear(elements);
         if let Err(fault) = batch.give(writer, self.watch.shown()) {
@@ -172,7 +168,7 @@ impl LineTaker for ReportWriter {
     ghost use Rattle.nx_locks.specs.private.ReportWriter.{BeginsFrom, RefusesFrom, StandsFrom};
     ghost use Rattle.nx_locks.specs.private.ReportWriterBegins.{begins-report};
 
-    type Refusal = LineRefusal;
+    type Refusal = ReportRefusal;
 
     ghost stands = { StandsFrom };
 
@@ -185,7 +181,7 @@ impl LineTaker for ReportWriter {
         scanner: &Scanner,
         writer: &mut Counting<W>,
         batch: &mut Batch,
-    ) -> Result<(), TakeFault<LineRefusal>> {
+    ) -> Result<(), TakeFault<ReportRefusal>> {
         let Some(kind) = scanner.latest() else {
             return Ok(());
         };
@@ -211,7 +207,7 @@ fn is_on_0(mark: Option<Channel>) -> bool
 }
 
 /// Whether a subject can be refused.
-fn check_subject(subject: Letter) -> Result<(), LineRefusal>
+fn check_subject(subject: Letter) -> Result<(), ReportRefusal>
     ensures { (lines : List Line) (mark : Option Channel) → MatchResult result
         (λ _. is_vital subject.byte ≡ false)
         (λ why. RefusesLine lines (line.refuse_subject mark subject.byte) why) }
@@ -219,9 +215,9 @@ fn check_subject(subject: Letter) -> Result<(), LineRefusal>
     match Selection::all().refuse_subject(subject) {
         Ok(()) => Ok(()),
         Err(vital) => {
-            return Err(LineRefusal::Vital {
+            return Err(ReportRefusal::Line(LineRefusal::Vital {
                 subject: vital.subject,
-            });
+            }));
         }
     }
 }

@@ -13,7 +13,7 @@ mod receiver;
 mod watch;
 mod writing;
 
-pub use air_file_runs::listen_fault::ListenFault;
+pub use air_file_runs::listen_fault::{LineRefusal, ListenFault};
 pub use air_file_runs::listening::{Report, listen, listen_from};
 pub use air_file_runs::resume_fault::{ResumeFault, Want};
 pub use air_file_runs::resuming::resume;

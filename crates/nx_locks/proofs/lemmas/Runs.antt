@@ -24,20 +24,22 @@ use Rattle.nx_fec.specs.declared.air_files.line_taking.LinesRead.{LinesRead}
 use Rattle.nx_fec.proofs.lemmas.devices.TransferLaws.{Ok-not_err, Reads-on, Writes-none, read_failed-none}
 use Rattle.nx_receiver.specs.Events as events
 use Rattle.nx_receiver.specs.Events.{Command, command, elements_among}
-use Rattle.nx_receiver.specs.air_file_runs.Listen.{HasLoggedSome, RefusesAfter, events_on, given_of}
+use Rattle.nx_receiver.specs.air_file_runs.Listen.{HasLoggedSome, events_on, given_of, lines_fault}
 use Rattle.nx_receiver.specs.Shares.{all_at_zero, events_for, to_one}
 use Rattle.nx_locks.specs.Run.{ExplainsShowing, HasShown, HasShownAll, IsReportOf, ShowsLocks}
 use Rattle.nx_locks.specs.private.ReportWriterBegins.{begins-report}
 use Rattle.nx_locks.specs.private.ReportWriter.{BeginsFrom, HasClosed, HasClosedSome, HasTooMany}
 use Rattle.nx_locks.specs.private.ReportWriter.{IsShowing, RefusesFrom, RefusesLine, Showing, StandsFrom}
-use Rattle.nx_locks.specs.private.ReportWriter.{lines_fault, refusal_fault}
+use Rattle.nx_locks.specs.private.ReportWriter.{as_lines_fault}
 use Rattle.nx_receiver.specs.declared.air_file_runs.listen_fault.ListenFault.{ListenFault}
 use Rattle.nx_receiver.specs.declared.air_file_runs.listen_fault.ListenFault.TheVariants.{Memory, Read, Write}
-use Rattle.nx_locks.specs.declared.report_writer.LineRefusal.{LineRefusal}
-use Rattle.nx_locks.specs.declared.report_writer.LineRefusal.TheVariants as refusal
+use Rattle.nx_receiver.specs.declared.air_file_runs.listen_fault.LineRefusal.TheVariants as reason
+use Rattle.nx_locks.specs.declared.report_writer.ReportRefusal.{ReportRefusal}
+use Rattle.nx_locks.specs.declared.report_writer.ReportRefusal.TheVariants as refusal
 use Rattle.nx_locks.specs.declared.lock_report.LocksReport.{LocksReport}
 use Rattle.nx_fec.proofs.lemmas.line_runs.LineRun.{StopsAt-map}
-use Rattle.nx_receiver.proofs.lemmas.listening.Runs.{as-err, err-of, memory-read, memory-write, whatever}
+use Rattle.nx_receiver.proofs.lemmas.listening.Runs.{as-err, err-of, memory-read, memory-write, next-refused}
+use Rattle.nx_receiver.proofs.lemmas.listening.Runs.{read-back, run-err-of, whatever, write-back}
 use Rattle.nx_receiver.proofs.lemmas.listening.Runs.{write-not_read}
 use Rattle.nx_receiver.proofs.lemmas.receiver.Logged.{bits_of-append}
 use Rattle.nx_receiver.proofs.lemmas.receiver.Events.{bits_of-more}
@@ -47,53 +49,6 @@ shown : (first now : Showing) (old new : Option (List ℕ)) (lines : List Line)
     → HasTaken StandsFrom first now lines (Appends old new) → HasShown old new lines
 shown first now old new lines h =
     record { bytes = h.given; report = begins-report now lines h.given h.stood; written = h.here }
-
--- a line that is refused isn't taken, as its fault says
-fault-says : (number : ℕ) (lines : List Line) (line : Line) (why : LineRefusal)
-    → number ≡ length lines + 1 → (why ≡ refusal.TooMany → ⊥) → RefusesLine lines line why
-    → RefusesAfter all_at_zero (refusal_fault number why) lines line
-fault-says number lines (moment n) refusal.NoMoment e some h = h
-fault-says number lines (moment n) (refusal.Moment why) e some h = (e, h)
-fault-says number lines (moment n) (refusal.Vital subject) e some h = h
-fault-says number lines (moment n) refusal.TooMany e some h = absurd (some refl)
-fault-says number lines (elements mark bits) refusal.NoMoment e some h = (e, h)
-fault-says number lines (elements mark bits) (refusal.Moment why) e some h = h
-fault-says number lines (elements mark bits) (refusal.Vital subject) e some h = h
-fault-says number lines (elements mark bits) refusal.TooMany e some h = absurd (some refl)
-fault-says number lines (refuse_subject mark letter) refusal.NoMoment e some h = h
-fault-says number lines (refuse_subject mark letter) (refusal.Moment why) e some h = h
-fault-says number lines (refuse_subject mark letter) (refusal.Vital subject) e some h =
-    (e, h.0, h.1)
-fault-says number lines (refuse_subject mark letter) refusal.TooMany e some h = absurd (some refl)
-fault-says number lines (refuse_station mark letter) refusal.NoMoment e some h = h
-fault-says number lines (refuse_station mark letter) (refusal.Moment why) e some h = h
-fault-says number lines (refuse_station mark letter) (refusal.Vital subject) e some h = h
-fault-says number lines (refuse_station mark letter) refusal.TooMany e some h = absurd (some refl)
-fault-says number lines (accept_station mark letter) refusal.NoMoment e some h = h
-fault-says number lines (accept_station mark letter) (refusal.Moment why) e some h = h
-fault-says number lines (accept_station mark letter) (refusal.Vital subject) e some h = h
-fault-says number lines (accept_station mark letter) refusal.TooMany e some h = absurd (some refl)
-fault-says number lines (accept_subject mark letter) refusal.NoMoment e some h = h
-fault-says number lines (accept_subject mark letter) (refusal.Moment why) e some h = h
-fault-says number lines (accept_subject mark letter) (refusal.Vital subject) e some h = h
-fault-says number lines (accept_subject mark letter) refusal.TooMany e some h = absurd (some refl)
-
-next-refused : (first : Showing) (number : ℕ) (lines : List Line) (rest more : List ℕ)
-    (why : LineRefusal) → (why ≡ refusal.TooMany → ⊥)
-    → IsLineRefused (λ before line. RefusesFrom first before line why) air_limit lines rest more
-    number
-    → IsLineRefused (RefusesAfter all_at_zero (refusal_fault number why)) air_limit lines rest more
-    (length lines + 1)
-next-refused first number lines rest more why some h = record {
-  line = h.line;
-  after = h.after;
-  good = h.good;
-  spelled = h.spelled;
-  ended = h.ended;
-  within = h.within;
-  counted = refl;
-  refused = fault-says number lines h.line why h.counted some h.refused;
-}
 
 -- lines have fewer elements of channel 0 than bytes
 some_elements : (channel : Channel) (bits : List Bool)
@@ -187,7 +142,7 @@ not-too_many lines rest more number h =
 
 -- what a fault of the lines explains
 explains : (extent : Extent) (first now : Showing)
-    (old new : Option (List ℕ)) (bytes : List ℕ) (fault : LinesFault LineRefusal)
+    (old new : Option (List ℕ)) (bytes : List ℕ) (fault : LinesFault ReportRefusal)
     → ExplainsLines (record {
       stands = StandsFrom;
       begins = BeginsFrom;
@@ -198,7 +153,7 @@ explains : (extent : Extent) (first now : Showing)
       writer_first = old;
       writer_now = new;
     }) extent (Appends old new) bytes fault
-    → ExplainsShowing extent old new bytes (lines_fault fault)
+    → ExplainsShowing extent old new bytes (lines_fault (as_lines_fault fault))
 explains extent first now old new bytes run.Read h =
     StopsAt-map bytes _ _ (λ lines rest more p. (p.0, p.1, shown first now old new lines p.2)) h
 explains extent first now old new bytes (run.Line file.TooLong) h =
@@ -209,23 +164,20 @@ explains extent first now old new bytes (run.Line (file.LineCut line)) h =
     (h.0, StopsAt-map bytes _ _ (λ lines rest more p. (p.0, shown first now old new lines p.1)) h.1)
 explains extent first now old new bytes (run.Line (file.BadLine line)) h =
     StopsAt-map bytes _ _ (λ lines rest more p. (p.0, shown first now old new lines p.1)) h.1
-explains extent first now old new bytes (run.Refused line refusal.NoMoment) h =
+explains extent first now old new bytes (run.Refused line (refusal.Line reason.NoMoment)) h =
     StopsAt-map bytes _ _ (λ lines rest more p. (
-      next-refused first line lines rest more refusal.NoMoment (λ e. cc) p.0,
-      shown first now old
-          new lines p.1,
+      next-refused all_at_zero line lines rest more reason.NoMoment p.0,
+      shown first now old new lines p.1,
     )) h
-explains extent first now old new bytes (run.Refused line (refusal.Moment why)) h =
+explains extent first now old new bytes (run.Refused line (refusal.Line (reason.Moment why))) h =
     StopsAt-map bytes _ _ (λ lines rest more p. (
-      next-refused first line lines rest more (refusal.Moment why) (λ e. cc) p.0,
-      shown first now
-          old new lines p.1,
+      next-refused all_at_zero line lines rest more (reason.Moment why) p.0,
+      shown first now old new lines p.1,
     )) h
-explains extent first now old new bytes (run.Refused line (refusal.Vital subject)) h =
+explains extent first now old new bytes (run.Refused line (refusal.Line (reason.Vital subject))) h =
     StopsAt-map bytes _ _ (λ lines rest more p. (
-      next-refused first line lines rest more (refusal.Vital subject) (λ e. cc) p.0,
-      shown first
-          now old new lines p.1,
+      next-refused all_at_zero line lines rest more (reason.Vital subject) p.0,
+      shown first now old new lines p.1,
     )) h
 explains extent first now old new bytes (run.Refused line refusal.TooMany) h =
     absurd (not-too_many h.lines h.rest h.more line h.here.0)
@@ -233,52 +185,46 @@ explains extent first now old new bytes (run.Write written) h =
     inl (StopsAt-map bytes _ _ (λ lines rest more p. (p.given, p.begun, p.some)) h)
 
 -- the faults of devices are those of devices
-read-back : (fault : LinesFault LineRefusal) → lines_fault fault ≡ Read → fault ≡ run.Read
-read-back run.Read e = refl
-read-back (run.Write written) e = cc
-read-back (run.Line file.TooLong) e = cc
-read-back (run.Line (file.LineLong line)) e = cc
-read-back (run.Line (file.LineCut line)) e = cc
-read-back (run.Line (file.BadLine line)) e = cc
-read-back (run.Refused line refusal.NoMoment) e = cc
-read-back (run.Refused line (refusal.Moment why)) e = cc
-read-back (run.Refused line (refusal.Vital subject)) e = cc
-read-back (run.Refused line refusal.TooMany) e = cc
+read-of : (fault : LinesFault ReportRefusal) → as_lines_fault fault ≡ run.Read → fault ≡ run.Read
+read-of run.Read e = refl
+read-of (run.Write written) e = cc
+read-of (run.Line why) e = cc
+read-of (run.Refused line (refusal.Line why)) e = cc
+read-of (run.Refused line refusal.TooMany) e = cc
 
-write-back : (fault : LinesFault LineRefusal) (written : ℕ) → lines_fault fault ≡ Write written
-    → fault ≡ run.Write written
-write-back run.Read written e = cc
-write-back (run.Write n) written e = cc
-write-back (run.Line file.TooLong) written e = cc
-write-back (run.Line (file.LineLong line)) written e = cc
-write-back (run.Line (file.LineCut line)) written e = cc
-write-back (run.Line (file.BadLine line)) written e = cc
-write-back (run.Refused line refusal.NoMoment) written e = cc
-write-back (run.Refused line (refusal.Moment why)) written e = cc
-write-back (run.Refused line (refusal.Vital subject)) written e = cc
-write-back (run.Refused line refusal.TooMany) written e = cc
+write-of : (fault : LinesFault ReportRefusal) (written : ℕ)
+    → as_lines_fault fault ≡ run.Write written → fault ≡ run.Write written
+write-of run.Read written e = cc
+write-of (run.Write n) written e =
+    let same : n ≡ written = cc in ap (λ (k : ℕ). run.Write k) same
+write-of (run.Line why) written e = cc
+write-of (run.Refused line (refusal.Line why)) written e = cc
+write-of (run.Refused line refusal.TooMany) written e = cc
 
-run-err-of : {N : Type 0} (a b : LinesFault LineRefusal)
-    → ◌≡◌ {A = Result N (LinesFault LineRefusal)} (Err a) (Err b) → a ≡ b
-run-err-of a b e = cc
+abbrev answer : LinesFault ReportRefusal → ListenFault
+answer fault = lines_fault (as_lines_fault fault)
 
 -- a run over lines that ended early is a run that shows locks that did
 pub shows-fault : {R W : Type 0} (first now : Showing) (d : Devices R W)
-    (fault : LinesFault LineRefusal)
+    (fault : LinesFault ReportRefusal)
     → RunsLines StandsFrom BeginsFrom RefusesFrom air_limit first now d (Err fault)
-    → ShowsLocks d (Err (lines_fault fault))
+    → ShowsLocks d (Err (lines_fault (as_lines_fault fault)))
 shows-fault first now d fault h = record {
   reads = Reads-on d.remaining d.reader d.reader_after run.Read Read (Err fault)
-      (Err (lines_fault fault)) _ _ _ _ h.reads
+      (Err (answer fault)) _ _ _ _ h.reads
       (λ bytes k. explains (as_read d) first now _ _ bytes fault k)
       (λ bytes k. explains whole_input first now _ _ bytes fault k)
-      (λ bytes k h outside. tt) (λ e. as-err _ _ (read-back fault (err-of _ _ e)))
-      (λ e. as-err _ _ (ap lines_fault (run-err-of _ _ e)));
+      (λ bytes k h outside. tt) (λ e. as-err _ _ (read-of fault (read-back _ (err-of _ _ e))))
+      (λ e. as-err _ _ (ap answer (run-err-of _ _ e)));
   writes = record {
     failed = (
-      λ w. h.writes.failed.0 (w.0, as-err _ _ (write-back fault w.0 (err-of _ _ w.1))),
+      λ w. h.writes.failed.0 (
+        w.0,
+        as-err _ _
+            (write-of fault w.0 (write-back _ w.0 (err-of _ _ w.1))),
+      ),
       λ one. let w = h.writes.failed.1 one in
-          (w.0, as-err _ _ (ap lines_fault (run-err-of _ _ w.1))),
+          (w.0, as-err _ _ (ap answer (run-err-of _ _ w.1))),
     );
     once = h.writes.once;
   };

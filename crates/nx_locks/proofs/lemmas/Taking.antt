@@ -29,7 +29,7 @@ use Rattle.nx_receiver.proofs.lemmas.receiver.Logged.{bits_of-append, settings-a
 use Rattle.nx_locks.specs.Run.{elements_on_0, ending_of, moments_on_0}
 use Rattle.nx_locks.specs.private.ReportWriter.{BeginsFrom, IsShowing, RefusesFrom, RefusesLine, Showing}
 use Rattle.nx_locks.specs.private.ReportWriter.{StandsFrom}
-use Rattle.nx_locks.specs.declared.report_writer.LineRefusal.{LineRefusal}
+use Rattle.nx_locks.specs.declared.report_writer.ReportRefusal.{ReportRefusal}
 use Rattle.nx_locks.specs.private.Taker.{all_at}
 use Rattle.nx_locks.specs.private.Watch.{HearsAll, Watching, WatchShows, at_moment}
 
@@ -228,7 +228,7 @@ refuse_subject_line now lines mark letter given allowed h =
 -- a line that may be refused
 pub taken-line : (first before after : Showing) (old new : Option (List ℕ)) (batch : Waiting)
     (lines : List Line) (line is : Line)
-    (taken : Result (Unit {0}) LineRefusal) (result : Result (Unit {0}) (TakeFault LineRefusal))
+    (taken : Result (Unit {0}) ReportRefusal) (result : Result (Unit {0}) (TakeFault ReportRefusal))
     → line ≡ is
     → HasTaken StandsFrom first before lines (HasGiven old new batch)
     → MatchResult taken (λ _. result ≡ Ok tt) (λ why. result ≡ Err (take.Refused why))

@@ -3,17 +3,17 @@ use Rattle.std.specs.Prelude.{◌≡◌, ℕ, ◌+◌, ◌^◌, ◌≤◌, Bool,
 use Rattle.std.specs.Io.KnownBytes.{Appends}
 use Rattle.nx_fec.specs.air_files.AirFile.{Line, elements}
 use Rattle.nx_fec.specs.Transfers.{WroteSome}
+use Rattle.nx_fec.specs.declared.fault.LineFault.TheVariants as file
 use Rattle.nx_fec.specs.declared.air_files.line_taking.LinesFault.{LinesFault}
 use Rattle.nx_fec.specs.declared.air_files.line_taking.LinesFault.TheVariants as run
-use Rattle.nx_receiver.specs.air_file_runs.Listen.{AreTaken, file_fault, has_moment}
+use Rattle.nx_receiver.specs.air_file_runs.Listen.{AreTaken, has_moment}
 use Rattle.nx_receiver.specs.Shares.{all_at_zero}
-use Rattle.nx_receiver.specs.private.Listener.{LacksMoment, RefusesMoment, RefusesVital}
-use Rattle.nx_receiver.specs.declared.air_file_runs.listen_fault.ListenFault.{ListenFault}
-use Rattle.nx_receiver.specs.declared.air_file_runs.listen_fault.ListenFault.TheVariants as listen
+use Rattle.nx_receiver.specs.private.Listener as any_run
+use Rattle.nx_receiver.specs.declared.air_file_runs.listen_fault.LineRefusal.{LineRefusal}
 use Rattle.nx_locks.specs.Report.{IsReport, now_headers, now_locks, past_headers}
 use Rattle.nx_locks.specs.Run.{IsReportOfLines, elements_on_0, ending_of, moments_on_0}
-use Rattle.nx_locks.specs.declared.report_writer.LineRefusal.{LineRefusal}
-use Rattle.nx_locks.specs.declared.report_writer.LineRefusal.TheVariants.{NoMoment, Moment, Vital, TooMany}
+use Rattle.nx_locks.specs.declared.report_writer.ReportRefusal.{ReportRefusal}
+use Rattle.nx_locks.specs.declared.report_writer.ReportRefusal.TheVariants as refusal
 use Rattle.nx_locks.specs.declared.lock_report.LocksReport.{LocksReport}
 use Rattle.nx_locks.specs.private.Watch.{Watching, WatchShows}
 
@@ -36,11 +36,9 @@ HasTooMany lines (elements mark bits) = 2 ^ 64 ≤ length (elements_on_0 lines) 
 HasTooMany lines _ = ⊥
 
 -- why a line is not taken after these
-abbrev pub RefusesLine : List Line → Line → LineRefusal → Type 0
-RefusesLine lines line NoMoment = LacksMoment lines line
-RefusesLine lines line (Moment why) = RefusesMoment all_at_zero why lines line
-RefusesLine lines line (Vital subject) = RefusesVital subject lines line
-RefusesLine lines line TooMany = HasTooMany lines line
+abbrev pub RefusesLine : List Line → Line → ReportRefusal → Type 0
+RefusesLine lines line (refusal.Line why) = any_run.RefusesLine all_at_zero lines line why
+RefusesLine lines line refusal.TooMany = HasTooMany lines line
 
 -- the same for a taker of lines that stood so at first
 abbrev pub StandsFrom : Showing → Showing → List Line → List ℕ → Type 0
@@ -49,7 +47,7 @@ StandsFrom first now lines given = IsShowing now lines given
 abbrev pub BeginsFrom : Showing → List Line → List ℕ → Type 0
 BeginsFrom first lines given = IsReportOfLines lines given
 
-abbrev pub RefusesFrom : Showing → List Line → Line → LineRefusal → Type 0
+abbrev pub RefusesFrom : Showing → List Line → Line → ReportRefusal → Type 0
 RefusesFrom first lines line why = RefusesLine lines line why
 
 -- the report of the elements of these lines was ended and written, and the answer counts
@@ -71,17 +69,11 @@ pub record HasClosedSome (old new : Option (List ℕ)) (lines : List Line) (writ
   pub report : IsReport (elements_on_0 lines) (moments_on_0 lines) (ending_of lines) bytes
   pub some : WroteSome old new bytes written
 
--- the fault of a run that stands for a line that is refused; a file of more elements than a counter
--- counts is longer than an air file
-abbrev pub refusal_fault : ℕ → LineRefusal → ListenFault
-refusal_fault line NoMoment = listen.NoMoment line
-refusal_fault line (Moment why) = listen.Moment line why
-refusal_fault line (Vital subject) = listen.Vital line subject
-refusal_fault line TooMany = listen.AirTooLong
-
--- the fault of a run that stands for that of its lines
-abbrev pub lines_fault : LinesFault LineRefusal → ListenFault
-lines_fault run.Read = listen.Read
-lines_fault (run.Write written) = listen.Write written
-lines_fault (run.Line why) = file_fault why
-lines_fault (run.Refused line why) = refusal_fault line why
+-- the fault of the lines of any run; a file of more elements than a counter counts is longer than
+-- an air file
+abbrev pub as_lines_fault : LinesFault ReportRefusal → LinesFault LineRefusal
+as_lines_fault run.Read = run.Read
+as_lines_fault (run.Write written) = run.Write written
+as_lines_fault (run.Line why) = run.Line why
+as_lines_fault (run.Refused line (refusal.Line why)) = run.Refused line why
+as_lines_fault (run.Refused line refusal.TooMany) = run.Line file.TooLong

@@ -12,6 +12,8 @@ use Rattle.nx_fec.specs.declared.air_files.channel.Channel.{Channel}
 use Rattle.nx_fec.specs.Transfers.{Devices, Extent, WroteSome, as_read, whole_input}
 use Rattle.nx_fec.specs.air_files.Lines.{StopsAt, air_limit, IsAirFile, IsCause, IsLineRefused, elements_of}
 use Rattle.nx_fec.specs.air_files.Lines.{file_of}
+use Rattle.nx_fec.specs.declared.air_files.line_taking.LinesFault.{LinesFault}
+use Rattle.nx_fec.specs.declared.air_files.line_taking.LinesFault.TheVariants as run
 use Rattle.nx_fec.specs.declared.fault.LineFault.{LineFault}
 use Rattle.nx_fec.specs.declared.fault.LineFault.TheVariants as file
 use Rattle.nx_memory.specs.Selection.{is_vital}
@@ -25,6 +27,8 @@ use Rattle.nx_receiver.specs.declared.air_file_runs.listen_fault.ListenFault.The
 use Rattle.nx_receiver.specs.declared.air_file_runs.listen_fault.ListenFault.TheVariants.{AirTooLong, LineLong}
 use Rattle.nx_receiver.specs.declared.air_file_runs.listen_fault.ListenFault.TheVariants.{LineCut, BadLine}
 use Rattle.nx_receiver.specs.declared.air_file_runs.listen_fault.ListenFault.TheVariants.{NoMoment, Moment, Vital}
+use Rattle.nx_receiver.specs.declared.air_file_runs.listen_fault.LineRefusal.{LineRefusal}
+use Rattle.nx_receiver.specs.declared.air_file_runs.listen_fault.LineRefusal.TheVariants as refusal
 use Rattle.nx_receiver.specs.declared.air_file_runs.listening.Report.{Report}
 
 -- a command, for the channel that its line names
@@ -135,6 +139,19 @@ file_fault file.TooLong = AirTooLong
 file_fault (file.LineLong line) = LineLong line
 file_fault (file.LineCut line) = LineCut line
 file_fault (file.BadLine line) = BadLine line
+
+-- the fault of a run that stands for a line that is refused
+abbrev pub refusal_fault : ℕ → LineRefusal → ListenFault
+refusal_fault number refusal.NoMoment = NoMoment number
+refusal_fault number (refusal.Moment why) = Moment number why
+refusal_fault number (refusal.Vital subject) = Vital number subject
+
+-- the fault of a run that stands for that of its lines
+abbrev pub lines_fault : LinesFault LineRefusal → ListenFault
+lines_fault run.Read = Read
+lines_fault (run.Write written) = Write written
+lines_fault (run.Line why) = file_fault why
+lines_fault (run.Refused number why) = refusal_fault number why
 
 -- Good lines and the beginning of one more stand before a fault of the file, of which this is the
 -- cause; and this holds of the lines.

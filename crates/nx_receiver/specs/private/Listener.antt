@@ -7,13 +7,11 @@ use Rattle.nx_fec.specs.air_files.AirFile.{Line, moment, elements, refuse_subjec
 use Rattle.nx_fec.specs.air_files.Channels.{same_channel}
 use Rattle.nx_fec.specs.Transfers.{WroteSome}
 use Rattle.nx_fec.specs.declared.air_files.channel.Channel.{Channel}
-use Rattle.nx_fec.specs.declared.air_files.line_taking.LinesFault.{LinesFault}
-use Rattle.nx_fec.specs.declared.air_files.line_taking.LinesFault.TheVariants as run
 use Rattle.nx_memory.specs.Selection.{is_vital}
 use Rattle.nx_receiver.specs.Events as events
 use Rattle.nx_receiver.specs.Events.{Event, Start, elements_among, Refuses}
 use Rattle.nx_receiver.specs.InTurn.{PrintAllToEnd, PrintsInTurn}
-use Rattle.nx_receiver.specs.air_file_runs.Listen.{AreTaken, file_fault, given_by, has_moment, moment_after}
+use Rattle.nx_receiver.specs.air_file_runs.Listen.{AreTaken, given_by, has_moment, moment_after}
 use Rattle.nx_receiver.specs.Log.{IsLog}
 use Rattle.nx_receiver.specs.Listener.{HearsGiven, Listening, content, count_of, elements_given, receiver_on, starts_of}
 use Rattle.nx_receiver.specs.Receiver.{HandsOutNoneBefore, Stands}
@@ -22,10 +20,8 @@ use Rattle.nx_receiver.specs.private.Awaiting.{Awaits}
 use Rattle.nx_receiver.specs.FoundCopies.{TaggedCopy}
 use Rattle.nx_receiver.specs.declared.fault.MomentFault.{MomentFault}
 use Rattle.nx_receiver.specs.declared.air_file_runs.listening.Report.{Report}
-use Rattle.nx_receiver.specs.declared.air_file_runs.listening.LineRefusal.{LineRefusal}
-use Rattle.nx_receiver.specs.declared.air_file_runs.listening.LineRefusal.TheVariants.{NoMoment, Moment, Vital}
-use Rattle.nx_receiver.specs.declared.air_file_runs.listen_fault.ListenFault.{ListenFault}
-use Rattle.nx_receiver.specs.declared.air_file_runs.listen_fault.ListenFault.TheVariants as listen
+use Rattle.nx_receiver.specs.declared.air_file_runs.listen_fault.LineRefusal.{LineRefusal}
+use Rattle.nx_receiver.specs.declared.air_file_runs.listen_fault.LineRefusal.TheVariants.{NoMoment, Moment, Vital}
 use Rattle.nx_receiver.specs.declared.copy_taker.Over.{Over}
 
 -- The receiver of a channel, whatever it was given before, hears so many of these elements, and
@@ -153,16 +149,3 @@ pub record HasClosedSome (starts : Starts) (old new : Option (List ℕ)) (given 
   pub printed : PrintAllToEnd starts given copies
   pub spelled : IsLog copies log
   pub some : WroteSome old new log written
-
--- the fault of a run that stands for a line that is refused
-abbrev pub refusal_fault : ℕ → LineRefusal → ListenFault
-refusal_fault line NoMoment = listen.NoMoment line
-refusal_fault line (Moment why) = listen.Moment line why
-refusal_fault line (Vital subject) = listen.Vital line subject
-
--- the fault of a run that stands for that of its lines
-abbrev pub lines_fault : LinesFault LineRefusal → ListenFault
-lines_fault run.Read = listen.Read
-lines_fault (run.Write written) = listen.Write written
-lines_fault (run.Line why) = file_fault why
-lines_fault (run.Refused line why) = refusal_fault line why

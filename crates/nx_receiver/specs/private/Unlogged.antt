@@ -15,7 +15,7 @@ use Rattle.nx_receiver.specs.air_file_runs.ListenFrom.{reported}
 use Rattle.nx_receiver.specs.Shares.{Given, Starts, starts_from}
 use Rattle.nx_receiver.specs.declared.air_file_runs.listen_fault.ListenFault.{ListenFault}
 use Rattle.nx_receiver.specs.declared.air_file_runs.listen_fault.ListenFault.TheVariants.{Read}
-use Rattle.nx_receiver.specs.declared.air_file_runs.listening.LineRefusal.{LineRefusal}
+use Rattle.nx_receiver.specs.declared.air_file_runs.listen_fault.LineRefusal.{LineRefusal}
 use Rattle.nx_receiver.specs.declared.air_file_runs.listening.Report.{Report}
 use Rattle.nx_receiver.specs.Listener.{Listening, starts_of}
 use Rattle.nx_receiver.specs.private.Listener.{HearsLog, IsListening}

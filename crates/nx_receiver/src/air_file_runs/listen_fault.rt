@@ -2,9 +2,20 @@
 
 use crate::fault::MomentFault;
 use nx_envelope::Letter;
-use nx_fec::{LineFault, WriteFault};
+use nx_fec::{LineFault, LinesFault, WriteFault};
 use std::alloc::AllocError;
 use thiserror::Error;
+
+/// Why a line of an air file isn't taken.
+#[derive(Clone, Copy, Debug, Drop, PartialEq, Eq)]
+pub enum LineRefusal {
+    /// Elements come before any moment.
+    NoMoment,
+    /// The moment is out of range, or before the last one.
+    Moment(MomentFault),
+    /// The subject can't be refused.
+    Vital { subject: Letter },
+}
 
 /// Why a run that listens to an air file ended early. Lines count from 1.
 #[derive(Clone, Copy, Debug, Drop, PartialEq, Eq, Error)]
@@ -39,6 +50,38 @@ pub enum ListenFault {
     /// Memory ran out.
     #[error("out of memory")]
     Memory(AllocError),
+}
+
+impl ListenFault {
+    ghost use Rattle.std.specs.Prelude.{◌≡◌};
+    ghost use Rattle.nx_receiver.specs.air_file_runs.Listen.{refusal_fault};
+
+    /// The fault of a line that isn't taken.
+    pub fn of_refusal(line: u64, why: LineRefusal) -> ListenFault
+        ensures { result ≡ refusal_fault line why }
+    {
+        match why {
+            LineRefusal::NoMoment => ListenFault::NoMoment { line },
+            LineRefusal::Moment(fault) => ListenFault::Moment { line, fault },
+            LineRefusal::Vital { subject } => ListenFault::Vital { line, subject },
+        }
+    }
+}
+
+impl From<LinesFault<LineRefusal>> for ListenFault {
+    ghost use Rattle.std.specs.Prelude.{◌≡◌};
+    ghost use Rattle.nx_receiver.specs.air_file_runs.Listen.{lines_fault};
+
+    ghost from_gives = { λ fault made. made ≡ lines_fault fault };
+
+    fn from(fault: LinesFault<LineRefusal>) -> ListenFault {
+        match fault {
+            LinesFault::Read => ListenFault::Read,
+            LinesFault::Write(written) => ListenFault::Write { written },
+            LinesFault::Line(fault) => ListenFault::from(fault),
+            LinesFault::Refused { line, why } => ListenFault::of_refusal(line, why),
+        }
+    }
 }
 
 impl From<LineFault> for ListenFault {

@@ -17,21 +17,20 @@ ghost use Rattle.nx_receiver.specs.Receiver.{TakesEvent, entry_list};
 ghost use Rattle.nx_receiver.specs.Shares.{Given, Starts, all_at_zero, marked, starts_from};
 ghost use Rattle.nx_receiver.specs.private.Awaiting.{HandsOut};
 ghost use Rattle.nx_receiver.specs.Listener.{Listening, content, count_of, receiver_on, starts_of, then_elements, with_receiver};
-ghost use Rattle.nx_receiver.specs.private.Listener.{BeginsFrom, HasClosed, HasClosedSome, HeardSome, HearsLog, IsHearing, IsListening, RefusesFrom, RefusesLine, StandsFrom, lines_fault, refusal_fault};
+ghost use Rattle.nx_receiver.specs.private.Listener.{BeginsFrom, HasClosed, HasClosedSome, HeardSome, HearsLog, IsHearing, IsListening, RefusesFrom, RefusesLine, StandsFrom};
 ghost use Rattle.nx_receiver.specs.declared.air_file_runs.listen_fault.ListenFault.TheVariants.{Memory};
 
 mod unlogged;
 
-use crate::air_file_runs::listen_fault::ListenFault;
+use crate::air_file_runs::listen_fault::{LineRefusal, ListenFault};
 use crate::copy_taker::Over;
 use crate::entry::Entry;
-use crate::fault::MomentFault;
 use crate::listener::Listener;
 use crate::writing::entry_bytes;
 use nx_envelope::Letter;
 use nx_fec::{
-    Batch, Channel, Counting, LineKind, LineTaker, LinesFault, LinesRead, PackedElements, Scanner,
-    TakeFault, WriteFault, run_lines, taking_of, write_on,
+    Batch, Channel, Counting, LineKind, LineTaker, LinesRead, PackedElements, Scanner, TakeFault,
+    WriteFault, run_lines, taking_of, write_on,
 };
 use nx_memory::SavedSet;
 use std::alloc::{AllocError, Global};
@@ -112,7 +111,7 @@ pub fn listen_from<R: Read, W: Write>(
     let mut listener = line_listener(alloc, saved)?;
     let read = match run_lines(reader, writer, &mut listener) {
         Ok(read) => read,
-        Err(fault) => return Err(run_fault(fault)),
+        Err(fault) => return Err(ListenFault::from(fault)),
     };
     // Before the end: the copy that the end closes is cut, and makes no entry.
     let left = listener.saved();
@@ -127,40 +126,6 @@ fn line_listener(alloc: Global, saved: &SavedSet) -> Result<Listener, AllocError
     ensures start { IfOk result (λ listener. starts_of listener ≡ starts_from saved.now) }
 {
     Listener::starting(alloc, saved)
-}
-
-/// The fault of the run that stands for one of its lines.
-fn run_fault(fault: LinesFault<LineRefusal>) -> ListenFault
-    ensures { result ≡ lines_fault fault }
-{
-    match fault {
-        LinesFault::Read => ListenFault::Read,
-        LinesFault::Write(written) => ListenFault::Write { written },
-        LinesFault::Line(fault) => ListenFault::from(fault),
-        LinesFault::Refused { line, why } => refused_line(line, why),
-    }
-}
-
-/// The fault of a line that isn't taken.
-fn refused_line(line: u64, why: LineRefusal) -> ListenFault
-    ensures { result ≡ refusal_fault line why }
-{
-    match why {
-        LineRefusal::NoMoment => ListenFault::NoMoment { line },
-        LineRefusal::Moment(fault) => ListenFault::Moment { line, fault },
-        LineRefusal::Vital { subject } => ListenFault::Vital { line, subject },
-    }
-}
-
-/// Why a line of an air file isn't taken.
-#[derive(Clone, Copy, Debug, Drop, PartialEq, Eq)]
-pub enum LineRefusal {
-    /// Elements come before any moment.
-    NoMoment,
-    /// The moment is out of range, or before the last one.
-    Moment(MomentFault),
-    /// The subject can't be refused.
-    Vital { subject: Letter },
 }
 
 impl Listener {

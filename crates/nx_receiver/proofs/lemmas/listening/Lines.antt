@@ -24,8 +24,8 @@ use Rattle.nx_receiver.specs.Listener.{content, receiver_on}
 use Rattle.nx_receiver.specs.private.Listener.{RefusesLine, StandsFrom}
 use Rattle.nx_receiver.specs.Listener.{starts_of, then_elements, with_receiver}
 use Rattle.nx_receiver.specs.private.Unlogged.{HasHeard, HasHeardGiven}
-use Rattle.nx_receiver.specs.declared.air_file_runs.listening.LineRefusal.{LineRefusal}
-use Rattle.nx_receiver.specs.declared.air_file_runs.listening.LineRefusal.TheVariants.{NoMoment}
+use Rattle.nx_receiver.specs.declared.air_file_runs.listen_fault.LineRefusal.{LineRefusal}
+use Rattle.nx_receiver.specs.declared.air_file_runs.listen_fault.LineRefusal.TheVariants.{NoMoment}
 use Rattle.nx_receiver.proofs.lemmas.listening.Listener.{commanded-on, heard-line, none-heard}
 
 line-is : (line : Line) → line ≡ line_with (kind_of line) (elements_of line)

@@ -22,7 +22,8 @@ use Rattle.nx_receiver.specs.air_file_runs.Listen.{AreTaken, HasListenFault, Has
 use Rattle.nx_receiver.specs.private.Taken.{IsTakenAfter}
 use Rattle.nx_receiver.proofs.lemmas.listening.Taken.{taken-at, taken-each}
 use Rattle.nx_receiver.specs.Shares.{Starts}
-use Rattle.nx_receiver.specs.private.Listener.{RefusesLine, lines_fault, refusal_fault}
+use Rattle.nx_receiver.specs.private.Listener.{RefusesLine}
+use Rattle.nx_receiver.specs.air_file_runs.Listen.{lines_fault, refusal_fault}
 use Rattle.nx_receiver.specs.declared.fault.MomentFault.{MomentFault}
 use Rattle.nx_receiver.specs.declared.fault.MomentFault.TheVariants.{Range, Back}
 use Rattle.nx_receiver.specs.declared.air_file_runs.listen_fault.ListenFault.{ListenFault}
@@ -30,8 +31,8 @@ use Rattle.nx_receiver.specs.declared.air_file_runs.listen_fault.ListenFault.The
 use Rattle.nx_receiver.specs.declared.air_file_runs.listen_fault.ListenFault.TheVariants.{AirTooLong, LineLong}
 use Rattle.nx_receiver.specs.declared.air_file_runs.listen_fault.ListenFault.TheVariants.{LineCut, BadLine}
 use Rattle.nx_receiver.specs.declared.air_file_runs.listen_fault.ListenFault.TheVariants.{NoMoment, Moment, Vital}
-use Rattle.nx_receiver.specs.declared.air_file_runs.listening.LineRefusal.{LineRefusal}
-use Rattle.nx_receiver.specs.declared.air_file_runs.listening.LineRefusal.TheVariants as refusal
+use Rattle.nx_receiver.specs.declared.air_file_runs.listen_fault.LineRefusal.{LineRefusal}
+use Rattle.nx_receiver.specs.declared.air_file_runs.listen_fault.LineRefusal.TheVariants as refusal
 
 -- a line is refused for one reason
 one-moment : (last n : ℕ) (a b : MomentFault) → Refuses last n a → Refuses last n b → a ≡ b

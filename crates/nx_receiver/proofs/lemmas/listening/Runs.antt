@@ -23,18 +23,17 @@ use Rattle.nx_fec.proofs.lemmas.devices.TransferLaws.{Ok-not_err, Reads-on, Writ
 use Rattle.nx_receiver.specs.Events.{elements_among}
 use Rattle.nx_receiver.specs.air_file_runs.Listen.{AnswersListening, HasListened, HasLogged, HasLoggedSome}
 use Rattle.nx_receiver.specs.air_file_runs.Listen.{IsLogOf, Listens, RefusesAfter, given_by, given_of}
+use Rattle.nx_receiver.specs.air_file_runs.Listen.{lines_fault, refusal_fault}
 use Rattle.nx_receiver.specs.Shares.{Starts}
 use Rattle.nx_receiver.specs.private.Listener.{BeginsFrom, HasClosed, HasClosedSome, IsListening}
 use Rattle.nx_receiver.specs.Listener.{Listening}
 use Rattle.nx_receiver.specs.private.Listener.{RefusesFrom, RefusesLine, StandsFrom}
 use Rattle.nx_receiver.specs.Listener.{elements_given, elements_in}
-use Rattle.nx_receiver.specs.private.Listener.{lines_fault}
 use Rattle.nx_receiver.specs.Listener.{starts_of}
-use Rattle.nx_receiver.specs.private.Listener.{refusal_fault}
 use Rattle.nx_receiver.specs.declared.air_file_runs.listen_fault.ListenFault.{ListenFault}
 use Rattle.nx_receiver.specs.declared.air_file_runs.listen_fault.ListenFault.TheVariants.{Memory, Read, Write}
-use Rattle.nx_receiver.specs.declared.air_file_runs.listening.LineRefusal.{LineRefusal}
-use Rattle.nx_receiver.specs.declared.air_file_runs.listening.LineRefusal.TheVariants as refusal
+use Rattle.nx_receiver.specs.declared.air_file_runs.listen_fault.LineRefusal.{LineRefusal}
+use Rattle.nx_receiver.specs.declared.air_file_runs.listen_fault.LineRefusal.TheVariants as refusal
 use Rattle.nx_receiver.specs.declared.air_file_runs.listening.Report.{Report}
 use Rattle.nx_receiver.proofs.lemmas.listening.Moments.{logged-some}
 use Rattle.nx_receiver.proofs.lemmas.receiver.Events.{bits_of-more}
@@ -78,13 +77,13 @@ fault-says starts number lines (accept_subject mark letter) refusal.NoMoment e h
 fault-says starts number lines (accept_subject mark letter) (refusal.Moment why) e h = h
 fault-says starts number lines (accept_subject mark letter) (refusal.Vital subject) e h = h
 
-next-refused : (first : Listening) (number : ℕ) (lines : List Line) (rest more : List ℕ)
+pub next-refused : (starts : Starts) (number : ℕ) (lines : List Line) (rest more : List ℕ)
     (why : LineRefusal)
-    → IsLineRefused (λ before line. RefusesFrom first before line why) air_limit lines rest more
+    → IsLineRefused (λ before line. RefusesLine starts before line why) air_limit lines rest more
     number
-    → IsLineRefused (RefusesAfter (starts_of first) (refusal_fault number why)) air_limit lines rest
-    more (length lines + 1)
-next-refused first number lines rest more why h = record {
+    → IsLineRefused (RefusesAfter starts (refusal_fault number why)) air_limit lines rest more
+    (length lines + 1)
+next-refused starts number lines rest more why h = record {
   line = h.line;
   after = h.after;
   good = h.good;
@@ -92,7 +91,7 @@ next-refused first number lines rest more why h = record {
   ended = h.ended;
   within = h.within;
   counted = refl;
-  refused = fault-says (starts_of first) number lines h.line why h.counted h.refused;
+  refused = fault-says starts number lines h.line why h.counted h.refused;
 }
 
 -- what a fault of the lines explains
@@ -124,19 +123,19 @@ explains extent first now old new bytes (run.Line (file.BadLine line)) h =
     StopsAt-map bytes _ _ (λ lines rest more p. (p.0, logged first now old new lines p.1)) h.1
 explains extent first now old new bytes (run.Refused line refusal.NoMoment) h =
     StopsAt-map bytes _ _ (λ lines rest more p. (
-      next-refused first line lines rest more refusal.NoMoment p.0,
+      next-refused (starts_of first) line lines rest more refusal.NoMoment p.0,
       logged first now old new
           lines p.1,
     )) h
 explains extent first now old new bytes (run.Refused line (refusal.Moment why)) h =
     StopsAt-map bytes _ _ (λ lines rest more p. (
-      next-refused first line lines rest more (refusal.Moment why) p.0,
+      next-refused (starts_of first) line lines rest more (refusal.Moment why) p.0,
       logged first now old new
           lines p.1,
     )) h
 explains extent first now old new bytes (run.Refused line (refusal.Vital subject)) h =
     StopsAt-map bytes _ _ (λ lines rest more p. (
-      next-refused first line lines rest more (refusal.Vital subject) p.0,
+      next-refused (starts_of first) line lines rest more (refusal.Vital subject) p.0,
       logged first now old
           new lines p.1,
     )) h
@@ -168,7 +167,7 @@ read-back (run.Refused line refusal.NoMoment) e = cc
 read-back (run.Refused line (refusal.Moment why)) e = cc
 read-back (run.Refused line (refusal.Vital subject)) e = cc
 
-write-back : (fault : LinesFault LineRefusal) (written : ℕ) → lines_fault fault ≡ Write written
+pub write-back : (fault : LinesFault LineRefusal) (written : ℕ) → lines_fault fault ≡ Write written
     → fault ≡ run.Write written
 write-back run.Read written e = cc
 write-back (run.Write n) written e = cc
@@ -184,8 +183,8 @@ pub err-of : {N : Type 0} (a b : ListenFault)
     → ◌≡◌ {A = Result N ListenFault} (Err a) (Err b) → a ≡ b
 err-of a b e = cc
 
-pub run-err-of : {N : Type 0} (a b : LinesFault LineRefusal)
-    → ◌≡◌ {A = Result N (LinesFault LineRefusal)} (Err a) (Err b) → a ≡ b
+pub run-err-of : {N R : Type 0} (a b : LinesFault R)
+    → ◌≡◌ {A = Result N (LinesFault R)} (Err a) (Err b) → a ≡ b
 run-err-of a b e = cc
 
 pub as-err : {N F : Type 0} (a b : F) → a ≡ b → ◌≡◌ {A = Result N F} (Err a) (Err b)

@@ -22,12 +22,13 @@ use Rattle.nx_receiver.specs.air_file_runs.Listen.{AnswersUnlogged, given_by}
 use Rattle.nx_receiver.specs.Shares.{Starts, starts_from}
 use Rattle.nx_receiver.specs.Listener.{Listening, count_of, starts_of}
 use Rattle.nx_receiver.specs.private.Listener.{BeginsFrom, HasClosed, IsListening}
-use Rattle.nx_receiver.specs.private.Listener.{RefusesFrom, RefusesLine, StandsFrom, lines_fault}
+use Rattle.nx_receiver.specs.private.Listener.{RefusesFrom, RefusesLine, StandsFrom}
+use Rattle.nx_receiver.specs.air_file_runs.Listen.{lines_fault}
 use Rattle.nx_receiver.specs.private.Unlogged.{AnswersLeaving, HasHeard, ListensUnlogged}
 use Rattle.nx_receiver.specs.private.Unlogged.{StandsUnlogged, as_run_fault}
 use Rattle.nx_receiver.specs.declared.air_file_runs.listen_fault.ListenFault.TheVariants.{Memory, Read}
-use Rattle.nx_receiver.specs.declared.air_file_runs.listening.LineRefusal.{LineRefusal}
-use Rattle.nx_receiver.specs.declared.air_file_runs.listening.LineRefusal.TheVariants as refusal
+use Rattle.nx_receiver.specs.declared.air_file_runs.listen_fault.LineRefusal.{LineRefusal}
+use Rattle.nx_receiver.specs.declared.air_file_runs.listen_fault.LineRefusal.TheVariants as refusal
 use Rattle.nx_receiver.specs.declared.air_file_runs.listening.Report.{Report}
 use Rattle.nx_receiver.proofs.lemmas.chain.Runs.{LeavesEach}
 use Rattle.nx_receiver.proofs.lemmas.listening.From.{gone}

@@ -3,14 +3,15 @@
 ghost use Rattle.std.specs.Prelude.{◌≡◌, ◌+◌, ◌<◌, ◌≤◌, ℕ, Bool, true, false, List, [], ◌∷◌, ◌++◌, drop, length, take, Some, None, Err, IfOk, IsSomeAnd, MatchResult};
 ghost use Rattle.nx_fec.specs.air_files.AirFile.{IsLine, Line};
 ghost use Rattle.nx_receiver.specs.Shares.{Given, Starts};
+ghost use Rattle.nx_receiver.specs.air_file_runs.Listen.{lines_fault};
 ghost use Rattle.nx_receiver.specs.private.Awaiting.{HandsOut};
 ghost use Rattle.nx_receiver.specs.Listener.{content, receiver_on, then_elements, with_receiver};
-ghost use Rattle.nx_receiver.specs.private.Listener.{HasClosed, RefusesLine, lines_fault};
+ghost use Rattle.nx_receiver.specs.private.Listener.{HasClosed, RefusesLine};
 ghost use Rattle.nx_receiver.specs.private.Unlogged.{HasHeard, HasHeardGiven, ListensUnlogged, as_run_fault};
 ghost use Rattle.nx_receiver.specs.declared.air_file_runs.listen_fault.ListenFault.TheVariants.{Memory};
 
-use crate::air_file_runs::listen_fault::ListenFault;
-use crate::air_file_runs::listening::{LineRefusal, Report, line_listener, run_fault};
+use crate::air_file_runs::listen_fault::{LineRefusal, ListenFault};
+use crate::air_file_runs::listening::{Report, line_listener};
 use crate::copy_taker::Over;
 use crate::listener::Listener;
 use nx_envelope::Letter;
@@ -49,7 +50,7 @@ pub(crate) fn listen_unlogged<R: Read>(
 fn unlogged_fault(fault: HearFault<LineRefusal>) -> ListenFault
     ensures { result ≡ lines_fault (as_run_fault fault) }
 {
-    run_fault(match fault {
+    ListenFault::from(match fault {
         HearFault::Read => LinesFault::Read,
         HearFault::Line(why) => LinesFault::Line(why),
         HearFault::Refused { line, why } => LinesFault::Refused { line, why },

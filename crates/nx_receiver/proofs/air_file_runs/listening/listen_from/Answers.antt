@@ -28,10 +28,10 @@ returns-in-Err-clause-listens g c =
     let begun : StandsFrom first first [] [] =
     subst (λ (starts : Starts). IsListening starts first [] [])
     (sym c.in_ok-listener.ensures.start) c.in_ok-listener.ensures.listens in
-    goes-nowhere c.args.saved.now d (Err c.run_fault.result) c.run_fault.result refl refl
-    (subst (λ (starts : Starts). Listens starts d (Err c.run_fault.result))
+    goes-nowhere c.args.saved.now d (Err c.from.result) c.from.result refl refl
+    (subst (λ (starts : Starts). Listens starts d (Err c.from.result))
     c.in_ok-listener.ensures.start
-    (subst (λ fault. Listens (starts_of first) d (Err fault)) (sym c.run_fault.ensures)
+    (subst (λ fault. Listens (starts_of first) d (Err fault)) (sym c.from.ensures)
     (listens-fault first c.run_lines.new.taker d c.in-Err.fault (c.in-Err.ensures first begun))))
 
 pub close_log-requires : goal.close_log-requires
