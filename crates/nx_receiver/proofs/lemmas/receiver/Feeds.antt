@@ -1,5 +1,5 @@
 -- A receiver that is fed elements: what it stands after, and what was printed before each of them.
-use Rattle.std.proofs.Common.{◌≡◌, ℕ, ◌+◌, ◌-◌, ◌<◌, ◌≤◌, Bool, List, ◌++◌, Option, None, length}
+use Rattle.std.proofs.Common.{◌≡◌, ℕ, ◌+◌, ◌-◌, ◌≤◌, Bool, List, [], ◌++◌, Option, None, length}
 use Rattle.std.proofs.Common.{take, drop, refl, sym, ap, ◌∙◌, subst, append-nil, append_assoc}
 use Rattle.std.proofs.Common.{arith, inl, inr, is_some, false, Some, length-drop}
 use lib.Seq.{take-add}
@@ -7,12 +7,10 @@ use Rattle.std.proofs.lemmas.Bool.{cases_lt}
 use Rattle.std.proofs.lemmas.List.{drop-drop, length-take, map-append, take-take}
 use Rattle.nx_memory.specs.declared.memories.entry.MemoryEntry.{MemoryEntry}
 use Rattle.nx_receiver.specs.declared.copy_taker.Over.{Over}
-use Rattle.nx_receiver.specs.declared.entry.Entry.{Entry}
 use Rattle.nx_receiver.specs.Events.{Event, Setting, Start, elements_among, element, first_setting}
 use Rattle.nx_receiver.specs.Events.{setting_after_all, settings, elements}
 use Rattle.nx_receiver.specs.Log.{HasPrinted}
 use Rattle.nx_receiver.specs.Receiver.{HandsOutNoneBefore, Receiving, Stands, StandsOver}
-use Rattle.nx_receiver.specs.Receiver.{entry_list}
 use Rattle.nx_receiver.specs.private.Awaiting.{Awaits, AwaitsOver, HearsUpTo}
 use Rattle.nx_receiver.specs.FoundCopies.{TaggedCopy}
 use Rattle.nx_receiver.specs.private.Watch.{HasEnded, HearsAll, IsOver, all_in_force}
@@ -28,9 +26,7 @@ pub record Fed {M : Type 0} (content : M → List MemoryEntry) (old now : Receiv
   pub stands : (start : Start) (history : List Event) (log : List TaggedCopy)
       → Stands content start old history log
       → Stands content start now (history ++ elements (take at bits)) log
-  pub before : (start : Start) (history : List Event) (log : List TaggedCopy)
-      → Stands content start old history log
-      → (k : ℕ) → k < at → HasPrinted start (history ++ elements (take k bits)) log
+  pub before : HandsOutNoneBefore content old bits at
 
 pub fed_none : {M : Type 0} (content : M → List MemoryEntry) (old : Receiving M) (bits : List Bool)
     → Fed content old old bits 0
@@ -76,17 +72,17 @@ awaits_on content old watch bits answer hears force start events log s =
 
 -- and nothing was printed before the last of them
 pub printed_before : {M : Type 0} (content : M → List MemoryEntry) (old : Receiving M)
-    (watch : Watching) (bits : List Bool) (answer : Option Over)
-    → HearsAll old.watch watch bits answer
-    → (start : Start) (events : List Event) (log : List TaggedCopy)
-    → Stands content start old events log → (k : ℕ) → k < length bits
-    → HasPrinted start (events ++ elements (take k bits)) log
-printed_before content old watch bits answer hears start events log s k lt =
+    (watch : Watching) (bits : List Bool) (n : ℕ) (answer : Option Over) → n ≤ length bits
+    → HearsAll old.watch watch (take n bits) answer → HandsOutNoneBefore content old bits n
+printed_before content old watch bits n answer within hears start events log s k lt =
     let first = first_setting start in
     let heard = hears.hears first (elements_among events) (settings first events) s.copies
     s.watch in
-    let ended = heard.none_before k (omega arith) in
     let some = take k bits in
+    let same : take k (take n bits) ≡ some = take-take k n bits (omega arith) in
+    let ended = subst (λ l. HasEnded first (elements_among events ++ l)
+    (settings first events ++ all_in_force old.watch l) s.copies) same
+    (heard.none_before k (omega (arith, length-take n bits))) in
     let h = subst (λ h. HasEnded first h (settings first events ++ all_in_force old.watch some)
     s.copies) (sym (bits_of-more events some)) ended in
     let t = subst (λ t. HasEnded first (elements_among (events ++ elements some)) t s.copies)
@@ -121,43 +117,6 @@ awaits_nothing content start receiver h s now log stands = record {
   memory = stands.memory;
 }
 
--- nothing was printed with the elements before these
-abbrev pub PrintsNone : {M : Type 0} → (M → List MemoryEntry) → Receiving M → List Bool → Type 0
-PrintsNone content old bits =
-    (start : Start) (history : List Event) (log : List TaggedCopy)
-    → Stands content start old history log → (k : ℕ) → k < length bits
-    → HasPrinted start (history ++ elements (take k bits)) log
-
--- nothing was printed before each of the first so many elements, and so of these alone
-pub prints_none_of : {M : Type 0} (content : M → List MemoryEntry) (old : Receiving M)
-    (bits : List Bool) (n : ℕ) → n ≤ length bits → PrintsNone content old (take n bits)
-    → (start : Start) (history : List Event) (log : List TaggedCopy)
-    → Stands content start old history log → (k : ℕ) → k < n
-    → HasPrinted start (history ++ elements (take k bits)) log
-prints_none_of content old bits n within none start history log s k lt =
-    subst (λ l. HasPrinted start (history ++ elements l) log) (take-take k n bits (omega arith))
-    (none start history log s k (omega (arith, length-take n bits)))
-
--- and the other way
-pub prints_none : {M : Type 0} (content : M → List MemoryEntry) (old : Receiving M)
-    (bits : List Bool) (n : ℕ) → n ≤ length bits
-    → ((start : Start) (history : List Event) (log : List TaggedCopy)
-    → Stands content start old history log → (k : ℕ) → k < n
-    → HasPrinted start (history ++ elements (take k bits)) log)
-    → PrintsNone content old (take n bits)
-prints_none content old bits n within none start history log s k lt =
-    let below : k < n = omega (arith, length-take n bits) in
-    subst (λ l. HasPrinted start (history ++ elements l) log)
-    (sym (take-take k n bits (omega arith))) (none start history log s k below)
-
--- These elements were heard, and an entry was handed out, or none.
-pub record Finished {M : Type 0} (content : M → List MemoryEntry) (old new : Receiving M)
-    (bits : List Bool) (entry : Option Entry) : Type 0 where
-  pub stands : (start : Start) (history : List Event) (log : List TaggedCopy)
-      → Stands content start old history log
-      → Stands content start new (history ++ elements bits) (log ++ entry_list entry)
-  pub before : PrintsNone content old bits
-
 -- elements and then others
 elements-after : (history : List Event) (xs ys : List Bool)
     → (history ++ elements xs) ++ elements ys ≡ history ++ elements (xs ++ ys)
@@ -165,139 +124,123 @@ elements-after history xs ys =
     append_assoc history (elements xs) (elements ys)
     ∙ ap (λ es. history ++ es) (sym (map-append element xs ys))
 
--- what holds with more of them
-pub fed_by : {M : Type 0} (content : M → List MemoryEntry) (old mid : Receiving M)
-    (bits piece : List Bool) (at n : ℕ) → Fed content old mid bits at
-    → piece ≡ take n (drop at bits)
+-- so many more of them
+elements-more : (history : List Event) (bits : List Bool) (at n : ℕ)
+    → (history ++ elements (take at bits)) ++ elements (take n (drop at bits))
+    ≡ history ++ elements (take (at + n) bits)
+elements-more history bits at n =
+    elements-after history (take at bits) (take n (drop at bits))
+    ∙ ap (λ l. history ++ elements l) (sym (take-add at n bits))
+
+-- So many more of the elements were heard behind those that were fed; what is over with the last of
+-- them awaits to be finished.
+pub record FedUpTo {M : Type 0} (content : M → List MemoryEntry) (old mid heard : Receiving M)
+    (bits : List Bool) (at n : ℕ) (left : Option Over) : Type 0 where
+  pub fed : Fed content old mid bits at
+  pub within : at + n ≤ length bits
+  pub hears : HearsUpTo content mid heard (take n (drop at bits)) left
+  pub none : HandsOutNoneBefore content mid (drop at bits) n
+
+-- packed elements, from a place on
+pub fed_packed : {M : Type 0} (content : M → List MemoryEntry) (old mid heard : Receiving M)
+    (packed : List Bool) (from at n : ℕ) (left : Option Over)
+    → Fed content old mid (drop from packed) at → (from + at) + n ≤ length packed
+    → HearsUpTo content mid heard (take n (drop (from + at) packed)) left
+    → HandsOutNoneBefore content mid (drop (from + at) packed) n
+    → FedUpTo content old mid heard (drop from packed) at n left
+fed_packed content old mid heard packed from at n left fed within hears none =
+    let same : drop (from + at) packed ≡ drop at (drop from packed) =
+    sym (drop-drop at from packed) in
+    record {
+      fed = fed;
+      within = omega (arith, within, length-drop from packed);
+      hears = subst (λ l. HearsUpTo content mid heard (take n l) left) same hears;
+      none = subst (λ l. HandsOutNoneBefore content mid l n) same none;
+    }
+
+-- elements that aren't packed
+pub fed_bits : {M : Type 0} (content : M → List MemoryEntry) (old mid heard : Receiving M)
+    (bits : List Bool) (at n : ℕ) (left : Option Over) → Fed content old mid bits at
+    → n ≤ length (take (length bits - at) (drop at bits))
+    → HearsUpTo content mid heard (take n (take (length bits - at) (drop at bits))) left
+    → HandsOutNoneBefore content mid (take (length bits - at) (drop at bits)) n
+    → FedUpTo content old mid heard bits at n left
+fed_bits content old mid heard bits at n left fed within hears none =
+    let same = rest_is bits at in
+    record {
+      fed = fed;
+      within = omega (arith, fed.within, within, ap length same, length-drop at bits);
+      hears = subst (λ l. HearsUpTo content mid heard (take n l) left) same hears;
+      none = subst (λ l. HandsOutNoneBefore content mid l n) same none;
+    }
+
+module _ {M : Type 0} {content : M → List MemoryEntry} {old mid heard : Receiving M}
+    {bits : List Bool} {at n : ℕ} {left : Option Over}
+    (f : FedUpTo content old mid heard bits at n left) where
+  -- nothing was printed before the last of them
+  pub fed_before : HandsOutNoneBefore content old bits (at + n)
+  fed_before start history log s k lt =
+      elim (cases_lt k at) [
+        | inl early ↦ f.fed.before start history log s k early
+        | inr late ↦
+            let j = k - at in
+            let sum : at + j ≡ k = omega arith in
+            subst (λ events. HasPrinted start events log)
+            (elements-more history bits at j ∙ ap (λ m. history ++ elements (take m bits)) sum)
+            (f.none start (history ++ elements (take at bits)) log
+            (f.fed.stands start history log s) j (omega arith))
+      ]
+
+  -- all of them were heard, and what is over awaits
+  pub fed_awaits : HearsUpTo content old heard (take (at + n) bits) left
+  fed_awaits start history log s =
+      subst (λ events. Awaits content start heard events log left)
+      (elements-more history bits at n)
+      (f.hears start (history ++ elements (take at bits)) log (f.fed.stands start history log s))
+
+  pub fed_over : (is_over : Over) → left ≡ Some is_over
+      → HearsUpTo content old heard (take (at + n) bits) (Some is_over)
+  fed_over is_over is start history log s =
+      subst (λ o. Awaits content start heard (history ++ elements (take (at + n) bits)) log o) is
+      (fed_awaits start history log s)
+
+  -- nothing is over: they were fed
+  pub fed_quiet : left ≡ None → Fed content old heard bits (at + n)
+  fed_quiet is = record {
+    within = f.within;
+    stands = λ start history log s.
+        nothing_awaited content start heard _ _ _ log left is (fed_awaits start history log s);
+    before = fed_before;
+  }
+
+  -- what is over was finished, and brought no copy: they were fed
+  pub fed_finished : (new : Receiving M) (is_over : Over) (copies : List TaggedCopy)
+      → left ≡ Some is_over
+      → ((start : Start) (history : List Event) (log : List TaggedCopy)
+      → Awaits content start heard history log (Some is_over)
+      → Stands content start new history (log ++ copies))
+      → copies ≡ [] → Fed content old new bits (at + n)
+  fed_finished new is_over copies is finishes none = record {
+    within = f.within;
+    stands = λ start history log s.
+        subst (λ l. Stands content start new (history ++ elements (take (at + n) bits)) l)
+        (ap (λ l. log ++ l) none ∙ append-nil log)
+        (finishes start (history ++ elements (take (at + n) bits)) log
+        (fed_over is_over is start history log s));
+    before = fed_before;
+  }
+
+-- those that were fed brought no copy
+pub fed_no_copy : {M : Type 0} {content : M → List MemoryEntry} {old now : Receiving M}
+    {bits : List Bool} {at : ℕ} → Fed content old now bits at
     → (start : Start) (history : List Event) (log : List TaggedCopy)
     → Stands content start old history log
-    → (P : List Event → Type 0)
-    → ((events : List Event) → Stands content start mid events log
-    → P (events ++ elements piece))
-    → P (history ++ elements (take (at + n) bits))
-fed_by content old mid bits piece at n fed is start history log s P on =
-    let whole : (history ++ elements (take at bits)) ++ elements piece
-    ≡ history ++ elements (take (at + n) bits) =
-    elements-after history (take at bits) piece
-    ∙ ap (λ p. history ++ elements (take at bits ++ p)) is
-    ∙ ap (λ l. history ++ elements l) (sym (take-add at n bits)) in
-    subst P whole (on (history ++ elements (take at bits)) (fed.stands start history log s))
-
--- more of them are heard, and what is over is awaited
-pub awaits_to : {M : Type 0} (content : M → List MemoryEntry) (old mid new : Receiving M)
-    (bits piece : List Bool) (at n : ℕ) (left : Option Over)
-    → Fed content old mid bits at → piece ≡ take n (drop at bits)
-    → ((start : Start) (history : List Event) (log : List TaggedCopy)
-    → Stands content start mid history log
-    → Awaits content start new (history ++ elements piece) log left)
-    → (start : Start) (history : List Event) (log : List TaggedCopy)
-    → Stands content start old history log
-    → Awaits content start new (history ++ elements (take (at + n) bits)) log left
-awaits_to content old mid new bits piece at n left fed is f start history log s =
-    fed_by content old mid bits piece at n fed is start history log s
-    (λ events. Awaits content start new events log left) (λ events h. f start events log h)
-
--- more of them are fed
-pub fed_to : {M : Type 0} (content : M → List MemoryEntry) (old mid new : Receiving M)
-    (bits piece : List Bool) (at n : ℕ) (entry : Option Entry)
-    → Fed content old mid bits at → piece ≡ take n (drop at bits)
-    → Finished content mid new piece entry
-    → (start : Start) (history : List Event) (log : List TaggedCopy)
-    → Stands content start old history log
-    → Stands content start new (history ++ elements (take (at + n) bits)) (log ++ entry_list entry)
-fed_to content old mid new bits piece at n entry fed is f start history log s =
-    fed_by content old mid bits piece at n fed is start history log s
-    (λ events. Stands content start new events (log ++ entry_list entry))
-    (λ events h. f.stands start events log h)
-
-pub fed_before : {M : Type 0} (content : M → List MemoryEntry) (old mid : Receiving M)
-    (bits piece : List Bool) (at n : ℕ)
-    → Fed content old mid bits at → piece ≡ take n (drop at bits) → at + n ≤ length bits
-    → PrintsNone content mid piece
-    → (start : Start) (history : List Event) (log : List TaggedCopy)
-    → Stands content start old history log
-    → (k : ℕ) → k < at + n → HasPrinted start (history ++ elements (take k bits)) log
-fed_before content old mid bits piece at n fed is within none start history log s k lt =
-    elim (cases_lt k at) [
-      | inl early ↦ fed.before start history log s k early
-      | inr late ↦
-          let j = k - at in
-          let long : length piece ≡ n =
-          omega (arith, ap length is, length-take n (drop at bits), length-drop at bits) in
-          let before = fed.stands start history log s in
-          let on = none start (history ++ elements (take at bits)) log before j (omega arith) in
-          let part : take j piece ≡ take j (drop at bits) =
-          ap (take j) is ∙ take-take j n (drop at bits) (omega arith) in
-          let sum : at + j ≡ k = omega arith in
-          let whole : (history ++ elements (take at bits)) ++ elements (take j piece)
-          ≡ history ++ elements (take k bits) =
-          elements-after history (take at bits) (take j piece)
-          ∙ ap (λ p. history ++ elements (take at bits ++ p)) part
-          ∙ ap (λ l. history ++ elements l)
-          (sym (take-add at j bits) ∙ ap (λ m. take m bits) sum) in
-          subst (λ events. HasPrinted start events log) whole on
-    ]
-
-pub fed_on : {M : Type 0} (content : M → List MemoryEntry) (old mid new : Receiving M)
-    (bits piece : List Bool) (at n : ℕ) (entry : Option Entry)
-    → Fed content old mid bits at → piece ≡ take n (drop at bits) → at + n ≤ length bits
-    → Finished content mid new piece entry → entry ≡ None → Fed content old new bits (at + n)
-fed_on content old mid new bits piece at n entry fed is within f none = record {
-  within = within;
-  stands = λ start history log s.
-      subst (λ l. Stands content start new (history ++ elements (take (at + n) bits)) l)
-      (ap (λ e. log ++ entry_list e) none ∙ append-nil log)
-      (fed_to content old mid new bits piece at n entry fed is f start history log s);
-  before = λ start history log s k lt. fed_before content old mid bits piece at n fed is within
-      f.before start history log s k lt;
-}
-
--- where nothing is over, no entry was handed out
-pub none_finished : {M : Type 0} (content : M → List MemoryEntry) (old new : Receiving M)
-    (bits : List Bool) (left : Option Over) → left ≡ None
-    → ((start : Start) (history : List Event) (log : List TaggedCopy)
-    → Stands content start old history log
-    → Awaits content start new (history ++ elements bits) log left)
-    → PrintsNone content old bits → Finished content old new bits None
-none_finished content old new bits left nothing stands before = record {
-  stands = λ start history log s.
-      subst (Stands content start new (history ++ elements bits)) (sym (append-nil log))
-      (nothing_awaited content start new _ _ _ log left nothing (stands start history log s));
-  before = before;
-}
-
--- what was over with these elements was finished, and an entry was handed out, or none
-pub over_finished : {M : Type 0} (content : M → List MemoryEntry) (old mid new : Receiving M)
-    (bits : List Bool) (n : ℕ) (left : Option Over) (is_over : Over) (entry : Option Entry)
-    → left ≡ Some is_over → n ≤ length bits → HearsUpTo content old mid (take n bits) left
-    → HandsOutNoneBefore content old bits n
-    → ((start : Start) (history : List Event) (log : List TaggedCopy)
-    → Awaits content start mid history log (Some is_over)
-    → Stands content start new history (log ++ entry_list entry))
-    → Finished content old new (take n bits) entry
-over_finished content old mid new bits n left is_over entry is within hears none finishes = record {
-  stands = λ start history log s.
-      finishes start (history ++ elements (take n bits)) log
-      (subst (Awaits content start mid (history ++ elements (take n bits)) log) is
-      (hears start history log s));
-  before = prints_none content old bits n within none;
-}
-
--- what was heard of the elements from the place on
-pub piece_is : (bits : List Bool) (at n : ℕ)
-    → take n (take (length bits - at) (drop at bits)) ≡ take n (drop at bits)
-piece_is bits at n = ap (take n) (rest_is bits at)
-
-pub piece_within : (bits : List Bool) (at n : ℕ) → at ≤ length bits
-    → n ≤ length (take (length bits - at) (drop at bits)) → at + n ≤ length bits
-piece_within bits at n within h = omega (arith, ap length (rest_is bits at), length-drop at bits)
+    → Stands content start now (history ++ elements (take at bits)) (log ++ [])
+fed_no_copy {content = content} {now = now} {bits = bits} {at = at} fed start history log s =
+    subst (Stands content start now (history ++ elements (take at bits))) (sym (append-nil log))
+    (fed.stands start history log s)
 
 pub is_none : {A : Type 0} (entry : Option A) (test : Bool) → test ≡ is_some entry → test ≡ false
     → entry ≡ None
 is_none None test h e = refl
 is_none (Some x) test h e = cc
-
--- what was heard of packed elements, those from a place on
-pub packed_piece : (packed : List Bool) (from at n : ℕ)
-    → take n (drop (from + at) packed) ≡ take n (drop at (drop from packed))
-packed_piece packed from at n = ap (take n) (sym (drop-drop at from packed))

@@ -1,6 +1,6 @@
 use Rattle.std.proofs.Common.{arith, drop, length-drop, subst, sym, take}
 use Rattle.nx_receiver.specs.Receiver.{Receiving, Stands}
-use Rattle.nx_receiver.proofs.lemmas.receiver.Feeds.{awaits_on, printed_before, prints_none_of}
+use Rattle.nx_receiver.proofs.lemmas.receiver.Feeds.{awaits_on, printed_before}
 use Rattle.nx_receiver.proofs.receiver.Receiver.hear.Goals as goal
 
 pub returns-clause-stands : goal.returns-clause-stands
@@ -16,11 +16,8 @@ pub returns-clause-first : goal.returns-clause-first
 returns-clause-first g c start history log stands k lt =
     let content = g.M.Recall.content in
     let old : Receiving _ = record { watch = c.self.inside.watch; memory = c.self.inside.memory } in
-    let rest = drop c.args.from c.args.packed.now in
-    let n = c.hear.result.0 in
-    prints_none_of content old rest n
+    printed_before content old c.hear.new.self (drop c.args.from c.args.packed.now) c.hear.result.0
+    c.hear.result.1
     (omega (arith, c.hear.ensures.within, length-drop c.args.from c.args.packed.now))
-    (λ start history log s k lt. printed_before content old c.hear.new.self (take n rest)
-    c.hear.result.1 c.hear.ensures.hears start history log s k lt)
-    start history log (subst (λ r. Stands content start r history log) (sym c.self.view_is) stands)
-    k lt
+    c.hear.ensures.hears start history log
+    (subst (λ r. Stands content start r history log) (sym c.self.view_is) stands) k lt

@@ -1,6 +1,7 @@
-use Rattle.std.proofs.Common.{◌≡◌, ◌+◌, ◌≤◌, List, Bool, None, arith, take, drop, length, length-drop, rules}
-use Rattle.nx_receiver.proofs.lemmas.receiver.Feeds.{fed_before, fed_none, fed_on, fed_to, over_finished}
-use Rattle.nx_receiver.proofs.lemmas.receiver.Feeds.{is_none, none_finished, packed_piece, prints_none}
+use Rattle.std.proofs.Common.{ap, drop}
+use Rattle.nx_receiver.specs.Receiver.{entry_list}
+use Rattle.nx_receiver.proofs.lemmas.receiver.Feeds.{fed_before, fed_finished, fed_no_copy, fed_over}
+use Rattle.nx_receiver.proofs.lemmas.receiver.Feeds.{fed_none, fed_packed, fed_quiet, is_none}
 use Rattle.nx_receiver.proofs.receiver.Receiver.next_entry.Goals as goal
 
 pub loop-heard-init : goal.loop-heard-init
@@ -10,92 +11,50 @@ loop-heard-init g c =
 -- an entry is handed out
 pub returns-then-is_some-clause-stands : goal.returns-then-is_some-clause-stands
 returns-then-is_some-clause-stands g c start history log stands =
-    let content = g.M.Recall.content in
-    let packed = c.args.packed.now in
-    let bits = drop c.args.from packed in
-    let at = c.loop-heard.heard in
-    let n = c.hear-count.result.0 in
-    let rest : List Bool = drop (c.args.from + at) packed in
-    let entry = c.finish-entry.result in
-    let within : n ≤ length rest =
-    omega (arith, c.hear-count.ensures.within, length-drop (c.args.from + at) packed) in
-    let done = over_finished content c.loop-heard.self c.hear-count.new.self c.finish-entry.new.self rest n
-    c.hear-count.result.1 c.in-Some.over entry c.in-Some.is within
-    (λ start history log s. c.hear-count.ensures.stands start history log s) c.hear-count.ensures.first
-    (λ start history log a. c.finish-entry.ensures.stands start history log a) in
-    fed_to content c.args.self.now c.loop-heard.self c.finish-entry.new.self bits (take n rest) at n
-    entry c.loop-heard.invariant (packed_piece packed c.args.from at n) done start history log
-    stands
+    let h = fed_packed g.M.Recall.content c.args.self.now c.loop-heard.self c.hear-count.new.self
+    c.args.packed.now c.args.from c.loop-heard.heard c.hear-count.result.0 c.hear-count.result.1
+    c.loop-heard.invariant c.hear-count.ensures.within
+    (λ start history log s. c.hear-count.ensures.stands start history log s)
+    (λ start history log s k lt. c.hear-count.ensures.first start history log s k lt) in
+    c.finish-entry.ensures.stands start _ log
+    (fed_over h c.in-Some.over c.in-Some.is start history log stands)
 
 pub returns-then-is_some-clause-first : goal.returns-then-is_some-clause-first
-returns-then-is_some-clause-first g c start history log stands k lt =
-    let content = g.M.Recall.content in
-    let packed = c.args.packed.now in
-    let bits = drop c.args.from packed in
-    let at = c.loop-heard.heard in
-    let n = c.hear-count.result.0 in
-    let rest : List Bool = drop (c.args.from + at) packed in
-    let within : n ≤ length rest =
-    omega (arith, c.hear-count.ensures.within, length-drop (c.args.from + at) packed) in
-    let none = prints_none content c.loop-heard.self rest n within c.hear-count.ensures.first in
-    let all : at + n ≤ length bits =
-    omega (arith, c.hear-count.ensures.within, length-drop c.args.from packed) in
-    fed_before content c.args.self.now c.loop-heard.self bits (take n rest) at n
-    c.loop-heard.invariant (packed_piece packed c.args.from at n) all none start history log stands
-    k lt
+returns-then-is_some-clause-first g c =
+    let h = fed_packed g.M.Recall.content c.args.self.now c.loop-heard.self c.hear-count.new.self
+    c.args.packed.now c.args.from c.loop-heard.heard c.hear-count.result.0 c.hear-count.result.1
+    c.loop-heard.invariant c.hear-count.ensures.within
+    (λ start history log s. c.hear-count.ensures.stands start history log s)
+    (λ start history log s k lt. c.hear-count.ensures.first start history log s k lt) in
+    λ start history log stands k lt. fed_before h start history log stands k lt
 
 pub loop-heard-preserved : goal.loop-heard-preserved
 loop-heard-preserved g c =
-    let content = g.M.Recall.content in
-    let packed = c.args.packed.now in
-    let bits = drop c.args.from packed in
-    let at = c.loop-heard.heard in
-    let n = c.hear-count.result.0 in
-    let rest : List Bool = drop (c.args.from + at) packed in
+    let h = fed_packed g.M.Recall.content c.args.self.now c.loop-heard.self c.hear-count.new.self
+    c.args.packed.now c.args.from c.loop-heard.heard c.hear-count.result.0 c.hear-count.result.1
+    c.loop-heard.invariant c.hear-count.ensures.within
+    (λ start history log s. c.hear-count.ensures.stands start history log s)
+    (λ start history log s k lt. c.hear-count.ensures.first start history log s k lt) in
     let entry = c.finish-entry.result in
-    let within : n ≤ length rest =
-    omega (arith, c.hear-count.ensures.within, length-drop (c.args.from + at) packed) in
-    let all : at + n ≤ length bits =
-    omega (arith, c.hear-count.ensures.within, length-drop c.args.from packed) in
-    let done = over_finished content c.loop-heard.self c.hear-count.new.self c.finish-entry.new.self rest n
-    c.hear-count.result.1 c.in-Some.over entry c.in-Some.is within
-    (λ start history log s. c.hear-count.ensures.stands start history log s) c.hear-count.ensures.first
-    (λ start history log a. c.finish-entry.ensures.stands start history log a) in
-    let none = is_none entry c.is_some.result c.is_some.ensures c.if-is_some.false in
-    fed_on content c.args.self.now c.loop-heard.self c.finish-entry.new.self bits (take n rest) at n
-    entry c.loop-heard.invariant (packed_piece packed c.args.from at n) all done none
+    fed_finished h c.finish-entry.new.self c.in-Some.over (entry_list entry) c.in-Some.is
+    (λ start history log a. c.finish-entry.ensures.stands start history log a)
+    (ap entry_list (is_none entry c.is_some.result c.is_some.ensures c.if-is_some.false))
 
 -- nothing is over, and all was heard
 pub returns-in_default-clause-stands : goal.returns-in_default-clause-stands
-returns-in_default-clause-stands g c start history log stands =
-    let content = g.M.Recall.content in
-    let packed = c.args.packed.now in
-    let bits = drop c.args.from packed in
-    let at = c.loop-heard.heard in
-    let n = c.hear-count.result.0 in
-    let rest : List Bool = drop (c.args.from + at) packed in
-    let within : n ≤ length rest =
-    omega (arith, c.hear-count.ensures.within, length-drop (c.args.from + at) packed) in
-    let none = prints_none content c.loop-heard.self rest n within c.hear-count.ensures.first in
-    let done = none_finished content c.loop-heard.self c.hear-count.new.self (take n rest)
-    c.hear-count.result.1 c.in_default.is
-    (λ start history log s. c.hear-count.ensures.stands start history log s) none in
-    fed_to content c.args.self.now c.loop-heard.self c.hear-count.new.self bits (take n rest) at n
-    None c.loop-heard.invariant (packed_piece packed c.args.from at n) done start history log stands
+returns-in_default-clause-stands g c =
+    let h = fed_packed g.M.Recall.content c.args.self.now c.loop-heard.self c.hear-count.new.self
+    c.args.packed.now c.args.from c.loop-heard.heard c.hear-count.result.0 c.hear-count.result.1
+    c.loop-heard.invariant c.hear-count.ensures.within
+    (λ start history log s. c.hear-count.ensures.stands start history log s)
+    (λ start history log s k lt. c.hear-count.ensures.first start history log s k lt) in
+    fed_no_copy (fed_quiet h c.in_default.is)
 
 pub returns-in_default-clause-first : goal.returns-in_default-clause-first
-returns-in_default-clause-first g c start history log stands k lt =
-    let content = g.M.Recall.content in
-    let packed = c.args.packed.now in
-    let bits = drop c.args.from packed in
-    let at = c.loop-heard.heard in
-    let n = c.hear-count.result.0 in
-    let rest : List Bool = drop (c.args.from + at) packed in
-    let within : n ≤ length rest =
-    omega (arith, c.hear-count.ensures.within, length-drop (c.args.from + at) packed) in
-    let none = prints_none content c.loop-heard.self rest n within c.hear-count.ensures.first in
-    let all : at + n ≤ length bits =
-    omega (arith, c.hear-count.ensures.within, length-drop c.args.from packed) in
-    fed_before content c.args.self.now c.loop-heard.self bits (take n rest) at n
-    c.loop-heard.invariant (packed_piece packed c.args.from at n) all none start history log stands
-    k lt
+returns-in_default-clause-first g c =
+    let h = fed_packed g.M.Recall.content c.args.self.now c.loop-heard.self c.hear-count.new.self
+    c.args.packed.now c.args.from c.loop-heard.heard c.hear-count.result.0 c.hear-count.result.1
+    c.loop-heard.invariant c.hear-count.ensures.within
+    (λ start history log s. c.hear-count.ensures.stands start history log s)
+    (λ start history log s k lt. c.hear-count.ensures.first start history log s k lt) in
+    λ start history log stands k lt. fed_before h start history log stands k lt

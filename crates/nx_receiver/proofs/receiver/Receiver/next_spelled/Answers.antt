@@ -1,11 +1,7 @@
-use Rattle.std.proofs.Common.{◌≡◌, ◌+◌, ◌≤◌, ◌++◌, ◌∙◌, List, [], Bool, None, append-nil, arith, take}
-use Rattle.std.proofs.Common.{drop, length, length-drop, refl, rules, subst, sym}
-use Rattle.nx_receiver.specs.Events.{elements}
+use Rattle.std.proofs.Common.{◌∙◌, [], drop, refl, subst}
 use Rattle.nx_receiver.specs.Listener.{IsSpelled}
-use Rattle.nx_receiver.specs.Receiver.{Stands}
-use Rattle.nx_receiver.specs.private.Awaiting.{Awaits}
-use Rattle.nx_receiver.proofs.lemmas.receiver.Feeds.{Finished, fed_before, fed_by, fed_none, fed_on}
-use Rattle.nx_receiver.proofs.lemmas.receiver.Feeds.{fed_to, none_finished, packed_piece, prints_none}
+use Rattle.nx_receiver.proofs.lemmas.receiver.Feeds.{fed_before, fed_finished, fed_no_copy, fed_over}
+use Rattle.nx_receiver.proofs.lemmas.receiver.Feeds.{fed_none, fed_packed, fed_quiet}
 use Rattle.nx_receiver.proofs.receiver.Receiver.next_spelled.Goals as goal
 
 pub loop-heard-init : goal.loop-heard-init
@@ -17,98 +13,56 @@ loop-heard-init g c = record {
 -- an entry is spelled
 pub returns-then-spell-clause-stands : goal.returns-then-spell-clause-stands
 returns-then-spell-clause-stands g c =
-    let content = g.M.Recall.content in
-    let packed = c.args.packed.now in
-    let bits = drop c.args.from packed in
-    let at = c.loop-heard.heard in
-    let n = c.hear-count.result.0 in
-    let rest : List Bool = drop (c.args.from + at) packed in
-    let out = c.spell.ensures.stands in
-    let new = c.spell.new.self in (
+    let h = fed_packed g.M.Recall.content c.args.self.now c.loop-heard.self c.hear-count.new.self
+    c.args.packed.now c.args.from c.loop-heard.heard c.hear-count.result.0 c.hear-count.result.1
+    c.loop-heard.invariant.fed c.hear-count.ensures.within
+    (λ start history log s. c.hear-count.ensures.stands start history log s)
+    (λ start history log s k lt. c.hear-count.ensures.first start history log s k lt) in
+    let out = c.spell.ensures.stands in (
       out.0,
       subst (λ is. IsSpelled c.args.channel is out.0 c.spell.new.spelled.items) c.if-spell.true
           out.1,
       λ start history log stands.
-          fed_by content c.args.self.now c.loop-heard.self bits (take n rest) at n
-          c.loop-heard.invariant.fed (packed_piece packed c.args.from at n) start history log stands
-          (λ events. Stands content start new events (log ++ out.0))
-          (λ events s. out.2 start (events ++ elements (take n rest)) log
-          (subst (Awaits content start c.hear-count.new.self
-          (events ++ elements (take n rest)) log) c.in-Some.is
-          (c.hear-count.ensures.stands start events log s))),
+          out.2 start _ log (fed_over h c.in-Some.over c.in-Some.is start history log stands),
     )
 
 pub returns-then-spell-clause-first : goal.returns-then-spell-clause-first
-returns-then-spell-clause-first g c start history log stands k lt =
-    let content = g.M.Recall.content in
-    let packed = c.args.packed.now in
-    let bits = drop c.args.from packed in
-    let at = c.loop-heard.heard in
-    let n = c.hear-count.result.0 in
-    let rest : List Bool = drop (c.args.from + at) packed in
-    let within : n ≤ length rest =
-    omega (arith, c.hear-count.ensures.within, length-drop (c.args.from + at) packed) in
-    let none = prints_none content c.loop-heard.self rest n within c.hear-count.ensures.first in
-    let all : at + n ≤ length bits =
-    omega (arith, c.hear-count.ensures.within, length-drop c.args.from packed) in
-    fed_before content c.args.self.now c.loop-heard.self bits (take n rest) at n
-    c.loop-heard.invariant.fed (packed_piece packed c.args.from at n) all none start history log
-    stands
-    k lt
+returns-then-spell-clause-first g c =
+    let h = fed_packed g.M.Recall.content c.args.self.now c.loop-heard.self c.hear-count.new.self
+    c.args.packed.now c.args.from c.loop-heard.heard c.hear-count.result.0 c.hear-count.result.1
+    c.loop-heard.invariant.fed c.hear-count.ensures.within
+    (λ start history log s. c.hear-count.ensures.stands start history log s)
+    (λ start history log s k lt. c.hear-count.ensures.first start history log s k lt) in
+    λ start history log stands k lt. fed_before h start history log stands k lt
 
 pub loop-heard-preserved : goal.loop-heard-preserved
 loop-heard-preserved g c =
-    let content = g.M.Recall.content in
-    let packed = c.args.packed.now in
-    let bits = drop c.args.from packed in
-    let at = c.loop-heard.heard in
-    let n = c.hear-count.result.0 in
-    let rest : List Bool = drop (c.args.from + at) packed in
-    let new = c.spell.new.self in
-    let within : n ≤ length rest =
-    omega (arith, c.hear-count.ensures.within, length-drop (c.args.from + at) packed) in
-    let all : at + n ≤ length bits =
-    omega (arith, c.hear-count.ensures.within, length-drop c.args.from packed) in
+    let h = fed_packed g.M.Recall.content c.args.self.now c.loop-heard.self c.hear-count.new.self
+    c.args.packed.now c.args.from c.loop-heard.heard c.hear-count.result.0 c.hear-count.result.1
+    c.loop-heard.invariant.fed c.hear-count.ensures.within
+    (λ start history log s. c.hear-count.ensures.stands start history log s)
+    (λ start history log s k lt. c.hear-count.ensures.first start history log s k lt) in
     let out = c.spell.ensures.stands in
-    let none = subst (λ is. IsSpelled c.args.channel is out.0 c.spell.new.spelled.items)
-    c.if-spell.false out.1 in
-    let done : Finished content c.loop-heard.self new (take n rest) None = record {
-      stands = λ start history log s.
-          subst (λ copies. Stands content start new (history ++ elements (take n rest))
-          (log ++ copies)) none
-          (out.2 start (history ++ elements (take n rest)) log
-          (subst (Awaits content start c.hear-count.new.self
-          (history ++ elements (take n rest)) log) c.in-Some.is
-          (c.hear-count.ensures.stands start history log s)));
-      before = prints_none content c.loop-heard.self rest n within c.hear-count.ensures.first;
-    } in
     record {
-      fed = fed_on content c.args.self.now c.loop-heard.self new bits (take n rest) at n None
-          c.loop-heard.invariant.fed (packed_piece packed c.args.from at n) all done refl;
+      fed = fed_finished h c.spell.new.self c.in-Some.over out.0 c.in-Some.is
+          (λ start history log a. out.2 start history log a)
+          (subst (λ is. IsSpelled c.args.channel is out.0 c.spell.new.spelled.items)
+          c.if-spell.false out.1);
       same = c.spell.ensures.unchanged c.if-spell.false ∙ c.loop-heard.invariant.same;
     }
 
 -- nothing is over, and all was heard
 pub returns-in_default-clause-stands : goal.returns-in_default-clause-stands
 returns-in_default-clause-stands g c =
-    let content = g.M.Recall.content in
-    let packed = c.args.packed.now in
-    let bits = drop c.args.from packed in
-    let at = c.loop-heard.heard in
-    let n = c.hear-count.result.0 in
-    let rest : List Bool = drop (c.args.from + at) packed in
-    let within : n ≤ length rest =
-    omega (arith, c.hear-count.ensures.within, length-drop (c.args.from + at) packed) in
-    let none = prints_none content c.loop-heard.self rest n within c.hear-count.ensures.first in
-    let done = none_finished content c.loop-heard.self c.hear-count.new.self (take n rest)
-    c.hear-count.result.1 c.in_default.is
-    (λ start history log s. c.hear-count.ensures.stands start history log s) none in (
+    let h = fed_packed g.M.Recall.content c.args.self.now c.loop-heard.self c.hear-count.new.self
+    c.args.packed.now c.args.from c.loop-heard.heard c.hear-count.result.0 c.hear-count.result.1
+    c.loop-heard.invariant.fed c.hear-count.ensures.within
+    (λ start history log s. c.hear-count.ensures.stands start history log s)
+    (λ start history log s k lt. c.hear-count.ensures.first start history log s k lt) in (
       [],
       refl,
       λ start history log stands.
-          fed_to content c.args.self.now c.loop-heard.self c.hear-count.new.self bits (take n rest)
-          at n None c.loop-heard.invariant.fed (packed_piece packed c.args.from at n) done start
-          history log stands,
+          fed_no_copy (fed_quiet h c.in_default.is) start history log stands,
     )
 
 -- all was heard
@@ -117,25 +71,14 @@ returns-clause-stands g c = (
   [],
   refl,
   λ start history log stands.
-      subst (Stands g.M.Recall.content start c.loop-heard.self
-      (history ++ elements (take c.loop-heard.heard (drop c.args.from c.args.packed.now))))
-      (sym (append-nil log)) (c.loop-heard.invariant.fed.stands start history log stands),
+      fed_no_copy c.loop-heard.invariant.fed start history log stands,
 )
 
 pub returns-in_default-clause-first : goal.returns-in_default-clause-first
-returns-in_default-clause-first g c start history log stands k lt =
-    let content = g.M.Recall.content in
-    let packed = c.args.packed.now in
-    let bits = drop c.args.from packed in
-    let at = c.loop-heard.heard in
-    let n = c.hear-count.result.0 in
-    let rest : List Bool = drop (c.args.from + at) packed in
-    let within : n ≤ length rest =
-    omega (arith, c.hear-count.ensures.within, length-drop (c.args.from + at) packed) in
-    let none = prints_none content c.loop-heard.self rest n within c.hear-count.ensures.first in
-    let all : at + n ≤ length bits =
-    omega (arith, c.hear-count.ensures.within, length-drop c.args.from packed) in
-    fed_before content c.args.self.now c.loop-heard.self bits (take n rest) at n
-    c.loop-heard.invariant.fed (packed_piece packed c.args.from at n) all none start history log
-    stands
-    k lt
+returns-in_default-clause-first g c =
+    let h = fed_packed g.M.Recall.content c.args.self.now c.loop-heard.self c.hear-count.new.self
+    c.args.packed.now c.args.from c.loop-heard.heard c.hear-count.result.0 c.hear-count.result.1
+    c.loop-heard.invariant.fed c.hear-count.ensures.within
+    (λ start history log s. c.hear-count.ensures.stands start history log s)
+    (λ start history log s k lt. c.hear-count.ensures.first start history log s k lt) in
+    λ start history log stands k lt. fed_before h start history log stands k lt
