@@ -10,9 +10,9 @@ ghost use Rattle.nx_receiver.specs.Log.{is_of_lines};
 ghost use Rattle.nx_sync.specs.declared.step.Role.TheVariants.{Dx as DxRole};
 
 use crate::report_text::{Shown, append_some};
-use nx_code::{Printer, WORDS_AT_ONCE, Word, check_bits};
+use nx_code::{WORDS_AT_ONCE, Word, check_bits};
 use nx_envelope::{Finder, NEWLINE, TextEvent};
-use nx_fec::Diversity;
+use nx_receiver::LockPrinter;
 use nx_sync::Role;
 use std::marker::Model;
 
@@ -23,8 +23,7 @@ use std::marker::Model;
 /// the proved size shows.
 #[derive(Drop)]
 pub(crate) struct LockReader {
-    diversity: Diversity,
-    printer: Printer,
+    printer: LockPrinter,
     finder: Finder,
     words: u64,
     wrong: u64,
@@ -39,8 +38,8 @@ impl Model for LockReader {
     ghost Value = { Reading };
 
     ghost view = { λ r. record {
-      diversity = r.diversity;
-      printer = r.printer;
+      diversity = r.printer.diversity;
+      printer = r.printer.printer;
       finder = r.finder;
       words = r.words;
       wrong = r.wrong;
@@ -51,8 +50,7 @@ impl Model for LockReader {
     // What contracts see gives every field back, so that no field for a history can stand beside
     // them.
     ghost inverse = { λ v. record {
-      diversity = v.diversity;
-      printer = v.printer;
+      printer = record { diversity = v.diversity; printer = v.printer };
       finder = v.finder;
       words = v.words;
       wrong = v.wrong;
@@ -70,8 +68,7 @@ impl LockReader {
         // No room for a field of a type whose own model forgets what it holds.
         prove!(size_of::<LockReader>() == size_of::<Finder>() + 40);
         LockReader {
-            diversity: Diversity::new(),
-            printer: Printer::new(),
+            printer: LockPrinter::new(),
             finder: Finder::new(),
             words: 0,
             wrong: 0,
@@ -116,21 +113,12 @@ impl LockReader {
         ensures { HearsWord self.old self.new word role result }
     {
         self.count(word);
-        match role {
-            Role::Dx => {
-                self.diversity.hear_dx(word);
-                None
+        match self.printer.print(word, role) {
+            Some(byte) => {
+                self.take(byte);
+                Some(byte)
             }
-            Role::Rx => {
-                let class = self.diversity.hear_rx(word);
-                match self.printer.print_class(class) {
-                    Some(byte) => {
-                        self.take(byte);
-                        Some(byte)
-                    }
-                    None => None,
-                }
-            }
+            None => None,
         }
     }
 
@@ -161,13 +149,11 @@ impl LockReader {
         ensures reader { result ≡ false → self.new ≡ self.old }
         ensures shown { result ≡ false → shown.new ≡ shown.old }
     {
-        let (mut diversity, mut printer) = (self.diversity, self.printer);
-        let classes = diversity.eight(words);
-        let four = printer.print_four(&classes);
+        let mut printer = self.printer;
+        let four = printer.print_eight(words);
         if !self.finder.hear_plain(four.bytes, four.count) {
             return false;
         }
-        self.diversity = diversity;
         self.printer = printer;
         self.words = self.words.saturating_add(WORDS_AT_ONCE as u64);
         self.wrong = self.wrong.saturating_add(wrong_among(words));
@@ -212,8 +198,7 @@ impl LockReader {
         ensures fresh { IsFresh self.new }
         ensures copies { self.new.copies ≡ 0 }
     {
-        self.diversity = Diversity::new();
-        self.printer = Printer::new();
+        self.printer = LockPrinter::new();
         self.finder.restart();
         self.words = 0;
         self.wrong = 0;

@@ -2,6 +2,7 @@ pub mod Events
 pub mod FoundCopies
 pub mod InTurn
 pub mod Listener
+pub mod LockPrinter
 pub mod LockText
 pub mod Log
 pub mod Printing

@@ -8,11 +8,12 @@ ghost use Rattle.nx_sync.specs.declared.step.Role.{Role};
 ghost use Rattle.nx_envelope.specs.Copies.{Copy};
 ghost use Rattle.nx_envelope.specs.Finder.{Closes, ClosesHeld, ClosesNone, HasReady, is_over, is_ready};
 ghost use Rattle.nx_envelope.specs.Found.{IsFound};
-ghost use Rattle.nx_receiver.specs.private.LockReader.{AreNext, HearsWord, PrintsPlain, ReadsLock, is_open, text_after};
+ghost use Rattle.nx_receiver.specs.private.LockReader.{HearsWord, PrintsPlain, ReadsLock, is_open};
+ghost use Rattle.nx_receiver.specs.LockText.{AreNext, text_after};
 
-use nx_code::{Printer, WORDS_AT_ONCE, Word};
+use crate::lock_printer::LockPrinter;
+use nx_code::{WORDS_AT_ONCE, Word};
 use nx_envelope::{Finder, Found, FoundHead, TextEvent};
-use nx_fec::Diversity;
 use nx_sync::Role;
 use std::marker::Model;
 
@@ -25,8 +26,7 @@ use std::marker::Model;
 /// shows.
 #[derive(Drop)]
 pub(crate) struct LockReader {
-    diversity: Diversity,
-    printer: Printer,
+    printer: LockPrinter,
     pub(crate) finder: Finder,
 }
 
@@ -36,31 +36,28 @@ impl Model for LockReader {
     ghost Value = { LockReading };
 
     ghost view = { λ r. record {
-      diversity = r.diversity;
-      printer = r.printer;
+      diversity = r.printer.diversity;
+      printer = r.printer.printer;
       finder = r.finder;
     } };
 
     // What contracts see gives every field back, so that no field for a history can stand beside
     // them.
     ghost inverse = { λ v. record {
-      diversity = v.diversity;
-      printer = v.printer;
+      printer = record { diversity = v.diversity; printer = v.printer };
       finder = v.finder;
     } };
 }
 
 impl LockReader {
     /// A reader of a lock of which no word was heard yet.
-    #[tactic(auto, unfolding(crate::specs::private::LockReader::dx_words, crate::specs::LockText::positions))]
     pub(crate) fn new() -> LockReader
         ensures { (first : Role) (words : ℕ → ℕ) → ReadsLock result first words 0 }
     {
         // No room for a field of a type whose own model forgets what it holds.
         prove!(size_of::<LockReader>() == size_of::<Finder>() + 8);
         LockReader {
-            diversity: Diversity::new(),
-            printer: Printer::new(),
+            printer: LockPrinter::new(),
             finder: Finder::new(),
         }
     }
@@ -78,18 +75,9 @@ impl LockReader {
         ensures ready { is_ready self.old.finder ≡ false
             → is_ready self.new.finder ≡ is_over result }
     {
-        match role {
-            Role::Dx => {
-                self.diversity.hear_dx(word);
-                TextEvent::Nothing
-            }
-            Role::Rx => {
-                let class = self.diversity.hear_rx(word);
-                match self.printer.print_class(class) {
-                    Some(byte) => self.finder.hear(byte),
-                    None => TextEvent::Nothing,
-                }
-            }
+        match self.printer.print(word, role) {
+            Some(byte) => self.finder.hear(byte),
+            None => TextEvent::Nothing,
         }
     }
 
@@ -106,13 +94,11 @@ impl LockReader {
             → PrintsPlain (text_after first before n) (text_after first before (n + 8)) }
         ensures same { result ≡ false → self.new ≡ self.old }
     {
-        let (mut diversity, mut printer) = (self.diversity, self.printer);
-        let classes = diversity.eight(words);
-        let four = printer.print_four(&classes);
+        let mut printer = self.printer;
+        let four = printer.print_eight(words);
         if !self.finder.hear_plain(four.bytes, four.count) {
             return false;
         }
-        self.diversity = diversity;
         self.printer = printer;
         true
     }
@@ -132,15 +118,13 @@ impl LockReader {
 
     /// Ends the text; the reader is then as new, for the next lock, but for the copy that stood
     /// open, which can be taken then. Whether there is one.
-    #[tactic(auto, unfolding(crate::specs::private::LockReader::dx_words, crate::specs::LockText::positions))]
     pub(crate) fn close(&mut self) -> bool
         ensures closes { (first : Role) (words : ℕ → ℕ) (n : ℕ) → ReadsLock self.old first words n
             → ClosesHeld (text_after first words n) self.new.finder }
         ensures as_new { (first : Role) (words : ℕ → ℕ) → ReadsLock self.new first words 0 }
         ensures ready { result ≡ is_ready self.new.finder }
     {
-        self.diversity = Diversity::new();
-        self.printer = Printer::new();
+        self.printer = LockPrinter::new();
         self.finder.close();
         self.finder.identity().is_some()
     }
@@ -160,14 +144,12 @@ impl LockReader {
 
     /// Ends the text; the reader is then as new, for the next lock. A copy that stands open or
     /// could be taken is gone.
-    #[tactic(auto, unfolding(crate::specs::private::LockReader::dx_words, crate::specs::LockText::positions))]
     pub(crate) fn restart(&mut self)
         ensures none { (first : Role) (words : ℕ → ℕ) (n : ℕ) → ReadsLock self.old first words n
             → is_open self.old.finder.copy ≡ false → ClosesNone (text_after first words n) }
         ensures as_new { (first : Role) (words : ℕ → ℕ) → ReadsLock self.new first words 0 }
     {
-        self.diversity = Diversity::new();
-        self.printer = Printer::new();
+        self.printer = LockPrinter::new();
         self.finder.restart();
     }
 }

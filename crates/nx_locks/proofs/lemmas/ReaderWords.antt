@@ -4,9 +4,6 @@ use Rattle.std.proofs.Common.{List, [], ◌∷◌, ◌++◌, length, Option, Som
 use Rattle.std.proofs.Common.{ap, ◌∙◌, subst, arith, add-one, append-nil, length-append}
 use Rattle.std.specs.Prelude.{slice_get}
 use Rattle.std.specs.Option.{option_map, option_to_list}
-use Rattle.nx_code.specs.Reading.{shift_after_all, text}
-use Rattle.nx_code.specs.declared.printing.Printer.{Printer}
-use Rattle.nx_code.specs.declared.shifts.Shift.TheVariants.{Letters}
 use Rattle.nx_envelope.specs.private.Reading.{identity_read}
 use Rattle.nx_envelope.specs.Copies.{headers, beginnings, header_at_end}
 use Rattle.nx_envelope.specs.Finder as finders
@@ -14,18 +11,15 @@ use Rattle.nx_envelope.specs.declared.finder.Finder.{Finder}
 use Rattle.nx_envelope.specs.declared.found.TextEvent.{TextEvent}
 use Rattle.nx_envelope.specs.declared.found.TextEvent.TheVariants as events
 use Rattle.nx_envelope.specs.declared.identity.Identity.{Identity}
-use Rattle.nx_fec.specs.emissions.Pairing.{Counted, IsLatest, counts_as}
-use Rattle.nx_fec.specs.declared.emissions.diversity.Diversity.{Diversity}
 use Rattle.nx_code.specs.Word.{is_wrong, wrong_in}
 use Rattle.nx_code.proofs.lemmas.WordCounts.{one_if}
-use Rattle.nx_sync.specs.Words.{role_of}
 use Rattle.nx_sync.specs.declared.step.Role.{Role}
-use Rattle.nx_sync.specs.declared.step.Role.TheVariants.{Dx}
 use Rattle.nx_receiver.specs.Log.{is_of_lines}
+use Rattle.nx_receiver.specs.LockPrinter.{HasPrintedWords, PrintsLock}
 use Rattle.nx_receiver.specs.LockText.{positions}
+use Rattle.nx_receiver.specs.declared.lock_printer.LockPrinter.{LockPrinter}
 use Rattle.nx_receiver.specs.private.LockReader as receiver
-use Rattle.nx_receiver.specs.private.LockReader.{dx_words, text_after}
-use Rattle.nx_receiver.proofs.lemmas.locks.ReaderWords.{HasReadRx, has_read_dx, positions-dx}
+use Rattle.nx_receiver.specs.LockText.{text_after}
 use Rattle.nx_locks.specs.private.Reader.{HasHeard, IsFresh, Reading, ReadsLock, TakesByte, counted}
 use Rattle.nx_locks.specs.private.Reader.{one_more, reading_of}
 
@@ -41,11 +35,11 @@ no_line : is_of_lines [] ≡ true
 unfolding is_of_lines
 no_line = refl
 
-pub fresh_reader : (d : Diversity) (p : Printer) (f : Finder) → IsLatest d []
-    → p ≡ Letters → finders.StandsAfter f []
+pub fresh_reader : (p : LockPrinter) (f : Finder)
+    → ((first : Role) (words : ℕ → ℕ) → PrintsLock p first words 0) → finders.StandsAfter f []
     → IsFresh (record {
-      diversity = d;
-      printer = p;
+      diversity = p.diversity;
+      printer = p.printer;
       finder = f;
       words = 0;
       wrong = 0;
@@ -53,10 +47,14 @@ pub fresh_reader : (d : Diversity) (p : Printer) (f : Finder) → IsLatest d []
           0;
       is_line_open = false;
     })
-unfolding dx_words positions wrong_in
-fresh_reader d p f d_is p_is f_is = record {
+unfolding positions wrong_in
+fresh_reader p f p_is f_is = record {
   fresh = λ first words. record {
-    reads = record { latest = d_is; shift = p_is; finder = f_is };
+    reads = record {
+      latest = (p_is first words).latest;
+      shift = (p_is first words).shift;
+      finder = f_is;
+    };
     words_counted = refl;
     wrong_counted = refl;
     copies_counted = sym (ap (λ l. length (headers l)) (no_text first words) ∙ no_headers);
@@ -105,52 +103,31 @@ is_counted old mid word first words n mid_is r is_word few =
       line = r.line;
     })
 
--- the text is the same after the word
-same_text : (mid : Reading) (d : Diversity) (p : Printer) (first : Role) (words : ℕ → ℕ) (n : ℕ)
-    → IsCounted mid first words n → IsLatest d (dx_words first words (n + 1))
-    → p ≡ shift_after_all (positions first words (n + 1)) Letters
-    → text_after first words (n + 1) ≡ text_after first words n
-    → HasHeard (record mid { diversity = d; printer = p }) first words n None
-same_text mid d p first words n c latest shift same = record {
-  reads = record {
-    reads = record {
-      latest = latest;
-      shift = shift;
-      finder =
-          subst (finders.StandsAfter mid.finder) (sym same) c.reads.finder;
-    };
-    words_counted = c.words_counted;
-    wrong_counted = c.wrong_counted;
-    copies_counted = c.copies_counted ∙ ap (λ l. length (headers l)) (sym same);
-    wrong_few = c.wrong_few;
-    copies_few = omega (arith, c.copies_few);
-    line = c.line ∙ ap (λ l. not (is_of_lines l)) (sym same);
-  };
-  grows = same ∙ sym (append-nil (text_after first words n));
-}
-
--- a DX word prints nothing
-pub heard_dx : (mid : Reading) (d : Diversity) (word : Counted) (first : Role) (words : ℕ → ℕ)
-    (n : ℕ) → IsCounted mid first words n → role_of first n ≡ Dx → word ≡ counts_as (words n)
-    → ((sent : List Counted) → IsLatest mid.diversity sent → IsLatest d (sent ++ word ∷ []))
-    → HasHeard (record mid { diversity = d }) first words n None
-heard_dx mid d word first words n c dx counts stands =
-    let same = positions-dx first words n dx in
-    same_text mid d mid.printer first words n c
-    (subst (IsLatest d) (has_read_dx first words n word dx counts)
-    (stands (dx_words first words n) c.reads.latest))
-    (c.reads.shift ∙ ap (λ l. shift_after_all l Letters) (sym same))
-    (ap (λ l. text l Letters) same)
-
--- an RX word that prints nothing
-pub heard_none : (mid : Reading) (d : Diversity) (p : Printer) (printed : Option ℕ) (first : Role)
-    (words : ℕ → ℕ) (n : ℕ) → IsCounted mid first words n → HasReadRx d p printed first words n
-    → printed ≡ None
-    → HasHeard (record mid { diversity = d; printer = p }) first words n None
-heard_none mid d p printed first words n c rx none =
-    same_text mid d p first words n c rx.latest rx.shift
-    (rx.grows ∙ ap (λ o. text_after first words n ++ option_to_list o) none
-    ∙ append-nil (text_after first words n))
+-- a word that prints nothing
+pub heard_none : (mid : Reading) (p : LockPrinter) (printed : Option ℕ) (first : Role)
+    (words : ℕ → ℕ) (n : ℕ) → IsCounted mid first words n
+    → HasPrintedWords p first words n 1 (option_to_list printed) → printed ≡ None
+    → HasHeard (record mid { diversity = p.diversity; printer = p.printer }) first words n None
+heard_none mid p printed first words n c read none =
+    let grows : text_after first words (n + 1) ≡ text_after first words n ++ [] =
+    read.grows ∙ ap (λ o. text_after first words n ++ option_to_list o) none in
+    let same = grows ∙ append-nil (text_after first words n) in
+    record {
+      reads = record {
+        reads = record {
+          latest = read.stands.latest;
+          shift = read.stands.shift;
+          finder = subst (finders.StandsAfter mid.finder) (sym same) c.reads.finder;
+        };
+        words_counted = c.words_counted;
+        wrong_counted = c.wrong_counted;
+        copies_counted = c.copies_counted ∙ ap (λ l. length (headers l)) (sym same);
+        wrong_few = c.wrong_few;
+        copies_few = omega (arith, c.copies_few);
+        line = c.line ∙ ap (λ l. not (is_of_lines l)) (sym same);
+      };
+      grows = grows;
+    }
 
 get_pushed : (xs : List ℕ) (x : ℕ) → slice_get (xs ++ x ∷ []) (length xs) ≡ Some x
 get_pushed [] x = refl
@@ -165,23 +142,24 @@ line_pushed text byte =
     ap (λ k. unwrap_or (option_map (λ b. eqb b 10) (slice_get (text ++ byte ∷ []) k)) true) place
     ∙ ap (λ (o : Option ℕ). unwrap_or (option_map (λ b. eqb b 10) o) true) (get_pushed text byte)
 
--- an RX word that prints a byte
-pub heard_some : (mid new : Reading) (d : Diversity) (p : Printer) (printed : Option ℕ) (byte : ℕ)
+-- a word that prints a byte
+pub heard_some : (mid new : Reading) (p : LockPrinter) (printed : Option ℕ) (byte : ℕ)
     (first : Role) (words : ℕ → ℕ) (n : ℕ) → IsCounted mid first words n → n + 1 < 2 ^ 64
-    → HasReadRx d p printed first words n → printed ≡ Some byte
-    → TakesByte (record mid { diversity = d; printer = p }) new (text_after first words n) byte
+    → HasPrintedWords p first words n 1 (option_to_list printed) → printed ≡ Some byte
+    → TakesByte (record mid { diversity = p.diversity; printer = p.printer }) new
+    (text_after first words n) byte
     → new ≡ record mid {
-      diversity = d;
-      printer = p;
+      diversity = p.diversity;
+      printer = p.printer;
       finder = new.finder;
       copies =
           new.copies;
       is_line_open = not (eqb byte 10);
     } → HasHeard new first words n (Some byte)
-heard_some mid new d p printed byte first words n c few rx some takes kept =
+heard_some mid new p printed byte first words n c few read some takes kept =
     let so_far = text_after first words n in
     let grows : text_after first words (n + 1) ≡ so_far ++ byte ∷ [] =
-    rx.grows ∙ ap (λ o. so_far ++ option_to_list o) some in
+    read.grows ∙ ap (λ o. so_far ++ option_to_list o) some in
     let now = takes.copies (omega (arith, c.copies_few, takes.few, few)) in
     let copies : new.copies ≡ length (headers (text_after first words (n + 1))) =
     omega (
@@ -196,16 +174,16 @@ heard_some mid new d p printed byte first words n c few rx some takes kept =
           (λ l. length (headers l)) grows,
     ) in
     let made : ReadsLock (record mid {
-      diversity = d;
-      printer = p;
+      diversity = p.diversity;
+      printer = p.printer;
       finder = new.finder;
       copies = new.copies;
       is_line_open =
           not (eqb byte 10);
     }) first words (n + 1) = record {
       reads = record {
-        latest = rx.latest;
-        shift = rx.shift;
+        latest = read.stands.latest;
+        shift = read.stands.shift;
         finder =
             subst (finders.StandsAfter new.finder) (sym grows) takes.stands;
       };

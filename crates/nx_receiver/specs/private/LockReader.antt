@@ -2,14 +2,11 @@
 -- stands (ITU-R M.625, mode B, and M.476 for what is printed). That each lock has a text of its
 -- own, from letters, is this profile's. `first` is the role of word 0 of the lock, and `words`
 -- gives each word's number.
-use Rattle.std.specs.Prelude.{◌≡◌, ◌⊎◌, ◌<◌, ℕ, Bool, true, false, ◌+◌, ◌*◌, zero, suc}
-use Rattle.std.specs.Prelude.{if◌then◌else◌, List, [], ◌∷◌, ◌++◌, length, slice_index}
-use Rattle.nx_code.specs.Reading.{shift_after_all, text}
+use Rattle.std.specs.Prelude.{◌≡◌, ◌⊎◌, ℕ, Bool, true, false, ◌+◌, ◌*◌, List, [], ◌∷◌, ◌++◌}
+use Rattle.nx_code.specs.Reading.{shift_after_all}
 use Rattle.nx_code.specs.declared.shifts.Shift.TheVariants.{Letters}
-use Rattle.nx_fec.specs.emissions.Pairing.{Counted, IsLatest, counts_as}
-use Rattle.nx_sync.specs.Words.{role_of, is_dx}
+use Rattle.nx_fec.specs.emissions.Pairing.{IsLatest}
 use Rattle.nx_sync.specs.declared.step.Role.{Role}
-use Rattle.nx_sync.specs.declared.step.Role.TheVariants.{Dx}
 use Rattle.nx_envelope.specs.Finder.{BringNothing, Hears, StandsAfter}
 use Rattle.nx_envelope.specs.declared.finder.Finder.{Finder}
 use Rattle.nx_envelope.specs.declared.found.HeldCopy.{HeldCopy}
@@ -17,17 +14,7 @@ use Rattle.nx_envelope.specs.declared.found.HeldCopy.TheVariants as held
 use Rattle.nx_envelope.specs.declared.found.TextEvent.{TextEvent}
 use Rattle.nx_envelope.specs.declared.found.TextEvent.TheVariants.{Nothing}
 use Rattle.nx_receiver.specs.Watching.{LockReading}
-use Rattle.nx_receiver.specs.LockText.{positions}
-
--- what the DX words among the first n words count as, oldest first
-unfoldable pub dx_words : Role → (ℕ → ℕ) → ℕ → List Counted
-dx_words first words zero = []
-dx_words first words (suc n) =
-    dx_words first words n ++ (if is_dx (role_of first n) then counts_as (words n) ∷ [] else [])
-
--- the text that the first n words print
-abbrev pub text_after : Role → (ℕ → ℕ) → ℕ → List ℕ
-text_after first words n = text (positions first words n) Letters
+use Rattle.nx_receiver.specs.LockText.{dx_words, positions, text_after}
 
 -- the place of word k of the lock at t: the index of its last bit
 abbrev pub word_place : ℕ → ℕ → ℕ
@@ -62,11 +49,6 @@ pub record PrintsByte (before after : List ℕ) (finder : Finder) (event : TextE
 abbrev pub HearsWord : List ℕ → List ℕ → Finder → TextEvent → Type 0
 HearsWord before after finder event =
     PrintsNothing before after event ⊎ PrintsByte before after finder event
-
--- these words come next in a lock, behind its first n words, and the first of them is a DX word
-pub record AreNext (first : Role) (words : ℕ → ℕ) (n : ℕ) (next : List ℕ) : Type 0 where
-  pub dx : role_of first n ≡ Dx
-  pub are : (k : ℕ) → k < length next → words (n + k) ≡ slice_index next k
 
 -- words add bytes to the text, none of which begins or ends a copy
 pub record PrintsPlain (before after : List ℕ) : Type 0 where

@@ -14,11 +14,10 @@ use Rattle.nx_fec.proofs.lemmas.emissions.Aligned.{dx_words-more}
 use Rattle.nx_sync.specs.Words.{role_of, other_role}
 use Rattle.nx_sync.specs.declared.step.Role.{Role}
 use Rattle.nx_sync.specs.declared.step.Role.TheVariants.{Dx, Rx}
-use Rattle.nx_envelope.specs.Finder.{BringNothing, StandsAfter}
 use Rattle.nx_receiver.specs.LockText.{positions}
-use Rattle.nx_receiver.specs.Watching.{LockReading}
-use Rattle.nx_receiver.specs.private.LockReader.{AreNext, PrintsPlain, ReadsLock, dx_words}
-use Rattle.nx_receiver.specs.private.LockReader.{text_after}
+use Rattle.nx_receiver.specs.LockPrinter.{HasPrintedWords, PrintsLock}
+use Rattle.nx_receiver.specs.declared.lock_printer.LockPrinter.{LockPrinter}
+use Rattle.nx_receiver.specs.LockText.{AreNext, dx_words}
 use Rattle.nx_receiver.proofs.lemmas.locks.ReaderWords.{dx_words-dx, dx_words-rx, positions-dx}
 use Rattle.nx_receiver.proofs.lemmas.locks.ReaderWords.{positions-rx}
 
@@ -60,7 +59,7 @@ module _ (first : Role) (words : ℕ → ℕ) (n : ℕ) (next : List ℕ) (all :
         ∙ ap (λ l. before ++ l) (dx_words-more next 0 i word
         (ap counts_as (all.are (2 * i) h ∙ ap (slice_index next) here)))
 
-    pub dx_words-pairs : (i : ℕ) → 2 * i ≤ length next
+    dx_words-pairs : (i : ℕ) → 2 * i ≤ length next
         → dx_words first words (n + 2 * i) ≡ before ++ aligned.dx_words next 0 i
     unfolding aligned.dx_words
     dx_words-pairs zero h =
@@ -74,7 +73,7 @@ module _ (first : Role) (words : ℕ → ℕ) (n : ℕ) (next : List ℕ) (all :
         ∙ ap (λ j. before ++ aligned.dx_words next 0 j) (add-one i)
 
     -- the positions of the first pairs, by what was taken
-    pub positions-pairs : (taken : List Reception) → ((k : ℕ) (d : Reception) → k < length taken
+    positions-pairs : (taken : List Reception) → ((k : ℕ) (d : Reception) → k < length taken
         → get_or taken k d ≡ pair_of before next k)
         → (i : ℕ) → i ≤ length taken → 2 * i ≤ length next
         → positions first words (n + 2 * i) ≡ positions first words n ++ take i taken
@@ -106,14 +105,8 @@ module _ (first : Role) (words : ℕ → ℕ) (n : ℕ) (next : List ℕ) (all :
         ∙ ap (λ l. so_far ++ l) (sym (take_more taken i d (omega arith)))
         ∙ ap (λ j. so_far ++ take j taken) (add-one i)
 
--- the reader after eight more words, and what these print
-pub record HasReadEight (reader : LockReading) (first : Role) (words : ℕ → ℕ) (n : ℕ)
-    : Type 0 where
-  pub stands : ReadsLock reader first words (n + 8)
-  pub brings : PrintsPlain (text_after first words n) (text_after first words (n + 8))
-
--- a reader that stands after the words before is given eight more
-pub has_read_eight : (old new : LockReading) (classes bytes next : List ℕ) (first : Role)
+-- a printer that stands after the words before is given eight more
+pub has_printed_eight : (old new : LockPrinter) (classes bytes next : List ℕ) (first : Role)
     (words : ℕ → ℕ) (n : ℕ) → length next ≡ 8 → length classes ≡ 4
     → ((sent : List Counted) → IsLatest old.diversity sent
     → IsLatest new.diversity (sent ++ aligned.dx_words next 0 4))
@@ -121,11 +114,10 @@ pub has_read_eight : (old new : LockReading) (classes bytes next : List ℕ) (fi
     → reception_of_class (slice_index classes k) ≡ pair_of sent next k)
     → new.printer ≡ shift_after_all (map reception_of_class classes) old.printer
     → bytes ≡ text (map reception_of_class classes) old.printer
-    → ((text : List ℕ) → StandsAfter old.finder text → StandsAfter new.finder (text ++ bytes))
-    → ((text : List ℕ) → StandsAfter old.finder text → BringNothing text bytes)
-    → ReadsLock old first words n → AreNext first words n next → HasReadEight new first words n
-has_read_eight old new classes bytes next first words n eight four hears takes shifts prints finds
-    brings reads all =
+    → PrintsLock old first words n → AreNext first words n next
+    → HasPrintedWords new first words n 8 bytes
+has_printed_eight old new classes bytes next first words n eight four hears takes shifts prints
+    before all =
     let so_far : List Reception = positions first words n in
     let taken : List Reception = map reception_of_class classes in
     let count : length taken ≡ 4 = length-map classes reception_of_class ∙ four in
@@ -133,26 +125,18 @@ has_read_eight old new classes bytes next first words n eight four hears takes s
     let whole : positions first words (n + 8) ≡ so_far ++ taken =
     positions-pairs first words n next all taken
     (λ k d lt. get_or-map reception_of_class classes k 0 d (omega (arith, lt, count, four))
-    ∙ takes sent reads.latest k (omega (arith, lt, count))) 4 (omega (arith, count))
+    ∙ takes sent before.latest k (omega (arith, lt, count))) 4 (omega (arith, count))
     (omega (arith, eight))
     ∙ ap (λ l. so_far ++ l) (take_all 4 taken (omega (arith, count))) in
-    let grows : text_after first words (n + 8) ≡ text_after first words n ++ bytes =
-    ap (λ l. text l Letters) whole ∙ text-append so_far taken Letters
-    ∙ ap (λ l. text so_far Letters ++ l) (ap (text taken) (sym reads.shift) ∙ sym prints) in
     record {
       stands = record {
         latest = subst (IsLatest new.diversity)
             (sym (dx_words-pairs first words n next all 4 (omega (arith, eight))))
-            (hears sent reads.latest);
-        shift = shifts ∙ ap (shift_after_all taken) reads.shift
+            (hears sent before.latest);
+        shift = shifts ∙ ap (shift_after_all taken) before.shift
             ∙ sym (shift_after_all-append so_far taken Letters)
             ∙ ap (λ l. shift_after_all l Letters) (sym whole);
-        finder = subst (StandsAfter new.finder) (sym grows)
-            (finds (text_after first words n) reads.finder);
       };
-      brings = record {
-        bytes = bytes;
-        grows = grows;
-        nothing = brings (text_after first words n) reads.finder;
-      };
+      grows = ap (λ l. text l Letters) whole ∙ text-append so_far taken Letters
+          ∙ ap (λ l. text so_far Letters ++ l) (ap (text taken) (sym before.shift) ∙ sym prints);
     }

@@ -8,10 +8,9 @@ use Rattle.std.proofs.lemmas.Bool.Decides.{nat_tests}
 use Rattle.std.proofs.Math.Seq.{get_or-append_seam}
 use Rattle.std.specs.Option.{option_to_list}
 use Rattle.nx_code.specs.Reading.{Reception, byte_of, shift_after, shift_after_all, text}
-use Rattle.nx_code.specs.declared.printing.Printer.{Printer}
 use Rattle.nx_code.specs.declared.shifts.Shift.TheVariants.{Letters}
 use Rattle.nx_code.proofs.lemmas.Reading.{reading_push}
-use Rattle.nx_envelope.specs.Finder.{ClosesNone, HoldsCopy, held_identity, is_ready_copy}
+use Rattle.nx_envelope.specs.Finder.{ClosesNone, HoldsCopy, StandsAfter, held_identity, is_ready_copy}
 use Rattle.nx_envelope.specs.declared.found.HeldCopy.{HeldCopy}
 use Rattle.nx_envelope.specs.declared.found.HeldCopy.TheVariants as held
 use Rattle.nx_envelope.proofs.lemmas.finder.Hearing.{closes_none}
@@ -19,12 +18,14 @@ use Rattle.nx_envelope.proofs.lemmas.copies.OneOpenCopy.{open_headers-nil}
 use Rattle.nx_fec.specs.emissions.Pairing.{Counted, IsLatest, nothing, counts_as, pairing, third_last}
 use Rattle.nx_fec.specs.emissions.Pairing.{five_before}
 use Rattle.nx_fec.proofs.lemmas.emissions.Pairing.{third_last-early, third_last-late}
-use Rattle.nx_fec.specs.declared.emissions.diversity.Diversity.{Diversity}
 use Rattle.nx_sync.specs.Words.{role_of, other_role, is_dx}
 use Rattle.nx_sync.specs.declared.step.Role.{Role}
 use Rattle.nx_sync.specs.declared.step.Role.TheVariants.{Dx, Rx}
+use Rattle.nx_receiver.specs.LockPrinter.{HasPrintedWords, PrintsLock}
 use Rattle.nx_receiver.specs.LockText.{taken_at, positions}
-use Rattle.nx_receiver.specs.private.LockReader.{ReadsLock, dx_words, is_open, text_after}
+use Rattle.nx_receiver.specs.declared.lock_printer.LockPrinter.{LockPrinter}
+use Rattle.nx_receiver.specs.private.LockReader.{ReadsLock, is_open}
+use Rattle.nx_receiver.specs.LockText.{dx_words, text_after}
 use Rattle.nx_receiver.specs.Watching.{LockReading}
 
 -- a word of this role, among the DX words
@@ -158,47 +159,84 @@ positions-rx first words n h =
     ∙ ap (λ dx. positions first words n ++ pairing dx rx ∷ [])
     (sym (third_last-dx_words first words n h))
 
--- what is kept of the words after an RX word, and what it printed
-pub record HasReadRx (diversity : Diversity) (printer : Printer) (printed : Option ℕ) (first : Role)
-    (words : ℕ → ℕ) (n : ℕ)
-    : Type 0 where
-  pub latest : IsLatest diversity (dx_words first words (n + 1))
-  pub shift : printer ≡ shift_after_all (positions first words (n + 1)) Letters
-  pub grows : text_after first words (n + 1) ≡ text_after first words n ++ option_to_list printed
-
--- a reader that stands after the words before is given an RX word
-pub has_read_rx : {reader : LockReading} {diversity : Diversity} {printer : Printer}
-    {word : Counted} {position : Reception}
-    {printed : Option ℕ} {first : Role} {words : ℕ → ℕ} {n : ℕ} → ReadsLock reader first words n
+-- a printer that stands after the words before is given an RX word
+pub has_read_rx : {old new : LockPrinter} {word : Counted} {position : Reception}
+    {printed : Option ℕ} {first : Role} {words : ℕ → ℕ} {n : ℕ} → PrintsLock old first words n
     → role_of first n ≡ Rx
     → word ≡ counts_as (words n)
-    → ((sent : List Counted) → IsLatest reader.diversity sent
+    → ((sent : List Counted) → IsLatest old.diversity sent
     → position ≡ pairing (third_last sent) word)
-    → diversity ≡ reader.diversity
-    → printed ≡ byte_of position reader.printer → printer ≡ shift_after position reader.printer
-    → HasReadRx diversity printer printed first words n
-has_read_rx {reader} {diversity} {printer} {position = position} {printed = printed} {first = first}
-    {words = words} {n = n} before rx counts pairs kept prints shifts =
+    → new.diversity ≡ old.diversity
+    → printed ≡ byte_of position old.printer → new.printer ≡ shift_after position old.printer
+    → HasPrintedWords new first words n 1 (option_to_list printed)
+has_read_rx {old} {new} {position = position} {printed = printed} {first = first} {words = words}
+    {n = n} before rx counts pairs kept prints shifts =
     let sent = dx_words first words n in
     let pair : position ≡ pairing (third_last sent) (counts_as (words n)) =
     pairs sent before.latest ∙ ap (pairing (third_last sent)) counts in
     let more : positions first words n ++ position ∷ [] ≡ positions first words (n + 1) =
     ap (λ p. positions first words n ++ p ∷ []) pair ∙ sym (positions-rx first words n rx) in
-    let read = reading_push (positions first words n) position reader.printer printer printed prints
-    shifts before.shift in
+    let read = reading_push (positions first words n) position old.printer new.printer printed
+    prints shifts before.shift in
     record {
-      latest = subst (IsLatest diversity) (sym (dx_words-rx first words n rx))
-          (kept ∙ before.latest);
-      shift = read.0 ∙ ap (λ l. shift_after_all l Letters) more;
+      stands = record {
+        latest = subst (IsLatest new.diversity) (sym (dx_words-rx first words n rx))
+            (kept ∙ before.latest);
+        shift = read.0 ∙ ap (λ l. shift_after_all l Letters) more;
+      };
       grows = ap (λ l. text l Letters) (sym more) ∙ read.1;
     }
 
--- what a DX word adds
-pub has_read_dx : (first : Role) (words : ℕ → ℕ) (n : ℕ) (word : Counted) → role_of first n ≡ Dx
-    → word ≡ counts_as (words n)
-    → dx_words first words n ++ word ∷ [] ≡ dx_words first words (n + 1)
-has_read_dx first words n word dx counts =
-    ap (λ x. dx_words first words n ++ x ∷ []) counts ∙ sym (dx_words-dx first words n dx)
+-- and a DX word, which prints nothing
+pub has_read_dx : {old new : LockPrinter} {word : Counted} {first : Role} {words : ℕ → ℕ} {n : ℕ}
+    → PrintsLock old first words n → role_of first n ≡ Dx → word ≡ counts_as (words n)
+    → ((sent : List Counted) → IsLatest old.diversity sent
+    → IsLatest new.diversity (sent ++ word ∷ []))
+    → new.printer ≡ old.printer → HasPrintedWords new first words n 1 []
+has_read_dx {old} {new} {word = word} {first = first} {words = words} {n = n} before dx counts hears
+    kept =
+    let same = positions-dx first words n dx in
+    let sent : dx_words first words n ++ word ∷ [] ≡ dx_words first words (n + 1) =
+    ap (λ x. dx_words first words n ++ x ∷ []) counts ∙ sym (dx_words-dx first words n dx) in
+    record {
+      stands = record {
+        latest = subst (IsLatest new.diversity) sent
+            (hears (dx_words first words n) before.latest);
+        shift = kept ∙ before.shift ∙ ap (λ l. shift_after_all l Letters) (sym same);
+      };
+      grows = ap (λ l. text l Letters) same ∙ sym (append-nil (text_after first words n));
+    }
+
+-- what prints the words for a reader
+abbrev pub printer_of : LockReading → LockPrinter
+printer_of reader = record { diversity = reader.diversity; printer = reader.printer }
+
+-- a reader stands after the words that its printer printed
+pub prints_lock : {reader : LockReading} {first : Role} {words : ℕ → ℕ} {n : ℕ}
+    → ReadsLock reader first words n → PrintsLock (printer_of reader) first words n
+prints_lock reads = record { latest = reads.latest; shift = reads.shift }
+
+-- and that its finder heard
+pub reads_on : {reader : LockReading} {first : Role} {words : ℕ → ℕ} {n count : ℕ}
+    {bytes : List ℕ} → HasPrintedWords (printer_of reader) first words n count bytes
+    → StandsAfter reader.finder (text_after first words n ++ bytes)
+    → ReadsLock reader first words (n + count)
+reads_on {reader = reader} printed found = record {
+  latest = printed.stands.latest;
+  shift = printed.stands.shift;
+  finder = subst (StandsAfter reader.finder) (sym printed.grows) found;
+}
+
+-- a reader stands after no word, where its printer does, and its finder after no text
+pub fresh_reads : {reader : LockReading}
+    → ((first : Role) (words : ℕ → ℕ) → PrintsLock (printer_of reader) first words 0)
+    → StandsAfter reader.finder [] → (first : Role) (words : ℕ → ℕ) → ReadsLock reader first words 0
+unfolding positions
+fresh_reads prints found first words = record {
+  latest = (prints first words).latest;
+  shift = (prints first words).shift;
+  finder = found;
+}
 
 -- where the copy that the finder holds isn't open, none stands open
 pub not_open : (copy : HeldCopy) (kept text : List ℕ) → is_open copy ≡ false

@@ -20,7 +20,8 @@ use Rattle.nx_receiver.specs.declared.copy_taker.CopyTag.{CopyTag}
 use Rattle.nx_receiver.specs.Events.{Setting}
 use Rattle.nx_receiver.specs.FoundCopies.{FoundCopy, ended_in, past_copies, standing_text}
 use Rattle.nx_receiver.specs.FoundCopies.{ended_so_far, TaggedCopy, tag}
-use Rattle.nx_receiver.specs.private.LockReader.{ReadsLock, dx_words}
+use Rattle.nx_receiver.specs.private.LockReader.{ReadsLock}
+use Rattle.nx_receiver.specs.LockText.{dx_words}
 use Rattle.nx_receiver.specs.Watching.{LockReading}
 use Rattle.nx_receiver.specs.LockText.{PlacedByte, lock_text, text_by}
 use Rattle.nx_receiver.specs.private.Watch.{HasTag, ReadsNow, ReadsOver, copies_by, setting_in}

@@ -19,7 +19,8 @@ use Rattle.nx_receiver.specs.declared.copy_taker.Over.TheVariants as over
 use Rattle.nx_receiver.specs.Events.{Setting}
 use Rattle.nx_receiver.specs.FoundCopies.{ended_in, open_in, past_copies, past_text, standing_text}
 use Rattle.nx_receiver.specs.FoundCopies.{ended_so_far, open_so_far, found_copy, TaggedCopy, tag}
-use Rattle.nx_receiver.specs.private.LockReader.{ReadsLock, text_after}
+use Rattle.nx_receiver.specs.private.LockReader.{ReadsLock}
+use Rattle.nx_receiver.specs.LockText.{text_after}
 use Rattle.nx_receiver.specs.Watching.{LockReading, Watching}
 use Rattle.nx_receiver.specs.LockText.{PlacedByte, bytes_of, text_by}
 use Rattle.nx_receiver.specs.private.Watch.{BothAreOver, CopyIsOver, HasEndedAll, HasTag, IsFresh}

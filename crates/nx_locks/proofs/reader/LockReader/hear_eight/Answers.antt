@@ -1,4 +1,4 @@
-use Rattle.std.proofs.Common.{◌≡◌, ◌+◌, ◌-◌, ◌^◌, ◌∙◌, ap, refl, subst, take, length, rules}
+use Rattle.std.proofs.Common.{◌+◌, ◌-◌, ◌^◌, ◌∙◌, ap, refl, subst, take, rules}
 use Rattle.std.specs.Prelude.{IsTrue, min}
 use Rattle.nx_sync.specs.declared.step.Role.TheVariants.{Dx}
 use Rattle.nx_locks.specs.private.Reader.{Reading, ShowsWords}
@@ -7,14 +7,12 @@ use Rattle.nx_locks.proofs.reader.LockReader.hear_eight.Goals as goal
 
 pub returns-clause-shows : goal.returns-clause-shows
 returns-clause-shows c is =
-    let eight = c.eight-classes in
-    let four = c.print_four-four in
-    let count : length eight.result ≡ 4 = search rules in
+    let four = c.print_eight-four in
     let heard : IsTrue c.hear_plain.result = search rules in
     let i = c.self.inside in
     let old : Reading = record {
-      diversity = i.diversity;
-      printer = i.printer;
+      diversity = i.printer.diversity;
+      printer = i.printer.printer;
       finder = i.finder;
       words = i.words;
       wrong = i.wrong;
@@ -22,8 +20,8 @@ returns-clause-shows c is =
       is_line_open = i.is_line_open;
     } in
     let new : Reading = record {
-      diversity = eight.new.self;
-      printer = four.new.self;
+      diversity = four.new.self.diversity;
+      printer = four.new.self.printer;
       finder = c.hear_plain.new.self;
       words = c.saturating_add-self-inside.result;
       wrong = c.saturating_add-self-inside-2.result;
@@ -33,10 +31,9 @@ returns-clause-shows c is =
     let before = c.args.shown.now.items in
     let after = c.append_some.new.shown.items in
     subst (λ r. ShowsWords r new Dx c.args.words.now before after) c.self.view_is
-    (plain_shown old new eight.result (take four.result.count four.result.bytes) c.args.words.now
-    before after c.told-words count eight.ensures.stands eight.ensures.taken four.ensures.shift
-    four.ensures.printed (c.hear_plain.ensures.stands heard) (c.hear_plain.ensures.brings heard)
-    c.saturating_add-self-inside.ensures
+    (plain_shown old new (take four.result.count four.result.bytes) c.args.words.now before after
+    c.told-words four.ensures.printed (c.hear_plain.ensures.stands heard)
+    (c.hear_plain.ensures.brings heard) c.saturating_add-self-inside.ensures
     (c.saturating_add-self-inside-2.ensures
     ∙ ap (λ n. min (i.wrong + n) (2 ^ 64 - 1)) c.wrong_among.ensures) refl
     c.is_open_after-self-inside.ensures c.append_some.ensures.items)

@@ -2,5 +2,4 @@ use Rattle.nx_locks.proofs.lemmas.ReaderWords.{fresh_reader}
 use Rattle.nx_locks.proofs.reader.LockReader.new.Goals as goal
 
 pub returns-clause-fresh : goal.returns-clause-fresh
-returns-clause-fresh c = fresh_reader c.new.result c.new-2.result c.new-3.result c.new.ensures
-    c.new-2.ensures c.new-3.ensures
+returns-clause-fresh c = fresh_reader c.new.result c.new-2.result c.new.ensures c.new-2.ensures

@@ -1,0 +1,70 @@
+//! What prints the words of a lock. What runs for each word or for eight of them is inlined always,
+//! since its answers would go through memory otherwise.
+
+ghost use Rattle.std.specs.Prelude.{◌≡◌, ◌≤◌, ℕ, take};
+ghost use Rattle.std.specs.Option.{option_to_list};
+ghost use Rattle.nx_receiver.specs.LockPrinter.{HasPrintedWords, PrintsLock};
+ghost use Rattle.nx_receiver.specs.LockText.{AreNext};
+ghost use Rattle.nx_sync.specs.Words.{role_of};
+ghost use Rattle.nx_sync.specs.declared.step.Role.{Role};
+
+use nx_code::{FourPrinted, Printer, WORDS_AT_ONCE, Word};
+use nx_fec::Diversity;
+use nx_sync::Role;
+
+/// Prints the words of a lock, of which it is given one after the other, DX and RX by turns.
+///
+/// It holds the latest three DX words and the shift in force.
+#[derive(Clone, Copy, Debug)]
+pub struct LockPrinter {
+    /// What arrived of the latest three DX words.
+    pub diversity: Diversity,
+    /// What prints the positions, in the shift in force.
+    pub printer: Printer,
+}
+
+impl LockPrinter {
+    /// A printer of a lock of which no word was heard yet.
+    #[tactic(auto, unfolding(crate::specs::LockText::dx_words, crate::specs::LockText::positions))]
+    pub fn new() -> LockPrinter
+        ensures { (first : Role) (words : ℕ → ℕ) → PrintsLock result first words 0 }
+    {
+        LockPrinter {
+            diversity: Diversity::new(),
+            printer: Printer::new(),
+        }
+    }
+
+    /// Takes the next word of the lock, which has that role, and answers the byte that it prints,
+    /// if it prints one.
+    #[inline(always)]
+    pub fn print(&mut self, word: Word, role: Role) -> Option<u8>
+        ensures { (first : Role) (words : ℕ → ℕ) (n : ℕ) → PrintsLock self.old first words n
+            → words n ≡ word → role ≡ role_of first n
+            → HasPrintedWords self.new first words n 1 (option_to_list result) }
+    {
+        match role {
+            Role::Dx => {
+                self.diversity.hear_dx(word);
+                None
+            }
+            Role::Rx => {
+                let class = self.diversity.hear_rx(word);
+                self.printer.print_class(class)
+            }
+        }
+    }
+
+    /// Takes the next eight words of the lock at once, of which the first is a DX word, and answers
+    /// the bytes that they print.
+    #[inline(always)]
+    pub fn print_eight(&mut self, words: &[Word; WORDS_AT_ONCE]) -> FourPrinted
+        ensures printed { (first : Role) (before : ℕ → ℕ) (n : ℕ)
+            → PrintsLock self.old first before n → AreNext first before n words.now
+            → HasPrintedWords self.new first before n 8 (take result.count result.bytes) }
+        ensures count { result.count ≤ 4 }
+    {
+        let classes = self.diversity.eight(words);
+        self.printer.print_four(&classes)
+    }
+}
