@@ -15,9 +15,9 @@ use Rattle.nx_locks.specs.Report.{AreShown, IsNowShown, now_headers, now_locks, 
 use Rattle.nx_locks.specs.ReportText.{closing_lines, opening_line}
 use Rattle.nx_locks.specs.private.Reader.{HearsWord, IsFresh, Reading, ReadsLock, one_more}
 
--- what contracts see of a taker: the reader of the lock's text, the moment, how many elements were
--- heard, locks began, and headers stand in the texts of those that are over, and the bytes that
--- were shown since it was last cleared
+-- What contracts see of a taker: the reader of the lock's text, and the moment. It counts the
+-- elements that were heard, the locks that began, and the headers in the texts of those that are
+-- over; and it has the bytes that were shown since it was last cleared.
 pub record Taking : Type 0 where
   pub reader : Reading
   pub moment : ℕ
