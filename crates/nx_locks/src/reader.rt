@@ -162,6 +162,31 @@ impl LockReader {
         true
     }
 
+    /// Hears the next two words of the lock at once, a DX word and an RX word, as `hear_eight`
+    /// hears eight.
+    // Inlined, as `take_word`.
+    #[inline(always)]
+    pub(crate) fn hear_two(&mut self, words: &[Word; 2], shown: &mut Shown) -> bool
+        requires room { array_vec_len shown.old + 4 ≤ 57856 }
+        ensures few { array_vec_len shown.new ≤ array_vec_len shown.old + 4 }
+        ensures shows { IsTrue result → ShowsWords self.old self.new DxRole words.now
+            shown.old.items shown.new.items }
+        ensures reader { result ≡ false → self.new ≡ self.old }
+        ensures shown { result ≡ false → shown.new ≡ shown.old }
+    {
+        let mut printer = self.printer;
+        let printed = printer.print_two(words);
+        if !self.finder.hear_plain(printed.bytes, printed.count) {
+            return false;
+        }
+        self.printer = printer;
+        self.words = self.words.saturating_add(2);
+        self.wrong = self.wrong.saturating_add(wrong_of_two(words));
+        self.is_line_open = is_open_after(self.is_line_open, &printed.bytes, printed.count);
+        append_some(shown, printed.bytes, printed.count);
+        true
+    }
+
     /// Counts a word.
     #[inline(always)]
     fn count(&mut self, word: Word)
@@ -221,6 +246,14 @@ fn wrong_among(words: &[Word; WORDS_AT_ONCE]) -> u64
         + one_if_wrong(words[6])
         + one_if_wrong(words[7]);
     first_half + second_half
+}
+
+/// How many of two words have the wrong weight.
+#[inline(always)]
+fn wrong_of_two(words: &[Word; 2]) -> u64
+    ensures { result ≡ wrong_in (slice_index words.now) 0 2 }
+{
+    one_if_wrong(words[0]) + one_if_wrong(words[1])
 }
 
 /// 1 for a word of the wrong weight, else 0.

@@ -17,6 +17,9 @@ use std::marker::Model;
 /// How many elements eight words have.
 const EIGHT_WORDS: u64 = (WORDS_AT_ONCE * ELEMENTS) as u64;
 
+/// How many elements two words have.
+const TWO_WORDS: u64 = 2 * ELEMENTS as u64;
+
 /// Takes what the elements bring, and shows their locks.
 ///
 /// It holds what the reader of a lock holds, the moment in force, counts, and what was shown since
@@ -222,6 +225,15 @@ impl StepTaker for LockTaker {
             return false;
         }
         self.elements = self.elements.saturating_add(EIGHT_WORDS);
+        true
+    }
+
+    #[inline(always)]
+    fn take_two(&mut self, words: &[Word; 2]) -> bool {
+        if !self.reader.hear_two(words, &mut self.shown) {
+            return false;
+        }
+        self.elements = self.elements.saturating_add(TWO_WORDS);
         true
     }
 

@@ -39,8 +39,7 @@ impl Model for LockWatch {
 }
 
 impl LockWatch {
-    /// A watch that has heard nothing, at moment 0. Fails where there is no memory for the
-    /// synchroniser.
+    /// A watch that has heard nothing, at moment 0. Fails where no synchroniser is made.
     pub(crate) fn new(alloc: Global) -> Result<LockWatch, AllocError>
         ensures shows { IfOk result (λ watch. WatchShows watch [] [] []) }
         ensures moment { IfOk result (λ watch. watch.taker.moment ≡ 0) }

@@ -127,6 +127,11 @@ impl StepTaker for CopyTaker {
         self.reader.hear_eight(words)
     }
 
+    #[inline(always)]
+    fn take_two(&mut self, words: &[Word; 2]) -> bool {
+        self.reader.hear_two(words)
+    }
+
     ghost none = { heard-none };
 
     ghost both = { heard-both };

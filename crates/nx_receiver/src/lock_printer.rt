@@ -55,6 +55,20 @@ impl LockPrinter {
         }
     }
 
+    /// Takes the next two words of the lock at once, a DX word and an RX word, and answers the byte
+    /// that they print, if they print one.
+    #[inline(always)]
+    pub fn print_two(&mut self, words: &[Word; 2]) -> FourPrinted
+        ensures printed { (first : Role) (before : ℕ → ℕ) (n : ℕ)
+            → PrintsLock self.old first before n → AreNext first before n words.now
+            → HasPrintedWords self.new first before n 2 (take result.count result.bytes) }
+        ensures count { result.count ≤ 1 }
+    {
+        self.diversity.hear_dx(words[0]);
+        let class = self.diversity.hear_rx(words[1]);
+        one_printed(self.printer.print_class(class))
+    }
+
     /// Takes the next eight words of the lock at once, of which the first is a DX word, and answers
     /// the bytes that they print.
     #[inline(always)]
@@ -66,5 +80,23 @@ impl LockPrinter {
     {
         let classes = self.diversity.eight(words);
         self.printer.print_four(&classes)
+    }
+}
+
+/// What one position prints, by the byte that it prints, if it prints one.
+#[inline(always)]
+fn one_printed(byte: Option<u8>) -> FourPrinted
+    ensures printed { take result.count result.bytes ≡ option_to_list byte }
+    ensures count { result.count ≤ 1 }
+{
+    match byte {
+        Some(byte) => FourPrinted {
+            bytes: [byte, 0, 0, 0],
+            count: 1,
+        },
+        None => FourPrinted {
+            bytes: [0; 4],
+            count: 0,
+        },
     }
 }

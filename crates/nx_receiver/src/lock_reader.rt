@@ -103,6 +103,27 @@ impl LockReader {
         true
     }
 
+    /// Hears the next two words of the lock at once, a DX word and an RX word, as `hear_eight`
+    /// hears eight.
+    #[inline(always)]
+    pub(crate) fn hear_two(&mut self, words: &[Word; 2]) -> bool
+        ensures stands { IsTrue result → (first : Role) (before : ℕ → ℕ) (n : ℕ)
+            → ReadsLock self.old first before n → AreNext first before n words.now
+            → ReadsLock self.new first before (n + 2) }
+        ensures brings { IsTrue result → (first : Role) (before : ℕ → ℕ) (n : ℕ)
+            → ReadsLock self.old first before n → AreNext first before n words.now
+            → PrintsPlain (text_after first before n) (text_after first before (n + 2)) }
+        ensures same { result ≡ false → self.new ≡ self.old }
+    {
+        let mut printer = self.printer;
+        let printed = printer.print_two(words);
+        if !self.finder.hear_plain(printed.bytes, printed.count) {
+            return false;
+        }
+        self.printer = printer;
+        true
+    }
+
     /// The copy that the last word ended, where it was not taken yet.
     #[inline(never)]
     pub(crate) fn take_found(&mut self) -> Option<Found>

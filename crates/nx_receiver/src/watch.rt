@@ -53,7 +53,7 @@ impl Model for Watch {
 
 impl Watch {
     /// A watch that has heard nothing, from this moment on, with what is selected at first. Fails
-    /// where there is no memory for the synchroniser.
+    /// where no synchroniser is made.
     pub(crate) fn new(alloc: Global, moment: u64, selection: Selection) -> Result<Watch, AllocError>
         ensures stands { IfOk result (λ w. (first : Setting) → WatchStands first w [] [] []) }
         ensures force { (start : Start) → start.moment ≡ moment → start.refused ≡ selection

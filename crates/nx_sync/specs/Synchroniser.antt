@@ -2,7 +2,7 @@
 -- profile's.
 use Rattle.std.specs.Prelude.{◌≡◌, ℕ, zero, suc, ◌+◌, ◌-◌, ◌*◌, ◌<◌, ◌==◌, nat_le, min}
 use Rattle.std.specs.Prelude.{Bool, false, not, is_some, ◌&&◌, ◌||◌, List, [], ◌∷◌, ◌++◌, length}
-use Rattle.std.specs.Prelude.{replicate, count_by, slice_index, Option, Some, None}
+use Rattle.std.specs.Prelude.{replicate, count_by, Option, Some, None}
 use Rattle.circular_buffer.specs.Buffer.{keep_last}
 use Rattle.nx_sync.specs.declared.step.Role.{Role}
 use Rattle.nx_sync.specs.declared.track.Track.{Track}
@@ -39,20 +39,20 @@ abbrev pub awaits_free_dx : Option Track → Bool
 awaits_free_dx None = false
 awaits_free_dx (Some track) = (track.filled == 0) && is_dx track.role && (track.was_p1 == 0)
 
--- whether one of the words 0, 2, 4 and 6 is phasing signal 1
-abbrev pub has_dx_phasing_1 : List ℕ → Bool
-has_dx_phasing_1 words =
-    (slice_index words 0 == phasing_1) || (slice_index words 2 == phasing_1)
-    || (slice_index words 4 == phasing_1) || (slice_index words 6 == phasing_1)
+-- whether one of the DX words among these, of which the first is one, is phasing signal 1
+unfoldable pub has_dx_phasing_1 : List ℕ → Bool
+has_dx_phasing_1 [] = false
+has_dx_phasing_1 (dx ∷ []) = dx == phasing_1
+has_dx_phasing_1 (dx ∷ rx ∷ words) = (dx == phasing_1) || has_dx_phasing_1 words
 
--- Whether surely none of these eight words, which come next, brings a change: a lock stands between
--- two words, and the first of the eight is a DX word; neither one of the DX words among them nor
--- one of the two before them is phasing signal 1; and where all eight were wrong, there would still
--- be fewer wrong words than lose the lock.
+-- Whether surely none of these words, which come next, brings a change: a lock stands between two
+-- words, and the first of them is a DX word; neither one of the DX words among them nor one of the
+-- two before them is phasing signal 1; and where all of them were wrong, there would still be fewer
+-- wrong words than lose the lock.
 abbrev pub keeps_lock : Held → List ℕ → Bool
 keeps_lock held words =
     awaits_free_dx held.track && not (has_dx_phasing_1 words)
-    && nat_le (count_by (λ b. b) held.wrong + 8 + 1) losing_count
+    && nat_le (count_by (λ b. b) held.wrong + length words + 1) losing_count
 
 -- whether each of the first n words is wrong
 unfoldable pub wrong_marks : (ℕ → ℕ) → ℕ → List Bool

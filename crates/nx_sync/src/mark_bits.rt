@@ -94,12 +94,13 @@ impl Marks {
         self.wrong_count() >= LOSING_COUNT
     }
 
-    /// Whether fewer would be set than lose the lock, if eight more words were wrong.
+    /// Whether fewer would be set than lose the lock, if so many more words were wrong.
     #[inline(always)]
-    pub(crate) fn keeps_lock_for_eight(&self) -> bool
-        ensures { result ≡ nat_le (count_by (λ b. b) self.now + 8 + 1) losing_count }
+    pub(crate) fn keeps_lock_for(&self, count: usize) -> bool
+        requires { count ≤ 8 }
+        ensures { result ≡ nat_le (count_by (λ b. b) self.now + count + 1) losing_count }
     {
-        self.wrong_count() + (EIGHT as u32) < LOSING_COUNT
+        self.wrong_count() + (count as u32) < LOSING_COUNT
     }
 }
 

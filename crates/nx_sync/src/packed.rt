@@ -10,7 +10,7 @@ ghost use Rattle.nx_sync.specs.private.Windows as spec;
 ghost use Rattle.nx_sync.specs.private.Windows.{IsBeforeLockIn};
 
 use crate::phasing::{is_block, is_lock_window};
-use crate::track::EIGHT;
+use crate::track::{EIGHT, TWO};
 use crate::windows_after::{joined, window_after_number};
 use nx_code::{ELEMENTS, Word, elements_at, packed_word, words_of};
 
@@ -33,6 +33,16 @@ pub(crate) fn word_in(numbers: &[u64], place: usize) -> Word
     ensures { elements result ≡ packed_part numbers.now place 7 }
 {
     packed_word(elements_at(numbers, place, ELEMENTS))
+}
+
+/// The two words of the 14 elements from a place on.
+#[inline(always)]
+pub(crate) fn two_words_in(numbers: &[u64], place: usize) -> [Word; TWO]
+    requires { place + 14 ≤ packed_elements * length numbers.now }
+    ensures { flat_map elements result ≡ packed_part numbers.now place 14 }
+{
+    let both = elements_at(numbers, place, TWO * ELEMENTS);
+    [packed_word(both % 128), packed_word(both >> ELEMENTS)]
 }
 
 /// The eight words of the 56 elements from a place on.

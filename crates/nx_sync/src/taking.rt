@@ -10,15 +10,18 @@ ghost use Rattle.nx_code.specs.Word.{elements};
 ghost use Rattle.nx_sync.specs.Synchroniser.{Held, is_between_words, is_hunting};
 ghost use Rattle.nx_sync.specs.Taking.{BringsStep, BringsWords, IsTaken};
 
-use crate::packed::{eight_words_in, element, word_in};
+use crate::packed::{eight_words_in, element, two_words_in, word_in};
 use crate::step::Step;
 use crate::synchroniser::Synchroniser;
-use crate::track::EIGHT;
+use crate::track::{EIGHT, TWO};
 use crate::word_synchroniser::WordSynchroniser;
 use nx_code::{ELEMENTS, Word};
 
 /// How many elements eight words have.
 const EIGHT_WORDS: usize = EIGHT * ELEMENTS;
+
+/// How many elements two words have.
+const TWO_WORDS: usize = TWO * ELEMENTS;
 
 /// Takes what the elements bring that a synchroniser hears, in order.
 pub trait StepTaker {
@@ -49,6 +52,15 @@ pub trait StepTaker {
         ensures hears { IsTrue result → (old new : Held) → BringsWords old new words.now
             → hears old self.old (flat_map elements words.now) new self.new None }
         ensures can { (more : ℕ) → can_take self.old (56 + more) → can_take self.new more }
+        ensures same { result ≡ false → self.new ≡ self.old };
+
+    /// Takes two words of a lock that bring no change, a DX word and an RX word, as `take_eight`
+    /// takes eight.
+    fn take_two(&mut self, words: &[Word; TWO]) -> bool
+        requires can { can_take self.old 14 }
+        ensures hears { IsTrue result → (old new : Held) → BringsWords old new words.now
+            → hears old self.old (flat_map elements words.now) new self.new None }
+        ensures can { (more : ℕ) → can_take self.old (14 + more) → can_take self.new more }
         ensures same { result ≡ false → self.new ≡ self.old };
 
     /// No elements bring nothing.
@@ -230,9 +242,67 @@ impl WordSynchroniser {
     }
 
     /// Hears the next eight words of these elements at once, where they are there and neither the
-    /// lock nor anything for the taker is over with them, else the next word.
+    /// lock nor anything for the taker is over with them; else as many by twos and ones.
     #[inline(always)]
     fn hear_some<T: StepTaker>(
+        &mut self,
+        taker: &mut T,
+        numbers: &[u64],
+        from: usize,
+        count: usize,
+    ) -> (usize, Option<T::Over>)
+        requires limit { IsTrue (is_between_words self.old) }
+        requires some { 7 ≤ count }
+        requires room { from + count ≤ packed_elements * length numbers.now }
+        requires counted { from + count < 2 ^ 64 }
+        requires can { T.can_take taker.old count }
+        ensures within { result.0 ≤ count }
+        ensures some { 0 < result.0 }
+        ensures taken { IsTaken T.hears T.can_take self.old taker.old
+            (take result.0 (packed_part numbers.now from count)) self.new taker.new result.1 }
+    {
+        if count >= EIGHT_WORDS {
+            if self.hear_eight(taker, &eight_words_in(numbers, from)) {
+                return (EIGHT_WORDS, None);
+            }
+        }
+        self.hear_few(taker, numbers, from, count.min(EIGHT_WORDS))
+    }
+
+    /// Hears whole words of these elements as `hear` does, but by twos and ones alone.
+    #[inline(always)]
+    fn hear_few<T: StepTaker>(
+        &mut self,
+        taker: &mut T,
+        numbers: &[u64],
+        from: usize,
+        count: usize,
+    ) -> (usize, Option<T::Over>)
+        requires limit { IsTrue (is_between_words self.old) }
+        requires some { 7 ≤ count }
+        requires room { from + count ≤ packed_elements * length numbers.now }
+        requires counted { from + count < 2 ^ 64 }
+        requires can { T.can_take taker.old count }
+        ensures within { result.0 ≤ count }
+        ensures some { 0 < result.0 }
+        ensures taken { IsTaken T.hears T.can_take self.old taker.old
+            (take result.0 (packed_part numbers.now from count)) self.new taker.new result.1 }
+    {
+        let mut heard = 0;
+        while count - heard >= ELEMENTS {
+            let (part, over) = self.hear_word(taker, numbers, from + heard, count - heard);
+            heard += part;
+            if over.is_some() | !self.is_between_words() {
+                return (heard, over);
+            }
+        }
+        (heard, None)
+    }
+
+    /// Hears the next two words of these elements at once, where they are there and neither the
+    /// lock nor anything for the taker is over with them, else the next word.
+    #[inline(always)]
+    fn hear_word<T: StepTaker>(
         &mut self,
         taker: &mut T,
         numbers: &[u64],
@@ -248,13 +318,35 @@ impl WordSynchroniser {
         ensures taken { IsTaken T.hears T.can_take self.old taker.old
             (take result.0 (packed_part numbers.now from count)) self.new taker.new result.1 }
     {
-        if count >= EIGHT_WORDS {
-            if self.hear_eight(taker, &eight_words_in(numbers, from)) {
-                return (EIGHT_WORDS, None);
+        if count >= TWO_WORDS {
+            if self.hear_two(taker, &two_words_in(numbers, from)) {
+                return (TWO_WORDS, None);
             }
         }
         let step = self.push(word_in(numbers, from));
         (ELEMENTS, taker.take(ELEMENTS, step))
+    }
+
+    /// Hears these two words, which come next, at once, where neither the lock nor anything for the
+    /// taker is over with them: `true` where it did. Else nothing changed.
+    #[inline(always)]
+    fn hear_two<T: StepTaker>(&mut self, taker: &mut T, words: &[Word; TWO]) -> bool
+        requires limit { IsTrue (is_between_words self.old) }
+        requires can { T.can_take taker.old 14 }
+        ensures taken { IsTrue result → IsTaken T.hears T.can_take self.old taker.old
+            (flat_map elements words.now) self.new taker.new None }
+        ensures limit { IsTrue (is_between_words self.new) }
+        ensures same { result ≡ false → self.new ≡ self.old }
+        ensures same_taker { result ≡ false → taker.new ≡ taker.old }
+    {
+        if !self.keeps_lock_for_two(words) {
+            return false;
+        }
+        if !taker.take_two(words) {
+            return false;
+        }
+        self.push_two(words);
+        true
     }
 
     /// Hears these eight words, which come next, at once, where neither the lock nor anything for

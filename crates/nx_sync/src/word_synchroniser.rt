@@ -9,14 +9,13 @@ ghost use Rattle.nx_code.specs.Word.{elements};
 ghost use Rattle.nx_sync.specs.Locks.{pattern_elements};
 ghost use Rattle.nx_sync.specs.Steps.{IsWordStep, AreQuietWords};
 ghost use Rattle.nx_sync.specs.private.Calls.{held_at_words};
-ghost use Rattle.nx_sync.specs.private.Eight.{after_eight};
 ghost use Rattle.nx_sync.specs.Synchroniser as held;
 ghost use Rattle.nx_sync.specs.Synchroniser.{StandsAfter, is_between_words, keeps_lock};
 
 use crate::mark_bits::Marks;
 use crate::phasing::PHASING_1;
 use crate::step::Step;
-use crate::track::{EIGHT, Track};
+use crate::track::{EIGHT, TWO, Track};
 use crate::windows_after::{next_word_window, window_after_eight};
 use nx_code::{Word, check_bits};
 use std::marker::Model;
@@ -133,6 +132,35 @@ impl WordSynchroniser {
         step
     }
 
+    /// Whether surely neither of the next two words, if they are these, brings a change, so that
+    /// `push_two` may hear them. It says no where `keeps_lock` does, but to some in a lock that is
+    /// nearly lost.
+    #[inline(always)]
+    pub(crate) fn keeps_lock_for_two(&self, words: &[Word; TWO]) -> bool
+        ensures { result ≡ keeps_lock self.now words.now }
+    {
+        let Some(track) = self.track else {
+            return false;
+        };
+        track.awaits_free_dx() & (words[0].number() != PHASING_1) & self.marks.keeps_lock_for(TWO)
+    }
+
+    /// Hears two words, a DX word and an RX word: what `push` does of one after the other. Neither
+    /// of them brings a change.
+    #[inline(always)]
+    pub(crate) fn push_two(&mut self, words: &[Word; TWO])
+        requires { IsTrue (keeps_lock self.old words.now) }
+        ensures stands { (h : List Bool) → StandsAfter self.old h
+            → StandsAfter self.new (h ++ flat_map elements words.now) }
+        ensures steps { (h : List Bool) → StandsAfter self.old h → AreQuietWords h Dx words.now }
+        ensures between { IsTrue (is_between_words self.new) }
+    {
+        // The track stays, as behind eight words.
+        self.recent = next_word_window(next_word_window(self.recent, words[0]), words[1]);
+        self.marks.push(!check_bits(words[0]));
+        self.marks.push(!check_bits(words[1]));
+    }
+
     /// Whether surely none of the next eight words, if they are these, brings a change, so that
     /// `push_eight` may hear them. It says no to some that bring none: where a lock is in phasing
     /// the other way round, where a DX word is phasing signal 1, and in a lock that is nearly lost.
@@ -143,7 +171,7 @@ impl WordSynchroniser {
         let Some(track) = self.track else {
             return false;
         };
-        track.awaits_free_dx() & !has_dx_phasing_1(words) & self.marks.keeps_lock_for_eight()
+        track.awaits_free_dx() & !has_dx_phasing_1(words) & self.marks.keeps_lock_for(EIGHT)
     }
 
     /// Hears eight words, the first of which is a DX word: what `push` does of one after the other.

@@ -1,5 +1,5 @@
--- Eight words of a lock that a reader reads at once, where none of the bytes that they print begins
--- or ends a copy.
+-- Words of a lock that a reader reads at once, where none of the bytes that they print begins or
+-- ends a copy.
 use Rattle.std.proofs.Common.{◌≡◌, ℕ, suc, ◌+◌, ◌-◌, ◌^◌, ◌<◌, ◌≤◌, eqb, not, List, [], ◌∷◌, ◌++◌}
 use Rattle.std.proofs.Common.{length, take, get_or, sym, ap, ◌∙◌, subst, append_assoc}
 use Rattle.std.proofs.Common.{append-nil, arith, slice_index}
@@ -36,6 +36,12 @@ unfolding wrong_in
 sum_of_wrong words a b c d e f g h ea eb ec ed ee ef eg eh =
     omega (arith, ea, eb, ec, ed, ee, ef, eg, eh)
 
+-- what the wrong ones of two words count
+pub sum_of_two : (words : List ℕ) (a b : ℕ) → a ≡ one_if (is_wrong (slice_index words 0))
+    → b ≡ one_if (is_wrong (slice_index words 1)) → a + b ≡ wrong_in (slice_index words) 0 2
+unfolding wrong_in
+sum_of_two words a b ea eb = omega (arith, ea, eb)
+
 headers_plain : (text bytes : List ℕ) → BringNothing text bytes
     → headers (text ++ bytes) ≡ headers text
 headers_plain text [] none = ap headers (append-nil text)
@@ -65,21 +71,22 @@ pub no_more_lines : (text bytes : List ℕ) (count : ℕ) → count ≡ 0
 no_more_lines text bytes count none =
     ap (λ k. is_of_lines (text ++ take k bytes)) none ∙ ap is_of_lines (append-nil text)
 
--- a reader that reads eight words at once, and appends what they print
-pub plain_shown : (old new : Reading) (bytes next given after : List ℕ) → length next ≡ 8
+-- a reader that reads so many words at once, and appends what they print
+pub plain_shown : (old new : Reading) (bytes next given after : List ℕ) (count : ℕ)
+    → length next ≡ count
     → ((first : Role) (words : ℕ → ℕ) (n : ℕ)
     → PrintsLock (printer_of (reading_of old)) first words n → AreNext first words n next
-    → HasPrintedWords (printer_of (reading_of new)) first words n 8 bytes)
+    → HasPrintedWords (printer_of (reading_of new)) first words n count bytes)
     → ((text : List ℕ) → StandsAfter old.finder text → StandsAfter new.finder (text ++ bytes))
     → ((text : List ℕ) → StandsAfter old.finder text → BringNothing text bytes)
-    → new.words ≡ min (old.words + 8) (2 ^ 64 - 1)
-    → new.wrong ≡ min (old.wrong + wrong_in (slice_index next) 0 8) (2 ^ 64 - 1)
+    → new.words ≡ min (old.words + count) (2 ^ 64 - 1)
+    → new.wrong ≡ min (old.wrong + wrong_in (slice_index next) 0 count) (2 ^ 64 - 1)
     → new.copies ≡ old.copies
     → ((text : List ℕ) → old.is_line_open ≡ not (is_of_lines text)
     → new.is_line_open ≡ not (is_of_lines (text ++ bytes)))
     → after ≡ given ++ bytes → ShowsWords old new Dx next given after
-plain_shown old new bytes next given after eight prints finds brings words_are wrong_are copies_are
-    line spelled = record {
+plain_shown old new bytes next given after count size prints finds brings words_are wrong_are
+    copies_are line spelled = record {
       printed = bytes;
       spelled = spelled;
       hears = record {
@@ -89,33 +96,33 @@ plain_shown old new bytes next given after eight prints finds brings words_are w
             let was : List ℕ = text_after first words n in
             let read = prints first words n (prints_lock r.reads) all in
             let grows = read.grows in
-            let wrong : wrong_in words n 8 ≡ wrong_in (slice_index next) 0 8 =
-            wrong_in-same words (slice_index next) n 0 8
+            let wrong : wrong_in words n count ≡ wrong_in (slice_index next) 0 count =
+            wrong_in-same words (slice_index next) n 0 count
             (λ k lt. let same : k ≡ 0 + k = omega arith in
-            is_word k (omega (arith, lt, eight)) ∙ ap (slice_index next) same) in
-            let start : wrong_in words (0 + n) 8 ≡ wrong_in words n 8 =
-            let e : 0 + n ≡ n = omega arith in ap (λ i. wrong_in words i 8) e in
-            let some = wrong_in-le (slice_index next) 0 8 in
-            let headers_stay : length (headers (text_after first words (n + 8)))
+            is_word k (omega (arith, lt, size)) ∙ ap (slice_index next) same) in
+            let start : wrong_in words (0 + n) count ≡ wrong_in words n count =
+            let e : 0 + n ≡ n = omega arith in ap (λ i. wrong_in words i count) e in
+            let some = wrong_in-le (slice_index next) 0 count in
+            let headers_stay : length (headers (text_after first words (n + count)))
             ≡ length (headers was) =
             ap (λ l. length (headers l)) grows
             ∙ ap length (headers_plain was bytes (brings was r.reads.finder)) in
-            let made : HasHeardWords new first words n 8 bytes = record {
+            let made : HasHeardWords new first words n count bytes = record {
               grows = grows;
               reads = record {
                 reads = reads_on read (finds was r.reads.finder);
-                words_counted = omega (arith, words_are, r.words_counted, few, eight);
+                words_counted = omega (arith, words_are, r.words_counted, few, size);
                 wrong_counted = omega (
                   arith,
                   wrong_are,
                   r.wrong_counted,
                   r.wrong_few,
                   few,
-                  eight,
+                  size,
                   wrong,
                   start,
                   some,
-                  wrong_in-add words 0 n 8,
+                  wrong_in-add words 0 n count,
                 );
                 copies_counted = copies_are ∙ r.copies_counted ∙ sym headers_stay;
                 wrong_few = omega (arith, wrong_are, r.wrong_few, some);
@@ -123,6 +130,6 @@ plain_shown old new bytes next given after eight prints finds brings words_are w
                 line = line was r.line ∙ ap (λ l. not (is_of_lines l)) (sym grows);
               };
             } in
-            subst (λ (m : ℕ). HasHeardWords new first words n m bytes) (sym eight) made;
+            subst (λ (m : ℕ). HasHeardWords new first words n m bytes) (sym size) made;
       };
     }

@@ -2,7 +2,7 @@
 -- and what one word more adds to the positions.
 use Rattle.std.proofs.Common.{◌≡◌, ℕ, false, is_some, Option, zero, suc, ◌+◌, ◌-◌, ◌*◌, ◌<◌, ◌≤◌}
 use Rattle.std.proofs.Common.{cond, List, [], ◌∷◌, ◌++◌, length, get_or, inl, inr, refl, sym, ap}
-use Rattle.std.proofs.Common.{◌∙◌, subst, add-one, append_assoc, append-nil, length-append, arith}
+use Rattle.std.proofs.Common.{◌∙◌, subst, add-one, append_assoc, append-nil, length-append, arith, slice_index}
 use Rattle.std.proofs.lemmas.Bool.{cases_lt}
 use Rattle.std.proofs.lemmas.Bool.Decides.{nat_tests}
 use Rattle.std.proofs.Math.Seq.{get_or-append_seam}
@@ -22,7 +22,7 @@ use Rattle.nx_sync.specs.Words.{role_of, other_role, is_dx}
 use Rattle.nx_sync.specs.declared.step.Role.{Role}
 use Rattle.nx_sync.specs.declared.step.Role.TheVariants.{Dx, Rx}
 use Rattle.nx_receiver.specs.LockPrinter.{HasPrintedWords, PrintsLock}
-use Rattle.nx_receiver.specs.LockText.{taken_at, positions}
+use Rattle.nx_receiver.specs.LockText.{AreNext, taken_at, positions}
 use Rattle.nx_receiver.specs.declared.lock_printer.LockPrinter.{LockPrinter}
 use Rattle.nx_receiver.specs.private.LockReader.{ReadsLock, is_open}
 use Rattle.nx_receiver.specs.LockText.{dx_words, text_after}
@@ -206,6 +206,45 @@ has_read_dx {old} {new} {word = word} {first = first} {words = words} {n = n} be
       };
       grows = ap (λ l. text l Letters) same ∙ sym (append-nil (text_after first words n));
     }
+
+-- words that were printed behind others
+pub has_printed_more : {mid new : LockPrinter} {first : Role} {words : ℕ → ℕ} {n k m : ℕ}
+    {some more : List ℕ} → HasPrintedWords mid first words n k some
+    → HasPrintedWords new first words (n + k) m more
+    → HasPrintedWords new first words n (k + m) (some ++ more)
+has_printed_more {new = new} {first = first} {words = words} {n = n} {k = k} {m = m} {some = some}
+    {more = more} one rest =
+    let e : n + k + m ≡ n + (k + m) = omega arith in
+    record {
+      stands = subst (PrintsLock new first words) e rest.stands;
+      grows = ap (text_after first words) (sym e)
+          ∙ (rest.grows ∙ (ap (λ l. l ++ more) one.grows
+          ∙ append_assoc (text_after first words n) some more));
+    }
+
+-- a DX word and an RX word, given one after the other
+pub has_read_two : {old mid new : LockPrinter} {position : Reception} {printed : Option ℕ}
+    {first : Role} {words : ℕ → ℕ} {n : ℕ} (next : List ℕ) → length next ≡ 2
+    → PrintsLock old first words n → AreNext first words n next
+    → ((sent : List Counted) → IsLatest old.diversity sent
+    → IsLatest mid.diversity (sent ++ counts_as (slice_index next 0) ∷ []))
+    → mid.printer ≡ old.printer
+    → ((sent : List Counted) → IsLatest mid.diversity sent
+    → position ≡ pairing (third_last sent) (counts_as (slice_index next 1)))
+    → new.diversity ≡ mid.diversity
+    → printed ≡ byte_of position mid.printer → new.printer ≡ shift_after position mid.printer
+    → HasPrintedWords new first words n 2 (option_to_list printed)
+unfolding role_of
+has_read_two {first = first} {words = words} {n = n} next two before all hears kept pairs same
+    prints shifts =
+    let e : n + 0 ≡ n = omega arith in
+    let dx : words n ≡ slice_index next 0 =
+    ap words (sym e) ∙ all.are 0 (omega (arith, two)) in
+    let rx : role_of first (n + 1) ≡ Rx = ap (role_of first) (add-one n) ∙ ap other_role all.dx in
+    let one = has_read_dx before all.dx (ap counts_as (sym dx)) hears kept in
+    let rest = has_read_rx one.stands rx
+    (ap counts_as (sym (all.are 1 (omega (arith, two))))) pairs same prints shifts in
+    has_printed_more one rest
 
 -- what prints the words for a reader
 abbrev pub printer_of : LockReading → LockPrinter

@@ -1,4 +1,4 @@
--- Eight words of a lock that a taker takes at once, where none of them brings anything.
+-- Words of a lock that a taker takes at once, where none of them brings anything.
 use Rattle.std.proofs.Common.{◌≡◌, ℕ, zero, suc, ◌+◌, ◌*◌, ◌<◌, ◌≤◌, Bool, false, List, [], ◌∷◌}
 use Rattle.std.proofs.Common.{◌++◌, length, take, drop, get_or, Some, None, refl, sym, ap, ◌∙◌}
 use Rattle.std.proofs.Common.{subst, arith, append_assoc, append-nil, add-one, map, slice_index}
@@ -264,18 +264,19 @@ none_ended first h more s later some copies locks newer now next was is many bef
     length-nil [] e = refl
     length-nil (x ∷ xs) e = absurd (omega arith)
 
--- a reader that heard eight words, of which none begins or ends a copy
-pub record ReadsEight (old new : LockReading) (next : List ℕ) : Type 0 where
+-- a reader that heard so many words, of which none begins or ends a copy
+pub record ReadsPlain (old new : LockReading) (next : List ℕ) (count : ℕ) : Type 0 where
   pub stands : (first : Role) (words : ℕ → ℕ) (n : ℕ) → ReadsLock old first words n
-      → AreNext first words n next → ReadsLock new first words (n + 8)
+      → AreNext first words n next → ReadsLock new first words (n + count)
   pub brings : (first : Role) (words : ℕ → ℕ) (n : ℕ) → ReadsLock old first words n
       → AreNext first words n next
-      → PrintsPlain (text_after first words n) (text_after first words (n + 8))
+      → PrintsPlain (text_after first words n) (text_after first words (n + count))
 
--- Eight words come after these elements.
+-- So many words come after these elements.
 module _ (first : Setting) (h : List Bool) (s : List Setting) (old : Watching)
-    (reader : LockReading) (next : List ℕ) (eight : length next ≡ 8)
-    (quiet : AreQuietWords h Dx next) (reads : ReadsEight old.reader reader next)
+    (reader : LockReading) (next : List ℕ) (count : ℕ) (some : 0 < count)
+    (size : length next ≡ count) (quiet : AreQuietWords h Dx next)
+    (reads : ReadsPlain old.reader reader next count)
     (many : length s ≡ length h) where
   abbrev more : List Bool
   more = flat_map elements next
@@ -308,36 +309,36 @@ module _ (first : Setting) (h : List Bool) (s : List Setting) (old : Watching)
       )
 
   -- nothing has ended with them, and the reader and the tag stand after them
-  eight_over : (locks : List Lock) (p t m : ℕ) → IsNow h locks (locked p t)
+  words_over : (locks : List Lock) (p t m : ℕ) → IsNow h locks (locked p t)
       → length h ≡ t + 7 * m → ReadsNow old.reader h (locked p t)
       → HasTag first s (standing_text h (locked p t)) old.tag
       → ReadsOver first reader old.tag h' s'
       (copies_by first s (ended_so_far h locks (locked p t)))
   unfolding ended_so_far
-  eight_over locks p t m now limit stood has_tag =
+  words_over locks p t m now limit stood has_tag =
       let still = still_words next h Dx locks p t m now limit quiet in
       let here = now.found.here in
       let heard : t + 7 * m ≤ length h = omega (arith, limit) in
       let was : whole_words h t ≡ m = omega (arith, limit) in
-      let is : m + 8 ≡ whole_words h' t =
-      omega (arith, limit, eight, long next, length-append h more) in
+      let is : m + count ≡ whole_words h' t =
+      omega (arith, limit, size, long next, length-append h more) in
       let role : Role = first_role h' t in
       let words : ℕ → ℕ = word_of_lock h' t in
       let text : List PlacedByte = lock_text h t m in
       let at : ReadsLock old.reader role words m = reads-more old.reader h more t m here heard
       (subst (ReadsLock old.reader (first_role h t) (word_of_lock h t)) was stood) in
       let all : AreNext role words m next =
-      record { dx = still.role (omega (arith, eight)); are = still.are } in
+      record { dx = still.role (omega (arith, some, size)); are = still.are } in
       let plain = reads.brings role words m at all in
-      let grows = text_by-grows role words t m (m + 8) (omega arith) in
+      let grows = text_by-grows role words t m (m + count) (omega arith) in
       let same : text_by role words t m ≡ text = lock_text-more h more t m here heard in
-      let whole : lock_text h' t (m + 8) ≡ text ++ grows.rest =
+      let whole : lock_text h' t (m + count) ≡ text ++ grows.rest =
       grows.whole ∙ ap (λ l. l ++ grows.rest) same in
       let before : bytes_of text ≡ text_after role words m =
       ap bytes_of (sym same) ∙ bytes_are_reading role words t m in
       let bytes : plain.bytes ≡ bytes_of grows.rest =
       append_cancel_left (text_after role words m) plain.bytes (bytes_of grows.rest)
-      (sym plain.grows ∙ sym (bytes_are_reading role words t (m + 8)) ∙ ap bytes_of whole
+      (sym plain.grows ∙ sym (bytes_are_reading role words t (m + count)) ∙ ap bytes_of whole
       ∙ bytes_of-append text grows.rest ∙ ap (λ l. l ++ bytes_of grows.rest) before) in
       let none : BringNothing (bytes_of text) (bytes_of grows.rest) =
       subst₂ BringNothing (sym before) bytes plain.nothing in
@@ -363,32 +364,33 @@ module _ (first : Setting) (h : List Bool) (s : List Setting) (old : Watching)
             (subst (λ (n : ℕ). HasTag first s (lock_text h t n) old.tag) was has_tag));
       }
 
-  eight_now : (locks : List Lock) (now : Now) → IsNow h locks now → LimitStands h
+  words_now : (locks : List Lock) (now : Now) → IsNow h locks now → LimitStands h
       → ReadsNow old.reader h now → HasTag first s (standing_text h now) old.tag
       → ReadsOver first reader old.tag h' s' (copies_by first s (ended_so_far h locks now))
-  eight_now locks (hunting p) now limit stood has_tag =
+  words_now locks (hunting p) now limit stood has_tag =
       absurd (let same = now-unique h locks limit.locks (hunting p) (locked limit.p limit.t) now
       limit.stands in cc)
-  eight_now locks (locked p t) now limit stood has_tag =
+  words_now locks (locked p t) now limit stood has_tag =
       let same = now-unique h locks limit.locks (locked p t) (locked limit.p limit.t) now
       limit.stands in
       let at : t ≡ limit.t = cc in
-      eight_over locks p t limit.whole now (omega (arith, limit.limit, at)) stood has_tag
+      words_over locks p t limit.whole now (omega (arith, limit.limit, at)) stood has_tag
 
-eight_heard : (first : Setting) (old : CopyTaker) (before after : Held) (reader : LockReading)
+words_heard : (first : Setting) (old : CopyTaker) (before after : Held) (reader : LockReading)
     (next : List ℕ) (h : List Bool) (s : List Setting) (copies : List TaggedCopy)
-    → length next ≡ 8 → ReadsEight old.reader reader next → BringsWords before after next
+    → (count : ℕ) → 0 < count → length next ≡ count → ReadsPlain old.reader reader next count
+    → BringsWords before after next
     → WatchStands first (watch_of before old) h s copies
     → HearsBits first (watch_of before old) (watch_of after (record old { reader = reader })) h s
     copies (flat_map elements next) None
-eight_heard first old before after reader next h s copies eight reads brings w =
+words_heard first old before after reader next h s copies count some size reads brings w =
     let watch = watch_of before old in
     let o = w.reads in
     let more : List Bool = flat_map elements next in
     let quiet = brings.quiet h w.synchroniser in
     let later : ReadsOver first reader old.tag (h ++ more) (s ++ all_in_force watch more) copies =
     subst (ReadsOver first reader old.tag (h ++ more) (s ++ all_in_force watch more)) (sym o.ended)
-    (eight_now first h s watch reader next eight quiet reads o.many o.locks o.now o.stands
+    (words_now first h s watch reader next count some size quiet reads o.many o.locks o.now o.stands
     (brings.limit h w.synchroniser) o.reads o.has_tag) in
     record {
       brings = record { synchroniser = brings.stands h w.synchroniser; reads = later };
@@ -397,13 +399,14 @@ eight_heard first old before after reader next h s copies eight reads brings w =
           later.stands o.many o.ended later.ended k;
     }
 
-pub eight_taken : (old : CopyTaker) (reader : LockReading) (next : List ℕ) (before after : Held)
-    → length next ≡ 8 → ReadsEight old.reader reader next → BringsWords before after next
+pub plain_taken : (old : CopyTaker) (reader : LockReading) (next : List ℕ) (before after : Held)
+    → (count : ℕ) → 0 < count → length next ≡ count → ReadsPlain old.reader reader next count
+    → BringsWords before after next
     → Hears before old (flat_map elements next) after (record old { reader = reader }) None
-eight_taken old reader next before after eight reads brings = record {
+plain_taken old reader next before after count some size reads brings = record {
   hears = record {
-    hears = λ first h s copies w. eight_heard first old before after reader next h s copies eight
-        reads brings w;
+    hears = λ first h s copies w. words_heard first old before after reader next h s copies
+        count some size reads brings w;
   };
   force = refl;
   kept = as_it_was refl;

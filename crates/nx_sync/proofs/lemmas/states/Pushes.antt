@@ -367,8 +367,8 @@ module _ (s : Held) (bits : List Bool) (b : Bool) (a : StandsAfter s bits) where
                 phasing = ap₂ (λ n w. n / 2
                     + 2 ^ 4 * value_of (is_dx track.role && (w == phasing_1))) phasing_is number_is
                     ∙ (ap (λ role. number_of (p1_marks (first_role (bits ++ b ∷ []) t)
-                    (word_of_lock (bits ++ b ∷ []) t) f.whole) / 2 + 2 ^ 4
-                    * value_of (is_dx role && (word_of_lock (bits ++ b ∷ []) t f.whole == phasing_1)))
+                    (word_of_lock (bits ++ b ∷ []) t) f.whole) / 2 + 2 ^ 4 * value_of
+                    (is_dx role && (word_of_lock (bits ++ b ∷ []) t f.whole == phasing_1)))
                     role_is
                     ∙ p1_number-next (first_role (bits ++ b ∷ []) t)
                     (word_of_lock (bits ++ b ∷ []) t) f.whole);

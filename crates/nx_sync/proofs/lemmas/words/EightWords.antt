@@ -1,5 +1,5 @@
--- Eight words heard at once: what is held after them, and what was brought, is what one word after
--- the other makes of it.
+-- Words heard at once: what is held after them, and what was brought, is what one word after the
+-- other makes of it.
 use Rattle.std.proofs.Common.{◌≡◌, ℕ, zero, suc, ◌+◌, ◌-◌, ◌*◌, ◌/◌, ◌%◌, ◌^◌, ◌<◌, ◌≤◌, ◌==◌}
 use Rattle.std.proofs.Common.{nat_le, List, [], ◌∷◌, ◌++◌, length, take, get_or, Bool, true}
 use Rattle.std.proofs.Common.{false, not, ◌&&◌, ◌||◌, cond, count_by, refl, sym, ap, ap₂, subst}
@@ -12,7 +12,7 @@ use Rattle.std.proofs.lemmas.List.Sums.{sum_by_push, sum_by-take-drop}
 use Rattle.circular_buffer.specs.Buffer.{keep_last}
 use Rattle.nx_code.specs.Table.{phasing_1}
 use Rattle.nx_code.specs.Classes.{class_of}
-use Rattle.nx_code.specs.Word.{elements, number_of, is_wrong}
+use Rattle.nx_code.specs.Word.{elements, number_of, weight, is_wrong}
 use Rattle.nx_code.proofs.lemmas.Class.{weight-class_of}
 use Rattle.nx_code.proofs.lemmas.Word.{value_of-le, number_of-elements, number_of-lt}
 use Rattle.nx_sync.specs.declared.step.Role.{Role}
@@ -23,7 +23,7 @@ use Rattle.nx_sync.specs.Words.{role_of}
 use Rattle.nx_sync.specs.private.Windows.{next_word_window}
 use Rattle.nx_sync.specs.private.Calls.{track_from, track_after, fills_releasing_word, Completes}
 use Rattle.nx_sync.specs.private.Eight.{wrong_ones, last_four, marks_after_words}
-use Rattle.nx_sync.specs.private.Eight.{after_eight}
+use Rattle.nx_sync.specs.private.Eight.{window_after_words, after_words}
 use Rattle.nx_sync.specs.Steps.{step, IsWordStep, AreQuietWords}
 use Rattle.nx_sync.specs.Synchroniser.{Held, StandsAfter, awaits_free_dx}
 use Rattle.nx_sync.specs.Synchroniser.{has_dx_phasing_1, keeps_lock}
@@ -45,6 +45,48 @@ eight_items (a ∷ b ∷ c ∷ d ∷ e ∷ f ∷ []) l = absurd (omega arith)
 eight_items (a ∷ b ∷ c ∷ d ∷ e ∷ f ∷ g ∷ []) l = absurd (omega arith)
 eight_items (a ∷ b ∷ c ∷ d ∷ e ∷ f ∷ g ∷ h ∷ []) l = refl
 eight_items (a ∷ b ∷ c ∷ d ∷ e ∷ f ∷ g ∷ h ∷ i ∷ xs) l = absurd (omega arith)
+
+-- two items by their places
+pub two_items : (xs : List ℕ) → length xs ≡ 2 → xs ≡ slice_index xs 0 ∷ slice_index xs 1 ∷ []
+two_items [] l = absurd (omega arith)
+two_items (a ∷ []) l = absurd (omega arith)
+two_items (a ∷ b ∷ []) l = refl
+two_items (a ∷ b ∷ c ∷ xs) l = absurd (omega arith)
+
+or_four : (a b c d : Bool) → (a || b || c || d) ≡ (a || (b || (c || (d || false))))
+or_four true b c d = refl
+or_four false true c d = refl
+or_four false false true d = refl
+or_four false false false true = refl
+or_four false false false false = refl
+
+or_none : (a : Bool) → a ≡ (a || false)
+or_none true = refl
+or_none false = refl
+
+-- whether a DX word among eight, or the one of two, is phasing signal 1
+pub dx_phasing_1-eight : (xs : List ℕ) (a b c d : ℕ) → length xs ≡ 8 → a ≡ slice_index xs 0
+    → b ≡ slice_index xs 2 → c ≡ slice_index xs 4 → d ≡ slice_index xs 6
+    → ((a == phasing_1) || (b == phasing_1) || (c == phasing_1) || (d == phasing_1))
+    ≡ has_dx_phasing_1 xs
+unfolding has_dx_phasing_1
+dx_phasing_1-eight xs a b c d l ea eb ec ed =
+    rw (ea, eb, ec, ed) (or_four (slice_index xs 0 == phasing_1) (slice_index xs 2 == phasing_1)
+    (slice_index xs 4 == phasing_1) (slice_index xs 6 == phasing_1)
+    ∙ sym (ap has_dx_phasing_1 (eight_items xs l)))
+
+pub dx_phasing_1-two : (xs : List ℕ) (a : ℕ) → length xs ≡ 2 → a ≡ slice_index xs 0
+    → (a == phasing_1) ≡ has_dx_phasing_1 xs
+unfolding has_dx_phasing_1
+dx_phasing_1-two xs a l ea =
+    rw ea (or_none (slice_index xs 0 == phasing_1) ∙ sym (ap has_dx_phasing_1 (two_items xs l)))
+
+-- whether a word is wrong
+pub wrong_by : (word : ℕ) (right : Bool)
+    → (right ≡ true → weight word ≡ 4) × (weight word ≡ 4 → right ≡ true)
+    → not right ≡ is_wrong word
+wrong_by word true both = rw (eq-eqb _ _ (both.0 refl)) refl
+wrong_by word false both = rw (ne_eqb _ _ (λ e. let t : false ≡ true = both.1 e in cc)) refl
 
 not_twice : (b : Bool) → b ≡ not (not b)
 not_twice true = refl
@@ -72,20 +114,13 @@ wrong_ones-eight xs a b c d e f g h l ja jb jc jd je jf jg jh =
     (sym (ap wrong_ones (eight_items xs l)))
 
 -- what is held after words of a lock, where none of them brings a change
-unfoldable window_after_words : ℕ → List ℕ → ℕ
-window_after_words window [] = window
-window_after_words window (word ∷ words) = window_after_words (next_word_window window word) words
-
 unfoldable track_after_words : Track → List ℕ → Track
 track_after_words track [] = track
 track_after_words track (word ∷ words) = track_after_words (track_after track word) words
 
-abbrev after_words : Held → Track → List ℕ → Held
-after_words held track words = record held {
-  recent = window_after_words held.recent words;
-  track = Some (track_after_words track words);
-  wrong = marks_after_words held.wrong words;
-}
+abbrev tracked_words : Held → Track → List ℕ → Held
+tracked_words held track words =
+    record (after_words held words) { track = Some (track_after_words track words) }
 
 -- the window after four words, whatever was before
 four_words : (r a b c d : ℕ) → r < 2 ^ 28 → a < 128 → b < 128 → c < 128
@@ -99,7 +134,7 @@ four_words r a b c d h ha hb hc =
     ≡ a + 2 ^ 7 * b + 2 ^ 14 * c = omega arith in
     rw (one, two, three) refl
 
-window_after_eight : (xs : List ℕ) (r : ℕ) → length xs ≡ 8 → r < 2 ^ 28
+pub window_after_eight : (xs : List ℕ) (r : ℕ) → length xs ≡ 8 → r < 2 ^ 28
     → ((k : ℕ) → k < 8 → slice_index xs k < 128) → window_after_words r xs ≡ last_four xs
 unfolding window_after_words
 window_after_eight xs r l h small =
@@ -125,25 +160,27 @@ window_after_eight xs r l h small =
     (slice_index xs 4)) (slice_index xs 5)) (slice_index xs 6)) (slice_index xs 7)) first
     ∙ second)
 
+or_false : (a b : Bool) → (a || b) ≡ false → (a ≡ false) × (b ≡ false)
+or_false false false h = (refl, refl)
+or_false false true h = absurd (cc)
+or_false true b h = absurd (cc)
+
 -- Pairs of words, of whose DX words none is phasing signal 1, leave the track as it is.
 dx_then_rx : (a b : ℕ) → (a == phasing_1) ≡ false
     → track_after (track_after (track_from Dx) a) b ≡ track_from Dx
 dx_then_rx a b free = rw free refl
 
-track_after_eight : (xs : List ℕ) → length xs ≡ 8
-    → ((slice_index xs 0 == phasing_1) ≡ false) × ((slice_index xs 2 == phasing_1) ≡ false)
-    × ((slice_index xs 4 == phasing_1) ≡ false) × ((slice_index xs 6 == phasing_1) ≡ false)
+track_after_pairs : (n : ℕ) (xs : List ℕ) → length xs ≡ 2 * n → has_dx_phasing_1 xs ≡ false
     → track_after_words (track_from Dx) xs ≡ track_from Dx
-unfolding track_after_words
-track_after_eight xs l free =
-    let two : Track → ℕ → ℕ → Track = λ t i j.
-    track_after (track_after t (slice_index xs i)) (slice_index xs j) in
-    ap (track_after_words (track_from Dx)) (eight_items xs l)
-    ∙ (ap (λ t. two (two (two t 2 3) 4 5) 6 7)
-    (dx_then_rx (slice_index xs 0) (slice_index xs 1) free.0)
-    ∙ (ap (λ t. two (two t 4 5) 6 7) (dx_then_rx (slice_index xs 2) (slice_index xs 3) free.1)
-    ∙ (ap (λ t. two t 6 7) (dx_then_rx (slice_index xs 4) (slice_index xs 5) free.2)
-    ∙ dx_then_rx (slice_index xs 6) (slice_index xs 7) free.3)))
+unfolding track_after_words has_dx_phasing_1
+track_after_pairs zero [] l free = refl
+track_after_pairs zero (a ∷ xs) l free = absurd (omega arith)
+track_after_pairs (suc n) [] l free = absurd (omega arith)
+track_after_pairs (suc n) (a ∷ []) l free = absurd (omega arith)
+track_after_pairs (suc n) (a ∷ b ∷ xs) l free =
+    let parts = or_false (a == phasing_1) (has_dx_phasing_1 xs) free in
+    ap (λ t. track_after_words t xs) (dx_then_rx a b parts.0)
+    ∙ track_after_pairs n xs (omega arith) parts.1
 
 -- none of these words ends the lock
 unfoldable NoneEnds : Track → List ℕ → Type 0
@@ -153,7 +190,7 @@ NoneEnds track (word ∷ words) =
 
 -- words that go on after others
 record RunsOn (held : Held) (track : Track) (before : List Bool) (words : List ℕ) : Type 0 where
-  stands : StandsAfter (after_words held track words) (before ++ flat_map elements words)
+  stands : StandsAfter (tracked_words held track words) (before ++ flat_map elements words)
   steps : AreQuietWords before track.role words
 
 -- one mark more
@@ -277,18 +314,17 @@ runs_on (word ∷ words) held track before a is full limit within goes_on small 
     (next_stands held track word within low goes_on.0 enough before a is full limit) refl full refl
     (omega arith) goes_on.1 (λ k h. small (suc k) (omega arith)) (omega (arith, few, marks)) in
     record {
-      stands = subst (λ xs. StandsAfter (after_words held track (word ∷ words)) xs)
+      stands = subst (λ xs. StandsAfter (tracked_words held track (word ∷ words)) xs)
           (append_assoc before (elements word) (flat_map elements words)) rest.stands;
       steps = quiet_after before track.role word words
           (next_step held track word within low goes_on.0 enough before a is full limit) rest.steps;
     }
 
--- what the test of eight words says
+-- what the test of several words says
 record Kept (held : Held) (words : List ℕ) : Type 0 where
   is : held.track ≡ Some (track_from Dx)
-  free : ((slice_index words 0 == phasing_1) ≡ false) × ((slice_index words 2 == phasing_1) ≡ false)
-      × ((slice_index words 4 == phasing_1) ≡ false) × ((slice_index words 6 == phasing_1) ≡ false)
-  few : count_by (λ b. b) held.wrong + 8 < losing_count
+  free : has_dx_phasing_1 words ≡ false
+  few : count_by (λ b. b) held.wrong + length words < losing_count
 
 is_dx-true : (role : Role) → is_dx role ≡ true → role ≡ Dx
 is_dx-true Dx h = refl
@@ -299,14 +335,6 @@ all_true true true true h = (refl, refl, refl)
 all_true true true false h = absurd (cc)
 all_true true false c h = absurd (cc)
 all_true false b c h = absurd (cc)
-
-four_false : (a b c d : Bool) → (a || b || c || d) ≡ false
-    → (a ≡ false) × (b ≡ false) × (c ≡ false) × (d ≡ false)
-four_false false false false false h = (refl, refl, refl, refl)
-four_false false false false true h = absurd (cc)
-four_false false false true d h = absurd (cc)
-four_false false true c d h = absurd (cc)
-four_false true b c d h = absurd (cc)
 
 three_true : (a b c : Bool) → (a && not b && c) ≡ true → (a ≡ true) × (b ≡ false) × (c ≡ true)
 three_true true false true h = (refl, refl, refl)
@@ -326,58 +354,58 @@ awaits_dx (Some track) h =
 kept : (held : Held) (words : List ℕ) → keeps_lock held words ≡ true → Kept held words
 kept held words h =
     let all = three_true (awaits_free_dx held.track) (has_dx_phasing_1 words)
-    (nat_le (count_by (λ b. b) held.wrong + 8 + 1) losing_count) h in
+    (nat_le (count_by (λ b. b) held.wrong + length words + 1) losing_count) h in
     record {
       is = awaits_dx held.track all.0;
-      free = four_false _ _ _ _ all.1;
-      few = let e = leb-true (count_by (λ b. b) held.wrong + 8 + 1) losing_count all.2 in
+      free = all.1;
+      few = let e = leb-true (count_by (λ b. b) held.wrong + length words + 1) losing_count all.2 in
           omega arith;
     }
 
 -- none of pairs of words ends the lock, of whose DX words none is phasing signal 1
-pair_goes_on : (a b : ℕ) (words : List ℕ) → (a == phasing_1) ≡ false
-    → NoneEnds (track_from Dx) words → NoneEnds (track_from Dx) (a ∷ b ∷ words)
-unfolding NoneEnds
-pair_goes_on a b words free rest =
-    let one : fills_releasing_word (track_after (track_from Dx) a) ≡ false = rw free refl in
-    (refl, (one, subst (λ t. NoneEnds t words) (sym (dx_then_rx a b free)) rest))
-
--- none of eight words that keep the lock ends it
-eight_go_on : (held : Held) (xs : List ℕ) → length xs ≡ 8 → Kept held xs
+pairs_go_on : (n : ℕ) (xs : List ℕ) → length xs ≡ 2 * n → has_dx_phasing_1 xs ≡ false
     → NoneEnds (track_from Dx) xs
-unfolding NoneEnds
-eight_go_on held xs l k =
-    let v : ℕ → ℕ = slice_index xs in
-    let two : List ℕ = v 6 ∷ v 7 ∷ [] in
-    let four : List ℕ = v 4 ∷ v 5 ∷ two in
-    let six : List ℕ = v 2 ∷ v 3 ∷ four in
-    let on : NoneEnds (track_from Dx) two = pair_goes_on (v 6) (v 7) [] k.free.3 tt in
-    subst (NoneEnds (track_from Dx)) (sym (eight_items xs l))
-    (pair_goes_on (v 0) (v 1) six k.free.0 (pair_goes_on (v 2) (v 3) four k.free.1
-    (pair_goes_on (v 4) (v 5) two k.free.2 on)))
+unfolding NoneEnds has_dx_phasing_1
+pairs_go_on zero [] l free = tt
+pairs_go_on zero (a ∷ xs) l free = absurd (omega arith)
+pairs_go_on (suc n) [] l free = absurd (omega arith)
+pairs_go_on (suc n) (a ∷ []) l free = absurd (omega arith)
+pairs_go_on (suc n) (a ∷ b ∷ xs) l free =
+    let parts = or_false (a == phasing_1) (has_dx_phasing_1 xs) free in
+    let one : fills_releasing_word (track_after (track_from Dx) a) ≡ false = rw parts.0 refl in
+    let rest = pairs_go_on n xs (omega arith) parts.1 in
+    (refl, (one, subst (λ t. NoneEnds t xs) (sym (dx_then_rx a b parts.0)) rest))
 
-pub record EightHeard (held : Held) (words : List ℕ) (before : List Bool) (new : Held)
+-- what is held after two words
+pub after_two : (held : Held) (words : List ℕ) (r : ℕ) (m : List Bool) → length words ≡ 2
+    → r ≡ next_word_window (next_word_window held.recent (slice_index words 0))
+    (slice_index words 1)
+    → m ≡ keep_last marked_words (keep_last marked_words
+    (held.wrong ++ is_wrong (slice_index words 0) ∷ []) ++ is_wrong (slice_index words 1) ∷ [])
+    → record held { recent = r; wrong = m } ≡ after_words held words
+unfolding window_after_words marks_after_words
+after_two held words r m l window marks =
+    ap₂ (λ r m. record held { recent = r; wrong = m }) window marks
+    ∙ ap (after_words held) (sym (two_items words l))
+
+pub record WordsHeard (held : Held) (words : List ℕ) (before : List Bool) (new : Held)
     : Type 0 where
   pub stands : StandsAfter new (before ++ flat_map elements words)
   pub steps : AreQuietWords before Dx words
 
--- eight words that keep the lock
-pub eight_heard : (held : Held) (words : List ℕ) (before : List Bool) (new : Held)
+-- pairs of words that keep the lock
+pub words_heard : (n : ℕ) (held : Held) (words : List ℕ) (before : List Bool) (new : Held)
     → StandsAfter held before → held.seen ≡ 28 → held.recent < 2 ^ 28
-    → keeps_lock held words ≡ true → length words ≡ 8
-    → ((k : ℕ) → k < 8 → slice_index words k < 128) → new ≡ after_eight held words
-    → EightHeard held words before new
-eight_heard held words before new a full within keeps l small e =
+    → keeps_lock held words ≡ true → length words ≡ 2 * n
+    → ((k : ℕ) → k < length words → slice_index words k < 128) → new ≡ after_words held words
+    → WordsHeard held words before new
+words_heard n held words before new a full within keeps l small e =
     let k : Kept held words = kept held words keeps in
     let runs = runs_on words held (track_from Dx) before a k.is full refl within
-    (eight_go_on held words l k) (λ i h. small i (omega arith)) (omega (arith, k.few, l)) in
-    let after : after_words held (track_from Dx) words ≡ new =
-    ap₂ (λ r t. record held {
-      recent = r;
-      track = t;
-      wrong = marks_after_words held.wrong words;
-    }) (window_after_eight words held.recent l within small)
-    (ap Some (track_after_eight words l k.free) ∙ sym k.is) ∙ sym e in
+    (pairs_go_on n words l k.free) small k.few in
+    let after : tracked_words held (track_from Dx) words ≡ new =
+    ap (λ t. record (after_words held words) { track = t })
+    (ap Some (track_after_pairs n words l k.free) ∙ sym k.is) ∙ sym e in
     record {
       stands = subst (λ s. StandsAfter s (before ++ flat_map elements words)) after runs.stands;
       steps = runs.steps;

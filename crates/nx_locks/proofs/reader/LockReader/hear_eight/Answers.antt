@@ -31,7 +31,7 @@ returns-clause-shows c is =
     let before = c.args.shown.now.items in
     let after = c.append_some.new.shown.items in
     subst (λ r. ShowsWords r new Dx c.args.words.now before after) c.self.view_is
-    (plain_shown old new (take four.result.count four.result.bytes) c.args.words.now before after
+    (plain_shown old new (take four.result.count four.result.bytes) c.args.words.now before after 8
     c.told-words four.ensures.printed (c.hear_plain.ensures.stands heard)
     (c.hear_plain.ensures.brings heard) c.saturating_add-self-inside.ensures
     (c.saturating_add-self-inside-2.ensures

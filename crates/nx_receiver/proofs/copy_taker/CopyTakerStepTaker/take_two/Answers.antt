@@ -1,0 +1,10 @@
+use Rattle.std.proofs.Common.{arith}
+use Rattle.nx_receiver.proofs.lemmas.watch.EightWords.{plain_taken}
+use Rattle.nx_receiver.proofs.copy_taker.CopyTakerStepTaker.take_two.Goals as goal
+
+pub returns-clause-hears : goal.returns-clause-hears
+returns-clause-hears c = λ is old new brings.
+    let reader = c.hear_two in
+    plain_taken c.args.self.now reader.new.self c.args.words.now old new 2 (omega arith)
+    c.told-words (record { stands = reader.ensures.stands is; brings = reader.ensures.brings is })
+    brings
