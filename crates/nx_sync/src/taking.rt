@@ -242,7 +242,8 @@ impl WordSynchroniser {
     }
 
     /// Hears the next eight words of these elements at once, where they are there and neither the
-    /// lock nor anything for the taker is over with them; else as many by twos and ones.
+    /// lock nor anything for the taker is over with them; else as many by twos and ones. Before an
+    /// RX word it hears that word alone, so that eights begin with the DX word behind it.
     #[inline(always)]
     fn hear_some<T: StepTaker>(
         &mut self,
@@ -266,7 +267,12 @@ impl WordSynchroniser {
                 return (EIGHT_WORDS, None);
             }
         }
-        self.hear_few(taker, numbers, from, count.min(EIGHT_WORDS))
+        let few = if self.awaits_dx() {
+            EIGHT_WORDS
+        } else {
+            ELEMENTS
+        };
+        self.hear_few(taker, numbers, from, count.min(few))
     }
 
     /// Hears whole words of these elements as `hear` does, but by twos and ones alone.

@@ -8,13 +8,13 @@ ghost use Rattle.nx_sync.specs.declared.step.Role.TheVariants.{Dx};
 ghost use Rattle.nx_code.specs.Word.{elements};
 ghost use Rattle.nx_sync.specs.Locks.{pattern_elements};
 ghost use Rattle.nx_sync.specs.Steps.{IsWordStep, AreQuietWords};
-ghost use Rattle.nx_sync.specs.private.Calls.{held_at_words};
+ghost use Rattle.nx_sync.specs.private.Calls.{fills_dx, held_at_words};
 ghost use Rattle.nx_sync.specs.Synchroniser as held;
 ghost use Rattle.nx_sync.specs.Synchroniser.{StandsAfter, is_between_words, keeps_lock};
 
 use crate::mark_bits::Marks;
 use crate::phasing::PHASING_1;
-use crate::step::Step;
+use crate::step::{Role, Step};
 use crate::track::{EIGHT, TWO, Track};
 use crate::windows_after::{next_word_window, window_after_eight};
 use nx_code::{Word, check_bits};
@@ -107,6 +107,17 @@ impl WordSynchroniser {
         match self.track {
             None => false,
             Some(track) => track.filled == 0,
+        }
+    }
+
+    /// Whether a lock stands, and the word that is being filled, or comes next, is a DX word.
+    #[inline(always)]
+    pub(crate) fn awaits_dx(&self) -> bool
+        ensures { result ≡ fills_dx self.now.track }
+    {
+        match self.track {
+            None => false,
+            Some(track) => track.role == Role::Dx,
         }
     }
 
