@@ -149,12 +149,17 @@ impl LockReader {
         ensures reader { result ≡ false → self.new ≡ self.old }
         ensures shown { result ≡ false → shown.new ≡ shown.old }
     {
-        let mut printer = self.printer;
+        // Copied field by field: as one number of four bytes it would have to be cut apart.
+        let mut printer = LockPrinter {
+            diversity: self.printer.diversity,
+            printer: self.printer.printer,
+        };
         let four = printer.print_eight(words);
         if !self.finder.hear_plain(four.bytes, four.count) {
             return false;
         }
-        self.printer = printer;
+        self.printer.diversity = printer.diversity;
+        self.printer.printer = printer.printer;
         self.words = self.words.saturating_add(WORDS_AT_ONCE as u64);
         self.wrong = self.wrong.saturating_add(wrong_among(words));
         self.is_line_open = is_open_after(self.is_line_open, &four.bytes, four.count);

@@ -94,12 +94,17 @@ impl LockReader {
             → PrintsPlain (text_after first before n) (text_after first before (n + 8)) }
         ensures same { result ≡ false → self.new ≡ self.old }
     {
-        let mut printer = self.printer;
+        // Copied field by field: as one number of four bytes it would have to be cut apart.
+        let mut printer = LockPrinter {
+            diversity: self.printer.diversity,
+            printer: self.printer.printer,
+        };
         let four = printer.print_eight(words);
         if !self.finder.hear_plain(four.bytes, four.count) {
             return false;
         }
-        self.printer = printer;
+        self.printer.diversity = printer.diversity;
+        self.printer.printer = printer.printer;
         true
     }
 
