@@ -1,4 +1,6 @@
-//! The text of one lock, read from its words, and what is counted of it.
+//! The text of one lock, read from its words, and what is counted of it. What runs for each word,
+//! for two or for eight of them is inlined always. What begins anew for the next lock never is, so
+//! that no loop over words has a place for a text of 4,100.
 
 ghost use Rattle.std.specs.Prelude.{◌≡◌, ◌+◌, ◌≤◌, ◌==◌, ◌++◌, ℕ, List, false, not, slice_index, take, if◌then◌else◌, IsTrue};
 ghost use Rattle.arrayvec.specs.ArrayVec.{array_vec_len};
@@ -18,9 +20,6 @@ use std::marker::Model;
 
 /// Reads the text of a lock, of which it is given one word after the other, and counts its words,
 /// those of the wrong weight, and the headers in the text.
-///
-/// No field can be added whose meaning contracts see (`inverse`); that no field's own type forgets,
-/// the proved size shows.
 #[derive(Drop)]
 pub(crate) struct LockReader {
     printer: LockPrinter,
@@ -47,8 +46,6 @@ impl Model for LockReader {
       is_line_open = r.is_line_open;
     } };
 
-    // What contracts see gives every field back, so that no field for a history can stand beside
-    // them.
     ghost inverse = { λ v. record {
       printer = record { diversity = v.diversity; printer = v.printer };
       finder = v.finder;
@@ -65,7 +62,6 @@ impl LockReader {
         ensures fresh { IsFresh result }
         ensures copies { result.copies ≡ 0 }
     {
-        // No room for a field of a type whose own model forgets what it holds.
         prove!(size_of::<LockReader>() == size_of::<Finder>() + 40);
         LockReader {
             printer: LockPrinter::new(),
@@ -107,7 +103,6 @@ impl LockReader {
 
     /// Takes the next word of the lock, which has that role, and answers the byte that it prints,
     /// if it prints one.
-    // Inlined, since it is called for each word.
     #[inline(always)]
     fn take_word(&mut self, word: Word, role: Role) -> Option<u8>
         ensures { HearsWord self.old self.new word role result }
@@ -124,7 +119,6 @@ impl LockReader {
 
     /// Hears the next word of the lock, which has that role, and appends the byte that it prints,
     /// if it prints one.
-    // Inlined, as `take_word`.
     #[inline(always)]
     pub(crate) fn hear_word(&mut self, word: Word, role: Role, shown: &mut Shown)
         requires room { array_vec_len shown.old + 1 ≤ 57856 }
@@ -139,7 +133,6 @@ impl LockReader {
     /// Hears the next eight words of the lock, of which the first is a DX word, at once, where
     /// surely no header begins or ends in what they print, and appends that: `true` where it did.
     /// Else nothing changed, and they have to be heard one by one.
-    // Inlined, as `take_word`.
     #[inline(always)]
     pub(crate) fn hear_eight(&mut self, words: &[Word; WORDS_AT_ONCE], shown: &mut Shown) -> bool
         requires room { array_vec_len shown.old + 8 ≤ 57856 }
@@ -169,7 +162,6 @@ impl LockReader {
 
     /// Hears the next two words of the lock at once, a DX word and an RX word, as `hear_eight`
     /// hears eight.
-    // Inlined, as `take_word`.
     #[inline(always)]
     pub(crate) fn hear_two(&mut self, words: &[Word; 2], shown: &mut Shown) -> bool
         requires room { array_vec_len shown.old + 4 ≤ 57856 }
@@ -222,7 +214,6 @@ impl LockReader {
     }
 
     /// Begins anew, for the next lock.
-    // Not inlined, so that no loop over words has a place for a text of 4,100.
     #[inline(never)]
     pub(crate) fn restart(&mut self)
         ensures fresh { IsFresh self.new }

@@ -1,4 +1,6 @@
-//! The lines of a report.
+//! The lines of what is shown of locks. What opens or closes a lock is never inlined, so that no
+//! loop over words has a place for a line. What appends the bytes of words always is, so that four
+//! of them are one write.
 
 ghost use Rattle.std.specs.Prelude.{◌≡◌, ◌+◌, ◌*◌, ◌≤◌, ℕ, List, [], ◌++◌, length, take};
 ghost use Rattle.arrayvec.specs.ArrayVec.{array_vec_len};
@@ -22,7 +24,6 @@ pub(crate) const MAX_SHOWN: usize = MAX_ELEMENTS * MAX_STEP;
 pub(crate) type Shown = ArrayVec<u8, MAX_SHOWN>;
 
 /// Appends the line that opens a lock after so many elements. The moment is at most the last one.
-// Not inlined, so that no loop over words has a place for a line.
 #[inline(never)]
 pub(crate) fn open_lock(shown: &mut Shown, moment: u64, elements: u64)
     requires moment { moment ≤ last_moment }
@@ -53,7 +54,6 @@ pub(crate) struct Counts {
 }
 
 /// Appends the lines that close a lock, of which this came. The moment is at most the last one.
-// Not inlined, as `open_lock`.
 #[inline(never)]
 pub(crate) fn close_lock(shown: &mut Shown, moment: u64, how: Change, counts: Counts)
     requires moment { moment ≤ last_moment }
@@ -117,7 +117,6 @@ fn append(shown: &mut Shown, more: &[u8])
 }
 
 /// Appends the first `count` of these bytes.
-// Inlined always, so that four bytes are one write.
 #[inline(always)]
 pub(crate) fn append_some(shown: &mut Shown, bytes: [u8; 4], count: usize)
     requires room { array_vec_len shown.old + 4 ≤ 57856 }

@@ -35,9 +35,6 @@ pub enum ReportRefusal {
 }
 
 /// A watch that takes the lines of an air file.
-///
-/// No field can be added whose meaning contracts see (`inverse`); that no field's own type forgets,
-/// the proved size shows.
 #[derive(Drop)]
 pub(crate) struct ReportWriter {
     watch: LockWatch,
@@ -54,8 +51,6 @@ impl Model for ReportWriter {
       has_moment = s.has_moment;
     } };
 
-    // What contracts see gives every field back, so that no field for a history can stand beside
-    // them.
     ghost inverse = { λ v. record {
       watch = v.watch;
       has_moment = v.has_moment;
@@ -67,7 +62,6 @@ impl ReportWriter {
     pub(crate) fn new(alloc: Global) -> Result<ReportWriter, AllocError>
         ensures { IfOk result (λ report_writer. IsShowing report_writer [] []) }
     {
-        // No room for a field of a type whose own model forgets what it holds.
         prove!(size_of::<ReportWriter>() == size_of::<LockWatch>() + 8);
         let watch = LockWatch::new(alloc)?;
         Ok(ReportWriter {

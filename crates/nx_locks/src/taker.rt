@@ -1,5 +1,5 @@
 //! What takes what the elements bring, and shows their locks. What runs for each word is inlined
-//! always.
+//! always; what opens or closes a lock never is.
 
 ghost use Rattle.std.specs.Prelude.{◌≡◌, ◌+◌, ◌≤◌, [], ◌++◌, length};
 ghost use Rattle.nx_envelope.specs.Moment.{last_moment};
@@ -23,8 +23,7 @@ const TWO_WORDS: u64 = 2 * ELEMENTS as u64;
 /// Takes what the elements bring, and shows their locks.
 ///
 /// It holds what the reader of a lock holds, the moment in force, counts, and what was shown since
-/// it was last cleared. No field can be added whose meaning contracts see (`inverse`); that no
-/// field's own type forgets, the proved size shows.
+/// it was last cleared.
 #[derive(Drop)]
 pub(crate) struct LockTaker {
     reader: LockReader,
@@ -57,8 +56,6 @@ impl Model for LockTaker {
 
     ghost invariant = { λ t. t.moment ≤ last_moment };
 
-    // What contracts see gives every field back, so that no field for a history can stand beside
-    // them.
     ghost inverse = { λ v. record {
       reader = v.reader;
       moment = v.moment;
@@ -75,7 +72,6 @@ impl LockTaker {
         ensures shows { TakerShows result [] [] [] }
         ensures moment { result.moment ≡ 0 }
     {
-        // No room for a field of a type whose own model forgets what it holds.
         prove!(size_of::<LockTaker>() == size_of::<LockReader>() + size_of::<Shown>() + 32);
         LockTaker {
             reader: LockReader::new(),
@@ -124,7 +120,6 @@ impl LockTaker {
     }
 
     /// Shows what a step of the synchroniser brings.
-    // Inlined, so that the step is read where it is made.
     #[inline(always)]
     fn show(&mut self, step: Step)
         requires room { HasRoom self.old 1 }
@@ -155,7 +150,6 @@ impl LockTaker {
     }
 
     /// Reads a word of the lock, which may end it.
-    // Inlined, since it is called for each word.
     #[inline(always)]
     fn read(&mut self, word: Word, role: Role, change: Option<Change>)
         requires room { HasRoom self.old 1 }

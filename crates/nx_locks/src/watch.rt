@@ -11,9 +11,6 @@ use std::alloc::{AllocError, Global};
 use std::marker::Model;
 
 /// A watch over the elements that arrive, which shows their locks.
-///
-/// No field can be added whose meaning contracts see (`inverse`); that no field's own type forgets,
-/// the proved size shows.
 #[derive(Drop)]
 pub(crate) struct LockWatch {
     synchroniser: Synchroniser,
@@ -30,8 +27,6 @@ impl Model for LockWatch {
       taker = w.taker;
     } };
 
-    // What contracts see gives every field back, so that no field for a history can stand beside
-    // them.
     ghost inverse = { λ v. record {
       synchroniser = v.synchroniser;
       taker = v.taker;
@@ -44,7 +39,6 @@ impl LockWatch {
         ensures shows { IfOk result (λ watch. WatchShows watch [] [] []) }
         ensures moment { IfOk result (λ watch. watch.taker.moment ≡ 0) }
     {
-        // No room for a field of a type whose own model forgets what it holds.
         prove!(size_of::<LockWatch>() == size_of::<Synchroniser>() + size_of::<LockTaker>());
         let synchroniser = Synchroniser::new(alloc)?;
         Ok(LockWatch {

@@ -52,8 +52,7 @@ pub(crate) struct CopyTag {
 /// at its second digit.
 ///
 /// It holds what the reader of a lock holds, what is refused, the moment, and what was in force at
-/// the header that was heard last. That it holds nothing else, the `inverse` of `Watch` and the
-/// proved size show.
+/// the header that was heard last.
 #[derive(Drop)]
 pub(crate) struct CopyTaker {
     pub(crate) reader: LockReader,
@@ -70,7 +69,6 @@ impl CopyTaker {
         ensures moment { result.moment ≡ moment }
         ensures tag { result.tag.moment ≡ moment }
     {
-        // No room for a field of a type whose own model forgets what it holds.
         prove!(size_of::<CopyTaker>() == size_of::<LockReader>() + 80);
         CopyTaker {
             reader: LockReader::new(),

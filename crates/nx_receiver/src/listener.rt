@@ -32,9 +32,7 @@ use std::marker::Model;
 /// Three receivers, one for each channel, that hear elements as they come. A moment belongs to all
 /// of them, elements and commands to one. `listen` hears the lines of an air file with it.
 ///
-/// It holds what its receivers hold, whether there was a moment, and two counts. No field can be
-/// added whose meaning contracts see (`inverse`); that no field's own type forgets, the proved size
-/// shows.
+/// It holds what its receivers hold, whether there was a moment, and two counts.
 #[derive(Drop)]
 pub struct Listener {
     pub(crate) on_0: Receiver<RingRecall>,
@@ -65,8 +63,6 @@ impl Model for Listener {
       entries = l.entries;
     } };
 
-    // What contracts see gives every field back, so that no field for a history can stand beside
-    // them.
     ghost inverse = { λ v. record {
       on_0 = v.on_0;
       on_1 = v.on_1;
@@ -122,7 +118,6 @@ impl Listener {
         ensures none { IfOk result (λ listener. listener.has_moment ≡ false) }
         ensures range { OnOk result ((starts_from saved.now).moment ≤ last_moment) }
     {
-        // No room for a field of a type whose own model forgets what it holds.
         prove!(size_of::<Listener>() == 3 * size_of::<Receiver<RingRecall>>() + 24);
         let (selected_0, kept_0) = kept_on(saved, Channel::Zero);
         let (selected_1, kept_1) = kept_on(saved, Channel::One);

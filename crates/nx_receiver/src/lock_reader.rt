@@ -21,9 +21,7 @@ use std::marker::Model;
 /// it.
 ///
 /// It holds the latest three DX words, the shift in force, and what the finder holds. Of an earlier
-/// lock it holds nothing but the bytes of its last copy, which nothing reads. No field can be added
-/// whose meaning contracts see (`inverse`); that no field's own type forgets, the proved size
-/// shows.
+/// lock it holds nothing but the bytes of its last copy, which nothing reads.
 #[derive(Drop)]
 pub(crate) struct LockReader {
     printer: LockPrinter,
@@ -41,8 +39,6 @@ impl Model for LockReader {
       finder = r.finder;
     } };
 
-    // What contracts see gives every field back, so that no field for a history can stand beside
-    // them.
     ghost inverse = { λ v. record {
       printer = record { diversity = v.diversity; printer = v.printer };
       finder = v.finder;
@@ -54,7 +50,6 @@ impl LockReader {
     pub(crate) fn new() -> LockReader
         ensures { (first : Role) (words : ℕ → ℕ) → ReadsLock result first words 0 }
     {
-        // No room for a field of a type whose own model forgets what it holds.
         prove!(size_of::<LockReader>() == size_of::<Finder>() + 8);
         LockReader {
             printer: LockPrinter::new(),

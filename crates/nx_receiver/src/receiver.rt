@@ -46,10 +46,8 @@ use std::marker::Model;
 /// each copy that is printed.
 ///
 /// It keeps what it needs for the next element, of fixed size: the synchroniser, the text of the
-/// copy that began last, the selection, the moment, and a memory of identities. No field can be
-/// added whose meaning contracts see (`inverse`); that no field's own type forgets, the proved size
-/// shows. That no call asks for memory and throws it away, reading and the trials of refused memory
-/// show.
+/// copy that began last, the selection, the moment, and a memory of identities. That no call asks
+/// for memory and throws it away, reading and the trials of refused memory show.
 #[derive(Drop)]
 pub struct Receiver<M: Recall> {
     watch: Watch,
@@ -72,8 +70,6 @@ impl<M: Recall> Model for Receiver<M> {
     ghost invariant = { λ r.
         IsInOrder (newest_moment (M.content r.memory)) r.watch.tag.moment r.watch.moment };
 
-    // What contracts see gives every field back, so that no field for a history can stand beside
-    // them.
     ghost inverse = { λ v. record { watch = v.watch; memory = v.memory } };
 }
 
@@ -109,7 +105,6 @@ impl<M: Recall> Receiver<M> {
         ensures taken { OnOk result
             ((newest_moment (M.content memory) ≤ moment) × (moment ≤ last_moment)) }
     {
-        // No room for a field of a type whose own model forgets what it holds.
         prove!(size_of::<Receiver<RingRecall>>() == size_of::<Watch>() + size_of::<RingRecall>());
         if moment > LAST_MOMENT || memory.newest().is_some_and(|newest| moment < newest) {
             return Err(ReceiverFault::MomentRange);

@@ -22,9 +22,7 @@ use std::marker::Model;
 
 /// A watch over the elements that arrive.
 ///
-/// It holds what the synchroniser and the taker of copies hold. No field can be added to it or to
-/// the taker whose meaning contracts see (`inverse`); that no field's own type forgets, the proved
-/// sizes show.
+/// It holds what the synchroniser and the taker of copies hold.
 #[derive(Drop)]
 pub(crate) struct Watch {
     synchroniser: Synchroniser,
@@ -43,8 +41,6 @@ impl Model for Watch {
 
     ghost view = { λ w. watch_of w.synchroniser w.taker };
 
-    // What contracts see gives every field back, so that no field for a history can stand beside
-    // them.
     ghost inverse = { λ v. record {
       synchroniser = v.synchroniser;
       taker = record { reader = v.reader; selection = v.refused; moment = v.moment; tag = v.tag };
@@ -61,7 +57,6 @@ impl Watch {
         ensures tag { IfOk result (λ w. w.tag.moment ≡ moment) }
         ensures moment { IfOk result (λ w. w.moment ≡ moment) }
     {
-        // No room for a field of a type whose own model forgets what it holds.
         prove!(size_of::<Watch>() == size_of::<Synchroniser>() + size_of::<CopyTaker>());
         let synchroniser = Synchroniser::new(alloc)?;
         Ok(Watch {

@@ -62,8 +62,6 @@ impl Model for Synchroniser {
         × (s.seen ≤ pattern_elements)
         × ForSome s.track (λ t. (t.filled < 7) × (s.seen ≡ pattern_elements)) };
 
-    // What contracts see gives each field back, so that no history can be kept beside them. Of a
-    // field that they see as nothing, the size that `new` proves tells.
     ghost inverse = { λ h. record {
       recent = h.recent;
       seen = h.seen;

@@ -103,8 +103,8 @@ impl Synchroniser {
         self.hear_parts(taker, numbers, from, count)
     }
 
-    /// Hears the one element that there is to hear. Never inlined, since mostly it ends no word and
-    /// needs none of the registers that words do.
+    /// Hears the one element that there is to hear. Never inlined: it needs none of the registers
+    /// that words do.
     #[inline(never)]
     fn hear_one<T: StepTaker>(
         &mut self,
@@ -121,8 +121,8 @@ impl Synchroniser {
         taker.take(1, step)
     }
 
-    /// Hears these elements part by part, as `hear` does. Never inlined, so that its loop has the
-    /// registers to itself.
+    /// Hears these elements part by part, as `hear` does. Never inlined: its loop has the registers
+    /// to itself.
     #[inline(never)]
     fn hear_parts<T: StepTaker>(
         &mut self,
