@@ -2,10 +2,10 @@
 use Rattle.std.specs.Prelude.{◌≡◌, ◌≢◌, ℕ, ◌≤◌, nat_lt, if◌then◌else◌, List, [], ◌∷◌, length, Option}
 use Rattle.std.specs.Prelude.{Some, None, MatchOption}
 use Rattle.nx_fec.specs.declared.air_files.channel.Channel.{Channel}
-use Rattle.nx_receiver.specs.FoundCopies.{copy_of}
+use Rattle.nx_receiver.specs.copies.FoundCopies.{copy_of}
 use Rattle.nx_receiver.specs.declared.entry.Entry.{Entry}
-use Rattle.nx_receiver.specs.Log.{IsEntry}
-use Rattle.nx_receiver.specs.Shares.{MarkedCopy, marked}
+use Rattle.nx_receiver.specs.copies.Log.{IsEntry}
+use Rattle.nx_receiver.specs.copies.Shares.{MarkedCopy, marked}
 use Rattle.nx_c.specs.Life.{EndsWith, ending, ending_at}
 use Rattle.nx_c.specs.Status.{number_of}
 use Rattle.nx_c.specs.Told.{IsPut, Room}

@@ -4,11 +4,11 @@ use Rattle.std.specs.Prelude.{◌++◌, length, map, take, Option, Some, None}
 use Rattle.std.specs.List.{list_all}
 use Rattle.nx_fec.specs.air_files.Channels.{channel_number}
 use Rattle.nx_fec.specs.declared.air_files.channel.Channel.{Channel}
-use Rattle.nx_receiver.specs.FoundCopies.{TaggedCopy}
-use Rattle.nx_receiver.specs.InTurn.{PrintsInTurn}
+use Rattle.nx_receiver.specs.copies.FoundCopies.{TaggedCopy}
+use Rattle.nx_receiver.specs.copies.InTurn.{PrintsInTurn}
 use Rattle.nx_receiver.specs.Listener.{HearsGiven, Listening, then_elements}
-use Rattle.nx_receiver.specs.Log.{IsLog}
-use Rattle.nx_receiver.specs.Shares.{Given, MarkedCopy, Starts, marked}
+use Rattle.nx_receiver.specs.copies.Log.{IsLog}
+use Rattle.nx_receiver.specs.copies.Shares.{Given, MarkedCopy, Starts, marked}
 use Rattle.nx_c.specs.Life.{hearing}
 use Rattle.nx_c.specs.Status.{number_of}
 use Rattle.nx_c.specs.Told.{IsPut, Room}

@@ -1,9 +1,9 @@
 -- The life of a receiver that is kept between calls: it is closed; it is opened, and hears; its end
 -- begins, and hands out what it prints; then it is closed again (this profile).
 use Rattle.std.specs.Prelude.{◌≡◌, List, ◌++◌, Option, Some, None}
-use Rattle.nx_receiver.specs.InTurn.{PrintAllToEnd}
+use Rattle.nx_receiver.specs.copies.InTurn.{PrintAllToEnd}
 use Rattle.nx_receiver.specs.Listener.{HearsGiven, Listening, last_copies}
-use Rattle.nx_receiver.specs.Shares.{Given, MarkedCopy, Starts}
+use Rattle.nx_receiver.specs.copies.Shares.{Given, MarkedCopy, Starts}
 use Rattle.nx_c.specs.declared.receiver.kept.Kept.{Kept}
 use Rattle.nx_c.specs.declared.receiver.kept.Stage.{Stage}
 use Rattle.nx_c.specs.declared.receiver.kept.Stage.TheVariants.{Hearing, Ending}

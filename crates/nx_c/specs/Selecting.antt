@@ -6,7 +6,7 @@ use Rattle.nx_fec.specs.declared.air_files.channel.Channel.{Channel}
 use Rattle.nx_memory.specs.Selection.{is_vital}
 use Rattle.nx_receiver.specs.Events.{Command}
 use Rattle.nx_receiver.specs.Listener.{HearsGiven, Listening, then_command}
-use Rattle.nx_receiver.specs.Shares.{Given, MarkedCopy, Starts}
+use Rattle.nx_receiver.specs.copies.Shares.{Given, MarkedCopy, Starts}
 use Rattle.nx_c.specs.Life.{hearing}
 use Rattle.nx_c.specs.Status.{number_of}
 use Rattle.nx_c.specs.declared.receiver.kept.Kept.{Kept}

@@ -7,7 +7,7 @@ ghost use Rattle.nx_c.specs.Told.{IsPut, Tells, answer, room};
 ghost use Rattle.nx_memory.specs.Saved.{AreSavedStates};
 ghost use Rattle.nx_receiver.specs.air_file_runs.Listen.{IsLogOf};
 ghost use Rattle.nx_receiver.specs.laws.ListenOnce.{HasPrintedOnce};
-ghost use Rattle.nx_receiver.specs.Shares.{all_at_zero};
+ghost use Rattle.nx_receiver.specs.copies.Shares.{all_at_zero};
 ghost use Rattle.nx_receiver.specs.air_file_runs.State.{BeginsWith, state_bytes};
 
 use crate::caller_room::{put, tell};

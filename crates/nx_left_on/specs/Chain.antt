@@ -8,11 +8,11 @@ use Rattle.nx_log.specs.Logged.{remembered_on}
 use Rattle.nx_memory.specs.Memory.{newest_moment, seconds_known}
 use Rattle.nx_receiver.specs.air_file_runs.Chain.{AreFoundIn}
 use Rattle.nx_receiver.specs.Events.{Event, Start, elements_among, first_setting}
-use Rattle.nx_receiver.specs.FoundCopies.{FoundCopy, TaggedCopy, ended_so_far, tagged_copies}
-use Rattle.nx_receiver.specs.InTurn.{PrintAllToEnd, PrintsInTurn}
+use Rattle.nx_receiver.specs.copies.FoundCopies.{FoundCopy, TaggedCopy, ended_so_far, tagged_copies}
+use Rattle.nx_receiver.specs.copies.InTurn.{PrintAllToEnd, PrintsInTurn}
 use Rattle.nx_receiver.specs.air_file_runs.Listen.{events_on, given_by}
-use Rattle.nx_receiver.specs.Printing.{printed_copies}
-use Rattle.nx_receiver.specs.Shares.{Given, MarkedCopy, Starts, copies_on, start_on}
+use Rattle.nx_receiver.specs.copies.Printing.{printed_copies}
+use Rattle.nx_receiver.specs.copies.Shares.{Given, MarkedCopy, Starts, copies_on, start_on}
 use Rattle.nx_sync.specs.Locks.{IsNow, Lock, Now}
 use Rattle.nx_watch.specs.Acting.{acting_lines}
 use Rattle.nx_watch.specs.Watch.{StandsForEntries, starts_at}

@@ -8,7 +8,7 @@ use Rattle.nx_kept.specs.Kept.{closed_gate, open_gate}
 use Rattle.nx_receiver.specs.examples.Chain.{found_on, later_lines}
 use Rattle.nx_receiver.specs.examples.Repeats.{first_copy}
 use Rattle.nx_receiver.specs.examples.AirFile.{example_lines}
-use Rattle.nx_receiver.specs.Shares.{MarkedCopy, marked}
+use Rattle.nx_receiver.specs.copies.Shares.{MarkedCopy, marked}
 use Rattle.nx_receiver.specs.examples.Emission.{worked_log}
 use Rattle.nx_left_on.specs.Chain.{Watch, answered, stopped}
 use Rattle.nx_watch.specs.Watch.{starts_at}

@@ -8,13 +8,13 @@ ghost use Rattle.nx_fec.specs.declared.air_files.channel.Channel.TheVariants.{Ze
 ghost use Rattle.nx_log.specs.Logged.{remembered_on};
 ghost use Rattle.nx_memory.specs.Content.{IsContent};
 ghost use Rattle.nx_receiver.specs.Events.{Event, elements_among};
-ghost use Rattle.nx_receiver.specs.FoundCopies.{FoundCopy};
+ghost use Rattle.nx_receiver.specs.copies.FoundCopies.{FoundCopy};
 ghost use Rattle.nx_receiver.specs.air_file_runs.Listen.{given_by};
 ghost use Rattle.nx_receiver.specs.laws.Once.{IsPrintedOnce};
-ghost use Rattle.nx_receiver.specs.Printing.{printed_copies};
-ghost use Rattle.nx_receiver.specs.Shares.{MarkedCopy, copies_on};
-ghost use Rattle.nx_station.specs.ChannelExample.{example_message};
-ghost use Rattle.nx_station.specs.Sendings.{IsCut, IsSentAt, Part};
+ghost use Rattle.nx_receiver.specs.copies.Printing.{printed_copies};
+ghost use Rattle.nx_receiver.specs.copies.Shares.{MarkedCopy, copies_on};
+ghost use Rattle.nx_station.specs.reception.PathExample.{example_message};
+ghost use Rattle.nx_station.specs.reception.Sendings.{IsCut, IsSentAt, Part};
 ghost use Rattle.nx_watch.specs.Acting.{acting_lines};
 ghost use Rattle.nx_watch.specs.Watch.{PrintsUntil, StandsForEntries, Stop, starts_at};
 ghost use Rattle.nx_left_on.specs.Chain.{ClocksAreNear, GoesOn, IsChain, IsLeftBy, Puts, Watch, all_copies, all_put};

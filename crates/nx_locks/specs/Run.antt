@@ -12,7 +12,7 @@ use Rattle.nx_fec.specs.Transfers.{Devices, Extent, Transfers, as_read, on_the_w
 use Rattle.nx_receiver.specs.Events.{elements_among, first_setting, settings}
 use Rattle.nx_receiver.specs.air_file_runs.Listen.{AreTaken, HasListenFault, HasLoggedSome, events_on}
 use Rattle.nx_receiver.specs.air_file_runs.Listen.{moment_after}
-use Rattle.nx_receiver.specs.Shares.{all_at_zero, start_on}
+use Rattle.nx_receiver.specs.copies.Shares.{all_at_zero, start_on}
 use Rattle.nx_receiver.specs.declared.air_file_runs.listen_fault.ListenFault.{ListenFault}
 use Rattle.nx_receiver.specs.declared.air_file_runs.listen_fault.ListenFault.TheVariants.{Memory, Read, Write}
 use Rattle.nx_receiver.specs.declared.air_file_runs.listen_fault.ListenFault.TheVariants.{LineCut}

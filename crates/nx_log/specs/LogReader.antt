@@ -1,6 +1,6 @@
 -- A reader of a log that is given in pieces (this profile).
 use Rattle.std.specs.Prelude.{◌≡◌, ℕ, ◌≤◌, ◌-◌, ◌^◌, List, [], ◌∷◌, ◌++◌, length, min, take}
-use Rattle.nx_receiver.specs.Shares.{MarkedCopy}
+use Rattle.nx_receiver.specs.copies.Shares.{MarkedCopy}
 use Rattle.nx_log.specs.Logged.{IsLoggedAs}
 use Rattle.nx_log.specs.Reading.{AreReadAs, CanGoOn, StopAtLine, StopAtLineToEnd, line_behind}
 use Rattle.nx_log.specs.declared.entries.reader.BadLine.{BadLine}

@@ -14,7 +14,7 @@ use Rattle.nx_fec.specs.texts.TableText.{table_text}
 use Rattle.nx_locks.specs.Run.{ShowsLocks}
 use Rattle.nx_memory.specs.Saved.{SavedStates}
 use Rattle.nx_log.specs.LogRun.{RunsOverLog}
-use Rattle.nx_receiver.specs.Shares.{all_at_zero}
+use Rattle.nx_receiver.specs.copies.Shares.{all_at_zero}
 use Rattle.nx_receiver.specs.laws.ListenOnce.{ListensOnce}
 use Rattle.nx_receiver.specs.air_file_runs.Resume.{ReadStateAlone, Resumes}
 use Rattle.nx_receiver.specs.declared.air_file_runs.listen_fault.ListenFault.{ListenFault}

@@ -7,7 +7,7 @@ use Rattle.nx_kept.specs.Disk.{OnlyReads}
 use Rattle.nx_kept.specs.Kept.{IsDamaged, IsKeptLog}
 use Rattle.nx_kept.specs.declared.disk.DiskFile.{Ghosts as TellsOfDisk}
 use Rattle.nx_log.specs.Entries.{IsWholeEntry}
-use Rattle.nx_receiver.specs.Shares.{MarkedCopy}
+use Rattle.nx_receiver.specs.copies.Shares.{MarkedCopy}
 use Rattle.nx_disk.specs.declared.file.FileFault.{FileFault}
 use Rattle.nx_disk.specs.declared.file.FileFault.TheVariants as file
 use Rattle.nx_watch.specs.Watch.{AnswersWatching, HasCause, StandsForEntries, WatchDevices}

@@ -1,15 +1,10 @@
 pub mod Events
-pub mod FoundCopies
-pub mod InTurn
 pub mod Listener
 pub mod LockPrinter
-pub mod LockText
-pub mod Log
-pub mod Printing
 pub mod Receiver
-pub mod Shares
 pub mod Watching
 pub mod air_file_runs
+pub mod copies
 pub mod examples
 pub mod laws
 pub mod private

@@ -10,12 +10,12 @@ use Rattle.nx_memory.specs.Ring.{RingMemory}
 use Rattle.nx_memory.specs.declared.memories.entry.MemoryEntry.{MemoryEntry}
 use Rattle.nx_receiver.specs.Events as events
 use Rattle.nx_receiver.specs.Events.{Event, elements_among}
-use Rattle.nx_receiver.specs.FoundCopies.{TaggedCopy}
-use Rattle.nx_receiver.specs.InTurn.{PrintsInTurn}
-use Rattle.nx_receiver.specs.Log.{IsEntry}
+use Rattle.nx_receiver.specs.copies.FoundCopies.{TaggedCopy}
+use Rattle.nx_receiver.specs.copies.InTurn.{PrintsInTurn}
+use Rattle.nx_receiver.specs.copies.Log.{IsEntry}
 use Rattle.nx_receiver.specs.Receiver.{Receiving, Stands, entry_list}
-use Rattle.nx_receiver.specs.Shares.{Given, MarkedCopy, Starts, copies_on, marked, share, start_on}
-use Rattle.nx_receiver.specs.Shares.{to_all, to_one}
+use Rattle.nx_receiver.specs.copies.Shares.{Given, MarkedCopy, Starts, copies_on, marked, share, start_on}
+use Rattle.nx_receiver.specs.copies.Shares.{to_all, to_one}
 use Rattle.nx_receiver.specs.declared.listener.LastEntries.{LastEntries}
 
 -- the number that counts so many, at most the greatest of 64 bits

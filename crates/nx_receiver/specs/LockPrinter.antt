@@ -7,7 +7,7 @@ use Rattle.nx_code.specs.declared.shifts.Shift.TheVariants.{Letters}
 use Rattle.nx_fec.specs.emissions.Pairing.{IsLatest}
 use Rattle.nx_sync.specs.declared.step.Role.{Role}
 use Rattle.nx_receiver.specs.declared.lock_printer.LockPrinter.{LockPrinter}
-use Rattle.nx_receiver.specs.LockText.{dx_words, positions, text_after}
+use Rattle.nx_receiver.specs.copies.LockText.{dx_words, positions, text_after}
 
 -- The printer stands after the first n words of a lock: it has the latest three DX words among
 -- them, and the shift that their positions leave.

@@ -10,9 +10,9 @@ use Rattle.nx_receiver.specs.declared.fault.ReceiverFault.{ReceiverFault}
 use Rattle.nx_receiver.specs.declared.fault.ReceiverFault.TheVariants.{MomentRange, Memory}
 use Rattle.nx_receiver.specs.Events.{Event, Start, Setting, elements_among, first_setting, settings}
 use Rattle.nx_receiver.specs.Events.{setting_after_all, elements}
-use Rattle.nx_receiver.specs.Log.{HasPrinted}
-use Rattle.nx_receiver.specs.Printing.{printed_copies, entries_after}
-use Rattle.nx_receiver.specs.FoundCopies.{TaggedCopy, copy_of}
+use Rattle.nx_receiver.specs.copies.Log.{HasPrinted}
+use Rattle.nx_receiver.specs.copies.Printing.{printed_copies, entries_after}
+use Rattle.nx_receiver.specs.copies.FoundCopies.{TaggedCopy, copy_of}
 use Rattle.nx_receiver.specs.private.Watch.{WatchStands}
 use Rattle.nx_receiver.specs.Watching.{Watching, in_force}
 

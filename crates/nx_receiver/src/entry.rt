@@ -25,7 +25,7 @@ pub struct Entry {
 
 impl Entry {
     ghost use Rattle.std.specs.Prelude.{true};
-    ghost use Rattle.nx_receiver.specs.FoundCopies.{copy_of, tagged_found};
+    ghost use Rattle.nx_receiver.specs.copies.FoundCopies.{copy_of, tagged_found};
 
     /// The entry of a copy that is printed, with its moment.
     pub fn new(found: Found, moment: u64) -> Entry

@@ -4,11 +4,11 @@ ghost use Rattle.std.specs.Prelude.{◌≡◌, ◌≤◌, ◌==◌, ◌&&◌, �
 ghost use Rattle.nx_memory.specs.declared.memories.entry.MemoryEntry.{MemoryEntry};
 ghost use Rattle.nx_code.specs.Lists.{last_of};
 ghost use Rattle.nx_memory.specs.Memory.{is_known, most_entries, newest_moment};
-ghost use Rattle.nx_receiver.specs.Printing as spec;
-ghost use Rattle.nx_receiver.specs.Printing.{entry_made};
+ghost use Rattle.nx_receiver.specs.copies.Printing as spec;
+ghost use Rattle.nx_receiver.specs.copies.Printing.{entry_made};
 ghost use Rattle.nx_envelope.specs.Copies.{errors_of};
 ghost use Rattle.nx_receiver.specs.private.Heads.{headed_copy};
-ghost use Rattle.nx_receiver.specs.FoundCopies.{tagged_found};
+ghost use Rattle.nx_receiver.specs.copies.FoundCopies.{tagged_found};
 
 use nx_envelope::{Found, FoundHead, How, Identity};
 use nx_memory::Recall;

@@ -9,11 +9,11 @@ ghost use Rattle.nx_memory.specs.Selection.{is_vital};
 ghost use Rattle.nx_receiver.specs.air_file_runs.Chain.{Leaves};
 ghost use Rattle.nx_receiver.specs.Events as events;
 ghost use Rattle.nx_receiver.specs.Events.{Refuses, Start, at_moment, command};
-ghost use Rattle.nx_receiver.specs.FoundCopies.{TaggedCopy, copy_of};
-ghost use Rattle.nx_receiver.specs.InTurn.{PrintAllToEnd, PrintsInTurn};
+ghost use Rattle.nx_receiver.specs.copies.FoundCopies.{TaggedCopy, copy_of};
+ghost use Rattle.nx_receiver.specs.copies.InTurn.{PrintAllToEnd, PrintsInTurn};
 ghost use Rattle.nx_receiver.specs.Listener.{AreInRange, HearsGiven, IsSpelled, content, last_copies, moment_in_force, receiver_on, starts_of, then_command, then_elements, then_moment, with_receiver};
 ghost use Rattle.nx_receiver.specs.Receiver.{Stands, TakesEvent, entry_list};
-ghost use Rattle.nx_receiver.specs.Shares.{Given, MarkedCopy, Starts, marked, saved_of, share, start_on, starts_from};
+ghost use Rattle.nx_receiver.specs.copies.Shares.{Given, MarkedCopy, Starts, marked, saved_of, share, start_on, starts_from};
 ghost use Rattle.nx_receiver.specs.private.Awaiting.{HearsUpTo};
 ghost use Rattle.nx_receiver.specs.private.Listener.{HearsTo};
 

@@ -4,7 +4,7 @@
 ghost use Rattle.std.specs.Prelude.{◌≡◌, ◌≤◌, ℕ, take};
 ghost use Rattle.std.specs.Option.{option_to_list};
 ghost use Rattle.nx_receiver.specs.LockPrinter.{HasPrintedWords, PrintsLock};
-ghost use Rattle.nx_receiver.specs.LockText.{AreNext};
+ghost use Rattle.nx_receiver.specs.copies.LockText.{AreNext};
 ghost use Rattle.nx_sync.specs.Words.{role_of};
 ghost use Rattle.nx_sync.specs.declared.step.Role.{Role};
 

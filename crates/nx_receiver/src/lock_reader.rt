@@ -9,7 +9,7 @@ ghost use Rattle.nx_envelope.specs.Copies.{Copy};
 ghost use Rattle.nx_envelope.specs.Finder.{Closes, ClosesHeld, ClosesNone, HasReady, is_over, is_ready};
 ghost use Rattle.nx_envelope.specs.Found.{IsFound};
 ghost use Rattle.nx_receiver.specs.private.LockReader.{HearsWord, PrintsPlain, ReadsLock, is_open};
-ghost use Rattle.nx_receiver.specs.LockText.{AreNext, text_after};
+ghost use Rattle.nx_receiver.specs.copies.LockText.{AreNext, text_after};
 
 use crate::lock_printer::LockPrinter;
 use nx_code::{WORDS_AT_ONCE, Word};

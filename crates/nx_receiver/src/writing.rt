@@ -9,9 +9,9 @@ ghost use Rattle.nx_envelope.specs.Moment.{IsShownAs, last_moment};
 ghost use Rattle.nx_fec.specs.air_files.LineRuns.{HasGiven};
 ghost use Rattle.nx_fec.specs.Transfers.{FailsOnce, WroteSome};
 ghost use Rattle.nx_fec.specs.declared.air_files.channel.Channel.TheVariants.{Zero};
-ghost use Rattle.nx_receiver.specs.Log.{IsEntry, channel_mark, entry_head, how_name, missing_newline};
-ghost use Rattle.nx_receiver.specs.FoundCopies.{copy_of};
-ghost use Rattle.nx_receiver.specs.Shares.{marked};
+ghost use Rattle.nx_receiver.specs.copies.Log.{IsEntry, channel_mark, entry_head, how_name, missing_newline};
+ghost use Rattle.nx_receiver.specs.copies.FoundCopies.{copy_of};
+ghost use Rattle.nx_receiver.specs.copies.Shares.{marked};
 ghost use Rattle.nx_receiver.specs.private.Heads.{headed_copy};
 
 use crate::entry::Entry;

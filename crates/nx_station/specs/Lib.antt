@@ -4,10 +4,8 @@ pub mod Sendable
 pub mod MessageFile
 pub mod Faults
 pub mod FileSending
-pub mod Channel
-pub mod Sendings
-pub mod ChannelExample
 pub mod StrictReading
 pub mod Checking
 pub mod Damage
 pub mod private
+pub mod reception

@@ -21,7 +21,7 @@ ghost use Rattle.nx_station.specs.declared.sending.Sent.{Sent};
 ghost use Rattle.nx_station.specs.StrictReading.{ExplainsEmission, IsEmissionOf, IsMemory};
 ghost use Rattle.nx_station.specs.declared.fault.EmissionFault.{EmissionFault};
 
-pub mod channel;
+pub mod path;
 
 /// A message file has one spelling, and one list of messages.
 pub fn a_message_file_has_one_reading()

@@ -4,7 +4,7 @@ ghost use Rattle.std.specs.Prelude.{◌≡◌, ◌≤◌, ℕ, List, Err};
 ghost use Rattle.nx_kept.specs.Disk.{OnlyReads};
 ghost use Rattle.nx_kept.specs.Kept.{IsDamaged, IsKeptLog};
 ghost use Rattle.nx_log.specs.Entries.{IsWholeEntry};
-ghost use Rattle.nx_receiver.specs.Shares.{MarkedCopy};
+ghost use Rattle.nx_receiver.specs.copies.Shares.{MarkedCopy};
 ghost use Rattle.nx_watch.specs.Watch.{AnswersWatching, HasCause, StandsForEntries, longest_entry, watch_devices};
 ghost use Rattle.nx_watch.specs.Watching.{TellsOfLines};
 ghost use Rattle.nx_watch.specs.private.Answering.{fault_answered};

@@ -2,9 +2,9 @@
 use Rattle.std.proofs.Common.{◌≡◌, ◌<◌, ◌≤◌, ℕ, List, [], length, arith, refl, sym, ap, ◌∙◌, subst, Option, Some, None}
 use Rattle.std.proofs.lemmas.Grind.{common_steps}
 use Rattle.nx_fec.specs.declared.air_files.channel.Channel.{Channel}
-use Rattle.nx_receiver.specs.FoundCopies.{copy_of}
-use Rattle.nx_receiver.specs.Log.{IsEntry}
-use Rattle.nx_receiver.specs.Shares.{marked}
+use Rattle.nx_receiver.specs.copies.FoundCopies.{copy_of}
+use Rattle.nx_receiver.specs.copies.Log.{IsEntry}
+use Rattle.nx_receiver.specs.copies.Shares.{marked}
 use Rattle.nx_receiver.specs.declared.entry.Entry.{Entry}
 use Rattle.nx_c.specs.Closing.{AnswersClosing, HandsOut, TakesLast, closing_status}
 use Rattle.nx_c.specs.Life.{ending}

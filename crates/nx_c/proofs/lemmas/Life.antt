@@ -7,10 +7,10 @@ use Rattle.nx_fec.specs.air_files.Channels.{channel_number}
 use Rattle.nx_fec.specs.declared.air_files.channel.Channel.{Channel}
 use Rattle.nx_receiver.specs.Events as events
 use Rattle.nx_receiver.specs.Events.{Command, command}
-use Rattle.nx_receiver.specs.InTurn.{PrintAllToEnd}
+use Rattle.nx_receiver.specs.copies.InTurn.{PrintAllToEnd}
 use Rattle.nx_receiver.specs.Listener.{HearsGiven, Listening}
-use Rattle.nx_receiver.specs.Log.{IsLog}
-use Rattle.nx_receiver.specs.Shares.{Given, MarkedCopy, Starts, all_at_zero, marked, to_all, to_one}
+use Rattle.nx_receiver.specs.copies.Log.{IsLog}
+use Rattle.nx_receiver.specs.copies.Shares.{Given, MarkedCopy, Starts, all_at_zero, marked, to_all, to_one}
 use Rattle.nx_receiver.proofs.lemmas.listening.Listener.{none-heard}
 use Rattle.nx_receiver.proofs.lemmas.receiver.Log.{logs_join, no-log, one-log}
 use Rattle.nx_c.specs.Closing.{HandsOut}

@@ -5,7 +5,7 @@ use Rattle.nx_fec.specs.declared.air_files.channel.Channel.{Channel}
 use Rattle.nx_memory.specs.Selection.{is_vital}
 use Rattle.nx_receiver.specs.Events.{Command}
 use Rattle.nx_receiver.specs.Listener.{HearsGiven, Listening, then_command}
-use Rattle.nx_receiver.specs.Shares.{Given, MarkedCopy, Starts}
+use Rattle.nx_receiver.specs.copies.Shares.{Given, MarkedCopy, Starts}
 use Rattle.nx_c.specs.Life.{hearing_at}
 use Rattle.nx_c.specs.Selecting.{AnswersSelecting, is_letter, letter_status, selecting_status, subject_status}
 use Rattle.nx_c.specs.Status.{number_of}

@@ -6,7 +6,7 @@ use Rattle.nx_receiver.specs.Events.{Refuses}
 use Rattle.nx_receiver.specs.declared.fault.MomentFault.{MomentFault}
 use Rattle.nx_receiver.specs.declared.fault.MomentFault.TheVariants.{Back, Range}
 use Rattle.nx_receiver.specs.Listener.{HearsGiven, Listening}
-use Rattle.nx_receiver.specs.Shares.{Given, MarkedCopy, Starts}
+use Rattle.nx_receiver.specs.copies.Shares.{Given, MarkedCopy, Starts}
 use Rattle.nx_c.specs.Life.{HasHeard, hearing, hearing_at}
 use Rattle.nx_c.specs.Opening.{moment_status, moment_told}
 use Rattle.nx_c.specs.Status.{number_of}

@@ -2,9 +2,9 @@
 
 ghost use Rattle.std.specs.Prelude.{◌≡◌, ◌≤◌, ℕ, List, [], ◌∷◌, IfSome, None, Some, MatchOption};
 ghost use Rattle.nx_envelope.specs.Moment.{last_moment};
-ghost use Rattle.nx_receiver.specs.FoundCopies.{copy_of};
+ghost use Rattle.nx_receiver.specs.copies.FoundCopies.{copy_of};
 ghost use Rattle.nx_receiver.specs.Listener.{AreInRange, last_copies};
-ghost use Rattle.nx_receiver.specs.Shares.{MarkedCopy, marked};
+ghost use Rattle.nx_receiver.specs.copies.Shares.{MarkedCopy, marked};
 ghost use Rattle.nx_c.specs.Closing.{AnswersClosing, TakesLast};
 ghost use Rattle.nx_c.specs.Life.{EndsWith};
 ghost use Rattle.nx_c.specs.Told.{room};

@@ -2,7 +2,7 @@
 
 ghost use Rattle.std.specs.Prelude.{◌≡◌, ◌⊎◌, ◌<◌, ◌≤◌, [], ◌∷◌, IfErr, IfOk, OnOk, Option, Some};
 ghost use Rattle.nx_envelope.specs.Moment.{last_moment};
-ghost use Rattle.nx_receiver.specs.Shares.{all_at_zero, to_all};
+ghost use Rattle.nx_receiver.specs.copies.Shares.{all_at_zero, to_all};
 ghost use Rattle.nx_receiver.specs.Listener.{HearsGiven, Listening};
 ghost use Rattle.nx_c.specs.Life.{HasHeard, hearing};
 ghost use Rattle.nx_c.specs.Opening.{AnswersMoment, AnswersOpening, moment_told};

@@ -2,7 +2,7 @@
 
 ghost use Rattle.std.specs.Prelude.{◌≡◌, ◌⊎◌, ℕ, List, [], IfErr, IfOk, MatchResult, Some};
 ghost use Rattle.nx_memory.specs.Saved.{SavedStates};
-ghost use Rattle.nx_receiver.specs.Shares.{starts_from};
+ghost use Rattle.nx_receiver.specs.copies.Shares.{starts_from};
 ghost use Rattle.nx_c.specs.Faults.{state_told};
 ghost use Rattle.nx_c.specs.Life.{HasHeard};
 ghost use Rattle.nx_c.specs.Saving.{AnswersOpeningFrom, AnswersSaving, Restores};

@@ -21,9 +21,9 @@ use Rattle.nx_log.specs.Logged.{IsLogged, IsLoggedAs, is_kept, is_text_byte, kep
 use Rattle.nx_memory.specs.Memory.{newest_moment}
 use Rattle.nx_memory.specs.Selection.{admits}
 use Rattle.nx_memory.specs.declared.memories.entry.MemoryEntry.{MemoryEntry}
-use Rattle.nx_station.specs.ChannelExample.{ea01, example_message, example_parts, example_sending}
-use Rattle.nx_station.specs.Sendings.{IsCut, IsSentAt, Part}
-use Rattle.nx_station.proofs.lemmas.reception.ChannelExamples.{example_sent}
+use Rattle.nx_station.specs.reception.PathExample.{ea01, example_message, example_parts, example_sending}
+use Rattle.nx_station.specs.reception.Sendings.{IsCut, IsSentAt, Part}
+use Rattle.nx_station.proofs.lemmas.reception.PathExamples.{example_sent}
 use Rattle.nx_sync.specs.Locks.{IsNow, locked}
 use Rattle.nx_receiver.specs.air_file_runs.Chain.{AreFoundIn}
 use Rattle.nx_receiver.specs.examples.Chain.{copy_heard, found_on}
@@ -31,14 +31,14 @@ use Rattle.nx_receiver.specs.laws.Emissions.{copy_of_sending}
 use Rattle.nx_receiver.specs.Events.{Event, Setting, at_moment, elements_among, first_setting}
 use Rattle.nx_receiver.specs.Events.{none_refused, setting_at, settings}
 use Rattle.nx_receiver.specs.examples.Repeats.{first_copy, heard_at}
-use Rattle.nx_receiver.specs.FoundCopies.{FoundCopy, TaggedCopy, ended_so_far, found_to_end}
-use Rattle.nx_receiver.specs.FoundCopies.{open_so_far, tag, tagged_copies}
-use Rattle.nx_receiver.specs.InTurn.{PrintAllToEnd, PrintsInTurn}
+use Rattle.nx_receiver.specs.copies.FoundCopies.{FoundCopy, TaggedCopy, ended_so_far, found_to_end}
+use Rattle.nx_receiver.specs.copies.FoundCopies.{open_so_far, tag, tagged_copies}
+use Rattle.nx_receiver.specs.copies.InTurn.{PrintAllToEnd, PrintsInTurn}
 use Rattle.nx_receiver.specs.air_file_runs.Listen.{events_on, given_by}
-use Rattle.nx_receiver.specs.Log.{HasPrinted, IsEntry, PrintsToEnd}
-use Rattle.nx_receiver.specs.Printing.{entries_made, entry_made, entry_of, if_printed, is_entered}
-use Rattle.nx_receiver.specs.Printing.{is_printed, printed_copies}
-use Rattle.nx_receiver.specs.Shares.{MarkedCopy, Starts, copies_on, marked, start_on}
+use Rattle.nx_receiver.specs.copies.Log.{HasPrinted, IsEntry, PrintsToEnd}
+use Rattle.nx_receiver.specs.copies.Printing.{entries_made, entry_made, entry_of, if_printed, is_entered}
+use Rattle.nx_receiver.specs.copies.Printing.{is_printed, printed_copies}
+use Rattle.nx_receiver.specs.copies.Shares.{MarkedCopy, Starts, copies_on, marked, start_on}
 use Rattle.nx_receiver.proofs.lemmas.chain.Alone.{found-none, printed-alone}
 use Rattle.nx_receiver.proofs.lemmas.emissions.Found.{sending_found}
 use Rattle.nx_receiver.proofs.lemmas.examples.AirFile.{bits, inside, one-sending, place-within}

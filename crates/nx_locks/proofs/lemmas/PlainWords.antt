@@ -12,9 +12,9 @@ use Rattle.nx_envelope.specs.Finder.{BringNothing, Keeps, StandsAfter}
 use Rattle.nx_sync.specs.declared.step.Role.{Role}
 use Rattle.nx_sync.specs.declared.step.Role.TheVariants.{Dx}
 use Rattle.nx_code.proofs.lemmas.WordCounts.{one_if, wrong_in-add, wrong_in-le}
-use Rattle.nx_receiver.specs.Log.{is_of_lines}
+use Rattle.nx_receiver.specs.copies.Log.{is_of_lines}
 use Rattle.nx_receiver.specs.LockPrinter.{HasPrintedWords, PrintsLock}
-use Rattle.nx_receiver.specs.LockText.{AreNext, text_after}
+use Rattle.nx_receiver.specs.copies.LockText.{AreNext, text_after}
 use Rattle.nx_code.proofs.lemmas.WordCounts.{wrong_in-same}
 use Rattle.nx_receiver.proofs.lemmas.locks.ReaderWords.{printer_of, prints_lock, reads_on}
 use Rattle.nx_locks.specs.private.Reader.{HasHeardWords, Reading, ShowsWords, reading_of}

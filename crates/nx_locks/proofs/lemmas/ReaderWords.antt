@@ -14,12 +14,12 @@ use Rattle.nx_envelope.specs.declared.identity.Identity.{Identity}
 use Rattle.nx_code.specs.Word.{is_wrong, wrong_in}
 use Rattle.nx_code.proofs.lemmas.WordCounts.{one_if}
 use Rattle.nx_sync.specs.declared.step.Role.{Role}
-use Rattle.nx_receiver.specs.Log.{is_of_lines}
+use Rattle.nx_receiver.specs.copies.Log.{is_of_lines}
 use Rattle.nx_receiver.specs.LockPrinter.{HasPrintedWords, PrintsLock}
-use Rattle.nx_receiver.specs.LockText.{positions}
+use Rattle.nx_receiver.specs.copies.LockText.{positions}
 use Rattle.nx_receiver.specs.declared.lock_printer.LockPrinter.{LockPrinter}
 use Rattle.nx_receiver.specs.private.LockReader as receiver
-use Rattle.nx_receiver.specs.LockText.{text_after}
+use Rattle.nx_receiver.specs.copies.LockText.{text_after}
 use Rattle.nx_locks.specs.private.Reader.{HasHeard, IsFresh, Reading, ReadsLock, TakesByte, counted}
 use Rattle.nx_locks.specs.private.Reader.{one_more, reading_of}
 

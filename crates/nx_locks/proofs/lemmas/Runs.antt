@@ -25,7 +25,7 @@ use Rattle.nx_fec.proofs.lemmas.devices.TransferLaws.{Ok-not_err, Reads-on, Writ
 use Rattle.nx_receiver.specs.Events as events
 use Rattle.nx_receiver.specs.Events.{Command, command, elements_among}
 use Rattle.nx_receiver.specs.air_file_runs.Listen.{HasLoggedSome, events_on, given_of, lines_fault}
-use Rattle.nx_receiver.specs.Shares.{all_at_zero, events_for, to_one}
+use Rattle.nx_receiver.specs.copies.Shares.{all_at_zero, events_for, to_one}
 use Rattle.nx_locks.specs.Run.{ExplainsShowing, HasShown, HasShownAll, IsReportOf, ShowsLocks}
 use Rattle.nx_locks.specs.private.ReportWriterBegins.{begins-report}
 use Rattle.nx_locks.specs.private.ReportWriter.{BeginsFrom, HasClosed, HasClosedSome, HasTooMany}

@@ -20,7 +20,7 @@ use Rattle.nx_receiver.specs.Events.{first_setting, setting_after, setting_after
 use Rattle.nx_receiver.specs.air_file_runs.Listen.{events_on, given_by, given_of, has_moment, moment_after}
 use Rattle.nx_receiver.specs.private.Taken.{AreTakenAfter, IsTakenAfter}
 use Rattle.nx_receiver.proofs.lemmas.listening.Taken.{are-taken}
-use Rattle.nx_receiver.specs.Shares.{all_at_zero, events_for, share, start_on, to_one}
+use Rattle.nx_receiver.specs.copies.Shares.{all_at_zero, events_for, share, start_on, to_one}
 use Rattle.nx_receiver.proofs.lemmas.channels.Shares.{share-one}
 use Rattle.nx_receiver.proofs.lemmas.chain.Moments.{after-more}
 use Rattle.nx_receiver.proofs.lemmas.listening.Listener.{given_by-one, moment-on, moment-one, moment-other}

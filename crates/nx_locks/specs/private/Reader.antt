@@ -11,10 +11,10 @@ use Rattle.nx_fec.specs.declared.emissions.diversity.Diversity.{Diversity}
 use Rattle.nx_code.specs.Word.{is_wrong, wrong_in}
 use Rattle.nx_sync.specs.Words.{role_of}
 use Rattle.nx_sync.specs.declared.step.Role.{Role}
-use Rattle.nx_receiver.specs.Log.{is_of_lines}
+use Rattle.nx_receiver.specs.copies.Log.{is_of_lines}
 use Rattle.nx_receiver.specs.private.LockReader as receiver
 use Rattle.nx_receiver.specs.Watching.{LockReading}
-use Rattle.nx_receiver.specs.LockText.{text_after}
+use Rattle.nx_receiver.specs.copies.LockText.{text_after}
 
 -- what contracts see of a reader: what arrived of the latest three DX words, the shift in force,
 -- the finder of the headers, three counts, and whether the last line of the text is open

@@ -1,7 +1,7 @@
 -- How a run over a log stands, and how it ends.
 use Rattle.std.specs.Prelude.{◌≡◌, ℕ, ◌-◌, ◌^◌, List, length, min, Option}
 use Rattle.nx_fec.specs.air_files.LineRuns.{HasGiven}
-use Rattle.nx_receiver.specs.Shares.{MarkedCopy}
+use Rattle.nx_receiver.specs.copies.Shares.{MarkedCopy}
 use Rattle.nx_log.specs.LogReader.{EndEarlyAt, IsAt, StopAt}
 use Rattle.nx_log.specs.LogRun.{BeginWithEntries, IsOutput, WroteOutput, WrotePart}
 use Rattle.nx_log.specs.Query.{admitted}

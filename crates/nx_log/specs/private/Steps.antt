@@ -1,6 +1,6 @@
 -- What a reader of a log takes, step by step.
 use Rattle.std.specs.Prelude.{◌≡◌, ℕ, ◌+◌, ◌≤◌, List, ◌++◌, min, ⊤}
-use Rattle.nx_receiver.specs.Shares.{MarkedCopy}
+use Rattle.nx_receiver.specs.copies.Shares.{MarkedCopy}
 use Rattle.nx_log.specs.LogReader.{most_lines}
 use Rattle.nx_log.specs.Reading.{AreReadAs, line_behind}
 use Rattle.nx_log.specs.declared.entries.reader.Pushed.{Pushed}

@@ -3,8 +3,8 @@
 ghost use Rattle.std.specs.Prelude.{◌≡◌, ◌≢◌, ◌↔◌, ℕ, List, [], ◌∷◌, ◌++◌, All, IfNone, IfSome, IsTrue};
 ghost use Rattle.nx_envelope.specs.Copies.{errors_of};
 ghost use Rattle.nx_code.specs.Reading.{newline};
-ghost use Rattle.nx_receiver.specs.Log.{missing_newline};
-ghost use Rattle.nx_receiver.specs.Shares.{MarkedCopy};
+ghost use Rattle.nx_receiver.specs.copies.Log.{missing_newline};
+ghost use Rattle.nx_receiver.specs.copies.Shares.{MarkedCopy};
 ghost use Rattle.nx_log.specs.Entries.{IsWholeEntry};
 ghost use Rattle.nx_log.specs.Logged.{IsLoggedAs, is_text_byte as the_is_text_byte};
 ghost use Rattle.nx_log.specs.View.{IsViewOf};

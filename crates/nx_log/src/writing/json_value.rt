@@ -5,7 +5,7 @@ ghost use Rattle.nx_envelope.specs.Moment.{IsShownAs, last_moment};
 ghost use Rattle.nx_log.specs.Json.{IsJsonLine, entry_data};
 ghost use Rattle.nx_log.specs.Times.{joined};
 ghost use Rattle.nx_log.specs.View.{IsSeen, copy_said};
-ghost use Rattle.nx_receiver.specs.Log.{how_name as the_how_name};
+ghost use Rattle.nx_receiver.specs.copies.Log.{how_name as the_how_name};
 ghost use Rattle.serde_json.specs.View.{view as data_of};
 
 use crate::entries::entry::EntryView;

@@ -5,7 +5,7 @@ use Rattle.nx_fec.specs.Transfers.{Devices}
 use Rattle.nx_memory.specs.Saved.{SavedStates}
 use Rattle.nx_receiver.specs.air_file_runs.Chain.{HasGoneOn}
 use Rattle.nx_receiver.specs.laws.ListenOnce.{ListensOnce}
-use Rattle.nx_receiver.specs.Shares.{starts_from}
+use Rattle.nx_receiver.specs.copies.Shares.{starts_from}
 use Rattle.nx_receiver.specs.declared.air_file_runs.listen_fault.ListenFault.{ListenFault}
 use Rattle.nx_receiver.specs.declared.air_file_runs.listening.Report.{Report}
 

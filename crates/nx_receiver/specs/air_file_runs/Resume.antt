@@ -9,7 +9,7 @@ use Rattle.nx_memory.specs.Saved.{AreSavedStates, SavedStates}
 use Rattle.nx_receiver.specs.air_file_runs.Chain.{HasGoneOn, IsChain, Run, all_logs, files}
 use Rattle.nx_receiver.specs.air_file_runs.Listen.{AnswersListening, AnswersUnlogged, IsLogOf}
 use Rattle.nx_receiver.specs.laws.ListenOnce.{HasPrintedOnce}
-use Rattle.nx_receiver.specs.Shares.{starts_from}
+use Rattle.nx_receiver.specs.copies.Shares.{starts_from}
 use Rattle.nx_receiver.specs.air_file_runs.State.{BeginsWith, ExplainsState, IsStateBytes, state_bytes}
 use Rattle.nx_receiver.specs.declared.air_file_runs.listen_fault.ListenFault.TheVariants as listen
 use Rattle.nx_receiver.specs.declared.air_file_runs.listening.Report.{Report}

@@ -6,18 +6,18 @@ use Rattle.nx_fec.specs.air_files.AirFile.{Line, moment}
 use Rattle.nx_fec.specs.air_files.BitLines.{bit_lines}
 use Rattle.nx_fec.specs.emissions.Emission.{bits_of}
 use Rattle.nx_fec.specs.air_files.Lines.{file_of}
-use Rattle.nx_station.specs.ChannelExample.{example_message}
+use Rattle.nx_station.specs.reception.PathExample.{example_message}
 use Rattle.nx_fec.specs.declared.air_files.channel.Channel.{Channel}
 use Rattle.nx_fec.specs.declared.air_files.channel.Channel.TheVariants.{Zero}
 use Rattle.nx_memory.specs.Saved.{SavedStates, on_channel_0}
 use Rattle.nx_receiver.specs.air_file_runs.Chain.{Run}
 use Rattle.nx_receiver.specs.Events.{none_refused}
 use Rattle.nx_receiver.specs.examples.Repeats.{first_copy}
-use Rattle.nx_receiver.specs.FoundCopies.{FoundCopy}
+use Rattle.nx_receiver.specs.copies.FoundCopies.{FoundCopy}
 use Rattle.nx_receiver.specs.examples.AirFile.{example_air_file, example_lines}
-use Rattle.nx_receiver.specs.Printing.{entry_of}
+use Rattle.nx_receiver.specs.copies.Printing.{entry_of}
 use Rattle.nx_receiver.specs.laws.Emissions.{copy_of_sending}
-use Rattle.nx_receiver.specs.Shares.{marked, none_saved, starts_from}
+use Rattle.nx_receiver.specs.copies.Shares.{marked, none_saved, starts_from}
 use Rattle.nx_receiver.specs.examples.Emission.{damaged_words, worked_log}
 
 -- the copy of the message among these elements: the second digit of its header is element 1,189

@@ -2,8 +2,8 @@
 -- the channel's example has it. And what a receiver prints of it.
 use Rattle.std.specs.Prelude.{ℕ, List, [], ◌++◌, map, codes}
 use Rattle.nx_fec.specs.emissions.Emission.{bits_of}
-use Rattle.nx_station.specs.Channel.{phasing_words}
-use Rattle.nx_station.specs.ChannelExample.{example_words, heard_half}
+use Rattle.nx_station.specs.reception.Path.{phasing_words}
+use Rattle.nx_station.specs.reception.PathExample.{example_words, heard_half}
 use Rattle.nx_receiver.specs.Events.{Event, element, Start, none_refused}
 
 -- the emission as it is sent: 72 positions of phasing, and the message

@@ -5,8 +5,8 @@ use Rattle.std.proofs.Common.{lit≤}
 use Rattle.nx_envelope.specs.declared.found.How.{How}
 use Rattle.nx_envelope.specs.declared.found.How.TheVariants.{Full, Cut}
 use Rattle.nx_envelope.specs.declared.identity.Identity.{Identity}
-use Rattle.nx_station.specs.ChannelExample.{ea01}
-use Rattle.nx_receiver.specs.FoundCopies.{TaggedCopy}
+use Rattle.nx_station.specs.reception.PathExample.{ea01}
+use Rattle.nx_receiver.specs.copies.FoundCopies.{TaggedCopy}
 
 -- station E, subject B, number 02
 abbrev pub eb02 : Identity

@@ -6,12 +6,12 @@ use Rattle.nx_fec.specs.declared.air_files.channel.Channel.{Channel}
 use Rattle.nx_memory.specs.Saved.{SavedStates}
 use Rattle.nx_memory.specs.Memory.{seconds_known}
 use Rattle.nx_memory.specs.Selection.{admits}
-use Rattle.nx_station.specs.Sendings.{Part, IsCut, IsSentAt}
+use Rattle.nx_station.specs.reception.Sendings.{Part, IsCut, IsSentAt}
 use Rattle.nx_receiver.specs.air_file_runs.Chain.{Run, all_copies, events_in, start_in}
 use Rattle.nx_receiver.specs.Events.{Setting, elements_among, first_setting, setting_at}
-use Rattle.nx_receiver.specs.FoundCopies.{FoundCopy}
+use Rattle.nx_receiver.specs.copies.FoundCopies.{FoundCopy}
 use Rattle.nx_receiver.specs.laws.Once.{IsUnknownAtFirst, FewBetween}
-use Rattle.nx_receiver.specs.Shares.{saved_of, start_on, starts_from}
+use Rattle.nx_receiver.specs.copies.Shares.{saved_of, start_on, starts_from}
 
 -- a run, with the gaps of any bits and the received emissions into which its elements on a channel
 -- are cut

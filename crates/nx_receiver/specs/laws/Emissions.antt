@@ -11,8 +11,8 @@ use Rattle.nx_envelope.specs.Header.{Header}
 use Rattle.nx_envelope.specs.Message.{text_of, MessageView}
 use Rattle.nx_envelope.specs.declared.found.How.TheVariants.{Full}
 use Rattle.nx_station.specs.Broadcast.{printed_text}
-use Rattle.nx_station.specs.Sendings.{Sending}
-use Rattle.nx_receiver.specs.FoundCopies.{FoundCopy}
+use Rattle.nx_station.specs.reception.Sendings.{Sending}
+use Rattle.nx_receiver.specs.copies.FoundCopies.{FoundCopy}
 
 -- how many bits the 48 phasing words of the slots 96 to 143 have
 abbrev pub phasing_elements : ℕ

@@ -6,10 +6,10 @@ use Rattle.nx_envelope.specs.Message.{text_of, MessageView}
 use Rattle.nx_envelope.specs.declared.found.How.TheVariants.{Full}
 use Rattle.nx_fec.specs.emissions.Emission.{bits_of, emission}
 use Rattle.nx_station.specs.Broadcast.{layout}
-use Rattle.nx_station.specs.Channel.{first_slot}
-use Rattle.nx_station.specs.Sendings.{Part, gap, received}
+use Rattle.nx_station.specs.reception.Path.{first_slot}
+use Rattle.nx_station.specs.reception.Sendings.{Part, gap, received}
 use Rattle.nx_receiver.specs.Events.{Event, at_moment, elements}
-use Rattle.nx_receiver.specs.FoundCopies.{TaggedCopy}
+use Rattle.nx_receiver.specs.copies.FoundCopies.{TaggedCopy}
 
 -- of these messages, this one alone bears its identity
 abbrev pub BearsAlone : List MessageView → MessageView → Type 0

@@ -10,8 +10,8 @@ use Rattle.nx_memory.specs.Memory.{seconds_known, most_entries}
 use Rattle.nx_memory.specs.declared.memories.entry.MemoryEntry.{MemoryEntry}
 use Rattle.nx_receiver.specs.Events as events
 use Rattle.nx_receiver.specs.Events.{Event, at_moment, command, element}
-use Rattle.nx_receiver.specs.FoundCopies.{TaggedCopy}
-use Rattle.nx_receiver.specs.Printing.{is_good, entries_made, entries_after, copies_of}
+use Rattle.nx_receiver.specs.copies.FoundCopies.{TaggedCopy}
+use Rattle.nx_receiver.specs.copies.Printing.{is_good, entries_made, entries_after, copies_of}
 use Rattle.nx_receiver.specs.laws.Once.{IsUnknownAtFirst}
 
 -- The bits of the lock at t with n words: those of the words, and of the word before them, which

@@ -6,10 +6,10 @@ use Rattle.nx_fec.specs.air_files.AirFile.{Line}
 use Rattle.nx_fec.specs.air_files.Lines.{air_limit, IsAirFile}
 use Rattle.nx_fec.specs.Transfers.{Devices}
 use Rattle.nx_fec.specs.declared.air_files.channel.Channel.{Channel}
-use Rattle.nx_station.specs.Sendings.{Part}
+use Rattle.nx_station.specs.reception.Sendings.{Part}
 use Rattle.nx_receiver.specs.air_file_runs.Listen.{HasListened, Listens, events_on}
 use Rattle.nx_receiver.specs.laws.Once.{IsHeardInTime, IsPrintedOnce}
-use Rattle.nx_receiver.specs.Shares.{Starts, copies_on, start_on}
+use Rattle.nx_receiver.specs.copies.Shares.{Starts, copies_on, start_on}
 use Rattle.nx_receiver.specs.declared.air_file_runs.listen_fault.ListenFault.{ListenFault}
 use Rattle.nx_receiver.specs.declared.air_file_runs.listening.Report.{Report}
 

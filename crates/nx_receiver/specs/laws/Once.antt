@@ -11,10 +11,10 @@ use Rattle.nx_envelope.specs.declared.identity.Identity.{Identity}
 use Rattle.nx_memory.specs.Memory.{seconds_known, most_entries}
 use Rattle.nx_memory.specs.Selection.{admits}
 use Rattle.nx_memory.specs.declared.memories.entry.MemoryEntry.{MemoryEntry}
-use Rattle.nx_station.specs.Sendings.{Part, IsCut, IsSentAt}
+use Rattle.nx_station.specs.reception.Sendings.{Part, IsCut, IsSentAt}
 use Rattle.nx_receiver.specs.Events.{Event, Start, elements_among, first_setting, setting_at}
-use Rattle.nx_receiver.specs.FoundCopies.{FoundCopy, found_to_end, TaggedCopy, tagged_copies}
-use Rattle.nx_receiver.specs.Printing.{copies_of, entries_made, entries_after, is_remembered}
+use Rattle.nx_receiver.specs.copies.FoundCopies.{FoundCopy, found_to_end, TaggedCopy, tagged_copies}
+use Rattle.nx_receiver.specs.copies.Printing.{copies_of, entries_made, entries_after, is_remembered}
 
 -- after these first entries, no entry of the identity is live at the first of the copies that bear
 -- it
@@ -40,7 +40,7 @@ FewBetween copies start message =
 -- What has to be met, so that a message is printed once of all that a receiver is given.
 pub record IsHeardInTime (start : Start) (events : List Event) (parts : List Part)
     (message : MessageView) : Type 0 where
-  -- The bits are cut into gaps of any bits and emissions that are received as the channel says.
+  -- The bits are cut into gaps of any bits and emissions that are received.
   pub cut : IsCut (elements_among events) parts
   -- The message is sent in these emissions, once or more often.
   pub place : ℕ

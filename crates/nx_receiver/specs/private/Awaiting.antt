@@ -8,13 +8,13 @@ use Rattle.nx_memory.specs.Memory.{most_entries}
 use Rattle.nx_memory.specs.declared.memories.entry.MemoryEntry.{MemoryEntry}
 use Rattle.nx_receiver.specs.Events.{Event, Start, Setting, elements_among, first_setting, settings}
 use Rattle.nx_receiver.specs.Events.{setting_after_all, elements}
-use Rattle.nx_receiver.specs.FoundCopies.{TaggedCopy}
-use Rattle.nx_receiver.specs.Printing.{printed_copies, entries_after}
+use Rattle.nx_receiver.specs.copies.FoundCopies.{TaggedCopy}
+use Rattle.nx_receiver.specs.copies.Printing.{printed_copies, entries_after}
 use Rattle.nx_receiver.specs.Receiver.{Receiving, Stands}
 use Rattle.nx_receiver.specs.declared.copy_taker.Over.{Over}
 use Rattle.nx_receiver.specs.declared.copy_taker.Over.TheVariants as over
-use Rattle.nx_receiver.specs.Log.{IsLog}
-use Rattle.nx_receiver.specs.Shares.{marked}
+use Rattle.nx_receiver.specs.copies.Log.{IsLog}
+use Rattle.nx_receiver.specs.copies.Shares.{marked}
 use Rattle.nx_fec.specs.declared.air_files.channel.Channel.{Channel}
 use Rattle.nx_receiver.specs.private.Watch.{IsOver}
 use Rattle.nx_receiver.specs.Watching.{in_force}

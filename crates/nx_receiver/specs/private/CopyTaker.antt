@@ -14,7 +14,7 @@ use Rattle.nx_receiver.specs.declared.copy_taker.CopyTaker.{CopyTaker}
 use Rattle.nx_receiver.specs.Events.{Setting}
 use Rattle.nx_receiver.specs.Watching.{Watching}
 use Rattle.nx_receiver.specs.private.LockReader.{HearsWord, ReadsLock}
-use Rattle.nx_receiver.specs.LockText.{text_after}
+use Rattle.nx_receiver.specs.copies.LockText.{text_after}
 use Rattle.nx_receiver.specs.private.Watch.{HearsAll, TagGoesOn, over_with, tag_of}
 
 -- what is in force for a taker

@@ -9,7 +9,7 @@ use Rattle.nx_receiver.specs.declared.copy_taker.CopyTaker.{CopyTaker}
 use Rattle.nx_receiver.specs.declared.copy_taker.CopyTag.{CopyTag}
 use Rattle.nx_receiver.specs.declared.copy_taker.Over.{Over}
 use Rattle.nx_receiver.specs.Events.{Setting}
-use Rattle.nx_receiver.specs.FoundCopies.{TaggedCopy}
+use Rattle.nx_receiver.specs.copies.FoundCopies.{TaggedCopy}
 use Rattle.nx_receiver.specs.Watching.{Watching, in_force}
 use Rattle.nx_receiver.specs.private.CopyTaker.{Hears, watch_of}
 use Rattle.nx_receiver.specs.private.Watch.{HasEnded, HearsBits, IsOver, TagGoesOn}

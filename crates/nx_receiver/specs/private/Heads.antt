@@ -1,7 +1,7 @@
 -- A copy by its head and its text, where the text stands with the finder (this profile).
 use Rattle.std.specs.Prelude.{ℕ, Bool, true, List, [], ◌∷◌, Option, Some, None}
 use Rattle.nx_envelope.specs.declared.found.FoundHead.{FoundHead}
-use Rattle.nx_receiver.specs.FoundCopies.{TaggedCopy}
+use Rattle.nx_receiver.specs.copies.FoundCopies.{TaggedCopy}
 
 -- the copy of a head and a text, with a moment and whether it is selected
 abbrev pub headed_copy : FoundHead → List ℕ → ℕ → Bool → TaggedCopy

@@ -21,10 +21,10 @@ use Rattle.nx_receiver.specs.declared.copy_taker.CopyTag.{CopyTag}
 use Rattle.nx_receiver.specs.Events.{Setting}
 use Rattle.nx_receiver.specs.private.LockReader.{ReadsLock}
 use Rattle.nx_receiver.specs.Watching.{LockReading, Watching, in_force}
-use Rattle.nx_receiver.specs.LockText.{PlacedByte, bytes_of}
-use Rattle.nx_receiver.specs.FoundCopies.{FoundCopy, place_in, ended_in, past_text, past_copies}
-use Rattle.nx_receiver.specs.FoundCopies.{standing_text, ended_so_far, found_to_end, TaggedCopy}
-use Rattle.nx_receiver.specs.FoundCopies.{tag, tagged_found}
+use Rattle.nx_receiver.specs.copies.LockText.{PlacedByte, bytes_of}
+use Rattle.nx_receiver.specs.copies.FoundCopies.{FoundCopy, place_in, ended_in, past_text, past_copies}
+use Rattle.nx_receiver.specs.copies.FoundCopies.{standing_text, ended_so_far, found_to_end, TaggedCopy}
+use Rattle.nx_receiver.specs.copies.FoundCopies.{tag, tagged_found}
 
 -- what a copy of the identity bears of what is in force at its second digit
 abbrev pub tag_of : Setting → Identity → CopyTag

@@ -11,7 +11,7 @@ ghost use Rattle.nx_fec.specs.declared.air_files.channel.Channel.TheVariants.{On
 ghost use Rattle.nx_memory.specs.Saved.{AreSavedStates, SavedState, SavedStates};
 ghost use Rattle.nx_memory.specs.Memory.{most_entries, newest_moment};
 ghost use Rattle.nx_memory.specs.declared.memories.entry.MemoryEntry.{MemoryEntry};
-ghost use Rattle.nx_station.specs.ChannelExample.{example_message};
+ghost use Rattle.nx_station.specs.reception.PathExample.{example_message};
 ghost use Rattle.nx_sync.specs.Locks.{IsNow, Lock, Now};
 ghost use Rattle.nx_receiver.specs.examples.Again.{saved_long_ago};
 ghost use Rattle.nx_receiver.specs.examples.Channels.{two_channels};
@@ -20,13 +20,13 @@ ghost use Rattle.nx_receiver.specs.air_file_runs.Chain.{AgreeInLast, GoesOn, Has
 ghost use Rattle.nx_receiver.specs.examples.Chain.{example_runs, saved_after};
 ghost use Rattle.nx_receiver.specs.laws.ChainOnce.{IsHeardInTimeOver};
 ghost use Rattle.nx_receiver.specs.Events.{Event, Start, elements_among, first_setting, setting_after_all};
-ghost use Rattle.nx_receiver.specs.FoundCopies.{ended_so_far, TaggedCopy, tagged_copies};
+ghost use Rattle.nx_receiver.specs.copies.FoundCopies.{ended_so_far, TaggedCopy, tagged_copies};
 ghost use Rattle.nx_receiver.specs.laws.Once.{IsUnknownAtFirst, IsPrintedOnce};
 ghost use Rattle.nx_receiver.specs.air_file_runs.Listen.{HasListened, IsLogOf, IsLogOfFile, events_on};
-ghost use Rattle.nx_receiver.specs.Log.{IsLog};
-ghost use Rattle.nx_receiver.specs.Printing.{entries_after, entries_made, printed_copies};
+ghost use Rattle.nx_receiver.specs.copies.Log.{IsLog};
+ghost use Rattle.nx_receiver.specs.copies.Printing.{entries_after, entries_made, printed_copies};
 ghost use Rattle.nx_receiver.specs.Receiver.{Receiving, Stands};
-ghost use Rattle.nx_receiver.specs.Shares.{MarkedCopy, copies_on, none_saved, saved_of, start_on, starts_from};
+ghost use Rattle.nx_receiver.specs.copies.Shares.{MarkedCopy, copies_on, none_saved, saved_of, start_on, starts_from};
 ghost use Rattle.nx_receiver.specs.Watching.{in_force};
 ghost use Rattle.nx_receiver.specs.examples.Emission.{worked_log};
 ghost use Rattle.nx_receiver.specs.declared.air_file_runs.listening.Report.{Report};

@@ -7,12 +7,12 @@ ghost use Rattle.nx_fec.specs.air_files.Lines.{file_of};
 ghost use Rattle.nx_fec.specs.declared.air_files.channel.Channel.{Channel};
 ghost use Rattle.nx_fec.specs.declared.air_files.channel.Channel.TheVariants.{Zero};
 ghost use Rattle.nx_receiver.specs.examples.Channels.{two_channels, two_channels_log};
-ghost use Rattle.nx_receiver.specs.FoundCopies.{TaggedCopy};
-ghost use Rattle.nx_receiver.specs.InTurn.{PrintAllToEnd, PrintsInTurn};
+ghost use Rattle.nx_receiver.specs.copies.FoundCopies.{TaggedCopy};
+ghost use Rattle.nx_receiver.specs.copies.InTurn.{PrintAllToEnd, PrintsInTurn};
 ghost use Rattle.nx_receiver.specs.laws.LawTerms.{events_said, named_by};
 ghost use Rattle.nx_receiver.specs.air_file_runs.Listen.{IsLogOf, IsLogOfFile, events_on};
-ghost use Rattle.nx_receiver.specs.Log.{PrintsToEnd};
-ghost use Rattle.nx_receiver.specs.Shares.{Given, MarkedCopy, Starts, all_at_zero, copies_on, marked, share, start_on};
+ghost use Rattle.nx_receiver.specs.copies.Log.{PrintsToEnd};
+ghost use Rattle.nx_receiver.specs.copies.Shares.{Given, MarkedCopy, Starts, all_at_zero, copies_on, marked, share, start_on};
 
 /// Each channel has its own log: on each, the entries are what is printed of its share alone. What
 /// is given has one log of three channels, so the shares and the order tell it.

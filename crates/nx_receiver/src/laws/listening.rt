@@ -7,13 +7,13 @@ ghost use Rattle.nx_fec.specs.air_files.AirFile.{Line};
 ghost use Rattle.nx_fec.specs.air_files.Lines.{IsAirFile, air_limit};
 ghost use Rattle.nx_fec.specs.declared.air_files.channel.Channel.{Channel};
 ghost use Rattle.nx_fec.specs.declared.air_files.channel.Channel.TheVariants.{Zero};
-ghost use Rattle.nx_station.specs.ChannelExample.{example_message};
+ghost use Rattle.nx_station.specs.reception.PathExample.{example_message};
 ghost use Rattle.nx_receiver.specs.air_file_runs.Listen.{AreTaken, HasListenFault, HasLogged, IsLogOf, IsLogOfFile, IsLogOfLines, given_by, moment_after};
 ghost use Rattle.nx_receiver.specs.examples.AirFile.{example_air_file};
 ghost use Rattle.nx_receiver.specs.Listener.{moment_in_force};
 ghost use Rattle.nx_receiver.specs.laws.ListenOnce.{IsHeardInTimeOn};
 ghost use Rattle.nx_receiver.specs.laws.Once.{IsPrintedOnce};
-ghost use Rattle.nx_receiver.specs.Shares.{MarkedCopy, Starts, all_at_zero, copies_on};
+ghost use Rattle.nx_receiver.specs.copies.Shares.{MarkedCopy, Starts, all_at_zero, copies_on};
 ghost use Rattle.nx_receiver.specs.examples.Emission.{worked_log};
 ghost use Rattle.nx_receiver.specs.declared.air_file_runs.listen_fault.ListenFault.{ListenFault};
 

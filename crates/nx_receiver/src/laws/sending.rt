@@ -13,9 +13,9 @@ ghost use Rattle.nx_receiver.specs.Events.{at_zero};
 ghost use Rattle.nx_receiver.specs.air_file_runs.Listen.{IsLogOf, IsLogOfFile};
 ghost use Rattle.nx_receiver.specs.laws.ListenOnce.{IsHeardInTimeOn};
 ghost use Rattle.nx_receiver.specs.laws.Once.{IsHeardInTime, IsPrintedOnce};
-ghost use Rattle.nx_receiver.specs.Printing.{printed_copies};
+ghost use Rattle.nx_receiver.specs.copies.Printing.{printed_copies};
 ghost use Rattle.nx_receiver.specs.laws.FromSend.{AreDifferent, BearsAlone, copy_as_sent, events_as_sent, parts_as_sent};
-ghost use Rattle.nx_receiver.specs.Shares.{MarkedCopy, all_at_zero, copies_on, marked};
+ghost use Rattle.nx_receiver.specs.copies.Shares.{MarkedCopy, all_at_zero, copies_on, marked};
 
 /// An emission that is heard as it is sent: each of its messages that isn't numbered 00, and that
 /// alone bears its identity, is heard in time, at whatever moment.

@@ -1,10 +1,10 @@
 -- What is received of an emission, where its words are damaged within bounds.
-pub mod ChannelCounts
-pub mod ChannelExamples
-pub mod ChannelLaws
-pub mod ChannelPhasing
-pub mod ChannelPositions
-pub mod ChannelUndamaged
-pub mod ChannelWindows
+pub mod PathCounts
+pub mod PathExamples
+pub mod PathLaws
+pub mod PathPhasing
+pub mod PathPositions
+pub mod PathUndamaged
+pub mod PathWindows
 pub mod Sendings
 pub mod WordWeights

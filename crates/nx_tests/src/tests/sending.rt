@@ -336,11 +336,11 @@ fn laws_can_be_called() {
     laws::checking_gives_back_what_was_sent();
     laws::checking_takes_channel_0_alone();
     laws::damage_undoes_itself();
-    laws::channel::few_words_are_wrong();
-    laws::channel::no_phasing_1_before_the_end();
-    laws::channel::positions_are_taken_as_sent();
-    laws::channel::words_stand_in_the_bits();
-    laws::channel::messages_stand_in_their_emission();
-    laws::channel::an_undamaged_emission_is_received();
-    laws::channel::an_example_is_received();
+    laws::path::few_words_are_wrong();
+    laws::path::no_phasing_1_before_the_end();
+    laws::path::positions_are_taken_as_sent();
+    laws::path::words_stand_in_the_bits();
+    laws::path::messages_stand_in_their_emission();
+    laws::path::an_undamaged_emission_is_received();
+    laws::path::an_example_is_received();
 }

@@ -7,8 +7,8 @@ use Rattle.nx_fec.specs.Transfers.{CountedDevice}
 use Rattle.nx_log.specs.Logged.{IsLoggedAs}
 use Rattle.nx_receiver.specs.air_file_runs.Listen.{given_by}
 use Rattle.nx_receiver.specs.Listener.{HearsGiven, starts_of}
-use Rattle.nx_receiver.specs.InTurn.{PrintAllToEnd}
-use Rattle.nx_receiver.specs.Shares.{Given, MarkedCopy, Starts}
+use Rattle.nx_receiver.specs.copies.InTurn.{PrintAllToEnd}
+use Rattle.nx_receiver.specs.copies.Shares.{Given, MarkedCopy, Starts}
 use Rattle.nx_watch.specs.Watch.{AnswersStarted, HasCause, WatchDevices}
 use Rattle.nx_watch.specs.declared.kept_log.keeper.Keeper.{Keeper}
 use Rattle.nx_watch.specs.declared.watch_fault.WatchFault.{WatchFault}

@@ -1,4 +1,4 @@
-use Rattle.nx_receiver.specs.Shares.{copies_on, share, start_on}
+use Rattle.nx_receiver.specs.copies.Shares.{copies_on, share, start_on}
 use Rattle.nx_receiver.proofs.lemmas.channels.Shares.{to_end-on}
 use Rattle.nx_receiver.proofs.lemmas.once.Found.{printed_once}
 use Rattle.nx_c.proofs.laws.a_message_heard_in_a_life_has_one_entry.Goals as goal

@@ -5,7 +5,7 @@ use Rattle.nx_receiver.proofs.lemmas.once.Listen.{printed-once}
 use Rattle.nx_receiver.specs.air_file_runs.Chain.{HasGoneOn}
 use Rattle.nx_receiver.specs.air_file_runs.Listen.{AnswersListening}
 use Rattle.nx_receiver.specs.laws.ListenOnce.{HasPrintedOnce}
-use Rattle.nx_receiver.specs.Shares.{starts_from}
+use Rattle.nx_receiver.specs.copies.Shares.{starts_from}
 use Rattle.nx_c.proofs.lemmas.State.{leaves-whole, moved}
 use Rattle.nx_c.proofs.receiving.go_on.Goals as goal
 

@@ -5,7 +5,7 @@ use Rattle.nx_fec.specs.Transfers.{whole_input}
 use Rattle.nx_receiver.proofs.lemmas.once.Listen.{printed-once}
 use Rattle.nx_receiver.specs.air_file_runs.Listen.{AnswersListening}
 use Rattle.nx_receiver.specs.laws.ListenOnce.{HasPrintedOnce}
-use Rattle.nx_receiver.specs.Shares.{all_at_zero}
+use Rattle.nx_receiver.specs.copies.Shares.{all_at_zero}
 use Rattle.nx_c.proofs.lemmas.State.{moved}
 use Rattle.nx_c.proofs.receiving.nx_listen.Goals as goal
 use Rattle.nx_c.proofs.receiving.nx_listen.Goals.{in-Ok, in-Err}

@@ -16,9 +16,9 @@ use Rattle.nx_memory.specs.Saved.{SavedStates, later_of}
 use Rattle.nx_memory.specs.declared.memories.entry.MemoryEntry.{MemoryEntry}
 use Rattle.nx_memory.proofs.lemmas.Content.{content-nil}
 use Rattle.nx_receiver.specs.Events.{first_setting}
-use Rattle.nx_receiver.specs.FoundCopies.{TaggedCopy}
-use Rattle.nx_receiver.specs.Printing.{entries_after, entry_of, printed_copies}
-use Rattle.nx_receiver.specs.Shares.{MarkedCopy, Starts, copies_on, saved_of, starts_from}
+use Rattle.nx_receiver.specs.copies.FoundCopies.{TaggedCopy}
+use Rattle.nx_receiver.specs.copies.Printing.{entries_after, entry_of, printed_copies}
+use Rattle.nx_receiver.specs.copies.Shares.{MarkedCopy, Starts, copies_on, saved_of, starts_from}
 use Rattle.nx_receiver.proofs.lemmas.channels.Shares.{copies_on-append}
 use Rattle.nx_receiver.proofs.lemmas.chain.Printing.{last_agrees, same_log}
 use Rattle.nx_receiver.proofs.lemmas.receiver.Logged.{printed_copies-append}

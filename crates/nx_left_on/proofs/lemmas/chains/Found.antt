@@ -6,10 +6,10 @@ use Rattle.std.specs.List.{All}
 use Rattle.std.proofs.lemmas.List.Elements.{All-append, All-nil}
 use Rattle.std.proofs.lemmas.List.Elements.{All-weaker}
 use Rattle.nx_receiver.specs.Events.{Event, Setting, elements_among}
-use Rattle.nx_receiver.specs.FoundCopies.{FoundCopy, ended_so_far}
-use Rattle.nx_receiver.specs.FoundCopies.{found_to_end, open_in, open_so_far}
-use Rattle.nx_receiver.specs.FoundCopies.{tagged_copies}
-use Rattle.nx_receiver.specs.LockText.{lock_text}
+use Rattle.nx_receiver.specs.copies.FoundCopies.{FoundCopy, ended_so_far}
+use Rattle.nx_receiver.specs.copies.FoundCopies.{found_to_end, open_in, open_so_far}
+use Rattle.nx_receiver.specs.copies.FoundCopies.{tagged_copies}
+use Rattle.nx_receiver.specs.copies.LockText.{lock_text}
 use Rattle.nx_receiver.proofs.lemmas.locks.Found.{IsByteIn, IsCopyIn, one_told, open_in_placed}
 use Rattle.nx_receiver.proofs.lemmas.locks.Found.{text_placed}
 use Rattle.nx_receiver.proofs.lemmas.locks.Growing.{ended_go_on, whole_heard}

@@ -4,7 +4,7 @@ use Rattle.std.specs.Prelude.{take, drop}
 use Rattle.std.proofs.lemmas.List.{take-append-drop}
 use Rattle.nx_fec.specs.air_files.AirFile.{Line}
 use Rattle.nx_receiver.specs.air_file_runs.Listen.{given_by}
-use Rattle.nx_receiver.specs.Shares.{MarkedCopy, Starts}
+use Rattle.nx_receiver.specs.copies.Shares.{MarkedCopy, Starts}
 use Rattle.nx_receiver.proofs.lemmas.channels.Added.{nothing-given}
 use Rattle.nx_watch.specs.Acting.{acting_lines}
 use Rattle.nx_watch.specs.Watch.{PrintsUntil, StandsForEntries, Stop, at_end, back, starts_at}

@@ -18,18 +18,18 @@ use Rattle.nx_log.specs.Logged.{kept_entries}
 use Rattle.nx_log.proofs.lemmas.runs.Remembering.{made_is_kept}
 use Rattle.nx_memory.specs.Memory.{is_known, most_entries, seconds_known}
 use Rattle.nx_memory.specs.declared.memories.entry.MemoryEntry.{MemoryEntry}
-use Rattle.nx_station.specs.Sendings.{IsCut, IsSentAt, Part, Sending}
+use Rattle.nx_station.specs.reception.Sendings.{IsCut, IsSentAt, Part, Sending}
 use Rattle.nx_sync.specs.Locks.{IsNow}
 use Rattle.nx_sync.proofs.lemmas.states.StateChanges.{standing_after}
 use Rattle.nx_receiver.specs.laws.Emissions.{copies_at, copy_of_sending}
 use Rattle.nx_receiver.specs.Events.{Event, elements_among}
-use Rattle.nx_receiver.specs.FoundCopies.{FoundCopy, TaggedCopy, ended_so_far, found_to_end, tag}
-use Rattle.nx_receiver.specs.FoundCopies.{tagged_copies}
+use Rattle.nx_receiver.specs.copies.FoundCopies.{FoundCopy, TaggedCopy, ended_so_far, found_to_end, tag}
+use Rattle.nx_receiver.specs.copies.FoundCopies.{tagged_copies}
 use Rattle.nx_receiver.specs.air_file_runs.Listen.{events_on}
 use Rattle.nx_receiver.specs.laws.Once.{IsPrintedOnce}
-use Rattle.nx_receiver.specs.Printing.{copies_of, entries_after, entries_made, is_good}
-use Rattle.nx_receiver.specs.Printing.{printed_copies}
-use Rattle.nx_receiver.specs.Shares.{MarkedCopy, copies_on}
+use Rattle.nx_receiver.specs.copies.Printing.{copies_of, entries_after, entries_made, is_good}
+use Rattle.nx_receiver.specs.copies.Printing.{printed_copies}
+use Rattle.nx_receiver.specs.copies.Shares.{MarkedCopy, copies_on}
 use Rattle.nx_receiver.proofs.lemmas.emissions.Found.{one_ended, sending_errors, sending_found}
 use Rattle.nx_receiver.proofs.lemmas.emissions.Places.{found_rise}
 use Rattle.nx_receiver.proofs.lemmas.locks.Found.{IsCopyIn}

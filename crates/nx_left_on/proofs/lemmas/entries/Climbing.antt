@@ -12,7 +12,7 @@ use Rattle.nx_fec.specs.declared.air_files.channel.Channel.{Channel}
 use Rattle.nx_receiver.specs.Events as fed
 use Rattle.nx_receiver.specs.Events.{Event, Setting, at_moment, command, element, elements_among}
 use Rattle.nx_receiver.specs.Events.{setting_after, setting_at, settings}
-use Rattle.nx_receiver.specs.FoundCopies.{FoundCopy, TaggedCopy, tag, tagged_copies}
+use Rattle.nx_receiver.specs.copies.FoundCopies.{FoundCopy, TaggedCopy, tag, tagged_copies}
 use Rattle.nx_receiver.specs.air_file_runs.Listen.{events_on}
 use Rattle.nx_receiver.proofs.lemmas.once.Rising.{Above, Rises}
 use Rattle.nx_receiver.proofs.lemmas.receiver.Logged.{length-settings}

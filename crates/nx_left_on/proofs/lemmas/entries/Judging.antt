@@ -6,13 +6,13 @@ use Rattle.nx_fec.specs.air_files.AirFile.{Line}
 use Rattle.nx_fec.specs.declared.air_files.channel.Channel.{Channel}
 use Rattle.nx_memory.specs.declared.memories.entry.MemoryEntry.{MemoryEntry}
 use Rattle.nx_receiver.specs.Events.{Event, Setting, Start, elements_among, first_setting, setting_at}
-use Rattle.nx_receiver.specs.FoundCopies.{FoundCopy, TaggedCopy, ended_so_far, found_to_end, tag}
-use Rattle.nx_receiver.specs.FoundCopies.{tagged_copies}
+use Rattle.nx_receiver.specs.copies.FoundCopies.{FoundCopy, TaggedCopy, ended_so_far, found_to_end, tag}
+use Rattle.nx_receiver.specs.copies.FoundCopies.{tagged_copies}
 use Rattle.nx_receiver.specs.air_file_runs.Listen.{events_on, given_by, given_of}
-use Rattle.nx_receiver.specs.Log.{printed_of}
-use Rattle.nx_receiver.specs.Printing.{entries_after, entry_made, if_printed, is_printed}
-use Rattle.nx_receiver.specs.Printing.{printed_copies}
-use Rattle.nx_receiver.specs.Shares.{MarkedCopy, Starts, copies_on, share, start_on}
+use Rattle.nx_receiver.specs.copies.Log.{printed_of}
+use Rattle.nx_receiver.specs.copies.Printing.{entries_after, entry_made, if_printed, is_printed}
+use Rattle.nx_receiver.specs.copies.Printing.{printed_copies}
+use Rattle.nx_receiver.specs.copies.Shares.{MarkedCopy, Starts, copies_on, share, start_on}
 use Rattle.nx_receiver.proofs.lemmas.channels.Shares.{copies_on-append, share-append, to_end-on}
 use Rattle.nx_receiver.proofs.lemmas.receiver.Logged.{ended_placed, printed_copies-append}
 use Rattle.nx_receiver.proofs.lemmas.receiver.Logged.{tagged_copies-more}

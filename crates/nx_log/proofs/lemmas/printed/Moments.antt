@@ -12,12 +12,12 @@ use Rattle.nx_fec.specs.declared.air_files.channel.Channel.{Channel}
 use Rattle.nx_memory.specs.declared.memories.entry.MemoryEntry.{MemoryEntry}
 use Rattle.nx_receiver.specs.Events as fed
 use Rattle.nx_receiver.specs.Events.{Event, Setting, Start, at_moment, command, element, elements_among, first_setting, setting_after, settings}
-use Rattle.nx_receiver.specs.FoundCopies.{FoundCopy, TaggedCopy, tag, tagged_copies}
-use Rattle.nx_receiver.specs.InTurn.{HavePrinted, PrintAllToEnd}
+use Rattle.nx_receiver.specs.copies.FoundCopies.{FoundCopy, TaggedCopy, tag, tagged_copies}
+use Rattle.nx_receiver.specs.copies.InTurn.{HavePrinted, PrintAllToEnd}
 use Rattle.nx_receiver.specs.air_file_runs.Listen.{AreTaken, events_on, given_by, given_of}
-use Rattle.nx_receiver.specs.Log.{printed_of}
-use Rattle.nx_receiver.specs.Printing.{entry_made, if_printed, is_number_00, is_printed, is_remembered, printed_copies}
-use Rattle.nx_receiver.specs.Shares.{Given, MarkedCopy, Starts, copies_on, events_for, share, start_on}
+use Rattle.nx_receiver.specs.copies.Log.{printed_of}
+use Rattle.nx_receiver.specs.copies.Printing.{entry_made, if_printed, is_number_00, is_printed, is_remembered, printed_copies}
+use Rattle.nx_receiver.specs.copies.Shares.{Given, MarkedCopy, Starts, copies_on, events_for, share, start_on}
 use Rattle.nx_receiver.specs.private.Taken.{AreTakenAfter, IsTakenAfter}
 use Rattle.nx_receiver.proofs.lemmas.channels.Shares.{to_end-on}
 use Rattle.nx_receiver.proofs.lemmas.listening.Taken.{taken-each}

@@ -1,7 +1,7 @@
 -- Steps of a reader: it goes on, it ends an entry, it stops.
 use Rattle.std.proofs.Common.{◌≡◌, ◌≢◌, inl, ℕ, zero, suc, ◌+◌, ◌-◌, ◌≤◌, min, List, [], ◌∷◌, ◌++◌, take, drop, length, Option, None, ap, sym, ◌∙◌, refl, subst, arith, append_assoc, length-append}
 use Rattle.std.proofs.lemmas.List.{length-drop, take-append-drop}
-use Rattle.nx_receiver.specs.Shares.{MarkedCopy}
+use Rattle.nx_receiver.specs.copies.Shares.{MarkedCopy}
 use Rattle.nx_log.specs.Logged.{IsLoggedAs}
 use Rattle.nx_log.specs.LogReader.{EndEarlyAt, IsAt, StopAt, Takes, most_lines}
 use Rattle.nx_log.specs.Reading.{AreReadAs, CanGoOn, HasNext, HoldEntriesToEnd, NextIs, StopAtLine, line_behind}

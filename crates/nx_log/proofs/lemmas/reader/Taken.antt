@@ -1,6 +1,6 @@
 -- How a reading of a log goes on with more bytes.
 use Rattle.std.proofs.Common.{◌≡◌, ℕ, List, [], ◌∷◌, ◌++◌, length, ap, sym, ◌∙◌, refl, subst, arith, append_assoc, length-append}
-use Rattle.nx_receiver.specs.Shares.{MarkedCopy}
+use Rattle.nx_receiver.specs.copies.Shares.{MarkedCopy}
 use Rattle.nx_log.specs.Reading.{AreReadAs, HasNext, NextIs}
 use Rattle.nx_log.proofs.lemmas.reading.Entries.{entry_is_some}
 

@@ -2,7 +2,7 @@
 use Rattle.std.proofs.Common.{◌≡◌, ◌⊎◌, inl, inr, ℕ, ◌+◌, ◌-◌, ◌≤◌, List, [], ◌∷◌, ◌++◌, take, drop, length, ap, sym, ◌∙◌, refl, subst, arith, append_assoc}
 use Rattle.std.proofs.lemmas.Bool.{cases_lt}
 use Rattle.std.proofs.lemmas.List.{take-append-drop, take-take}
-use Rattle.nx_receiver.specs.Shares.{MarkedCopy}
+use Rattle.nx_receiver.specs.copies.Shares.{MarkedCopy}
 use Rattle.nx_log.specs.Reading.{AreReadAs, CanGoOn, HasNext, HoldEntries, HoldEntriesToEnd, IsEndOfLog, StopAtLine, StopAtLineToEnd, line_behind}
 use Rattle.nx_log.proofs.lemmas.reading.Gaps.{same_next}
 

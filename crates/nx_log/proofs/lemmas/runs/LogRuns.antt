@@ -11,7 +11,7 @@ use Rattle.nx_fec.specs.air_files.LineRuns.{HasGiven}
 use Rattle.nx_code.specs.Reading.{newline}
 use Rattle.nx_fec.specs.Transfers.{Devices, WroteSome}
 use Rattle.nx_fec.specs.declared.fault.WriteFault.{WriteFault}
-use Rattle.nx_receiver.specs.Shares.{MarkedCopy}
+use Rattle.nx_receiver.specs.copies.Shares.{MarkedCopy}
 use Rattle.nx_log.specs.LogReader.{EndEarlyAt, IsAt, StopAt, Takes, most_lines}
 use Rattle.nx_log.specs.LogRun.{AnswersLogRun, AreAll, BeginWithEntries, IsInForm, IsOutput, WroteOutput, WrotePart, most_read}
 use Rattle.nx_log.specs.Logged.{IsLoggedAs}

@@ -3,7 +3,7 @@ use Rattle.nx_code.specs.Lists.{last_of}
 use Rattle.nx_envelope.specs.Copies.{errors_of}
 use Rattle.nx_envelope.specs.declared.found.FoundHead.{FoundHead}
 use Rattle.nx_memory.specs.Memory.{most_entries}
-use Rattle.nx_receiver.specs.Printing.{entry_made, is_printed}
+use Rattle.nx_receiver.specs.copies.Printing.{entry_made, is_printed}
 use Rattle.nx_receiver.specs.private.Heads.{headed_copy}
 use Rattle.nx_receiver.proofs.judging.judge.Goals as goal
 

@@ -1,6 +1,6 @@
 use Rattle.std.proofs.Common.{◌≡◌, ◌==◌, ◌&&◌, ◌||◌, false, not, sym, ap, ◌∙◌, rules}
 use Rattle.nx_memory.specs.Memory.{is_known}
-use Rattle.nx_receiver.specs.Printing.{is_good}
+use Rattle.nx_receiver.specs.copies.Printing.{is_good}
 use Rattle.nx_receiver.specs.private.Heads.{headed_copy}
 use Rattle.nx_receiver.proofs.lemmas.receiver.Judging.{content_grows, content_stays, entered, made_false}
 use Rattle.nx_receiver.proofs.lemmas.receiver.Judging.{newest_is_last, printed_as}

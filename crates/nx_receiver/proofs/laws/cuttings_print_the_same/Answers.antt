@@ -2,9 +2,9 @@ use Rattle.std.proofs.Common.{◌≡◌, List, [], ◌∷◌, ◌++◌, Bool, re
 use Rattle.std.proofs.lemmas.List.{map-append}
 use Rattle.nx_memory.specs.declared.memories.entry.MemoryEntry.{MemoryEntry}
 use Rattle.nx_receiver.specs.Events.{Event, Start, element, elements}
-use Rattle.nx_receiver.specs.Log.{HasPrinted}
+use Rattle.nx_receiver.specs.copies.Log.{HasPrinted}
 use Rattle.nx_receiver.specs.Receiver.{Receiving, Stands, events_of_pieces, elements_of_pieces}
-use Rattle.nx_receiver.specs.FoundCopies.{TaggedCopy}
+use Rattle.nx_receiver.specs.copies.FoundCopies.{TaggedCopy}
 use Rattle.nx_receiver.proofs.lemmas.receiver.Logged.{one_printed}
 use Rattle.nx_receiver.proofs.lemmas.receiver.Printing.{has_printed}
 use Rattle.nx_receiver.proofs.lemmas.watch.Hears.{has_ended}

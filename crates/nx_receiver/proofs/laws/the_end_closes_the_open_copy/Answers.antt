@@ -1,6 +1,6 @@
 use Rattle.nx_receiver.proofs.lemmas.locks.Found.{one_open}
 use Rattle.nx_receiver.proofs.lemmas.receiver.Logged.{end_adds}
-use Rattle.nx_receiver.specs.FoundCopies.{standing_text}
+use Rattle.nx_receiver.specs.copies.FoundCopies.{standing_text}
 use Rattle.nx_receiver.proofs.laws.the_end_closes_the_open_copy.Goals as goal
 
 pub returns : goal.returns

@@ -7,13 +7,13 @@ use Rattle.nx_fec.specs.declared.air_files.channel.Channel.{Channel}
 use Rattle.nx_sync.specs.Locks.{IsNow, Past, hunting}
 use Rattle.nx_receiver.specs.air_file_runs.Chain.{AreFoundIn}
 use Rattle.nx_receiver.specs.Events.{Event, Start, elements_among}
-use Rattle.nx_receiver.specs.FoundCopies.{FoundCopy, TaggedCopy, found_to_end, past_copies}
-use Rattle.nx_receiver.specs.FoundCopies.{tagged_copies}
-use Rattle.nx_receiver.specs.InTurn.{PrintAllToEnd}
-use Rattle.nx_receiver.specs.LockText.{bytes_of}
-use Rattle.nx_receiver.specs.Log.{PrintsToEnd, printed_of}
-use Rattle.nx_receiver.specs.Printing.{printed_copies}
-use Rattle.nx_receiver.specs.Shares.{Given, MarkedCopy, Starts, copies_on, marked, share, start_on}
+use Rattle.nx_receiver.specs.copies.FoundCopies.{FoundCopy, TaggedCopy, found_to_end, past_copies}
+use Rattle.nx_receiver.specs.copies.FoundCopies.{tagged_copies}
+use Rattle.nx_receiver.specs.copies.InTurn.{PrintAllToEnd}
+use Rattle.nx_receiver.specs.copies.LockText.{bytes_of}
+use Rattle.nx_receiver.specs.copies.Log.{PrintsToEnd, printed_of}
+use Rattle.nx_receiver.specs.copies.Printing.{printed_copies}
+use Rattle.nx_receiver.specs.copies.Shares.{Given, MarkedCopy, Starts, copies_on, marked, share, start_on}
 use Rattle.nx_receiver.proofs.lemmas.channels.Shares.{to_end-on}
 use Rattle.nx_receiver.proofs.lemmas.receiver.Logged.{one_to_end}
 use Rattle.nx_receiver.proofs.lemmas.channels.Marked.{of-one}

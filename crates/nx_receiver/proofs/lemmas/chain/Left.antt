@@ -14,12 +14,12 @@ use Rattle.nx_memory.specs.declared.memories.entry.MemoryEntry.{MemoryEntry}
 use Rattle.nx_sync.specs.Locks.{IsNow, Lock, Now}
 use Rattle.nx_receiver.specs.air_file_runs.Chain.{AreFoundIn, Leaves}
 use Rattle.nx_receiver.specs.Events.{Event, Setting, Start, elements_among, first_setting, settings}
-use Rattle.nx_receiver.specs.FoundCopies.{FoundCopy, ended_so_far, found_copy, found_to_end}
-use Rattle.nx_receiver.specs.FoundCopies.{open_so_far, standing_text, TaggedCopy, tag}
-use Rattle.nx_receiver.specs.FoundCopies.{tagged_copies}
-use Rattle.nx_receiver.specs.LockText.{PlacedByte, bytes_of}
-use Rattle.nx_receiver.specs.Printing.{entries_after, entries_made, entry_made, entry_of}
-use Rattle.nx_receiver.specs.Printing.{is_entered, is_good, is_number_00, is_printed}
+use Rattle.nx_receiver.specs.copies.FoundCopies.{FoundCopy, ended_so_far, found_copy, found_to_end}
+use Rattle.nx_receiver.specs.copies.FoundCopies.{open_so_far, standing_text, TaggedCopy, tag}
+use Rattle.nx_receiver.specs.copies.FoundCopies.{tagged_copies}
+use Rattle.nx_receiver.specs.copies.LockText.{PlacedByte, bytes_of}
+use Rattle.nx_receiver.specs.copies.Printing.{entries_after, entries_made, entry_made, entry_of}
+use Rattle.nx_receiver.specs.copies.Printing.{is_entered, is_good, is_number_00, is_printed}
 use Rattle.nx_receiver.specs.Receiver.{Receiving, Stands}
 use Rattle.nx_receiver.specs.private.Watch.{copies_by}
 use Rattle.nx_receiver.specs.Watching.{in_force}

@@ -19,12 +19,12 @@ use Rattle.nx_receiver.specs.air_file_runs.Chain.{events_in, files, start_in}
 use Rattle.nx_receiver.specs.Events.{Event, Setting, Start, at_moment, command, element}
 use Rattle.nx_receiver.specs.Events.{elements_among, first_setting, refused_after, setting_after}
 use Rattle.nx_receiver.specs.Events.{setting_after_all}
-use Rattle.nx_receiver.specs.FoundCopies.{FoundCopy, found_to_end, tagged_copies}
-use Rattle.nx_receiver.specs.InTurn.{PrintAllToEnd}
+use Rattle.nx_receiver.specs.copies.FoundCopies.{FoundCopy, found_to_end, tagged_copies}
+use Rattle.nx_receiver.specs.copies.InTurn.{PrintAllToEnd}
 use Rattle.nx_receiver.specs.air_file_runs.Listen.{HasListened, IsLogOfFile, events_on, given_by}
-use Rattle.nx_receiver.specs.Log.{IsLog, printed_of}
-use Rattle.nx_receiver.specs.Printing.{entries_after, entries_made, printed_copies}
-use Rattle.nx_receiver.specs.Shares.{MarkedCopy, Starts, copies_on, saved_of, start_on, starts_from}
+use Rattle.nx_receiver.specs.copies.Log.{IsLog, printed_of}
+use Rattle.nx_receiver.specs.copies.Printing.{entries_after, entries_made, printed_copies}
+use Rattle.nx_receiver.specs.copies.Shares.{MarkedCopy, Starts, copies_on, saved_of, start_on, starts_from}
 use Rattle.nx_receiver.specs.declared.air_file_runs.listening.Report.{Report}
 use Rattle.nx_receiver.proofs.lemmas.channels.Shares.{copies_on-append, to_end-on}
 use Rattle.nx_receiver.proofs.lemmas.chain.Printing.{all_of_few, few_of_last, last_agrees, same_end}

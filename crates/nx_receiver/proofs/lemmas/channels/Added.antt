@@ -9,12 +9,12 @@ use Rattle.nx_fec.specs.air_files.Channels.{same_channel}
 use Rattle.nx_fec.specs.declared.air_files.channel.Channel.{Channel}
 use Rattle.nx_sync.specs.Locks.{IsNow}
 use Rattle.nx_receiver.specs.Events.{Event, Start, at_moment, elements_among, first_setting}
-use Rattle.nx_receiver.specs.FoundCopies.{FoundCopy, TaggedCopy, ended_so_far, tagged_copies}
-use Rattle.nx_receiver.specs.InTurn.{HavePrinted, PrintsInTurn}
-use Rattle.nx_receiver.specs.Log.{HasPrinted, printed_of}
-use Rattle.nx_receiver.specs.Printing.{printed_copies}
-use Rattle.nx_receiver.specs.Shares.{Given, MarkedCopy, Starts, copies_on, marked, share, start_on}
-use Rattle.nx_receiver.specs.Shares.{to_all, to_one}
+use Rattle.nx_receiver.specs.copies.FoundCopies.{FoundCopy, TaggedCopy, ended_so_far, tagged_copies}
+use Rattle.nx_receiver.specs.copies.InTurn.{HavePrinted, PrintsInTurn}
+use Rattle.nx_receiver.specs.copies.Log.{HasPrinted, printed_of}
+use Rattle.nx_receiver.specs.copies.Printing.{printed_copies}
+use Rattle.nx_receiver.specs.copies.Shares.{Given, MarkedCopy, Starts, copies_on, marked, share, start_on}
+use Rattle.nx_receiver.specs.copies.Shares.{to_all, to_one}
 use Rattle.nx_receiver.proofs.lemmas.channels.Shares.{copies_on-append, copies_on-marked, copies_on-other}
 use Rattle.nx_receiver.proofs.lemmas.channels.Shares.{in_turn-none, same_channel-is, same_channel-refl}
 use Rattle.nx_receiver.proofs.lemmas.channels.Shares.{share-append, share-one}

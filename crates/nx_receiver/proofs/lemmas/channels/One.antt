@@ -5,8 +5,8 @@ use Rattle.std.specs.List.{flat_map}
 use Rattle.std.proofs.lemmas.List.{append_cancel_left}
 use Rattle.nx_fec.specs.declared.air_files.channel.Channel.{Channel}
 use Rattle.nx_fec.specs.declared.air_files.channel.Channel.TheVariants.{Zero, One, Two}
-use Rattle.nx_receiver.specs.InTurn.{HavePrinted, PrintAllToEnd, PrintsInTurn}
-use Rattle.nx_receiver.specs.Shares.{Given, MarkedCopy, Starts, copies_on, marked, share, start_on}
+use Rattle.nx_receiver.specs.copies.InTurn.{HavePrinted, PrintAllToEnd, PrintsInTurn}
+use Rattle.nx_receiver.specs.copies.Shares.{Given, MarkedCopy, Starts, copies_on, marked, share, start_on}
 use Rattle.nx_receiver.proofs.lemmas.locks.Texts.{GoesOnAs}
 use Rattle.nx_receiver.proofs.lemmas.receiver.Logged.{one_printed, one_to_end}
 use Rattle.nx_receiver.proofs.lemmas.channels.Added.{adds-same, grown, nothing-given}

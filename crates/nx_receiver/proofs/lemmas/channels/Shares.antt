@@ -12,11 +12,11 @@ use Rattle.nx_fec.specs.air_files.Channels.{same_channel}
 use Rattle.nx_fec.specs.declared.air_files.channel.Channel.{Channel}
 use Rattle.nx_fec.specs.declared.air_files.channel.Channel.TheVariants.{Zero, One, Two}
 use Rattle.nx_receiver.specs.Events.{none_refused}
-use Rattle.nx_receiver.specs.FoundCopies.{TaggedCopy}
-use Rattle.nx_receiver.specs.InTurn.{HavePrinted, PrintAllToEnd, PrintsInTurn}
-use Rattle.nx_receiver.specs.Log.{PrintsToEnd}
-use Rattle.nx_receiver.specs.Shares.{Given, MarkedCopy, Starts, all_at_zero, copies_on, events_for}
-use Rattle.nx_receiver.specs.Shares.{marked, none_saved, saved_of, share, start_on, starts_from}
+use Rattle.nx_receiver.specs.copies.FoundCopies.{TaggedCopy}
+use Rattle.nx_receiver.specs.copies.InTurn.{HavePrinted, PrintAllToEnd, PrintsInTurn}
+use Rattle.nx_receiver.specs.copies.Log.{PrintsToEnd}
+use Rattle.nx_receiver.specs.copies.Shares.{Given, MarkedCopy, Starts, all_at_zero, copies_on, events_for}
+use Rattle.nx_receiver.specs.copies.Shares.{marked, none_saved, saved_of, share, start_on, starts_from}
 
 pub same_channel-refl : (channel : Channel) → same_channel channel channel ≡ true
 same_channel-refl Zero = refl

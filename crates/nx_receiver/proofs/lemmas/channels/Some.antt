@@ -3,11 +3,11 @@ use Rattle.std.proofs.Common.{List, [], ◌∷◌, ◌++◌, map, refl, sym, sub
 use Rattle.std.proofs.Common.{append_assoc}
 use Rattle.nx_fec.specs.declared.air_files.channel.Channel.{Channel}
 use Rattle.nx_receiver.specs.Events.{Event}
-use Rattle.nx_receiver.specs.FoundCopies.{TaggedCopy}
-use Rattle.nx_receiver.specs.InTurn.{HavePrinted, PrintAllToEnd, PrintsInTurn}
-use Rattle.nx_receiver.specs.Log.{HasPrinted, PrintsToEnd}
-use Rattle.nx_receiver.specs.Shares.{Given, MarkedCopy, Starts, copies_on, marked, share, start_on}
-use Rattle.nx_receiver.specs.Shares.{to_all, to_one}
+use Rattle.nx_receiver.specs.copies.FoundCopies.{TaggedCopy}
+use Rattle.nx_receiver.specs.copies.InTurn.{HavePrinted, PrintAllToEnd, PrintsInTurn}
+use Rattle.nx_receiver.specs.copies.Log.{HasPrinted, PrintsToEnd}
+use Rattle.nx_receiver.specs.copies.Shares.{Given, MarkedCopy, Starts, copies_on, marked, share, start_on}
+use Rattle.nx_receiver.specs.copies.Shares.{to_all, to_one}
 use Rattle.nx_receiver.proofs.lemmas.channels.Shares.{in_turn-more}
 use Rattle.nx_receiver.proofs.lemmas.receiver.Logged.{has_printed_on, prints_to_end_on, some_printed}
 use Rattle.nx_receiver.proofs.lemmas.receiver.Logged.{some_to_end}

@@ -9,11 +9,11 @@ use Rattle.nx_fec.specs.declared.air_files.channel.Channel.{Channel}
 use Rattle.nx_fec.specs.declared.air_files.channel.Channel.TheVariants.{Zero}
 use Rattle.nx_receiver.specs.Events as events
 use Rattle.nx_receiver.specs.Events.{Event, at_moment, command, element, elements_among}
-use Rattle.nx_receiver.specs.FoundCopies.{TaggedCopy}
+use Rattle.nx_receiver.specs.copies.FoundCopies.{TaggedCopy}
 use Rattle.nx_receiver.specs.laws.LawTerms.{events_said, named_by}
 use Rattle.nx_receiver.specs.air_file_runs.Listen.{IsLogOfFile, events_on, given_by, given_of}
-use Rattle.nx_receiver.specs.Log.{PrintsToEnd}
-use Rattle.nx_receiver.specs.Shares.{MarkedCopy, Starts, copies_on, events_for, marked, start_on}
+use Rattle.nx_receiver.specs.copies.Log.{PrintsToEnd}
+use Rattle.nx_receiver.specs.copies.Shares.{MarkedCopy, Starts, copies_on, events_for, marked, start_on}
 use Rattle.nx_receiver.proofs.lemmas.channels.Shares.{to_end-on}
 use Rattle.nx_receiver.proofs.lemmas.chain.Alone.{HearsAlone, all-alone}
 use Rattle.nx_receiver.proofs.lemmas.receiver.Logged.{bits_of-append}

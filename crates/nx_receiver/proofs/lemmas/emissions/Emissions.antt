@@ -16,17 +16,17 @@ use Rattle.nx_fec.specs.emissions.Pairing.{counts_as, pairing}
 use Rattle.nx_fec.proofs.lemmas.emissions.Emission.{word_sent-dx, word_sent-rx}
 use Rattle.nx_fec.proofs.lemmas.emissions.RoundTrip.{length-bits_of}
 use Rattle.nx_station.specs.Broadcast.{layout, phasing_and_message}
-use Rattle.nx_station.specs.Channel.{PassesChannel, heard_in, first_slot}
-use Rattle.nx_station.specs.Sendings.{IsReceived, digit_slot}
+use Rattle.nx_station.specs.reception.Path.{PassesChannel, heard_in, first_slot}
+use Rattle.nx_station.specs.reception.Sendings.{IsReceived, digit_slot}
 use Rattle.nx_code.proofs.lemmas.WordCounts.{wrong_in-same}
-use Rattle.nx_station.proofs.lemmas.reception.ChannelLaws.{few-wrong, no-phasing_1, taken-as_sent}
-use Rattle.nx_station.proofs.lemmas.reception.ChannelPositions.{HasInner, told-inner}
-use Rattle.nx_station.proofs.lemmas.reception.ChannelWindows.{not-empty}
+use Rattle.nx_station.proofs.lemmas.reception.PathLaws.{few-wrong, no-phasing_1, taken-as_sent}
+use Rattle.nx_station.proofs.lemmas.reception.PathPositions.{HasInner, told-inner}
+use Rattle.nx_station.proofs.lemmas.reception.PathWindows.{not-empty}
 use Rattle.nx_sync.specs.Words.{word_of_lock, first_role, whole_words, losing_count}
 use Rattle.nx_sync.specs.Locks.{Lock, Now, locked, IsNow}
-use Rattle.nx_receiver.specs.FoundCopies.{FoundCopy, ended_in, past_copies, ended_so_far}
+use Rattle.nx_receiver.specs.copies.FoundCopies.{FoundCopy, ended_in, past_copies, ended_so_far}
 use Rattle.nx_receiver.specs.private.LockReader.{word_place}
-use Rattle.nx_receiver.specs.LockText.{lock_text}
+use Rattle.nx_receiver.specs.copies.LockText.{lock_text}
 use Rattle.nx_receiver.proofs.lemmas.locks.Growing.{ended_go_on}
 use Rattle.nx_receiver.proofs.lemmas.emissions.Locks.{KeepsLock, LockedThrough, word_of, locked_through}
 use Rattle.nx_receiver.proofs.lemmas.emissions.Positions.{AreTaken}

@@ -12,12 +12,12 @@ use Rattle.nx_envelope.specs.Copies.{errors_of}
 use Rattle.nx_envelope.specs.Message.{AreLines, IsMessageLine, IsLineByte, text_of}
 use Rattle.nx_envelope.specs.declared.found.How.TheVariants.{Full}
 use Rattle.nx_fec.specs.emissions.Emission.{bits_of}
-use Rattle.nx_station.specs.Sendings.{Part, received, part_bits, IsCut, IsReceived}
-use Rattle.nx_station.specs.Sendings.{ReceivedEmission, Sending, IsSending}
+use Rattle.nx_station.specs.reception.Sendings.{Part, received, part_bits, IsCut, IsReceived}
+use Rattle.nx_station.specs.reception.Sendings.{ReceivedEmission, Sending, IsSending}
 use Rattle.nx_sync.specs.Laws.{phasing}
 use Rattle.nx_sync.specs.Locks.{Lock, Now, IsNow, IsLocked}
 use Rattle.nx_sync.proofs.lemmas.states.KeptPast.{Finds-more, Past-more, IsReleased-more}
-use Rattle.nx_receiver.specs.FoundCopies.{FoundCopy, ended_so_far, open_so_far, found_to_end}
+use Rattle.nx_receiver.specs.copies.FoundCopies.{FoundCopy, ended_so_far, open_so_far, found_to_end}
 use Rattle.nx_receiver.specs.laws.Emissions.{HoldsThrough, copies_at, copy_of_sending}
 use Rattle.nx_receiver.proofs.lemmas.receiver.Logged.{end_adds}
 use Rattle.nx_receiver.proofs.lemmas.once.Rising.{Above, Rises, one_of_key}

@@ -12,10 +12,10 @@ use Rattle.nx_sync.specs.declared.step.Role.{Role}
 use Rattle.nx_sync.specs.Locks.{Lock, Past, Now, hunting, locked, IsNow}
 use Rattle.nx_sync.specs.Words.{word_of_lock, first_role, whole_words}
 use Rattle.nx_receiver.specs.private.LockReader.{word_place}
-use Rattle.nx_receiver.specs.LockText.{PlacedByte, positions, taken_at, printed_by, text_by}
-use Rattle.nx_receiver.specs.LockText.{lock_text, bytes_of}
-use Rattle.nx_receiver.specs.FoundCopies.{FoundCopy, place_in, found_copy, all_in, past_text}
-use Rattle.nx_receiver.specs.FoundCopies.{past_copies, found_to_end}
+use Rattle.nx_receiver.specs.copies.LockText.{PlacedByte, positions, taken_at, printed_by, text_by}
+use Rattle.nx_receiver.specs.copies.LockText.{lock_text, bytes_of}
+use Rattle.nx_receiver.specs.copies.FoundCopies.{FoundCopy, place_in, found_copy, all_in, past_text}
+use Rattle.nx_receiver.specs.copies.FoundCopies.{past_copies, found_to_end}
 use Rattle.nx_receiver.proofs.lemmas.locks.Found.{text_placed, place_in-get_or, all_in_placed}
 use Rattle.nx_receiver.proofs.lemmas.locks.Found.{length-bytes_of}
 use Rattle.nx_receiver.proofs.lemmas.locks.Texts.{one_taken}

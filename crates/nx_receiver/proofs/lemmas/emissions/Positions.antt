@@ -10,7 +10,7 @@ use Rattle.nx_sync.specs.Words.{role_of, is_dx, other_role}
 use Rattle.nx_sync.specs.declared.step.Role.{Role}
 use Rattle.nx_sync.specs.declared.step.Role.TheVariants.{Dx, Rx}
 use Rattle.nx_sync.proofs.lemmas.words.Roles.{role_of-even}
-use Rattle.nx_receiver.specs.LockText.{taken_at, positions}
+use Rattle.nx_receiver.specs.copies.LockText.{taken_at, positions}
 
 five_before-late : (words : ℕ → ℕ) (k : ℕ) → five_before words (k + 5) ≡ counts_as (words k)
 five_before-late words k =

@@ -15,15 +15,15 @@ use Rattle.nx_envelope.specs.declared.found.How.TheVariants.{Full}
 use Rattle.nx_fec.specs.emissions.Emission.{SentPosition, traffic_position, end_position, position_at}
 use Rattle.nx_fec.specs.emissions.Emission.{reception}
 use Rattle.nx_station.specs.Broadcast.{ending, printed_text}
-use Rattle.nx_station.specs.Sendings.{Tells}
+use Rattle.nx_station.specs.reception.Sendings.{Tells}
 use Rattle.nx_station.proofs.lemmas.strict_reading.ReadingBack.{told-prints, traffic-receptions}
 use Rattle.nx_sync.specs.Words.{role_of}
 use Rattle.nx_sync.specs.declared.step.Role.{Role}
 use Rattle.nx_sync.specs.declared.step.Role.TheVariants.{Dx}
-use Rattle.nx_receiver.specs.FoundCopies.{place_in, found_copy, ended_in}
+use Rattle.nx_receiver.specs.copies.FoundCopies.{place_in, found_copy, ended_in}
 use Rattle.nx_receiver.specs.private.LockReader.{word_place}
-use Rattle.nx_receiver.specs.LockText.{PlacedByte, positions, taken_at, printed_by, text_by}
-use Rattle.nx_receiver.specs.LockText.{bytes_of}
+use Rattle.nx_receiver.specs.copies.LockText.{PlacedByte, positions, taken_at, printed_by, text_by}
+use Rattle.nx_receiver.specs.copies.LockText.{bytes_of}
 use Rattle.nx_receiver.proofs.lemmas.locks.Found.{place_in-get_or, length-bytes_of}
 use Rattle.nx_receiver.proofs.lemmas.locks.Texts.{text_by-grows, bytes_are_reading}
 use Rattle.nx_receiver.proofs.lemmas.once.Rising.{contains_map}

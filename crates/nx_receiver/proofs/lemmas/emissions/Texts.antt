@@ -12,7 +12,7 @@ use Rattle.nx_envelope.specs.declared.identity.Identity.{Identity}
 use Rattle.nx_fec.specs.emissions.Emission.{SentPosition, phasing_position, traffic_position, end_position}
 use Rattle.nx_station.specs.Broadcast.{head, phasing_and_message, layout, digit_combination}
 use Rattle.nx_station.specs.Broadcast.{letter_combination}
-use Rattle.nx_station.specs.Sendings.{Tells, positions_before}
+use Rattle.nx_station.specs.reception.Sendings.{Tells, positions_before}
 use Rattle.nx_station.proofs.lemmas.broadcasts.Head.{letter_combination-prints, digit_combination-prints}
 use Rattle.nx_station.proofs.lemmas.broadcasts.Head.{digit_combination-range}
 use Rattle.nx_station.proofs.lemmas.strict_reading.ReadingBack.{Prints, Prints-nil, Prints-character, Prints-shift}

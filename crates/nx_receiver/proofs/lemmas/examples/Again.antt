@@ -11,17 +11,17 @@ use Rattle.nx_memory.specs.Saved.{AreSavedStates, IsSavedState, nothing_saved}
 use Rattle.nx_memory.specs.Selection.{IsRefusable}
 use Rattle.nx_memory.specs.declared.memories.entry.MemoryEntry.{MemoryEntry}
 use Rattle.nx_memory.proofs.lemmas.Letters.{contains-none}
-use Rattle.nx_station.specs.ChannelExample.{example_message, example_parts, example_sending}
+use Rattle.nx_station.specs.reception.PathExample.{example_message, example_parts, example_sending}
 use Rattle.nx_receiver.specs.examples.Again.{old_entry, saved_long_ago}
 use Rattle.nx_receiver.specs.examples.Channels.{two_channels}
 use Rattle.nx_receiver.specs.laws.Emissions.{copy_of_sending}
 use Rattle.nx_receiver.specs.Events.{first_setting, none_refused}
-use Rattle.nx_receiver.specs.FoundCopies.{TaggedCopy, tag, tagged_copies}
+use Rattle.nx_receiver.specs.copies.FoundCopies.{TaggedCopy, tag, tagged_copies}
 use Rattle.nx_receiver.specs.air_file_runs.Listen.{AreTaken, IsLogOf, events_on}
 use Rattle.nx_receiver.specs.laws.ListenOnce.{IsHeardInTimeOn}
 use Rattle.nx_receiver.specs.laws.Once.{IsUnknownAtFirst}
-use Rattle.nx_receiver.specs.Printing.{entries_after, entries_made, is_remembered}
-use Rattle.nx_receiver.specs.Shares.{starts_from}
+use Rattle.nx_receiver.specs.copies.Printing.{entries_after, entries_made, is_remembered}
+use Rattle.nx_receiver.specs.copies.Shares.{starts_from}
 use Rattle.nx_receiver.specs.examples.Emission.{at_its_slot}
 use Rattle.nx_receiver.specs.private.Taken.{AreTakenAfter}
 use Rattle.nx_receiver.proofs.lemmas.examples.AirFile.{all-found, begun, heard-there, tagged-is}

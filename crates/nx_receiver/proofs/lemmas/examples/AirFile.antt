@@ -15,9 +15,9 @@ use Rattle.nx_fec.specs.declared.air_files.channel.Channel.TheVariants.{Zero}
 use Rattle.nx_fec.specs.air_files.Lines.{IsAirFile, file_of, line_bytes, air_limit}
 use Rattle.nx_fec.proofs.lemmas.lines.LineLaws.{spelling-IsBeginning}
 use Rattle.nx_fec.proofs.lemmas.emissions.RoundTrip.{length-bits_of}
-use Rattle.nx_station.specs.ChannelExample.{example_message, example_parts, example_sending}
-use Rattle.nx_station.specs.Sendings.{IsCut, Sending, IsSentAt}
-use Rattle.nx_station.proofs.lemmas.reception.ChannelExamples.{example_sent}
+use Rattle.nx_station.specs.reception.PathExample.{example_message, example_parts, example_sending}
+use Rattle.nx_station.specs.reception.Sendings.{IsCut, Sending, IsSentAt}
+use Rattle.nx_station.proofs.lemmas.reception.PathExamples.{example_sent}
 use Rattle.nx_sync.specs.Locks.{locked, IsNow}
 use Rattle.nx_station.proofs.lemmas.broadcasts.TransmissionLength.{length-bit_lines}
 use Rattle.nx_receiver.specs.Events.{Event, Setting, Start, at_moment, at_zero, element}
@@ -25,17 +25,17 @@ use Rattle.nx_receiver.specs.Events.{elements_among, first_setting, none_refused
 use Rattle.nx_receiver.specs.Events.{settings}
 use Rattle.nx_memory.specs.declared.memories.entry.MemoryEntry.{MemoryEntry}
 use Rattle.nx_receiver.specs.examples.Repeats.{first_copy}
-use Rattle.nx_receiver.specs.FoundCopies.{FoundCopy, found_to_end, tag, tagged_copies}
+use Rattle.nx_receiver.specs.copies.FoundCopies.{FoundCopy, found_to_end, tag, tagged_copies}
 use Rattle.nx_receiver.specs.air_file_runs.Listen.{AreTaken, IsLogOf, events_on, given_by}
 use Rattle.nx_receiver.specs.private.Taken.{AreTakenAfter}
 use Rattle.nx_receiver.proofs.lemmas.listening.Taken.{are-taken}
 use Rattle.nx_receiver.specs.examples.AirFile.{example_air_file, example_lines}
 use Rattle.nx_receiver.specs.laws.ListenOnce.{IsHeardInTimeOn}
-use Rattle.nx_receiver.specs.Log.{PrintsToEnd}
+use Rattle.nx_receiver.specs.copies.Log.{PrintsToEnd}
 use Rattle.nx_receiver.specs.laws.Once.{IsHeardInTime, IsUnknownAtFirst}
-use Rattle.nx_receiver.specs.Printing.{printed_copies}
+use Rattle.nx_receiver.specs.copies.Printing.{printed_copies}
 use Rattle.nx_receiver.specs.laws.Emissions.{copy_of_sending}
-use Rattle.nx_receiver.specs.Shares.{all_at_zero, marked}
+use Rattle.nx_receiver.specs.copies.Shares.{all_at_zero, marked}
 use Rattle.nx_receiver.specs.examples.Emission.{at_its_slot, damaged_words, worked_log}
 use Rattle.nx_receiver.proofs.lemmas.listening.ElementLines.{events-lines, events-others, good-lines}
 use Rattle.nx_receiver.proofs.lemmas.listening.ElementLines.{taken-lines}

@@ -23,9 +23,9 @@ use Rattle.nx_fec.specs.declared.air_files.channel.Channel.{Channel}
 use Rattle.nx_fec.specs.declared.air_files.channel.Channel.TheVariants.{Zero, One, Two}
 use Rattle.nx_fec.proofs.lemmas.lines.LineLaws.{spelling-IsBeginning}
 use Rattle.nx_fec.proofs.lemmas.emissions.RoundTrip.{length-bits_of}
-use Rattle.nx_station.specs.ChannelExample.{ea01, example_message, example_parts, example_sending}
-use Rattle.nx_station.specs.Sendings.{IsCut, Part, IsSentAt}
-use Rattle.nx_station.proofs.lemmas.reception.ChannelExamples.{example_sent}
+use Rattle.nx_station.specs.reception.PathExample.{ea01, example_message, example_parts, example_sending}
+use Rattle.nx_station.specs.reception.Sendings.{IsCut, Part, IsSentAt}
+use Rattle.nx_station.proofs.lemmas.reception.PathExamples.{example_sent}
 use Rattle.nx_sync.specs.Locks.{IsNow, locked}
 use Rattle.nx_receiver.specs.air_file_runs.Chain.{AreFoundIn, GoesOn, IsChain, Leaves, Run, all_copies, all_logs}
 use Rattle.nx_receiver.specs.air_file_runs.Chain.{events_in}
@@ -36,16 +36,16 @@ use Rattle.nx_receiver.specs.Events.{Event, Setting, Start, at_moment, elements_
 use Rattle.nx_receiver.specs.Events.{first_setting, none_refused, setting_after_all, settings}
 use Rattle.nx_receiver.specs.Events.{setting_at}
 use Rattle.nx_receiver.specs.examples.Repeats.{first_copy, heard_at}
-use Rattle.nx_receiver.specs.FoundCopies.{FoundCopy, found_to_end, TaggedCopy, tag, tagged_copies}
-use Rattle.nx_receiver.specs.InTurn.{PrintAllToEnd}
+use Rattle.nx_receiver.specs.copies.FoundCopies.{FoundCopy, found_to_end, TaggedCopy, tag, tagged_copies}
+use Rattle.nx_receiver.specs.copies.InTurn.{PrintAllToEnd}
 use Rattle.nx_receiver.specs.air_file_runs.Listen.{AreTaken, events_on, given_by}
 use Rattle.nx_receiver.specs.private.Taken.{AreTakenAfter}
 use Rattle.nx_receiver.proofs.lemmas.listening.Taken.{are-taken}
-use Rattle.nx_receiver.specs.Log.{PrintsToEnd}
-use Rattle.nx_receiver.specs.Printing.{entries_after, entries_made, entry_made, if_printed}
-use Rattle.nx_receiver.specs.Printing.{is_entered, is_printed, printed_copies}
+use Rattle.nx_receiver.specs.copies.Log.{PrintsToEnd}
+use Rattle.nx_receiver.specs.copies.Printing.{entries_after, entries_made, entry_made, if_printed}
+use Rattle.nx_receiver.specs.copies.Printing.{is_entered, is_printed, printed_copies}
 use Rattle.nx_receiver.specs.laws.Emissions.{copy_of_sending}
-use Rattle.nx_receiver.specs.Shares.{Starts, marked, none_saved, saved_of, start_on}
+use Rattle.nx_receiver.specs.copies.Shares.{Starts, marked, none_saved, saved_of, start_on}
 use Rattle.nx_receiver.specs.examples.Emission.{damaged_words, worked_log}
 use Rattle.nx_receiver.proofs.lemmas.chain.Alone.{found-none, printed-alone}
 use Rattle.nx_receiver.proofs.lemmas.listening.ElementLines.{events-lines, events-others, good-lines}

@@ -16,25 +16,25 @@ use Rattle.nx_fec.proofs.lemmas.lines.LineLaws.{spelling-IsBeginning}
 use Rattle.nx_fec.specs.declared.air_files.channel.Channel.{Channel}
 use Rattle.nx_fec.specs.declared.air_files.channel.Channel.TheVariants.{Zero, One, Two}
 use Rattle.nx_fec.proofs.lemmas.emissions.RoundTrip.{length-bits_of}
-use Rattle.nx_station.specs.ChannelExample.{example_parts, example_sending}
-use Rattle.nx_station.proofs.lemmas.reception.ChannelExamples.{example_sent}
+use Rattle.nx_station.specs.reception.PathExample.{example_parts, example_sending}
+use Rattle.nx_station.proofs.lemmas.reception.PathExamples.{example_sent}
 use Rattle.nx_sync.specs.Locks.{locked, IsNow}
 use Rattle.nx_sync.proofs.lemmas.states.StateChanges.{standing_after}
 use Rattle.nx_receiver.specs.examples.Channels.{part, two_channels, two_channels_log}
 use Rattle.nx_receiver.specs.laws.Emissions.{copy_of_sending}
 use Rattle.nx_receiver.specs.Events.{Event, at_moment, at_zero, element, elements_among}
 use Rattle.nx_receiver.specs.examples.Repeats.{first_copy}
-use Rattle.nx_receiver.specs.FoundCopies.{FoundCopy, ended_so_far, found_to_end, open_so_far}
-use Rattle.nx_receiver.specs.FoundCopies.{tagged_copies}
+use Rattle.nx_receiver.specs.copies.FoundCopies.{FoundCopy, ended_so_far, found_to_end, open_so_far}
+use Rattle.nx_receiver.specs.copies.FoundCopies.{tagged_copies}
 use Rattle.nx_receiver.specs.air_file_runs.Listen.{AreTaken, IsLogOf, events_on}
 use Rattle.nx_receiver.specs.private.Taken.{AreTakenAfter}
 use Rattle.nx_receiver.proofs.lemmas.listening.Taken.{are-taken}
-use Rattle.nx_receiver.specs.InTurn.{HavePrinted, PrintAllToEnd, PrintsInTurn}
-use Rattle.nx_receiver.specs.Log.{HasPrinted, IsLog, PrintsToEnd, entry_head, is_of_lines}
-use Rattle.nx_receiver.specs.Log.{missing_newline, printed_of}
-use Rattle.nx_receiver.specs.Printing.{printed_copies}
-use Rattle.nx_receiver.specs.Shares.{Given, MarkedCopy, all_at_zero, copies_on, marked, share}
-use Rattle.nx_receiver.specs.Shares.{start_on, to_all, to_one}
+use Rattle.nx_receiver.specs.copies.InTurn.{HavePrinted, PrintAllToEnd, PrintsInTurn}
+use Rattle.nx_receiver.specs.copies.Log.{HasPrinted, IsLog, PrintsToEnd, entry_head, is_of_lines}
+use Rattle.nx_receiver.specs.copies.Log.{missing_newline, printed_of}
+use Rattle.nx_receiver.specs.copies.Printing.{printed_copies}
+use Rattle.nx_receiver.specs.copies.Shares.{Given, MarkedCopy, all_at_zero, copies_on, marked, share}
+use Rattle.nx_receiver.specs.copies.Shares.{start_on, to_all, to_one}
 use Rattle.nx_receiver.specs.examples.Emission.{damaged_words}
 use Rattle.nx_receiver.proofs.lemmas.channels.Shares.{in_turn-more, in_turn-none}
 use Rattle.nx_receiver.proofs.lemmas.locks.Found.{IsCopyIn}

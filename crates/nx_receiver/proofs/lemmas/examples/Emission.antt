@@ -10,18 +10,18 @@ use Rattle.nx_code.specs.Word.{elements}
 use Rattle.nx_envelope.specs.private.Reading.{read_header, identity_read}
 use Rattle.nx_envelope.specs.Copies.{beginnings, header_at_end, headers, copies}
 use Rattle.nx_fec.specs.emissions.Emission.{bits_of}
-use Rattle.nx_station.specs.Channel.{phasing_words}
-use Rattle.nx_station.specs.ChannelExample.{example_message, example_parts, example_sending}
-use Rattle.nx_station.specs.ChannelExample.{heard_half}
-use Rattle.nx_station.specs.Sendings.{IsCut, IsSentAt}
-use Rattle.nx_station.proofs.lemmas.reception.ChannelExamples.{example_cut, example_sent}
+use Rattle.nx_station.specs.reception.Path.{phasing_words}
+use Rattle.nx_station.specs.reception.PathExample.{example_message, example_parts, example_sending}
+use Rattle.nx_station.specs.reception.PathExample.{heard_half}
+use Rattle.nx_station.specs.reception.Sendings.{IsCut, IsSentAt}
+use Rattle.nx_station.proofs.lemmas.reception.PathExamples.{example_cut, example_sent}
 use Rattle.nx_sync.specs.Locks.{locked, IsNow}
 use Rattle.nx_sync.specs.Words.{whole_words}
 use Rattle.nx_memory.specs.Selection.{admits}
 use Rattle.nx_receiver.specs.Events.{Event, Setting, first_setting, elements_among}
-use Rattle.nx_receiver.specs.FoundCopies.{FoundCopy, found_copy, past_copies, found_to_end}
-use Rattle.nx_receiver.specs.FoundCopies.{TaggedCopy, tagged_copies}
-use Rattle.nx_receiver.specs.LockText.{lock_text, bytes_of}
+use Rattle.nx_receiver.specs.copies.FoundCopies.{FoundCopy, found_copy, past_copies, found_to_end}
+use Rattle.nx_receiver.specs.copies.FoundCopies.{TaggedCopy, tagged_copies}
+use Rattle.nx_receiver.specs.copies.LockText.{lock_text, bytes_of}
 use Rattle.nx_receiver.specs.laws.Once.{IsHeardInTime}
 use Rattle.nx_receiver.specs.laws.Emissions.{copy_of_sending}
 use Rattle.nx_receiver.specs.examples.Emission.{at_its_slot, damaged_words, heard_elements}

@@ -4,12 +4,12 @@ use Rattle.std.proofs.Common.{length, refl, ap, ◌∙◌, arith, IsTrue, lit≤
 use Rattle.std.proofs.lemmas.List.{length-append}
 use Rattle.std.proofs.lemmas.List.Elements.{All-nil, All-cons, All-contains}
 use Rattle.nx_memory.specs.declared.memories.entry.MemoryEntry.{MemoryEntry}
-use Rattle.nx_station.specs.ChannelExample.{ea01}
+use Rattle.nx_station.specs.reception.PathExample.{ea01}
 use Rattle.nx_receiver.specs.examples.Repeats.{first_copy, repeated_copy, example_copies}
 use Rattle.nx_receiver.specs.laws.LawTerms.{AreRepeats}
-use Rattle.nx_receiver.specs.Printing.{copies_of, is_good, is_entered, entry_of, entry_made}
-use Rattle.nx_receiver.specs.Printing.{entries_made, entries_after}
-use Rattle.nx_receiver.specs.FoundCopies.{TaggedCopy}
+use Rattle.nx_receiver.specs.copies.Printing.{copies_of, is_good, is_entered, entry_of, entry_made}
+use Rattle.nx_receiver.specs.copies.Printing.{entries_made, entries_after}
+use Rattle.nx_receiver.specs.copies.FoundCopies.{TaggedCopy}
 use Rattle.nx_receiver.proofs.lemmas.once.Repeats.{none_live}
 
 -- each copy makes one entry at most

@@ -13,8 +13,8 @@ use Rattle.nx_fec.specs.emissions.Emission.{bits_of, AreWords}
 use Rattle.nx_fec.specs.emissions.Pairing.{counts_as}
 use Rattle.nx_fec.proofs.lemmas.emissions.Aligned.{get_or-words_of}
 use Rattle.nx_fec.proofs.lemmas.emissions.RoundTrip.{length-bits_of, words_of-bits_of}
-use Rattle.nx_station.specs.Channel.{phasing_words}
-use Rattle.nx_station.specs.ChannelExample.{damaged_in, example_words, heard_half}
+use Rattle.nx_station.specs.reception.Path.{phasing_words}
+use Rattle.nx_station.specs.reception.PathExample.{damaged_in, example_words, heard_half}
 use Rattle.nx_sync.specs.Words.{word_of_lock, first_role, role_of, wrong_until, losing_count}
 use Rattle.nx_sync.specs.Words.{whole_words}
 use Rattle.nx_sync.specs.Locks.{before_dx, last_28, Past, IsLocked}
@@ -24,7 +24,7 @@ use Rattle.nx_sync.specs.declared.step.Role.TheVariants.{Dx, Rx}
 use Rattle.nx_sync.specs.declared.step.Change.TheVariants.{Ended, LostLock}
 use Rattle.nx_code.proofs.lemmas.WordCounts.{wrong_in-add}
 use Rattle.nx_sync.proofs.lemmas.states.KeptPast.{change_at-same}
-use Rattle.nx_receiver.specs.LockText.{taken_at, positions, lock_text, bytes_of}
+use Rattle.nx_receiver.specs.copies.LockText.{taken_at, positions, lock_text, bytes_of}
 use Rattle.nx_receiver.specs.examples.Emission.{worked_words, damaged_words}
 use Rattle.nx_receiver.proofs.lemmas.locks.Texts.{positions-same, bytes_are_reading}
 

@@ -15,18 +15,18 @@ use Rattle.nx_envelope.proofs.lemmas.headers.Identities.{same_identity-true}
 use Rattle.nx_memory.specs.Selection.{admits}
 use Rattle.nx_fec.specs.emissions.Emission.{bits_of}
 use Rattle.nx_fec.specs.declared.air_files.channel.Channel.TheVariants.{Zero}
-use Rattle.nx_station.specs.ChannelExample.{ea01}
+use Rattle.nx_station.specs.reception.PathExample.{ea01}
 use Rattle.nx_sync.specs.Words.{whole_words}
 use Rattle.nx_sync.specs.Locks.{locked, IsNow}
 use Rattle.nx_receiver.specs.Events.{element, Setting, settings, setting_at, first_setting}
 use Rattle.nx_receiver.specs.Events.{elements_among}
-use Rattle.nx_receiver.specs.LockText.{PlacedByte, lock_text}
-use Rattle.nx_receiver.specs.FoundCopies.{found_copy, past_copies, found_to_end, tag, tagged_copies}
-use Rattle.nx_receiver.specs.Printing.{printed_copies, if_printed, is_printed}
-use Rattle.nx_receiver.specs.Log.{entry_head, is_of_lines, missing_newline, IsLog, printed_of}
-use Rattle.nx_receiver.specs.Log.{PrintsToEnd}
+use Rattle.nx_receiver.specs.copies.LockText.{PlacedByte, lock_text}
+use Rattle.nx_receiver.specs.copies.FoundCopies.{found_copy, past_copies, found_to_end, tag, tagged_copies}
+use Rattle.nx_receiver.specs.copies.Printing.{printed_copies, if_printed, is_printed}
+use Rattle.nx_receiver.specs.copies.Log.{entry_head, is_of_lines, missing_newline, IsLog, printed_of}
+use Rattle.nx_receiver.specs.copies.Log.{PrintsToEnd}
 use Rattle.nx_receiver.specs.examples.Repeats.{first_copy}
-use Rattle.nx_receiver.specs.Shares.{marked}
+use Rattle.nx_receiver.specs.copies.Shares.{marked}
 use Rattle.nx_receiver.specs.examples.Emission.{at_its_slot, heard_elements, worked_log}
 use Rattle.nx_receiver.proofs.lemmas.receiver.Log.{entry_with}
 use Rattle.nx_receiver.proofs.lemmas.examples.Worked.{Computed, stands, text_is}

@@ -15,8 +15,8 @@ use Rattle.nx_envelope.specs.Message.{AreLines, MessageView}
 use Rattle.nx_envelope.specs.declared.identity.Identity.{Identity}
 use Rattle.nx_envelope.proofs.lemmas.headers.Identities.{same_identity_both}
 use Rattle.nx_station.specs.Broadcast.{printed_text}
-use Rattle.nx_receiver.specs.FoundCopies.{FoundCopy, all_in, found_copy}
-use Rattle.nx_receiver.specs.LockText.{PlacedByte, bytes_of}
+use Rattle.nx_receiver.specs.copies.FoundCopies.{FoundCopy, all_in, found_copy}
+use Rattle.nx_receiver.specs.copies.LockText.{PlacedByte, bytes_of}
 use Rattle.nx_receiver.specs.laws.Emissions.{IsHeaderOf}
 use Rattle.nx_receiver.specs.laws.FromSend.{BearsAlone}
 use Rattle.nx_receiver.proofs.lemmas.once.Rising.{Rises}

@@ -9,10 +9,10 @@ use Rattle.nx_envelope.specs.Message.{MessageView}
 use Rattle.nx_envelope.specs.declared.identity.Identity.{Identity}
 use Rattle.nx_memory.specs.Memory.{is_recent, most_entries, seconds_known}
 use Rattle.nx_memory.specs.declared.memories.entry.MemoryEntry.{MemoryEntry}
-use Rattle.nx_receiver.specs.Printing.{entry_made, if_printed, is_number_00, is_printed}
-use Rattle.nx_receiver.specs.Printing.{is_remembered, printed_copies}
+use Rattle.nx_receiver.specs.copies.Printing.{entry_made, if_printed, is_number_00, is_printed}
+use Rattle.nx_receiver.specs.copies.Printing.{is_remembered, printed_copies}
 use Rattle.nx_receiver.specs.laws.FromSend.{AreDifferent, copy_as_sent}
-use Rattle.nx_receiver.specs.FoundCopies.{TaggedCopy}
+use Rattle.nx_receiver.specs.copies.FoundCopies.{TaggedCopy}
 use Rattle.nx_receiver.proofs.lemmas.once.Repeats.{Lacks, made_lacks}
 
 lacks_recent : (identity : Identity) (moment : ℕ) (entry : MemoryEntry)

@@ -15,14 +15,14 @@ use Rattle.nx_receiver.specs.Events.{Event, at_moment, at_zero, elements_among}
 use Rattle.nx_receiver.specs.air_file_runs.Listen.{AreTaken, IsLogOf, IsLogOfFile, events_on, given_by}
 use Rattle.nx_receiver.specs.private.Taken.{AreTakenAfter}
 use Rattle.nx_receiver.proofs.lemmas.listening.Taken.{are-taken}
-use Rattle.nx_receiver.specs.Log.{PrintsToEnd}
+use Rattle.nx_receiver.specs.copies.Log.{PrintsToEnd}
 use Rattle.nx_receiver.specs.laws.ListenOnce.{IsHeardInTimeOn}
 use Rattle.nx_receiver.specs.laws.Once.{IsHeardInTime, IsPrintedOnce}
-use Rattle.nx_receiver.specs.Printing.{printed_copies}
+use Rattle.nx_receiver.specs.copies.Printing.{printed_copies}
 use Rattle.nx_receiver.specs.Events as fed
 use Rattle.nx_receiver.specs.laws.FromSend.{BearsAlone, copy_as_sent, events_as_sent, parts_as_sent}
-use Rattle.nx_receiver.specs.InTurn.{PrintAllToEnd}
-use Rattle.nx_receiver.specs.Shares.{MarkedCopy, all_at_zero, copies_on, marked}
+use Rattle.nx_receiver.specs.copies.InTurn.{PrintAllToEnd}
+use Rattle.nx_receiver.specs.copies.Shares.{MarkedCopy, all_at_zero, copies_on, marked}
 use Rattle.nx_receiver.proofs.lemmas.channels.Shares.{to_end-on}
 use Rattle.nx_receiver.proofs.lemmas.chain.Alone.{HearsAlone, all-alone}
 use Rattle.nx_receiver.proofs.lemmas.listening.ElementLines.{events-lines, events-others, good-lines}

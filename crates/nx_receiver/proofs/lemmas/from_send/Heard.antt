@@ -13,19 +13,19 @@ use Rattle.nx_fec.specs.emissions.Emission.{bits_of}
 use Rattle.nx_memory.specs.Memory.{seconds_known}
 use Rattle.nx_memory.specs.Selection.{Refused, admits}
 use Rattle.nx_station.specs.Broadcast.{AreSpelled, layout, printed_text}
-use Rattle.nx_station.specs.Channel.{first_slot}
+use Rattle.nx_station.specs.reception.Path.{first_slot}
 use Rattle.nx_station.specs.Sendable.{IsSendable}
-use Rattle.nx_station.specs.Sendings.{IsCut, IsReceived, Part, digit_slot, part_bits, gap, IsSentAt}
-use Rattle.nx_station.proofs.lemmas.reception.ChannelPositions.{all_tell}
-use Rattle.nx_station.proofs.lemmas.reception.ChannelUndamaged.{undamaged-cut}
+use Rattle.nx_station.specs.reception.Sendings.{IsCut, IsReceived, Part, digit_slot, part_bits, gap, IsSentAt}
+use Rattle.nx_station.proofs.lemmas.reception.PathPositions.{all_tell}
+use Rattle.nx_station.proofs.lemmas.reception.PathUndamaged.{undamaged-cut}
 use Rattle.nx_station.proofs.lemmas.reception.Sendings.{each_received}
 use Rattle.nx_sync.specs.Locks.{IsNow, locked}
 use Rattle.nx_sync.specs.Words.{whole_words}
 use Rattle.nx_receiver.specs.Events.{Event, Setting, at_zero, first_setting, settings}
 use Rattle.nx_receiver.specs.Events.{elements_among, elements, setting_at}
-use Rattle.nx_receiver.specs.FoundCopies.{FoundCopy, found_to_end, past_copies, TaggedCopy, tag}
-use Rattle.nx_receiver.specs.FoundCopies.{tagged_copies}
-use Rattle.nx_receiver.specs.LockText.{PlacedByte, bytes_of, lock_text}
+use Rattle.nx_receiver.specs.copies.FoundCopies.{FoundCopy, found_to_end, past_copies, TaggedCopy, tag}
+use Rattle.nx_receiver.specs.copies.FoundCopies.{tagged_copies}
+use Rattle.nx_receiver.specs.copies.LockText.{PlacedByte, bytes_of, lock_text}
 use Rattle.nx_receiver.specs.laws.Once.{FewBetween, IsHeardInTime}
 use Rattle.nx_receiver.specs.laws.Emissions.{copy_of_sending}
 use Rattle.nx_receiver.specs.laws.FromSend.{BearsAlone, events_as_sent, parts_as_sent, words_sent}

@@ -19,11 +19,11 @@ use Rattle.nx_sync.specs.Locks.{IsNow, locked}
 use Rattle.nx_sync.specs.Words.{first_role, whole_words, word_of_lock}
 use Rattle.nx_receiver.specs.Events.{Event, Setting, at_zero, first_setting, settings}
 use Rattle.nx_receiver.specs.Events.{elements_among, elements, setting_at}
-use Rattle.nx_receiver.specs.FoundCopies.{FoundCopy, all_in, found_copy, found_to_end, past_copies}
-use Rattle.nx_receiver.specs.FoundCopies.{TaggedCopy, tag, tagged_copies}
-use Rattle.nx_receiver.specs.LockText.{PlacedByte}
-use Rattle.nx_receiver.specs.Log.{PrintsToEnd, printed_of}
-use Rattle.nx_receiver.specs.Printing.{printed_copies}
+use Rattle.nx_receiver.specs.copies.FoundCopies.{FoundCopy, all_in, found_copy, found_to_end, past_copies}
+use Rattle.nx_receiver.specs.copies.FoundCopies.{TaggedCopy, tag, tagged_copies}
+use Rattle.nx_receiver.specs.copies.LockText.{PlacedByte}
+use Rattle.nx_receiver.specs.copies.Log.{PrintsToEnd, printed_of}
+use Rattle.nx_receiver.specs.copies.Printing.{printed_copies}
 use Rattle.nx_receiver.specs.laws.Emissions.{IsHeaderOf}
 use Rattle.nx_receiver.specs.laws.FromSend.{copy_as_sent, events_as_sent, words_sent}
 use Rattle.nx_receiver.proofs.lemmas.locks.Found.{all_in_placed, one_told, text_placed}

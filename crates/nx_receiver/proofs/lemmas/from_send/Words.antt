@@ -21,10 +21,10 @@ use Rattle.nx_fec.proofs.lemmas.emissions.Emission.{AreWords-emission, IsEmissio
 use Rattle.nx_fec.proofs.lemmas.emissions.Emission.{length-emission}
 use Rattle.nx_fec.proofs.lemmas.emissions.RoundTrip.{counts_as-phasing_1, counts_as-phasing_2, length-bits_of}
 use Rattle.nx_station.specs.Broadcast.{AreSpelled, IsBroadcast, layout, printed_text}
-use Rattle.nx_station.specs.Channel.{PassesChannel, heard_in}
-use Rattle.nx_station.proofs.lemmas.reception.ChannelLaws.{inner-in_code, no-phasing_1, sent-weight, taken-as_sent}
-use Rattle.nx_station.proofs.lemmas.reception.ChannelPositions.{HasInner, layout-inner, position-end, position-inner}
-use Rattle.nx_station.proofs.lemmas.reception.ChannelUndamaged.{undamaged-received}
+use Rattle.nx_station.specs.reception.Path.{PassesChannel, heard_in}
+use Rattle.nx_station.proofs.lemmas.reception.PathLaws.{inner-in_code, no-phasing_1, sent-weight, taken-as_sent}
+use Rattle.nx_station.proofs.lemmas.reception.PathPositions.{HasInner, layout-inner, position-end, position-inner}
+use Rattle.nx_station.proofs.lemmas.reception.PathUndamaged.{undamaged-received}
 use Rattle.nx_station.proofs.lemmas.strict_reading.ReadingBack.{broadcast-prints}
 use Rattle.nx_sync.specs.Laws.{IsOnPhasing, LockedBeforeDx, phasing}
 use Rattle.nx_sync.specs.Locks.{IsLocked, Past, before_dx, last_28}
@@ -35,7 +35,7 @@ use Rattle.nx_code.proofs.lemmas.WordCounts.{wrong_in-none}
 use Rattle.nx_sync.proofs.lemmas.hunting.Patterns.{first_role-dx}
 use Rattle.nx_sync.proofs.lemmas.hunting.Phasing.{length-phasing}
 use Rattle.nx_sync.proofs.lemmas.hunting.PhasingStates.{right_stays}
-use Rattle.nx_receiver.specs.LockText.{bytes_of, lock_text, positions, taken_at}
+use Rattle.nx_receiver.specs.copies.LockText.{bytes_of, lock_text, positions, taken_at}
 use Rattle.nx_receiver.proofs.lemmas.locks.Texts.{bytes_are_reading}
 use Rattle.nx_receiver.proofs.lemmas.emissions.Emissions.{long_heard, phasing_at}
 use Rattle.nx_receiver.proofs.lemmas.emissions.Locks.{KeepsLock, dx_through, right_1, right_2}

@@ -16,7 +16,7 @@ use Rattle.nx_fec.proofs.lemmas.emissions.EncodingLaws.{first_lines-each, first_
 use Rattle.nx_receiver.specs.Events.{element}
 use Rattle.nx_receiver.specs.air_file_runs.Listen.{events_on, has_moment}
 use Rattle.nx_receiver.specs.private.Taken.{AreTakenAfter}
-use Rattle.nx_receiver.specs.Shares.{Starts}
+use Rattle.nx_receiver.specs.copies.Shares.{Starts}
 use Rattle.nx_receiver.specs.Events as fed
 use Rattle.nx_receiver.proofs.lemmas.listening.Listener.{moment-other}
 

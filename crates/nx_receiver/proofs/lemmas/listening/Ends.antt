@@ -15,11 +15,11 @@ use Rattle.nx_fec.specs.declared.air_files.channel.Channel.{Channel}
 use Rattle.nx_fec.specs.declared.air_files.channel.Channel.TheVariants.{Zero, One, Two}
 use Rattle.nx_fec.proofs.lemmas.devices.WritingLaws.{WroteSome-front}
 use Rattle.nx_receiver.specs.Events.{Event, Start}
-use Rattle.nx_receiver.specs.FoundCopies.{TaggedCopy, copy_of}
-use Rattle.nx_receiver.specs.InTurn.{PrintAllToEnd}
-use Rattle.nx_receiver.specs.Log.{IsLog, PrintsToEnd}
+use Rattle.nx_receiver.specs.copies.FoundCopies.{TaggedCopy, copy_of}
+use Rattle.nx_receiver.specs.copies.InTurn.{PrintAllToEnd}
+use Rattle.nx_receiver.specs.copies.Log.{IsLog, PrintsToEnd}
 use Rattle.nx_receiver.specs.Receiver.{Receiving, Stands, entry_list}
-use Rattle.nx_receiver.specs.Shares.{Given, MarkedCopy, Starts, copies_on, marked, share, start_on}
+use Rattle.nx_receiver.specs.copies.Shares.{Given, MarkedCopy, Starts, copies_on, marked, share, start_on}
 use Rattle.nx_receiver.specs.Listener.{HearsGiven, last_copies}
 use Rattle.nx_receiver.specs.private.Listener.{HasClosed, HasClosedSome, HearsLog}
 use Rattle.nx_receiver.specs.Listener.{Listening, content, count_of}

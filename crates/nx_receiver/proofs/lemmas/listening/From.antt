@@ -18,7 +18,7 @@ use Rattle.nx_receiver.specs.Listener.{Listening}
 use Rattle.nx_receiver.specs.private.Listener.{BeginsFrom, HasClosed, IsListening}
 use Rattle.nx_receiver.specs.Listener.{starts_of}
 use Rattle.nx_receiver.specs.private.Listener.{RefusesFrom, StandsFrom}
-use Rattle.nx_receiver.specs.Shares.{Starts, starts_from}
+use Rattle.nx_receiver.specs.copies.Shares.{Starts, starts_from}
 use Rattle.nx_receiver.specs.declared.air_file_runs.listen_fault.ListenFault.{ListenFault}
 use Rattle.nx_receiver.specs.declared.air_file_runs.listen_fault.ListenFault.TheVariants.{Read, Write}
 use Rattle.nx_receiver.specs.declared.air_file_runs.listening.Report.{Report}

@@ -17,7 +17,7 @@ use Rattle.nx_receiver.specs.Events.{command}
 use Rattle.nx_receiver.specs.Events as fed
 use Rattle.nx_receiver.specs.air_file_runs.Listen.{given_by, given_of}
 use Rattle.nx_receiver.specs.Receiver.{TakesEvent}
-use Rattle.nx_receiver.specs.Shares.{Given, Starts, to_one}
+use Rattle.nx_receiver.specs.copies.Shares.{Given, Starts, to_one}
 use Rattle.nx_receiver.specs.Listener.{Listening}
 use Rattle.nx_receiver.specs.private.Listener.{BeginsFrom, IsListening, RefusesFrom}
 use Rattle.nx_receiver.specs.Listener.{content, receiver_on}

@@ -19,7 +19,7 @@ use Rattle.nx_envelope.specs.Moment.{last_moment}
 use Rattle.nx_receiver.specs.Events.{Event, Setting, Start, element, first_setting}
 use Rattle.nx_receiver.specs.Events.{setting_after_all}
 use Rattle.nx_receiver.specs.Events as fed
-use Rattle.nx_receiver.specs.InTurn.{HavePrinted, PrintsInTurn}
+use Rattle.nx_receiver.specs.copies.InTurn.{HavePrinted, PrintsInTurn}
 use Rattle.nx_receiver.specs.air_file_runs.Listen.{AreTaken, events_on, given_by, given_of, has_moment}
 use Rattle.nx_receiver.specs.air_file_runs.Listen.{is_moment_line, moment_after}
 use Rattle.nx_receiver.specs.private.Taken.{AreTakenAfter, IsTakenAfter}
@@ -31,15 +31,15 @@ use Rattle.nx_receiver.specs.Listener.{with_receiver}
 use Rattle.nx_receiver.specs.private.Listener.{BeginsListening, BeginsLog, HasFinished, HearsTo}
 use Rattle.nx_receiver.specs.private.Listener.{HearsLog, IsListening}
 use Rattle.nx_receiver.specs.private.ListenerBegins.{printed-so_far}
-use Rattle.nx_receiver.specs.Log.{HasPrinted}
+use Rattle.nx_receiver.specs.copies.Log.{HasPrinted}
 use Rattle.nx_memory.specs.Ring.{RingMemory}
 use Rattle.nx_receiver.specs.Receiver.{Receiving, Stands, TakesEvent, entry_list}
 use Rattle.nx_receiver.specs.declared.entry.Entry.{Entry}
 use Rattle.std.specs.Prelude.{Result, Ok, Err, OnOk, IsSome}
-use Rattle.nx_receiver.specs.Shares.{Given, MarkedCopy, Starts, copies_on, events_for, marked}
-use Rattle.nx_receiver.specs.Shares.{share, start_on, to_all, to_one}
+use Rattle.nx_receiver.specs.copies.Shares.{Given, MarkedCopy, Starts, copies_on, events_for, marked}
+use Rattle.nx_receiver.specs.copies.Shares.{share, start_on, to_all, to_one}
 use Rattle.nx_receiver.specs.private.Awaiting.{Awaits, HandsOut, HearsUpTo}
-use Rattle.nx_receiver.specs.FoundCopies.{TaggedCopy}
+use Rattle.nx_receiver.specs.copies.FoundCopies.{TaggedCopy}
 use Rattle.nx_receiver.specs.declared.copy_taker.Over.{Over}
 use Rattle.nx_receiver.proofs.lemmas.channels.Shares.{copies_on-append, copies_on-marked, copies_on-other}
 use Rattle.nx_receiver.proofs.lemmas.channels.Shares.{in_turn-more, in_turn-none, in_turn-other, same_channel-refl}

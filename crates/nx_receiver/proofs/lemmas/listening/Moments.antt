@@ -20,17 +20,17 @@ use Rattle.nx_fec.proofs.lemmas.devices.WritingLaws.{WroteSome-front}
 use Rattle.nx_memory.specs.declared.memories.entry.MemoryEntry.{MemoryEntry}
 use Rattle.nx_receiver.specs.Events.{Event, Setting, Start, at_moment, element, command}
 use Rattle.nx_receiver.specs.Events.{first_setting, setting_after, settings}
-use Rattle.nx_receiver.specs.FoundCopies.{FoundCopy, TaggedCopy, tag, tagged_copies}
+use Rattle.nx_receiver.specs.copies.FoundCopies.{FoundCopy, TaggedCopy, tag, tagged_copies}
 use Rattle.nx_receiver.specs.air_file_runs.Listen.{AreTaken, HasLoggedSome, IsLogOf, IsLogOfLines, events_on}
 use Rattle.nx_receiver.specs.air_file_runs.Listen.{given_by, given_of}
 use Rattle.nx_receiver.specs.private.Taken.{AreTakenAfter, IsTakenAfter}
 use Rattle.nx_receiver.proofs.lemmas.listening.Taken.{taken-each}
 use Rattle.nx_receiver.specs.private.Listener.{BeginsListening}
-use Rattle.nx_receiver.specs.InTurn.{HavePrinted, PrintAllToEnd}
-use Rattle.nx_receiver.specs.Log.{IsLog, printed_of}
-use Rattle.nx_receiver.specs.Printing.{entry_made, if_printed, is_printed, printed_copies}
+use Rattle.nx_receiver.specs.copies.InTurn.{HavePrinted, PrintAllToEnd}
+use Rattle.nx_receiver.specs.copies.Log.{IsLog, printed_of}
+use Rattle.nx_receiver.specs.copies.Printing.{entry_made, if_printed, is_printed, printed_copies}
 use Rattle.nx_receiver.specs.Events as fed
-use Rattle.nx_receiver.specs.Shares.{MarkedCopy, Starts, copies_on, events_for, start_on}
+use Rattle.nx_receiver.specs.copies.Shares.{MarkedCopy, Starts, copies_on, events_for, start_on}
 use Rattle.nx_receiver.proofs.lemmas.channels.Shares.{to_end-on}
 use Rattle.nx_receiver.proofs.lemmas.receiver.Log.{log_begins, one_log, some_log}
 use Rattle.nx_receiver.proofs.lemmas.channels.Marked.{all-on}

@@ -21,7 +21,7 @@ use Rattle.nx_receiver.specs.Events.{Refuses}
 use Rattle.nx_receiver.specs.air_file_runs.Listen.{AreTaken, HasListenFault, HasLogged, IsLogOf, RefusesAfter}
 use Rattle.nx_receiver.specs.private.Taken.{IsTakenAfter}
 use Rattle.nx_receiver.proofs.lemmas.listening.Taken.{taken-at, taken-each}
-use Rattle.nx_receiver.specs.Shares.{Starts}
+use Rattle.nx_receiver.specs.copies.Shares.{Starts}
 use Rattle.nx_receiver.specs.private.Listener.{RefusesLine}
 use Rattle.nx_receiver.specs.air_file_runs.Listen.{lines_fault, refusal_fault}
 use Rattle.nx_receiver.specs.declared.fault.MomentFault.{MomentFault}

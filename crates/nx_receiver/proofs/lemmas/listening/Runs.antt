@@ -24,7 +24,7 @@ use Rattle.nx_receiver.specs.Events.{elements_among}
 use Rattle.nx_receiver.specs.air_file_runs.Listen.{AnswersListening, HasListened, HasLogged, HasLoggedSome}
 use Rattle.nx_receiver.specs.air_file_runs.Listen.{IsLogOf, Listens, RefusesAfter, given_by, given_of}
 use Rattle.nx_receiver.specs.air_file_runs.Listen.{lines_fault, refusal_fault}
-use Rattle.nx_receiver.specs.Shares.{Starts}
+use Rattle.nx_receiver.specs.copies.Shares.{Starts}
 use Rattle.nx_receiver.specs.private.Listener.{BeginsFrom, HasClosed, HasClosedSome, IsListening}
 use Rattle.nx_receiver.specs.Listener.{Listening}
 use Rattle.nx_receiver.specs.private.Listener.{RefusesFrom, RefusesLine, StandsFrom}

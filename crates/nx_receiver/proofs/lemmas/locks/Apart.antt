@@ -7,7 +7,7 @@ use Rattle.nx_code.specs.Table.{phasing_1}
 use Rattle.nx_sync.specs.Words.{word_of_lock, first_role}
 use Rattle.nx_sync.specs.Locks.{Lock, IsLocked, Past}
 use Rattle.nx_sync.specs.declared.step.Role.TheVariants.{Dx, Rx}
-use Rattle.nx_receiver.specs.LockText.{lock_text, text_by}
+use Rattle.nx_receiver.specs.copies.LockText.{lock_text, text_by}
 use Rattle.nx_receiver.specs.laws.LawTerms.{own_bits}
 use Rattle.nx_receiver.proofs.lemmas.locks.Texts.{text_by-same}
 

@@ -14,10 +14,10 @@ use Rattle.nx_fec.proofs.lemmas.emissions.Aligned.{dx_words-more}
 use Rattle.nx_sync.specs.Words.{role_of, other_role}
 use Rattle.nx_sync.specs.declared.step.Role.{Role}
 use Rattle.nx_sync.specs.declared.step.Role.TheVariants.{Dx, Rx}
-use Rattle.nx_receiver.specs.LockText.{positions}
+use Rattle.nx_receiver.specs.copies.LockText.{positions}
 use Rattle.nx_receiver.specs.LockPrinter.{HasPrintedWords, PrintsLock}
 use Rattle.nx_receiver.specs.declared.lock_printer.LockPrinter.{LockPrinter}
-use Rattle.nx_receiver.specs.LockText.{AreNext, dx_words}
+use Rattle.nx_receiver.specs.copies.LockText.{AreNext, dx_words}
 use Rattle.nx_receiver.proofs.lemmas.locks.ReaderWords.{dx_words-dx, dx_words-rx, positions-dx}
 use Rattle.nx_receiver.proofs.lemmas.locks.ReaderWords.{positions-rx}
 

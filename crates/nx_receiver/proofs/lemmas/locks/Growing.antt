@@ -11,9 +11,9 @@ use Rattle.nx_sync.proofs.lemmas.states.StateChanges.{goes-on, Extends-trans}
 use Rattle.nx_sync.proofs.lemmas.states.KeptPast.{IsReleased-less}
 use Rattle.nx_envelope.specs.Copies.{ended_copies, headers, beginnings, header_at_end}
 use Rattle.nx_envelope.specs.private.Reading.{identity_read}
-use Rattle.nx_receiver.specs.LockText.{PlacedByte, bytes_of, lock_text}
-use Rattle.nx_receiver.specs.FoundCopies.{FoundCopy, ended_in, open_in, all_in, past_text}
-use Rattle.nx_receiver.specs.FoundCopies.{past_copies, standing_text, ended_so_far}
+use Rattle.nx_receiver.specs.copies.LockText.{PlacedByte, bytes_of, lock_text}
+use Rattle.nx_receiver.specs.copies.FoundCopies.{FoundCopy, ended_in, open_in, all_in, past_text}
+use Rattle.nx_receiver.specs.copies.FoundCopies.{past_copies, standing_text, ended_so_far}
 use Rattle.nx_receiver.proofs.lemmas.locks.Texts.{GoesOnAs, goes_on_as_is, goes_on_twice, goes_on_then}
 use Rattle.nx_receiver.proofs.lemmas.locks.Texts.{goes_on_behind, lock_text-more, text_by-grows}
 use Rattle.nx_receiver.proofs.lemmas.locks.Found.{all_in-parts, ended_in-grows}

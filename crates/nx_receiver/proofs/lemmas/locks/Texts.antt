@@ -13,8 +13,8 @@ use Rattle.nx_sync.specs.Locks.{IsPattern}
 use Rattle.nx_sync.specs.declared.step.Role.{Role}
 use Rattle.nx_sync.proofs.lemmas.states.KeptPast.{word_at-more, first_role-more}
 use Rattle.nx_receiver.specs.private.LockReader.{word_place}
-use Rattle.nx_receiver.specs.LockText.{taken_at, positions, PlacedByte, printed_by, text_by}
-use Rattle.nx_receiver.specs.LockText.{lock_text, bytes_of}
+use Rattle.nx_receiver.specs.copies.LockText.{taken_at, positions, PlacedByte, printed_by, text_by}
+use Rattle.nx_receiver.specs.copies.LockText.{lock_text, bytes_of}
 
 -- words that are the same up to a word give the same text up to there
 five_before-same : (f g : ℕ → ℕ) (k : ℕ) → ((j : ℕ) → j < k → f j ≡ g j)

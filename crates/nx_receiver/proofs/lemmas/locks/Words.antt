@@ -4,7 +4,7 @@ use Rattle.std.proofs.Common.{inr}
 use Rattle.std.proofs.lemmas.Bool.{cases_lt}
 use Rattle.std.proofs.lemmas.List.{same_from_push}
 use Rattle.nx_sync.specs.Words.{word_of_lock, first_role, role_of, heard_word, lock_words}
-use Rattle.nx_receiver.specs.LockText.{positions}
+use Rattle.nx_receiver.specs.copies.LockText.{positions}
 use Rattle.nx_receiver.proofs.lemmas.locks.Texts.{positions-same}
 
 -- in the same list, word j is the same in both

@@ -12,13 +12,13 @@ use Rattle.nx_envelope.specs.Message.{text_of, MessageView}
 use Rattle.nx_envelope.specs.declared.identity.Identity.{Identity}
 use Rattle.nx_envelope.proofs.lemmas.headers.Identities.{same_identity-true, same_itself}
 use Rattle.nx_memory.specs.Memory.{seconds_known}
-use Rattle.nx_station.specs.Sendings.{Part, Sending, IsSentAt}
+use Rattle.nx_station.specs.reception.Sendings.{Part, Sending, IsSentAt}
 use Rattle.nx_receiver.specs.Events.{Event, Start, elements_among, first_setting, setting_at}
-use Rattle.nx_receiver.specs.FoundCopies.{FoundCopy, found_to_end, TaggedCopy, tag, tagged_copies}
+use Rattle.nx_receiver.specs.copies.FoundCopies.{FoundCopy, found_to_end, TaggedCopy, tag, tagged_copies}
 use Rattle.nx_receiver.specs.laws.LawTerms.{AreRepeats}
-use Rattle.nx_receiver.specs.Printing.{copies_of, is_good}
-use Rattle.nx_receiver.specs.Printing.{printed_copies}
-use Rattle.nx_receiver.specs.Log.{PrintsToEnd, printed_of}
+use Rattle.nx_receiver.specs.copies.Printing.{copies_of, is_good}
+use Rattle.nx_receiver.specs.copies.Printing.{printed_copies}
+use Rattle.nx_receiver.specs.copies.Log.{PrintsToEnd, printed_of}
 use Rattle.nx_receiver.specs.laws.Once.{IsHeardInTime, IsPrintedOnce}
 use Rattle.nx_receiver.specs.laws.Emissions.{copies_at, copy_of_sending}
 use Rattle.nx_receiver.proofs.lemmas.locks.Found.{one_told}

@@ -7,11 +7,11 @@ use Rattle.nx_fec.specs.Transfers.{Devices}
 use Rattle.nx_fec.proofs.lemmas.lines.LineLaws.{IsAirFile-unique}
 use Rattle.nx_fec.specs.air_files.Lines.{air_limit}
 use Rattle.nx_fec.specs.declared.air_files.channel.Channel.{Channel}
-use Rattle.nx_receiver.specs.InTurn.{PrintAllToEnd}
+use Rattle.nx_receiver.specs.copies.InTurn.{PrintAllToEnd}
 use Rattle.nx_receiver.specs.air_file_runs.Listen.{HasListened, IsLogOfFile, Listens, events_on, given_by}
 use Rattle.nx_receiver.specs.laws.ListenOnce.{HasPrintedOnce, IsHeardInTimeOn, ListensOnce}
 use Rattle.nx_receiver.specs.laws.Once.{IsPrintedOnce}
-use Rattle.nx_receiver.specs.Shares.{MarkedCopy, Starts, copies_on, start_on}
+use Rattle.nx_receiver.specs.copies.Shares.{MarkedCopy, Starts, copies_on, start_on}
 use Rattle.nx_receiver.specs.declared.air_file_runs.listen_fault.ListenFault.{ListenFault}
 use Rattle.nx_receiver.specs.declared.air_file_runs.listening.Report.{Report}
 use Rattle.nx_receiver.proofs.lemmas.channels.Shares.{to_end-on}

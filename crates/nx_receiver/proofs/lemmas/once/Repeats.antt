@@ -12,10 +12,10 @@ use Rattle.nx_memory.specs.declared.memories.entry.MemoryEntry.{MemoryEntry}
 use Rattle.nx_memory.specs.Memory.{IsLive, most_entries, seconds_known}
 use Rattle.nx_envelope.proofs.lemmas.headers.Identities.{same_identity-true, same_itself}
 use Rattle.nx_memory.proofs.lemmas.Known.{known_from_live, live_from_known}
-use Rattle.nx_receiver.specs.FoundCopies.{TaggedCopy}
-use Rattle.nx_receiver.specs.Printing.{is_good, is_number_00, is_remembered, is_printed, is_entered}
-use Rattle.nx_receiver.specs.Printing.{entry_of, entry_made, entries_made, entries_after}
-use Rattle.nx_receiver.specs.Printing.{if_printed, printed_copies, copies_of}
+use Rattle.nx_receiver.specs.copies.FoundCopies.{TaggedCopy}
+use Rattle.nx_receiver.specs.copies.Printing.{is_good, is_number_00, is_remembered, is_printed, is_entered}
+use Rattle.nx_receiver.specs.copies.Printing.{entry_of, entry_made, entries_made, entries_after}
+use Rattle.nx_receiver.specs.copies.Printing.{if_printed, printed_copies, copies_of}
 use Rattle.nx_receiver.specs.laws.LawTerms.{AreRepeats}
 use Rattle.nx_receiver.specs.laws.Once.{IsUnknownAtFirst}
 use Rattle.nx_receiver.proofs.lemmas.receiver.Judging.{remembered, unknown, entered}

@@ -7,7 +7,7 @@ use Rattle.nx_receiver.specs.Events.{Event, Command, Setting, Start, at_moment, 
 use Rattle.nx_receiver.specs.Events.{command, element, first_setting, setting_after}
 use Rattle.nx_receiver.specs.Events.{setting_after_all, settings, elements}
 use Rattle.nx_receiver.specs.Receiver.{Receiving, Stands}
-use Rattle.nx_receiver.specs.FoundCopies.{TaggedCopy}
+use Rattle.nx_receiver.specs.copies.FoundCopies.{TaggedCopy}
 use Rattle.nx_receiver.specs.private.Watch.{WatchStands, all_in_force}
 use Rattle.nx_receiver.specs.Watching.{Watching, in_force}
 use Rattle.nx_receiver.proofs.lemmas.receiver.Logged.{bits_of-append, settings-append}

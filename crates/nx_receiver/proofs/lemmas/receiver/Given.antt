@@ -16,9 +16,9 @@ use Rattle.nx_envelope.specs.declared.found.HeldCopy.TheVariants as held
 use Rattle.nx_memory.specs.Memory.{most_entries}
 use Rattle.nx_memory.specs.declared.memories.entry.MemoryEntry.{MemoryEntry}
 use Rattle.nx_receiver.specs.Events.{Setting, Start, first_setting}
-use Rattle.nx_receiver.specs.FoundCopies.{TaggedCopy}
-use Rattle.nx_receiver.specs.Printing.{entries_after, entries_made, entry_made, if_printed}
-use Rattle.nx_receiver.specs.Printing.{is_printed, printed_copies}
+use Rattle.nx_receiver.specs.copies.FoundCopies.{TaggedCopy}
+use Rattle.nx_receiver.specs.copies.Printing.{entries_after, entries_made, entry_made, if_printed}
+use Rattle.nx_receiver.specs.copies.Printing.{is_printed, printed_copies}
 use Rattle.nx_receiver.specs.Receiver.{Receiving}
 use Rattle.nx_receiver.specs.Watching.{Watching, in_force}
 use Rattle.nx_receiver.specs.declared.copy_taker.CopyTag.{CopyTag}

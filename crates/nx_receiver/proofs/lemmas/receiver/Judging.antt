@@ -11,9 +11,9 @@ use Rattle.nx_envelope.specs.declared.identity.Identity.{Identity}
 use Rattle.nx_memory.specs.declared.memories.entry.MemoryEntry.{MemoryEntry}
 use Rattle.nx_code.specs.Lists.{last_of}
 use Rattle.nx_memory.specs.Memory.{most_entries, is_known, content_after, newest_of, newest_moment}
-use Rattle.nx_receiver.specs.Printing.{is_printed, is_entered, is_good, is_number_00, is_remembered}
-use Rattle.nx_receiver.specs.Printing.{entry_of, entry_made}
-use Rattle.nx_receiver.specs.FoundCopies.{TaggedCopy}
+use Rattle.nx_receiver.specs.copies.Printing.{is_printed, is_entered, is_good, is_number_00, is_remembered}
+use Rattle.nx_receiver.specs.copies.Printing.{entry_of, entry_made}
+use Rattle.nx_receiver.specs.copies.FoundCopies.{TaggedCopy}
 
 -- what a memory forgot makes no difference
 goes_on : (entries : List MemoryEntry) (entry : MemoryEntry)

@@ -11,9 +11,9 @@ use Rattle.nx_code.specs.Reading.{newline}
 use Rattle.nx_envelope.specs.Moment.{IsShownAs}
 use Rattle.nx_envelope.specs.declared.found.FoundHead.{FoundHead}
 use Rattle.nx_fec.specs.declared.air_files.channel.Channel.{Channel}
-use Rattle.nx_receiver.specs.FoundCopies.{TaggedCopy}
-use Rattle.nx_receiver.specs.Log.{IsEntry, IsLog, entry_head, missing_newline}
-use Rattle.nx_receiver.specs.Shares.{MarkedCopy, marked}
+use Rattle.nx_receiver.specs.copies.FoundCopies.{TaggedCopy}
+use Rattle.nx_receiver.specs.copies.Log.{IsEntry, IsLog, entry_head, missing_newline}
+use Rattle.nx_receiver.specs.copies.Shares.{MarkedCopy, marked}
 use Rattle.nx_receiver.specs.private.Heads.{headed_copy}
 
 -- the entry of a copy with this civil time

@@ -11,13 +11,13 @@ use Rattle.nx_receiver.specs.Events.{Event, at_moment, element, command, Setting
 use Rattle.nx_receiver.specs.Events.{setting_after, elements_among, settings, setting_after_all}
 use Rattle.nx_receiver.specs.Events.{setting_at, first_setting}
 use Rattle.nx_sync.specs.Words.{whole_words}
-use Rattle.nx_receiver.specs.LockText.{lock_text}
-use Rattle.nx_receiver.specs.FoundCopies.{FoundCopy, ended_in, open_in, all_in, past_text}
-use Rattle.nx_receiver.specs.FoundCopies.{past_copies, standing_text, ended_so_far, open_so_far}
-use Rattle.nx_receiver.specs.FoundCopies.{found_to_end, TaggedCopy, tag, tagged_copies}
-use Rattle.nx_receiver.specs.Printing.{printed_copies, entries_after, entries_made, entry_made}
-use Rattle.nx_receiver.specs.Printing.{if_printed}
-use Rattle.nx_receiver.specs.Log.{printed_of, HasPrinted, PrintsToEnd}
+use Rattle.nx_receiver.specs.copies.LockText.{lock_text}
+use Rattle.nx_receiver.specs.copies.FoundCopies.{FoundCopy, ended_in, open_in, all_in, past_text}
+use Rattle.nx_receiver.specs.copies.FoundCopies.{past_copies, standing_text, ended_so_far, open_so_far}
+use Rattle.nx_receiver.specs.copies.FoundCopies.{found_to_end, TaggedCopy, tag, tagged_copies}
+use Rattle.nx_receiver.specs.copies.Printing.{printed_copies, entries_after, entries_made, entry_made}
+use Rattle.nx_receiver.specs.copies.Printing.{if_printed}
+use Rattle.nx_receiver.specs.copies.Log.{printed_of, HasPrinted, PrintsToEnd}
 use Rattle.nx_receiver.proofs.lemmas.locks.Texts.{GoesOnAs}
 use Rattle.nx_receiver.proofs.lemmas.locks.Found.{IsCopyIn, text_placed, ended_in_placed, all_in_placed}
 use Rattle.nx_receiver.proofs.lemmas.locks.Found.{all_in-parts, one_told}

@@ -10,9 +10,9 @@ use Rattle.nx_envelope.specs.declared.finder.Finder.{Finder}
 use Rattle.nx_envelope.specs.declared.found.Found.{Found}
 use Rattle.nx_receiver.specs.declared.copy_taker.CopyTag.{CopyTag}
 use Rattle.nx_receiver.specs.Events.{Setting}
-use Rattle.nx_receiver.specs.FoundCopies.{ended_in, ended_so_far, found_copy, past_copies}
-use Rattle.nx_receiver.specs.FoundCopies.{past_text, TaggedCopy}
-use Rattle.nx_receiver.specs.LockText.{bytes_of}
+use Rattle.nx_receiver.specs.copies.FoundCopies.{ended_in, ended_so_far, found_copy, past_copies}
+use Rattle.nx_receiver.specs.copies.FoundCopies.{past_text, TaggedCopy}
+use Rattle.nx_receiver.specs.copies.LockText.{bytes_of}
 use Rattle.nx_receiver.specs.private.Watch.{BothAreOver, LockIsOver, WatchStands, copies_by}
 use Rattle.nx_receiver.specs.private.Watch.{handed_out}
 use Rattle.nx_receiver.specs.Watching.{Watching, in_force}

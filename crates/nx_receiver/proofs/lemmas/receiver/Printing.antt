@@ -12,10 +12,10 @@ use Rattle.nx_envelope.specs.declared.found.Found.{Found}
 use Rattle.nx_receiver.specs.declared.copy_taker.CopyTag.{CopyTag}
 use Rattle.nx_receiver.specs.Events.{Event, Setting, Start, elements_among, first_setting}
 use Rattle.nx_receiver.specs.Events.{setting_after_all, settings}
-use Rattle.nx_receiver.specs.FoundCopies.{FoundCopy, TaggedCopy, tagged_copies, tagged_found}
-use Rattle.nx_receiver.specs.Log.{HasPrinted, PrintsToEnd}
-use Rattle.nx_receiver.specs.Printing.{entries_after, entries_made, entry_made, if_printed}
-use Rattle.nx_receiver.specs.Printing.{is_printed, printed_copies}
+use Rattle.nx_receiver.specs.copies.FoundCopies.{FoundCopy, TaggedCopy, tagged_copies, tagged_found}
+use Rattle.nx_receiver.specs.copies.Log.{HasPrinted, PrintsToEnd}
+use Rattle.nx_receiver.specs.copies.Printing.{entries_after, entries_made, entry_made, if_printed}
+use Rattle.nx_receiver.specs.copies.Printing.{is_printed, printed_copies}
 use Rattle.nx_receiver.specs.Receiver.{Stands, StandsOver}
 use Rattle.nx_receiver.specs.private.Watch.{HasEnded, HasEndedAll, WatchStands, copies_by}
 use Rattle.nx_receiver.specs.private.Watch.{handed_out}

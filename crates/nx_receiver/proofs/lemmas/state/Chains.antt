@@ -4,7 +4,7 @@ use Rattle.nx_memory.specs.Saved.{SavedStates}
 use Rattle.nx_receiver.specs.air_file_runs.Chain.{GoesOn, Run, all_logs, files}
 use Rattle.nx_receiver.specs.air_file_runs.Listen.{IsLogOf}
 use Rattle.nx_receiver.specs.air_file_runs.Resume.{HasChain, IsTextChain, TextRun}
-use Rattle.nx_receiver.specs.Shares.{Starts, starts_from}
+use Rattle.nx_receiver.specs.copies.Shares.{Starts, starts_from}
 use Rattle.nx_receiver.specs.air_file_runs.State.{IsStateBytes}
 use Rattle.nx_receiver.proofs.lemmas.listening.Moments.{one-closed}
 use Rattle.nx_receiver.proofs.lemmas.state.Answers.{one_state_bytes, written_stands}

@@ -8,7 +8,7 @@ use Rattle.nx_fec.specs.Transfers.{WroteSome}
 use Rattle.nx_memory.specs.Saved.{AreSavedStates, SavedStates}
 use Rattle.nx_receiver.specs.air_file_runs.Listen.{Listens}
 use Rattle.nx_receiver.specs.air_file_runs.Resume.{AnswersAir, IsUnread, ResumesBy}
-use Rattle.nx_receiver.specs.Shares.{starts_from}
+use Rattle.nx_receiver.specs.copies.Shares.{starts_from}
 use Rattle.nx_receiver.specs.air_file_runs.State.{state_bytes}
 use Rattle.nx_receiver.specs.declared.air_file_runs.listening.Report.{Report}
 use Rattle.nx_receiver.specs.declared.air_file_runs.resume_fault.ResumeFault.TheVariants as resume

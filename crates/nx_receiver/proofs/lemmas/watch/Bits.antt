@@ -18,12 +18,12 @@ use Rattle.nx_code.specs.declared.shifts.Shift.TheVariants.{Letters}
 use Rattle.nx_envelope.specs.Finder as finders
 use Rattle.nx_receiver.specs.declared.copy_taker.CopyTag.{CopyTag}
 use Rattle.nx_receiver.specs.Events.{Setting}
-use Rattle.nx_receiver.specs.FoundCopies.{FoundCopy, ended_in, past_copies, standing_text}
-use Rattle.nx_receiver.specs.FoundCopies.{ended_so_far, TaggedCopy, tag}
+use Rattle.nx_receiver.specs.copies.FoundCopies.{FoundCopy, ended_in, past_copies, standing_text}
+use Rattle.nx_receiver.specs.copies.FoundCopies.{ended_so_far, TaggedCopy, tag}
 use Rattle.nx_receiver.specs.private.LockReader.{ReadsLock}
-use Rattle.nx_receiver.specs.LockText.{dx_words}
+use Rattle.nx_receiver.specs.copies.LockText.{dx_words}
 use Rattle.nx_receiver.specs.Watching.{LockReading}
-use Rattle.nx_receiver.specs.LockText.{PlacedByte, lock_text, text_by}
+use Rattle.nx_receiver.specs.copies.LockText.{PlacedByte, lock_text, text_by}
 use Rattle.nx_receiver.specs.private.Watch.{HasTag, ReadsNow, ReadsOver, copies_by, setting_in}
 use Rattle.nx_receiver.proofs.lemmas.locks.Found.{IsByteIn, IsCopyIn, text_placed}
 use Rattle.nx_receiver.proofs.lemmas.locks.Growing.{past_copies-more, whole_heard}

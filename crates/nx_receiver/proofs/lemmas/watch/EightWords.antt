@@ -28,12 +28,12 @@ use Rattle.nx_envelope.specs.Finder.{BringNothing, Keeps}
 use Rattle.nx_receiver.specs.declared.copy_taker.CopyTaker.{CopyTaker}
 use Rattle.nx_receiver.specs.declared.copy_taker.CopyTag.{CopyTag}
 use Rattle.nx_receiver.specs.Events.{Setting}
-use Rattle.nx_receiver.specs.FoundCopies.{FoundCopy, ended_in, ended_so_far, found_copy}
-use Rattle.nx_receiver.specs.FoundCopies.{past_copies, standing_text, TaggedCopy, tag}
-use Rattle.nx_receiver.specs.LockText.{PlacedByte, bytes_of, lock_text, text_by}
+use Rattle.nx_receiver.specs.copies.FoundCopies.{FoundCopy, ended_in, ended_so_far, found_copy}
+use Rattle.nx_receiver.specs.copies.FoundCopies.{past_copies, standing_text, TaggedCopy, tag}
+use Rattle.nx_receiver.specs.copies.LockText.{PlacedByte, bytes_of, lock_text, text_by}
 use Rattle.nx_receiver.specs.Watching.{LockReading, Watching, in_force}
 use Rattle.nx_receiver.specs.private.LockReader.{PrintsPlain, ReadsLock}
-use Rattle.nx_receiver.specs.LockText.{AreNext, text_after}
+use Rattle.nx_receiver.specs.copies.LockText.{AreNext, text_after}
 use Rattle.nx_receiver.specs.private.Watch.{HasEnded, HasTag, HearsBits, ReadsNow, ReadsOver}
 use Rattle.nx_receiver.specs.private.CopyTaker.{Hears, watch_of}
 use Rattle.nx_receiver.specs.private.Watch.{WatchStands, all_in_force, as_it_was, copies_by}

@@ -14,7 +14,7 @@ use Rattle.nx_receiver.specs.declared.copy_taker.CopyTag.{CopyTag}
 use Rattle.nx_receiver.specs.declared.copy_taker.Over.{Over}
 use Rattle.nx_receiver.specs.Events.{Setting}
 use Rattle.nx_receiver.specs.Watching.{LockReading, Watching, in_force}
-use Rattle.nx_receiver.specs.FoundCopies.{TaggedCopy, past_copies}
+use Rattle.nx_receiver.specs.copies.FoundCopies.{TaggedCopy, past_copies}
 use Rattle.nx_envelope.specs.declared.found.TextEvent.{TextEvent}
 use Rattle.nx_envelope.specs.declared.found.TextEvent.TheVariants as events
 use Rattle.nx_receiver.specs.private.CopyTaker.{Hears, ReadsStep, setting_of}

@@ -17,12 +17,12 @@ use Rattle.nx_envelope.proofs.lemmas.copies.OneOpenCopy.{open_headers-nil}
 use Rattle.nx_receiver.specs.declared.copy_taker.CopyTag.{CopyTag}
 use Rattle.nx_receiver.specs.declared.copy_taker.Over.TheVariants as over
 use Rattle.nx_receiver.specs.Events.{Setting}
-use Rattle.nx_receiver.specs.FoundCopies.{ended_in, open_in, past_copies, past_text, standing_text}
-use Rattle.nx_receiver.specs.FoundCopies.{ended_so_far, open_so_far, found_copy, TaggedCopy, tag}
+use Rattle.nx_receiver.specs.copies.FoundCopies.{ended_in, open_in, past_copies, past_text, standing_text}
+use Rattle.nx_receiver.specs.copies.FoundCopies.{ended_so_far, open_so_far, found_copy, TaggedCopy, tag}
 use Rattle.nx_receiver.specs.private.LockReader.{ReadsLock}
-use Rattle.nx_receiver.specs.LockText.{text_after}
+use Rattle.nx_receiver.specs.copies.LockText.{text_after}
 use Rattle.nx_receiver.specs.Watching.{LockReading, Watching}
-use Rattle.nx_receiver.specs.LockText.{PlacedByte, bytes_of, text_by}
+use Rattle.nx_receiver.specs.copies.LockText.{PlacedByte, bytes_of, text_by}
 use Rattle.nx_receiver.specs.private.Watch.{BothAreOver, CopyIsOver, HasEndedAll, HasTag, IsFresh}
 use Rattle.nx_receiver.specs.private.Watch.{IsOver, LockIsOver, ReadsNow, WatchStands, copies_by}
 use Rattle.nx_receiver.specs.private.Watch.{handed_out, over_with, ready_copy, setting_in, tag_of}

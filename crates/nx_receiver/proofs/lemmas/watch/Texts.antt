@@ -17,11 +17,11 @@ use Rattle.nx_envelope.specs.declared.found.TextEvent.{TextEvent}
 use Rattle.nx_envelope.specs.declared.found.TextEvent.TheVariants as events
 use Rattle.nx_receiver.specs.declared.copy_taker.CopyTag.{CopyTag}
 use Rattle.nx_receiver.specs.Events.{Setting}
-use Rattle.nx_receiver.specs.FoundCopies.{FoundCopy, place_in, found_copy, ended_in, TaggedCopy}
-use Rattle.nx_receiver.specs.FoundCopies.{tag}
+use Rattle.nx_receiver.specs.copies.FoundCopies.{FoundCopy, place_in, found_copy, ended_in, TaggedCopy}
+use Rattle.nx_receiver.specs.copies.FoundCopies.{tag}
 use Rattle.nx_receiver.specs.private.LockReader.{HearsWord, word_place}
-use Rattle.nx_receiver.specs.LockText.{text_after}
-use Rattle.nx_receiver.specs.LockText.{PlacedByte, printed_by, text_by, bytes_of}
+use Rattle.nx_receiver.specs.copies.LockText.{text_after}
+use Rattle.nx_receiver.specs.copies.LockText.{PlacedByte, printed_by, text_by, bytes_of}
 use Rattle.nx_receiver.specs.private.CopyTaker.{tag_after}
 use Rattle.nx_receiver.specs.private.Watch.{HasTag, copies_by, ready_copy, setting_in}
 use Rattle.nx_receiver.specs.private.Watch.{tag_of, place_of_header}

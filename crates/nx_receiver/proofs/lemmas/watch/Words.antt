@@ -17,10 +17,10 @@ use Rattle.nx_receiver.specs.declared.copy_taker.CopyTaker.{CopyTaker}
 use Rattle.nx_receiver.specs.declared.copy_taker.CopyTag.{CopyTag}
 use Rattle.nx_receiver.specs.declared.copy_taker.Over.{Over}
 use Rattle.nx_receiver.specs.Events.{Setting}
-use Rattle.nx_receiver.specs.FoundCopies.{FoundCopy, ended_in, past_copies, standing_text}
-use Rattle.nx_receiver.specs.FoundCopies.{ended_so_far, TaggedCopy}
+use Rattle.nx_receiver.specs.copies.FoundCopies.{FoundCopy, ended_in, past_copies, standing_text}
+use Rattle.nx_receiver.specs.copies.FoundCopies.{ended_so_far, TaggedCopy}
 use Rattle.nx_receiver.specs.private.LockReader.{ReadsLock, word_place}
-use Rattle.nx_receiver.specs.LockText.{PlacedByte, lock_text}
+use Rattle.nx_receiver.specs.copies.LockText.{PlacedByte, lock_text}
 use Rattle.nx_receiver.specs.private.Watch.{HasTag, IsOver, LockIsOver, ReadsNow, ReadsOver}
 use Rattle.nx_receiver.specs.private.Watch.{WatchStands, copies_by, over_with}
 use Rattle.nx_receiver.specs.private.CopyTaker.{ReadsWord, setting_of, tag_after}

@@ -1,8 +1,8 @@
 use Rattle.std.proofs.Common.{rules}
 use Rattle.std.proofs.Common.{Result, Ok, Err, OnOk, IfErr, MatchResult, subst, sym}
-use Rattle.nx_receiver.specs.Log.{IsEntry}
-use Rattle.nx_receiver.specs.FoundCopies.{copy_of}
-use Rattle.nx_receiver.specs.Shares.{marked}
+use Rattle.nx_receiver.specs.copies.Log.{IsEntry}
+use Rattle.nx_receiver.specs.copies.FoundCopies.{copy_of}
+use Rattle.nx_receiver.specs.copies.Shares.{marked}
 use Rattle.nx_receiver.proofs.writing.entry_text_on.Goals as goal
 
 both_ways : {A E : Type 0} (r : Result A E) (P : Type 0) (Q : E → Type 0) → OnOk r P → IfErr r Q

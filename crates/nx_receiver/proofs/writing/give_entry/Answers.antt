@@ -5,7 +5,7 @@ use Rattle.nx_code.specs.Reading.{newline}
 use Rattle.nx_fec.specs.air_files.LineRuns.{HasGiven}
 use Rattle.nx_fec.specs.Transfers.{WroteSome}
 use Rattle.nx_fec.proofs.lemmas.devices.WritingLaws.{WroteSome-front}
-use Rattle.nx_receiver.specs.Log.{missing_newline}
+use Rattle.nx_receiver.specs.copies.Log.{missing_newline}
 use Rattle.nx_receiver.proofs.lemmas.receiver.Log.{entry_of_parts}
 use Rattle.nx_receiver.proofs.writing.give_entry.Goals as goal
 

@@ -2,7 +2,7 @@ use Rattle.std.proofs.Common.{◌≡◌, ◌++◌, ◌∷◌, [], ℕ, List, len
 use Rattle.std.specs.Fmt.{decimal}
 use Rattle.nx_envelope.specs.Copies.{errors_of}
 use Rattle.nx_envelope.specs.Identity.{identity_bytes}
-use Rattle.nx_receiver.specs.Log.{channel_mark, entry_head, how_name}
+use Rattle.nx_receiver.specs.copies.Log.{channel_mark, entry_head, how_name}
 use Rattle.nx_receiver.proofs.writing.head_line.Goals as goal
 
 -- the pieces, in order

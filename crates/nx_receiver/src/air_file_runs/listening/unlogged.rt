@@ -2,7 +2,7 @@
 
 ghost use Rattle.std.specs.Prelude.{◌≡◌, ◌+◌, ◌<◌, ◌≤◌, ℕ, Bool, true, false, List, [], ◌∷◌, ◌++◌, drop, length, take, Some, None, Err, IfOk, IsSomeAnd, MatchResult};
 ghost use Rattle.nx_fec.specs.air_files.AirFile.{IsLine, Line};
-ghost use Rattle.nx_receiver.specs.Shares.{Given, Starts};
+ghost use Rattle.nx_receiver.specs.copies.Shares.{Given, Starts};
 ghost use Rattle.nx_receiver.specs.air_file_runs.Listen.{lines_fault};
 ghost use Rattle.nx_receiver.specs.private.Awaiting.{HandsOut};
 ghost use Rattle.nx_receiver.specs.Listener.{content, receiver_on, then_elements, with_receiver};

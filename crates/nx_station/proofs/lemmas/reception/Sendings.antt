@@ -10,12 +10,12 @@ use Rattle.nx_fec.specs.emissions.Emission.{position_at, rx_word, word_sent}
 use Rattle.nx_station.specs.Broadcast.{IsSpelled, AreSpelled, digit_combination, head, layout}
 use Rattle.nx_station.specs.Broadcast.{phasing_and_message, first_phasing, further_phasing}
 use Rattle.nx_station.specs.Broadcast.{end_positions}
-use Rattle.nx_station.specs.Channel.{slots_of}
-use Rattle.nx_station.proofs.lemmas.reception.ChannelPhasing.{length-spelled}
+use Rattle.nx_station.specs.reception.Path.{slots_of}
+use Rattle.nx_station.proofs.lemmas.reception.PathPhasing.{length-spelled}
 use Rattle.nx_code.specs.Table.{traffic_word}
 use Rattle.nx_fec.proofs.lemmas.emissions.Emission.{word_sent-rx}
-use Rattle.nx_station.specs.Sendings.{IsReceived, Part, ReceivedEmission, StandsFrom, digit_slot}
-use Rattle.nx_station.specs.Sendings.{gap, positions_before, received}
+use Rattle.nx_station.specs.reception.Sendings.{IsReceived, Part, ReceivedEmission, StandsFrom, digit_slot}
+use Rattle.nx_station.specs.reception.Sendings.{gap, positions_before, received}
 
 -- a part that is an emission is received
 abbrev IsGood : Part → Type 0

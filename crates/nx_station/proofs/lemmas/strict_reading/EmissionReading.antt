@@ -23,7 +23,7 @@ use Rattle.nx_station.specs.Broadcast.{AreSpelled, IsBroadcast, IsSpelled, layou
 use Rattle.nx_station.specs.Broadcast.{phasing_and_message, printed_text, first_phasing}
 use Rattle.nx_station.specs.Broadcast.{further_phasing, end_positions}
 use Rattle.nx_station.specs.StrictReading.{IsEmissionOf, AreRight, ArePaired, AreWhole, IsPair}
-use Rattle.nx_station.proofs.lemmas.reception.ChannelPositions.{IsCombination, each-append, spelled-combinations}
+use Rattle.nx_station.proofs.lemmas.reception.PathPositions.{IsCombination, each-append, spelled-combinations}
 use Rattle.nx_station.proofs.lemmas.strict_reading.PrintedText.{printed-one}
 use Rattle.nx_station.proofs.lemmas.strict_reading.ReadingBack.{broadcast-prints}
 use Rattle.nx_station.proofs.lemmas.reception.WordWeights.{phasing_1-weight, dx-weight, rx-weight}

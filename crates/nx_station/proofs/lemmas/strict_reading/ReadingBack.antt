@@ -22,8 +22,8 @@ use Rattle.nx_station.specs.Broadcast.{phasing_and_message, layout, header, prin
 use Rattle.nx_station.specs.Broadcast.{digit_combination, first_phasing, further_phasing}
 use Rattle.nx_station.specs.Broadcast.{end_positions}
 use Rattle.nx_station.specs.Broadcast.{letter_combination}
-use Rattle.nx_station.specs.Sendings.{Tells}
-use Rattle.nx_station.proofs.lemmas.reception.ChannelPositions.{spelled-tells}
+use Rattle.nx_station.specs.reception.Sendings.{Tells}
+use Rattle.nx_station.proofs.lemmas.reception.PathPositions.{spelled-tells}
 use Rattle.nx_station.proofs.lemmas.broadcasts.Head.{letter_combination-prints, digit_combination-prints}
 use Rattle.nx_station.proofs.lemmas.broadcasts.Head.{digit_combination-range}
 

@@ -14,8 +14,8 @@ use Rattle.nx_kept.proofs.lemmas.Stages.{weaker}
 use Rattle.nx_log.specs.Logged.{IsLoggedAs}
 use Rattle.nx_receiver.specs.air_file_runs.Listen.{given_by}
 use Rattle.nx_receiver.specs.Listener.{HearsGiven, starts_of}
-use Rattle.nx_receiver.specs.Log.{IsLog}
-use Rattle.nx_receiver.specs.Shares.{MarkedCopy, Starts}
+use Rattle.nx_receiver.specs.copies.Log.{IsLog}
+use Rattle.nx_receiver.specs.copies.Shares.{MarkedCopy, Starts}
 use Rattle.nx_watch.specs.Acting.{acting_lines, most_bytes}
 use Rattle.nx_watch.specs.Watch.{AnswersStarted, AnswersStop, HasCause, HasRead, HasWatched, KeepsAll, KeepsSome, LeavesAtAnyMoment}
 use Rattle.nx_watch.specs.Watch.{PrintsUntil, StandsForEntries, Stop, WatchDevices, at_end, back, unread, unwritten, watch_devices}

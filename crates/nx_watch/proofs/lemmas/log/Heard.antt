@@ -6,7 +6,7 @@ use Rattle.nx_receiver.specs.Events as fed
 use Rattle.nx_receiver.specs.Events.{Event, Setting, elements_among, setting_after_all}
 use Rattle.nx_receiver.specs.Listener.{HearsGiven, Listening, content, receiver_on, then_elements}
 use Rattle.nx_receiver.specs.Receiver.{Stands}
-use Rattle.nx_receiver.specs.Shares.{Given, MarkedCopy, Starts, share, start_on, to_one}
+use Rattle.nx_receiver.specs.copies.Shares.{Given, MarkedCopy, Starts, share, start_on, to_one}
 use Rattle.nx_receiver.proofs.lemmas.listening.Listener.{SetsMoment, hears-next}
 
 if-empty : (b : Bool) → cond b (fed.elements []) [] ≡ []

@@ -14,7 +14,7 @@ use Rattle.nx_kept.proofs.lemmas.KeptLaws.{one_list}
 use Rattle.nx_kept.proofs.lemmas.Stages.{joined, weaker}
 use Rattle.nx_log.specs.Entries.{IsWholeEntry}
 use Rattle.nx_log.specs.Logged.{IsLoggedAs}
-use Rattle.nx_receiver.specs.Shares.{MarkedCopy, Starts}
+use Rattle.nx_receiver.specs.copies.Shares.{MarkedCopy, Starts}
 use Rattle.nx_watch.specs.Watch.{AnswersStarted, AnswersStop, AnswersWatching, HasCause, HasOpened, StandsForEntries, Stop}
 use Rattle.nx_watch.specs.Watch.{WatchDevices, at_end, back, longest_entry, starts_at, unread, unwritten, watch_devices}
 use Rattle.nx_watch.specs.declared.watch_report.WatchReport.{WatchReport}

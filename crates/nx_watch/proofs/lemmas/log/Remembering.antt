@@ -21,9 +21,9 @@ use Rattle.nx_memory.specs.Memory.{most_entries}
 use Rattle.nx_memory.specs.Saved.{SavedState}
 use Rattle.nx_memory.specs.declared.memories.entry.MemoryEntry.{MemoryEntry}
 use Rattle.nx_receiver.specs.Events.{none_refused}
-use Rattle.nx_receiver.specs.FoundCopies.{TaggedCopy}
-use Rattle.nx_receiver.specs.Printing.{entry_of, is_good, is_number_00}
-use Rattle.nx_receiver.specs.Shares.{MarkedCopy, copies_on}
+use Rattle.nx_receiver.specs.copies.FoundCopies.{TaggedCopy}
+use Rattle.nx_receiver.specs.copies.Printing.{entry_of, is_good, is_number_00}
+use Rattle.nx_receiver.specs.copies.Shares.{MarkedCopy, copies_on}
 use Rattle.nx_watch.specs.private.Remembering.{RemembersBehind, RemembersMore, entry_found, memory_on}
 use Rattle.nx_watch.specs.declared.kept_log.log_memory.LogMemory.{LogMemory}
 

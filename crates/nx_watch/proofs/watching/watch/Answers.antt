@@ -9,7 +9,7 @@ use Rattle.nx_receiver.specs.Listener.{HearsGiven, starts_of}
 use Rattle.nx_watch.specs.declared.watch_report.WatchReport.{WatchReport}
 use Rattle.nx_watch.specs.declared.watch_fault.WatchFault.{WatchFault}
 use Rattle.nx_watch.specs.declared.watch_fault.WatchFault.TheVariants.{Damaged, Memory}
-use Rattle.nx_receiver.specs.Shares.{Starts, starts_from}
+use Rattle.nx_receiver.specs.copies.Shares.{Starts, starts_from}
 use Rattle.nx_watch.specs.Watch.{AnswersStarted, AnswersWatching, HasCause, HasOpened, starts_at, watch_devices}
 use Rattle.nx_watch.specs.private.Keeping.{HasKept, disk_of}
 use Rattle.nx_watch.proofs.lemmas.log.Keeping.{fresh-keeper, keeps-stands, kept-none}

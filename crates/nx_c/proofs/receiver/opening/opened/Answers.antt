@@ -2,7 +2,7 @@ use Rattle.std.proofs.Common.{◌≡◌, ◌⊎◌, ◌<◌, ◌∙◌, [], ◌�
 use Rattle.nx_envelope.specs.Moment.{last_moment}
 use Rattle.nx_receiver.specs.Events.{Refuses}
 use Rattle.nx_receiver.specs.Listener.{HearsGiven, Listening}
-use Rattle.nx_receiver.specs.Shares.{Given, Starts, all_at_zero, starts_from, to_all}
+use Rattle.nx_receiver.specs.copies.Shares.{Given, Starts, all_at_zero, starts_from, to_all}
 use Rattle.nx_receiver.proofs.lemmas.channels.Shares.{from-nothing}
 use Rattle.nx_c.specs.Life.{HasHeard}
 use Rattle.nx_c.specs.declared.receiver.kept.Kept.{Kept}

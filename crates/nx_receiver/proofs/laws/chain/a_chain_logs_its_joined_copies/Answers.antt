@@ -1,5 +1,5 @@
 use Rattle.std.proofs.Common.{refl}
-use Rattle.nx_receiver.specs.Shares.{saved_of}
+use Rattle.nx_receiver.specs.copies.Shares.{saved_of}
 use Rattle.nx_receiver.proofs.lemmas.chain.Runs.{chain_leaves, chain_logs, chain_prints, chain_refuses}
 use Rattle.nx_receiver.proofs.laws.chain.a_chain_logs_its_joined_copies.Goals as goal
 

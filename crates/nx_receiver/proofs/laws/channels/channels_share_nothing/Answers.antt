@@ -1,8 +1,8 @@
 use Rattle.std.proofs.Common.{List, subst}
 use Rattle.nx_receiver.specs.Events.{Event, Start}
 use Rattle.nx_receiver.specs.air_file_runs.Listen.{events_on}
-use Rattle.nx_receiver.specs.Log.{PrintsToEnd}
-use Rattle.nx_receiver.specs.Shares.{copies_on, start_on}
+use Rattle.nx_receiver.specs.copies.Log.{PrintsToEnd}
+use Rattle.nx_receiver.specs.copies.Shares.{copies_on, start_on}
 use Rattle.nx_receiver.proofs.lemmas.channels.Shares.{to_end-on}
 use Rattle.nx_receiver.proofs.lemmas.receiver.Logged.{one_to_end}
 use Rattle.nx_receiver.proofs.laws.channels.channels_share_nothing.Goals as goal

@@ -1,7 +1,7 @@
 use Rattle.std.proofs.Common.{refl, subst}
 use Rattle.nx_receiver.specs.air_file_runs.Chain.{all_printed}
-use Rattle.nx_receiver.specs.Log.{IsLog}
-use Rattle.nx_receiver.specs.Shares.{saved_of}
+use Rattle.nx_receiver.specs.copies.Log.{IsLog}
+use Rattle.nx_receiver.specs.copies.Shares.{saved_of}
 use Rattle.nx_receiver.proofs.lemmas.chain.Runs.{chain_logs, chain_prints}
 use Rattle.nx_receiver.proofs.lemmas.state.Chains.{texts-chain}
 use Rattle.nx_receiver.proofs.laws.resuming.texts_make_a_chain.Goals as goal

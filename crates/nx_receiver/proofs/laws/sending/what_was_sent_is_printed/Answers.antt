@@ -1,6 +1,6 @@
 use Rattle.std.proofs.Common.{ap, map, ◌∙◌}
 use Rattle.nx_fec.specs.declared.air_files.channel.Channel.TheVariants.{Zero}
-use Rattle.nx_receiver.specs.Shares.{marked}
+use Rattle.nx_receiver.specs.copies.Shares.{marked}
 use Rattle.nx_receiver.proofs.lemmas.from_send.Different.{all_printed}
 use Rattle.nx_receiver.proofs.lemmas.from_send.Files.{log_of_sent, sent_log}
 use Rattle.nx_receiver.proofs.laws.sending.what_was_sent_is_printed.Goals as goal

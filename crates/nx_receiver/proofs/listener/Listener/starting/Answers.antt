@@ -7,7 +7,7 @@ use Rattle.nx_fec.specs.declared.air_files.channel.Channel.TheVariants.{Zero, On
 use Rattle.nx_memory.specs.Memory.{newest_of}
 use Rattle.nx_memory.specs.Saved.{SavedState, later_of}
 use Rattle.nx_receiver.specs.Receiver.{Stands}
-use Rattle.nx_receiver.specs.Shares.{start_on, starts_from}
+use Rattle.nx_receiver.specs.copies.Shares.{start_on, starts_from}
 use Rattle.nx_receiver.specs.Listener.{Listening, content, receiver_on}
 use Rattle.nx_receiver.proofs.lemmas.listening.Listener.{heard-nothing, on-all, starts-is}
 use Rattle.nx_receiver.proofs.listener.Listener.starting.Goals as goal

@@ -3,7 +3,7 @@ use Rattle.nx_fec.specs.air_files.AirFile.{moment, elements, refuse_station, acc
 use Rattle.nx_fec.specs.air_files.AirFile.{accept_subject}
 use Rattle.nx_receiver.specs.Events as events
 use Rattle.nx_receiver.specs.Events.{command}
-use Rattle.nx_receiver.specs.Shares.{to_one}
+use Rattle.nx_receiver.specs.copies.Shares.{to_one}
 use Rattle.nx_receiver.proofs.lemmas.listening.Listener.{commanded-on}
 use Rattle.nx_receiver.proofs.lemmas.listening.Lines.{heard-as, heard-elements, heard-same}
 use Rattle.nx_receiver.proofs.lemmas.listening.Lines.{said, said-elements, subject-taken}

@@ -1,6 +1,6 @@
 use Rattle.std.proofs.Common.{rules, sym, subst}
 use Rattle.std.specs.Prelude.{IsTrue}
-use Rattle.nx_receiver.specs.LockText.{text_after}
+use Rattle.nx_receiver.specs.copies.LockText.{text_after}
 use Rattle.nx_receiver.specs.private.LockReader.{ReadsLock}
 use Rattle.nx_receiver.proofs.lemmas.locks.ReaderWords.{prints_lock, reads_on}
 use Rattle.nx_receiver.proofs.lock_reader.LockReader.hear_two.Goals as goal

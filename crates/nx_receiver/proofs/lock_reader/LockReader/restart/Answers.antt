@@ -1,4 +1,4 @@
-use Rattle.nx_receiver.specs.LockText.{text_after}
+use Rattle.nx_receiver.specs.copies.LockText.{text_after}
 use Rattle.nx_receiver.proofs.lemmas.locks.ReaderWords.{fresh_reads, not_open}
 use Rattle.nx_receiver.proofs.lock_reader.LockReader.restart.Goals as goal
 

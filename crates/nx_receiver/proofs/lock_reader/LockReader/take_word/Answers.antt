@@ -2,7 +2,7 @@ use Rattle.std.proofs.Common.{◌≡◌, ◌+◌, [], ◌∷◌, ◌++◌, inl, 
 use Rattle.std.proofs.Common.{append-nil, ℕ, List, None, Option}
 use Rattle.std.specs.Option.{option_to_list}
 use Rattle.nx_envelope.specs.Finder.{StandsAfter}
-use Rattle.nx_receiver.specs.LockText.{text_after}
+use Rattle.nx_receiver.specs.copies.LockText.{text_after}
 use Rattle.nx_receiver.specs.private.LockReader.{ReadsLock}
 use Rattle.nx_receiver.proofs.lemmas.locks.ReaderWords.{prints_lock}
 use Rattle.nx_receiver.proofs.lock_reader.LockReader.take_word.Goals as goal

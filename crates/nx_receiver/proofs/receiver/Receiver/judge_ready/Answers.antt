@@ -5,7 +5,7 @@ use Rattle.nx_envelope.specs.Finder.{HasReady}
 use Rattle.nx_envelope.specs.declared.finder.Finder.{Finder}
 use Rattle.nx_memory.specs.Memory.{most_entries}
 use Rattle.nx_receiver.specs.Events.{elements_among, first_setting, setting_after_all, settings}
-use Rattle.nx_receiver.specs.Printing.{entry_made, is_printed}
+use Rattle.nx_receiver.specs.copies.Printing.{entry_made, is_printed}
 use Rattle.nx_receiver.specs.Receiver.{Receiving}
 use Rattle.nx_receiver.specs.declared.copy_taker.CopyTag.{CopyTag}
 use Rattle.nx_receiver.specs.private.Awaiting.{Awaits, AwaitsOver, behind_copy}

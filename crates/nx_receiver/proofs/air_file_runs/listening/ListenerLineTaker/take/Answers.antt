@@ -3,7 +3,7 @@ use Rattle.nx_fec.specs.air_files.AirFile.{moment, refuse_station, accept_statio
 use Rattle.nx_fec.specs.air_files.AirFile.{accept_subject}
 use Rattle.nx_receiver.specs.Events as events
 use Rattle.nx_receiver.specs.Events.{command}
-use Rattle.nx_receiver.specs.Shares.{to_one}
+use Rattle.nx_receiver.specs.copies.Shares.{to_one}
 use Rattle.nx_receiver.specs.Listener.{starts_of}
 use Rattle.nx_receiver.proofs.lemmas.listening.Listener.{commanded-on}
 use Rattle.nx_receiver.proofs.lemmas.listening.Lines.{said, subject-taken, taken-always, taken-line}

@@ -3,7 +3,7 @@ use Rattle.nx_receiver.specs.air_file_runs.Listen.{given_by}
 use Rattle.nx_receiver.specs.Listener.{starts_of}
 use Rattle.nx_receiver.specs.private.Listener.{IsListening}
 use Rattle.nx_receiver.specs.private.Unlogged.{ListensUnlogged, StandsUnlogged}
-use Rattle.nx_receiver.specs.Shares.{Starts}
+use Rattle.nx_receiver.specs.copies.Shares.{Starts}
 use Rattle.std.proofs.lemmas.Result.{err_from_is_err_and}
 use Rattle.nx_receiver.proofs.lemmas.listening.Unlogged.{unlogged-fault, unlogged-memory, unlogged-ok}
 use Rattle.nx_receiver.proofs.air_file_runs.listening.unlogged.listen_unlogged.Goals as goal

@@ -1,7 +1,0 @@
-use Rattle.nx_station.proofs.lemmas.reception.ChannelWindows.{received-inner}
-use Rattle.nx_station.proofs.lemmas.reception.ChannelLaws.{no-phasing_1}
-use Rattle.nx_station.proofs.laws.channel.no_phasing_1_before_the_end.Goals as goal
-
-pub returns : goal.returns
-returns c messages positions heard h passes =
-    no-phasing_1 positions heard (received-inner messages positions heard h passes) passes
