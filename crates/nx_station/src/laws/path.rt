@@ -58,8 +58,8 @@ pub fn positions_are_taken_as_sent()
         ≡ reception (position_at positions i) }
 {}
 
-/// What is heard of an emission that is received begins with phasing words as sent. And each word that is
-/// heard stands in the bits, whatever stands before and after.
+/// What is heard of an emission that is received begins with phasing words as sent. And each word
+/// that is heard stands in the bits, whatever stands before and after.
 pub fn words_stand_in_the_bits()
     ensures phasing { (messages : List MessageView) (positions : List SentPosition) (heard : List ℕ)
         → IsBroadcast messages positions → PassesChannel positions heard
