@@ -157,6 +157,7 @@ class Sources:
         self.parts = defaultdict(list)  # of a type, the keys of its calls and of what it implements
         self.views = defaultdict(str)  # of a type with a model, the text of its value and its view
         self.later = []  # items, and what gives the keys that they name once all is read
+        self.members = []  # keys of what stands in an impl, and what gives the key of its type once all is read
         for crate in self.stands_on:
             for folder, _, files in sorted(os.walk(f"{ROOT}/crates/{crate}")):
                 for path in sorted(os.path.relpath(f"{folder}/{name}", ROOT) for name in files):
@@ -165,6 +166,8 @@ class Sources:
                         with open(f"{ROOT}/{path}") as file:
                             read = self.read_specs if inside[2] == "specs" else self.read_source
                             read(path, (crate, inside[2], *inside[3].split("/")), file.read().split("\n"))
+        for key, owner in self.members:
+            self.parts[owner()].append(key)
         for item, keys in self.later:
             item.names.update((key, None) for key in keys() if key and key != (item.path, item.name))
 
@@ -285,7 +288,7 @@ class Sources:
             if hands_out and source[:1] != ["std"]:
                 self.handed_out[home[0]].append(((*home[:2], *source), name))
 
-    def read_item(self, kind, item, scope, lines, text, self_type=None):
+    def read_item(self, kind, item, scope, lines, text, owner=None):
         """Reads a function by its signature and clauses, a trait by those and its ghosts, a type by its fields."""
         if kind == "fn":
             body = re.search(r"(?m)^(?:.*\bfn .*| *\).*)( \{\}?)$|^( *\{\}?)$", text)
@@ -297,7 +300,7 @@ class Sources:
         plain, inside = without_antt(text)
         bound = {"result", "self", *re.findall(r"(\w+): ", plain)} if kind in ("fn", "trait") else ()
         names = [name for part in inside for name in free_names(part, bound)[0]]
-        speaks_of_self = self_type if kind == "ghost" or re.search(r"\b[sS]elf\b", text) else None
+        speaks_of_self = owner and (kind == "ghost" or re.search(r"\b[sS]elf\b", text))
 
         def keys():
             view = self.views[(item.path, item.name)]
@@ -305,13 +308,15 @@ class Sources:
             seen = [row for row in rows if not view or f".{row.split(':')[0].strip()}" in view]
             types = re.findall(r"\b[A-Z]\w*", " ".join(seen)) if kind not in ("ghost", "const", "static") else []
             found = [self.key(scope, name) for name in names] + [self.rust_key(scope.home, name) for name in types]
-            return [speaks_of_self, *found, (item.path, f"{item.name}, its model") if view else None]
+            return [owner() if speaks_of_self else None, *found,
+                    (item.path, f"{item.name}, its model") if view else None]
 
         self.later.append((item, keys))
 
     def read_impl(self, path, scope, lines, blank, start, end):
         """Reads a model by its value and its view, what the ghosts of a trait are for a type, and a type's calls."""
         trait, of = re.match(r"impl(?:<.*?>)? (?:([\w:]+)(?:<.*>)? for )?(\w+)", blank[start]).groups()
+        owner = lambda: self.rust_key(scope.home, of) or (path, of)  # noqa: E731, since it may stand elsewhere
         members = list(blocks(blank, start + 1, end - 1, 4))
         for first, last, *_, name in members:
             if name == "use":
@@ -322,8 +327,9 @@ class Sources:
             text, is_seen = "\n".join(blank[first:last]), trait != "Model" or name in ("Value", "view")
             part = f"{of}::{name}" if not trait else f"{trait} for {of}" if trait != "Model" else f"{of}, its model"
             part += "" if is_seen else f"'s {name}"
+            part += ", its ghosts" if kind == "ghost" and trait != "Model" else ""
             if trait == "Model" and is_seen:
                 self.views[(path, of)] += text
-            self.parts[(path, of)].append((path, part))
+            self.members.append(((path, part), owner))
             item = Item(path, part, first + 1, last, public or bool(trait) and is_seen)
-            self.read_item(kind, item, scope, lines, text, (path, of))
+            self.read_item(kind, item, scope, lines, text, owner)
