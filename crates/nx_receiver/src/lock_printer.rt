@@ -25,7 +25,7 @@ pub struct LockPrinter {
 
 impl LockPrinter {
     /// A printer of a lock of which no word was heard yet.
-    #[tactic(auto, unfolding(crate::specs::LockText::dx_words, crate::specs::LockText::positions))]
+    #[tactic(auto, unfolding(crate::specs::copies::LockText::dx_words, crate::specs::copies::LockText::positions))]
     pub fn new() -> LockPrinter
         ensures { (first : Role) (words : ℕ → ℕ) → PrintsLock result first words 0 }
     {

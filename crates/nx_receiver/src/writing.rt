@@ -184,7 +184,7 @@ fn how_text(how: How) -> &'static str
 
 /// What stands behind the text of an entry: a newline where the text isn't empty and doesn't end
 /// with one, and a newline.
-#[tactic(auto, unfolding(crate::specs::Log::missing_newline, crate::specs::Log::is_of_lines))]
+#[tactic(auto, unfolding(crate::specs::copies::Log::missing_newline, crate::specs::copies::Log::is_of_lines))]
 fn end_of(text: &[u8]) -> &'static [u8]
     ensures end { result.now ≡ missing_newline text.now ++ newline ∷ [] }
     ensures short { length result.now ≤ 2 }

@@ -86,7 +86,7 @@ pub(crate) fn errors_in(text: &[u8]) -> usize
 
 /// What stands behind the text of an entry: a newline where the text isn't empty and doesn't end
 /// with one, and a newline.
-#[tactic(auto, unfolding(nx_receiver::specs::Log::missing_newline, nx_receiver::specs::Log::is_of_lines))]
+#[tactic(auto, unfolding(nx_receiver::specs::copies::Log::missing_newline, nx_receiver::specs::copies::Log::is_of_lines))]
 pub(crate) fn end_of(text: &[u8]) -> &'static [u8]
     ensures { result.now ≡ missing_newline text.now ++ newline ∷ [] }
 {
