@@ -9,11 +9,11 @@ packed_elements = 64
 
 -- The elements of packed numbers, in the order of sending: 64 of each number, the least place
 -- first, 1 is B.
-unfoldable pub elements_of_words : List ℕ → List Bool
-elements_of_words [] = []
-elements_of_words (number ∷ numbers) =
-    elements_from packed_elements number ++ elements_of_words numbers
+unfoldable pub elements_of_numbers : List ℕ → List Bool
+elements_of_numbers [] = []
+elements_of_numbers (number ∷ numbers) =
+    elements_from packed_elements number ++ elements_of_numbers numbers
 
 -- the elements of packed numbers from a place on, so many of them
 abbrev pub packed_part : List ℕ → ℕ → ℕ → List Bool
-packed_part numbers from count = take count (drop from (elements_of_words numbers))
+packed_part numbers from count = take count (drop from (elements_of_numbers numbers))

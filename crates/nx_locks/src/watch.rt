@@ -82,7 +82,7 @@ impl LockWatch {
     {
         self.taker.clear();
         self.synchroniser
-            .hear(&mut self.taker, elements.words(), 0, elements.len());
+            .hear(&mut self.taker, elements.numbers(), 0, elements.len());
     }
 
     /// Ends the report where the elements end: closes the lock that stands, if one does, and shows

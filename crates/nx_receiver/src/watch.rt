@@ -107,7 +107,7 @@ impl Watch {
     {
         let left = packed.len() - from;
         self.synchroniser
-            .hear(&mut self.taker, packed.words(), from, left)
+            .hear(&mut self.taker, packed.numbers(), from, left)
     }
 
     /// The copy that is over, which can be taken.

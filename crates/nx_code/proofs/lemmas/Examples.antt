@@ -4,7 +4,7 @@ use Rattle.std.proofs.Common.{replicate, refl, codes, arith}
 use Rattle.nx_code.specs.declared.shifts.Shift.TheVariants.{Letters, Figures}
 use Rattle.nx_code.specs.Lists.{last_of}
 use Rattle.nx_code.specs.Word.{elements, elements_from, number_of, weight, word_from}
-use Rattle.nx_code.specs.Packed.{elements_of_words}
+use Rattle.nx_code.specs.Packed.{elements_of_numbers}
 use Rattle.nx_code.specs.Table.{row, table, words, place_of, row_of, traffic_word}
 use Rattle.nx_code.specs.Reading.{combination, idle, lost, character_of, shift_after_all, text}
 use Rattle.nx_code.specs.Reading.{characters, is_in_code}
@@ -34,9 +34,9 @@ word_inside = refl
 
 -- 66 elements of two numbers: BYB, then 60 times Y, then B in the last place of the first one and
 -- in the second place of the second one
-pub packed : take 66 (elements_of_words (0x8000000000000005 ∷ 2 ∷ []))
+pub packed : take 66 (elements_of_numbers (0x8000000000000005 ∷ 2 ∷ []))
     ≡ true ∷ false ∷ true ∷ replicate 60 false ++ true ∷ false ∷ true ∷ []
-unfolding elements_of_words elements_from
+unfolding elements_of_numbers elements_from
 packed = refl
 
 pub last_two : last_of {A = ℕ} 2 (5 ∷ 6 ∷ 7 ∷ []) ≡ 6 ∷ 7 ∷ []

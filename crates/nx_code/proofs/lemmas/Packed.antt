@@ -12,7 +12,7 @@ use Rattle.std.proofs.lemmas.Bool.{cases_eq, ne_eqb}
 use Rattle.std.proofs.lemmas.Nat.{shr-shr, shl-shr, mod-pow-add, pow_pos}
 use Rattle.std.proofs.lemmas.List.{drop-append-le, take-append-le, take-append-drop}
 use Rattle.nx_code.specs.Word.{elements, elements_from, number_of, value_of}
-use Rattle.nx_code.specs.Packed.{elements_of_words, packed_part}
+use Rattle.nx_code.specs.Packed.{elements_of_numbers, packed_part}
 use Rattle.nx_code.proofs.lemmas.Word.{number_of-lt}
 
 -- bits of which others come after
@@ -100,54 +100,54 @@ elements_from-join (suc a) b x y h =
     ∙ ap₂ (λ v l. (v == 1) ∷ l) low
     (ap (elements_from (a + b)) high ∙ elements_from-join a b (x / 2) y (omega (arith, p)))
 
-pub length-words : (ws : List ℕ) → length (elements_of_words ws) ≡ 64 * length ws
-unfolding elements_of_words
-length-words [] = refl
-length-words (w ∷ ws) = simp length-append
-    (omega (arith, length-elements_from 64 w, length-words ws))
+pub length-numbers : (ws : List ℕ) → length (elements_of_numbers ws) ≡ 64 * length ws
+unfolding elements_of_numbers
+length-numbers [] = refl
+length-numbers (w ∷ ws) = simp length-append
+    (omega (arith, length-elements_from 64 w, length-numbers ws))
 
 -- packed numbers from one of them on
-drop-words : (i : ℕ) (ws : List ℕ) → i ≤ length ws
-    → drop (64 * i) (elements_of_words ws) ≡ elements_of_words (drop i ws)
-unfolding elements_of_words
-drop-words zero ws h = refl
-drop-words (suc i) [] h = absurd (omega arith)
-drop-words (suc i) (w ∷ ws) h =
+drop-numbers : (i : ℕ) (ws : List ℕ) → i ≤ length ws
+    → drop (64 * i) (elements_of_numbers ws) ≡ elements_of_numbers (drop i ws)
+unfolding elements_of_numbers
+drop-numbers zero ws h = refl
+drop-numbers (suc i) [] h = absurd (omega arith)
+drop-numbers (suc i) (w ∷ ws) h =
     let e : 64 * suc i ≡ length (elements_from 64 w) + 64 * i =
     omega (arith, length-elements_from 64 w) in
-    ap (λ k. drop k (elements_from 64 w ++ elements_of_words ws)) e
-    ∙ (drop-append-add (elements_from 64 w) (elements_of_words ws) (64 * i)
-    ∙ drop-words i ws (omega arith))
+    ap (λ k. drop k (elements_from 64 w ++ elements_of_numbers ws)) e
+    ∙ (drop-append-add (elements_from 64 w) (elements_of_numbers ws) (64 * i)
+    ∙ drop-numbers i ws (omega arith))
 
 -- the elements from a place of a number on
 from_place : (ws : List ℕ) (i s : ℕ) → i < length ws → s ≤ 64
-    → drop (64 * i + s) (elements_of_words ws)
-    ≡ elements_from (64 - s) (get_or ws i 0 / 2 ^ s) ++ elements_of_words (drop (suc i) ws)
-unfolding elements_of_words
+    → drop (64 * i + s) (elements_of_numbers ws)
+    ≡ elements_from (64 - s) (get_or ws i 0 / 2 ^ s) ++ elements_of_numbers (drop (suc i) ws)
+unfolding elements_of_numbers
 from_place ws i s h low =
     let w : ℕ = get_or ws i 0 in
     let part : s + (64 - s) ≡ 64 = omega arith in
     let room : s ≤ length (elements_from 64 w) = omega (arith, length-elements_from 64 w) in
-    sym (drop-drop s (64 * i) (elements_of_words ws))
-    ∙ (ap (drop s) (drop-words i ws (omega arith) ∙ ap elements_of_words (drop-cons ws i 0 h))
-    ∙ (drop-append-le s (elements_from 64 w) (elements_of_words (drop (suc i) ws)) room
-    ∙ ap (λ l. l ++ elements_of_words (drop (suc i) ws))
+    sym (drop-drop s (64 * i) (elements_of_numbers ws))
+    ∙ (ap (drop s) (drop-numbers i ws (omega arith) ∙ ap elements_of_numbers (drop-cons ws i 0 h))
+    ∙ (drop-append-le s (elements_from 64 w) (elements_of_numbers (drop (suc i) ws)) room
+    ∙ ap (λ l. l ++ elements_of_numbers (drop (suc i) ws))
     (ap (λ k. drop s (elements_from k w)) (sym part) ∙ elements_from-drop s (64 - s) w)))
 
 -- so many of them, where they are all of that number
 pub part_here : (ws : List ℕ) (i s n : ℕ) → i < length ws → s + n ≤ 64
-    → take n (drop (64 * i + s) (elements_of_words ws)) ≡ elements_from n (get_or ws i 0 / 2 ^ s)
+    → take n (drop (64 * i + s) (elements_of_numbers ws)) ≡ elements_from n (get_or ws i 0 / 2 ^ s)
 part_here ws i s n h fits =
     let x : ℕ = get_or ws i 0 / 2 ^ s in
     let room : n ≤ length (elements_from (64 - s) x) =
     omega (arith, length-elements_from (64 - s) x) in
     ap (take n) (from_place ws i s h (omega arith))
-    ∙ (take-append-le n (elements_from (64 - s) x) (elements_of_words (drop (suc i) ws)) room
+    ∙ (take-append-le n (elements_from (64 - s) x) (elements_of_numbers (drop (suc i) ws)) room
     ∙ elements_from-take n (64 - s) x (omega arith))
 
 -- and where the last m of them are of the next number
 pub part_across : (ws : List ℕ) (i s m : ℕ) → i + 1 < length ws → s ≤ 64 → m ≤ 64
-    → take (64 - s + m) (drop (64 * i + s) (elements_of_words ws))
+    → take (64 - s + m) (drop (64 * i + s) (elements_of_numbers ws))
     ≡ elements_from (64 - s) (get_or ws i 0 / 2 ^ s) ++ elements_from m (get_or ws (i + 1) 0)
 part_across ws i s m h low few =
     let x : ℕ = get_or ws i 0 / 2 ^ s in
@@ -157,8 +157,8 @@ part_across ws i s m h low few =
     let d : get_or (drop (suc i) ws) 0 0 / 2 ^ 0 ≡ get_or ws (i + 1) 0 =
     omega (arith, get_first ws i h) in
     ap (take (64 - s + m)) (from_place ws i s (omega arith) low)
-    ∙ (ap (λ k. take k (elements_from (64 - s) x ++ elements_of_words (drop (suc i) ws))) e
-    ∙ (take-append-add (elements_from (64 - s) x) (elements_of_words (drop (suc i) ws)) m
+    ∙ (ap (λ k. take k (elements_from (64 - s) x ++ elements_of_numbers (drop (suc i) ws))) e
+    ∙ (take-append-add (elements_from (64 - s) x) (elements_of_numbers (drop (suc i) ws)) m
     ∙ ap (λ l. elements_from (64 - s) x ++ l) (first ∙ ap (elements_from m) d)))
   where
     ahead : (ws : List ℕ) (i : ℕ) → i + 1 < length ws → 0 < length (drop (suc i) ws)
@@ -198,7 +198,7 @@ read_here ws place count some few room here =
     ap (λ p. elements_from count (x % p)) (small_power count few).1
     ∙ (elements_from-mod count x
     ∙ (sym (part_here ws (place / 64) (place % 64) count (omega arith) (omega arith))
-    ∙ ap (λ p. take count (drop p (elements_of_words ws))) e))
+    ∙ ap (λ p. take count (drop p (elements_of_numbers ws))) e))
 
 -- a number moved up by some places, of which the highest are lost
 moved_up : (x here s : ℕ) → s + here ≡ 64 → x * 2 ^ here % 2 ^ 64 ≡ 2 ^ here * (x % 2 ^ s)
@@ -241,14 +241,14 @@ read_across ws place count few room over fits =
     ∙ (elements_from-join here s x (next % 2 ^ s) low
     ∙ (ap (λ l. elements_from here x ++ l) (elements_from-mod s next)
     ∙ (sym (part_across ws (place / 64) (place % 64) s (omega arith) (omega arith) (omega arith))
-    ∙ (ap (λ p. take (here + s) (drop p (elements_of_words ws))) e
-    ∙ ap (λ k. take k (drop place (elements_of_words ws))) all))))) in (
+    ∙ (ap (λ p. take (here + s) (drop p (elements_of_numbers ws))) e
+    ∙ ap (λ k. take k (drop place (elements_of_numbers ws))) all))))) in (
       subst (λ v. v < 2 ^ 64) (sym value) within,
       ap (λ p. elements_from count (both ws place % p)) (small_power count few).1
           ∙ (elements_from-mod count (both ws place)
           ∙ (sym (elements_from-take count 64 (both ws place) (omega arith))
           ∙ (ap (take count) elements
-          ∙ take-take count 64 (drop place (elements_of_words ws)) (omega arith)))),
+          ∙ take-take count 64 (drop place (elements_of_numbers ws)) (omega arith)))),
     )
 
 -- The word of the lowest elements, and those that come after them.

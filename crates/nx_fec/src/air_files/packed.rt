@@ -1,8 +1,8 @@
-//! The elements of one line, packed into words of 64. What runs for each line is inlined always, so
-//! that its vectors stay in registers.
+//! The elements of one line, packed into numbers of 64 bits. What runs for each line is inlined
+//! always, so that its vectors stay in registers.
 ghost use Rattle.std.specs.Prelude.{◌≡◌, ◌≢◌, ◌<◌, ◌≤◌, ◌==◌, Bool, List, [], false, true, length, map, take, IsTrue};
 ghost use Rattle.std.specs.Simd.Lanes.{mask_l};
-ghost use Rattle.nx_code.specs.Packed.{elements_of_words};
+ghost use Rattle.nx_code.specs.Packed.{elements_of_numbers};
 ghost use Rattle.nx_code.specs.Word.{elements_from};
 ghost use Rattle.nx_fec.specs.air_files.AirFile.{element_digit};
 ghost use Rattle.nx_fec.specs.private.Packing.{are_elements, is_one};
@@ -12,30 +12,30 @@ use std::marker::Model;
 use std::mem::size_of;
 use std::simd::prelude::*;
 
-/// How many elements stand in one word.
+/// How many elements stand in one number.
 const LANES: usize = 64;
 
 /// Fewer digits than so many are packed one by one, without a copy of 64.
 const FEW: usize = 16;
 
-/// How many words the elements of one line have.
-const WORDS: usize = MAX_ELEMENTS / LANES;
+/// How many numbers the elements of one line have.
+const NUMBERS: usize = MAX_ELEMENTS / LANES;
 
-/// At most 512 elements, each one bit: element i is bit i % 64 of word i / 64, and 1 is B. What
+/// At most 512 elements, each one bit: element i is bit i % 64 of number i / 64, and 1 is B. What
 /// lies in the places behind them, bits of earlier elements, no contract sees and nothing reads.
 #[derive(Drop)]
 pub struct PackedElements {
-    words: [u64; WORDS],
+    numbers: [u64; NUMBERS],
     length: usize,
 }
 
 impl Model for PackedElements {
     ghost use Rattle.std.specs.Prelude.{◌≤◌, Bool, List, take};
-    ghost use Rattle.nx_code.specs.Packed.{elements_of_words};
+    ghost use Rattle.nx_code.specs.Packed.{elements_of_numbers};
 
     ghost Value = { List Bool };
 
-    ghost view = { λ packed. take packed.length (elements_of_words packed.words) };
+    ghost view = { λ packed. take packed.length (elements_of_numbers packed.numbers) };
 
     ghost invariant = { λ packed. packed.length ≤ 512 };
 }
@@ -47,7 +47,7 @@ impl PackedElements {
     {
         prove!(size_of::<PackedElements>() == 72);
         PackedElements {
-            words: [0; WORDS],
+            numbers: [0; NUMBERS],
             length: 0,
         }
     }
@@ -60,12 +60,12 @@ impl PackedElements {
         self.length
     }
 
-    /// The words that the elements are the first of.
-    pub fn words(&self) -> &[u64]
-        ensures elements { self.now ≡ take (length self.now) (elements_of_words result.now) }
+    /// The numbers that the elements are the first of.
+    pub fn numbers(&self) -> &[u64]
+        ensures elements { self.now ≡ take (length self.now) (elements_of_numbers result.now) }
         ensures count { length result.now ≡ 8 }
     {
-        &self.words
+        &self.numbers
     }
 
     /// Drops all elements.
@@ -93,13 +93,13 @@ impl PackedElements {
         let mut right = true;
         let whole = digits.len() / LANES;
         for place in 0..whole {
-            let (word, here) = pack_64(&digits[LANES * place..]);
-            self.words[place] = word;
+            let (number, here) = pack_64(&digits[LANES * place..]);
+            self.numbers[place] = number;
             right &= here;
         }
         if LANES * whole < digits.len() {
-            let (word, here) = pack_last(&digits[LANES * whole..]);
-            self.words[whole] = word;
+            let (number, here) = pack_last(&digits[LANES * whole..]);
+            self.numbers[whole] = number;
             right &= here;
         }
         if right {
@@ -117,9 +117,9 @@ impl PackedElements {
         ensures elements { self.new ≡ map is_one (take result bytes.now) }
         ensures right { are_elements (take result bytes.now) ≡ true }
     {
-        for place in 0..WORDS {
-            let (word, count) = pack_front(&bytes[LANES * place..]);
-            self.words[place] = word;
+        for place in 0..NUMBERS {
+            let (number, count) = pack_front(&bytes[LANES * place..]);
+            self.numbers[place] = number;
             if count < LANES {
                 self.length = LANES * place + count;
                 return self.length;
@@ -129,13 +129,13 @@ impl PackedElements {
         MAX_ELEMENTS
     }
 
-    /// Takes the first `count` elements of a word, in place of those that were there.
+    /// Takes the first `count` elements of a number, in place of those that were there.
     #[inline(always)]
-    pub(crate) fn put(&mut self, word: u64, count: usize)
+    pub(crate) fn put(&mut self, number: u64, count: usize)
         requires { count ≤ 64 }
-        ensures { self.new ≡ take count (elements_from 64 word) }
+        ensures { self.new ≡ take count (elements_from 64 number) }
     {
-        self.words[0] = word;
+        self.numbers[0] = number;
         self.length = count;
     }
 
@@ -153,11 +153,11 @@ impl PackedElements {
     }
 }
 
-/// Packs fewer digits than a word holds: few of them one by one.
+/// Packs fewer digits than a number holds: few of them one by one.
 #[inline(always)]
 fn pack_last(digits: &[u8]) -> (u64, bool)
     requires { length digits.now < 64 }
-    ensures word { take (length digits.now) (elements_from 64 result.0) ≡ map is_one digits.now }
+    ensures number { take (length digits.now) (elements_from 64 result.0) ≡ map is_one digits.now }
     ensures right { result.1 ≡ are_elements digits.now }
 {
     if digits.len() >= FEW {
@@ -165,23 +165,24 @@ fn pack_last(digits: &[u8]) -> (u64, bool)
         whole[..digits.len()].copy_from_slice(digits);
         return pack_64(&whole);
     }
-    let mut word = 0;
+    let mut number = 0;
     let mut right = true;
     for place in (0..digits.len()).rev() {
         let digit = digits[place];
-        word = 2 * word + u64::from(digit == b'1');
+        number = 2 * number + u64::from(digit == b'1');
         right &= digit == b'0' || digit == b'1';
     }
-    (word, right)
+    (number, right)
 }
 
-/// Packs the digits at the front of bytes, up to the first byte that is none, or 64: their word,
+/// Packs the digits at the front of bytes, up to the first byte that is none, or 64: their number,
 /// and how many there are.
 #[inline(always)]
 fn pack_front(bytes: &[u8]) -> (u64, usize)
     requires { 64 ≤ length bytes.now }
     ensures count { result.1 ≤ 64 }
-    ensures word { take result.1 (elements_from 64 result.0) ≡ map is_one (take result.1 bytes.now) }
+    ensures number { take result.1 (elements_from 64 result.0)
+        ≡ map is_one (take result.1 bytes.now) }
     ensures right { are_elements (take result.1 bytes.now) ≡ true }
 {
     let ones = places_of(bytes, b'1');
@@ -197,7 +198,8 @@ fn pack_front(bytes: &[u8]) -> (u64, usize)
 pub(crate) fn pack_near(bytes: &[u8]) -> (u64, usize)
     requires { 32 ≤ length bytes.now }
     ensures count { result.1 ≤ 32 }
-    ensures word { take result.1 (elements_from 64 result.0) ≡ map is_one (take result.1 bytes.now) }
+    ensures number { take result.1 (elements_from 64 result.0)
+        ≡ map is_one (take result.1 bytes.now) }
     ensures right { are_elements (take result.1 bytes.now) ≡ true }
 {
     let ones = near_places_of(bytes, b'1');
@@ -209,7 +211,7 @@ pub(crate) fn pack_near(bytes: &[u8]) -> (u64, usize)
 #[inline(always)]
 fn pack_64(digits: &[u8]) -> (u64, bool)
     requires { 64 ≤ length digits.now }
-    ensures word { elements_from 64 result.0 ≡ map is_one (take 64 digits.now) }
+    ensures number { elements_from 64 result.0 ≡ map is_one (take 64 digits.now) }
     ensures right { result.1 ≡ are_elements (take 64 digits.now) }
 {
     let ones = places_of(digits, b'1');

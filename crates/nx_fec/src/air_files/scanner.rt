@@ -261,14 +261,14 @@ impl Scanner {
         ensures taken { 0 < result → TakesLine self.old self.new piece.now result }
         ensures none { result ≡ 0 → self.new ≡ self.old }
     {
-        let (word, count) = pack_near(digits);
+        let (number, count) = pack_near(digits);
         let end = 2 + count;
         if count == 0 || count > NEAR_ELEMENTS || piece[end] != LINE_END {
             return 0;
         }
         self.kept.clear();
         self.kept.append_front(piece, end);
-        self.elements.put(word, count);
+        self.elements.put(number, count);
         self.ended = Some(LineKind::Elements(None));
         self.lines += 1;
         self.room -= end as u64 + 1;

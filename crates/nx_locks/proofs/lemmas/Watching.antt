@@ -3,7 +3,7 @@ use Rattle.std.proofs.Common.{◌≡◌, ℕ, ◌-◌, Bool, true, false, List, 
 use Rattle.std.proofs.Common.{refl, sym, ap, ◌∙◌, subst, arith}
 use Rattle.std.specs.Prelude.{◌↔◌, IsTrue}
 use Rattle.std.proofs.lemmas.List.{take_all}
-use Rattle.nx_code.specs.Packed.{elements_of_words, packed_part}
+use Rattle.nx_code.specs.Packed.{elements_of_numbers, packed_part}
 use Rattle.nx_sync.specs.Steps.{LockStands}
 use Rattle.nx_sync.specs.Synchroniser.{Held, StandsAfter}
 use Rattle.nx_sync.specs.declared.step.Change.TheVariants.{Locked}
@@ -18,7 +18,7 @@ watching held taker = record { synchroniser = held; taker = taker }
 
 -- elements that are packed in these numbers, all of which were heard
 pub heard_all : (bits : List Bool) (numbers : List ℕ) (count heard : ℕ)
-    → bits ≡ take (length bits) (elements_of_words numbers) → count ≡ length bits → heard ≡ count
+    → bits ≡ take (length bits) (elements_of_numbers numbers) → count ≡ length bits → heard ≡ count
     → take heard (packed_part numbers 0 count) ≡ bits
 heard_all bits numbers count heard is counted all =
     let many : count ≡ length bits - 0 = omega (arith, counted) in

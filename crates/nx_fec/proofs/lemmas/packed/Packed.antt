@@ -1,4 +1,4 @@
--- Elements that are packed into words of 64, and the digits that they are read from.
+-- Elements that are packed into numbers of 64 bits, and the digits that they are read from.
 use Rattle.std.proofs.Common.{◌≡◌, ℕ, zero, suc, ◌+◌, ◌*◌, ◌/◌, ◌%◌, ◌<◌, ◌≤◌, ◌==◌, cond, Bool}
 use Rattle.std.proofs.Common.{true, false, List, [], ◌∷◌, ◌++◌, length, map, take, drop, set}
 use Rattle.std.proofs.Common.{replicate, ◌&&◌, ◌||◌, ◌^◌, ◌-◌, ◌≢◌, IsTrue, refl, sym, ap, ◌∙◌}
@@ -13,9 +13,9 @@ use Rattle.std.proofs.lemmas.List.Folds.{list_all-append}
 use Rattle.std.proofs.lemmas.Simd.{mask_l-lt}
 use Rattle.std.proofs.Math.Nat.{pow-le-pow_right, pow-suc}
 use Rattle.std.proofs.Math.Seq.{take-add, take-append-add, take-append_seam}
-use Rattle.nx_code.specs.Packed.{elements_of_words}
+use Rattle.nx_code.specs.Packed.{elements_of_numbers}
 use Rattle.nx_code.specs.Word.{elements_from}
-use Rattle.nx_code.proofs.lemmas.Packed.{elements_from-take, length-elements_from, length-words}
+use Rattle.nx_code.proofs.lemmas.Packed.{elements_from-take, length-elements_from, length-numbers}
 use Rattle.nx_fec.specs.air_files.AirFile.{element_digit}
 use Rattle.nx_fec.specs.private.Packing.{are_elements, is_element, is_one}
 
@@ -35,44 +35,46 @@ elements-mask (false ∷ bits) =
     ∙ ap (λ n. false ∷ elements_from (length bits) n) half
     ∙ ap (λ l. false ∷ l) (elements-mask bits)
 
--- the elements of words, one list of words after the other
-words-append : (a b : List ℕ)
-    → elements_of_words (a ++ b) ≡ elements_of_words a ++ elements_of_words b
-unfolding elements_of_words
-words-append [] b = refl
-words-append (w ∷ a) b = ap (λ l. elements_from 64 w ++ l) (words-append a b)
-    ∙ sym (append_assoc (elements_from 64 w) (elements_of_words a) (elements_of_words b))
+-- the elements of numbers, one list of numbers after the other
+numbers-append : (a b : List ℕ)
+    → elements_of_numbers (a ++ b) ≡ elements_of_numbers a ++ elements_of_numbers b
+unfolding elements_of_numbers
+numbers-append [] b = refl
+numbers-append (w ∷ a) b = ap (λ l. elements_from 64 w ++ l) (numbers-append a b)
+    ∙ sym (append_assoc (elements_from 64 w) (elements_of_numbers a) (elements_of_numbers b))
 
--- one word first
-words-first : (w : ℕ) (words : List ℕ) (n : ℕ) → n ≤ 64
-    → take n (elements_of_words (w ∷ words)) ≡ take n (elements_from 64 w)
-unfolding elements_of_words
-words-first w words n few =
-    take-append-le n (elements_from 64 w) (elements_of_words words)
+-- one number first
+numbers-first : (w : ℕ) (numbers : List ℕ) (n : ℕ) → n ≤ 64
+    → take n (elements_of_numbers (w ∷ numbers)) ≡ take n (elements_from 64 w)
+unfolding elements_of_numbers
+numbers-first w numbers n few =
+    take-append-le n (elements_from 64 w) (elements_of_numbers numbers)
     (omega (arith, few, length-elements_from 64 w))
 
--- a word that is set leaves the elements before it, and its own come then
-pub words-set : (words : List ℕ) (at w n : ℕ) → at < length words → n ≤ 64
-    → take (64 * at + n) (elements_of_words (set words at w))
-    ≡ take (64 * at) (elements_of_words words) ++ take n (elements_from 64 w)
-words-set words at w n below few =
-    let front = take at words in
-    let size : length (elements_of_words front) ≡ 64 * at =
-    omega (arith, length-words front, length-take-le at words (omega (arith, below))) in
-    let split = ap elements_of_words (set_split words at w below)
-    ∙ words-append front (w ∷ drop (suc at) words) in
-    let same : elements_of_words words
-    ≡ elements_of_words front ++ elements_of_words (drop at words) =
-    ap elements_of_words (sym (take-append-drop at words)) ∙ words-append front (drop at words) in
-    let before : take (64 * at) (elements_of_words words) ≡ elements_of_words front =
+-- a number that is set leaves the elements before it, and its own come then
+pub numbers-set : (numbers : List ℕ) (at w n : ℕ) → at < length numbers → n ≤ 64
+    → take (64 * at + n) (elements_of_numbers (set numbers at w))
+    ≡ take (64 * at) (elements_of_numbers numbers) ++ take n (elements_from 64 w)
+numbers-set numbers at w n below few =
+    let front = take at numbers in
+    let size : length (elements_of_numbers front) ≡ 64 * at =
+    omega (arith, length-numbers front, length-take-le at numbers (omega (arith, below))) in
+    let split = ap elements_of_numbers (set_split numbers at w below)
+    ∙ numbers-append front (w ∷ drop (suc at) numbers) in
+    let same : elements_of_numbers numbers
+    ≡ elements_of_numbers front ++ elements_of_numbers (drop at numbers) =
+    ap elements_of_numbers (sym (take-append-drop at numbers))
+    ∙ numbers-append front (drop at numbers) in
+    let before : take (64 * at) (elements_of_numbers numbers) ≡ elements_of_numbers front =
     ap (take (64 * at)) same ∙ ap
-    (λ k. take k (elements_of_words front ++ elements_of_words (drop at words))) (sym size)
-    ∙ take-append_seam (elements_of_words front) (elements_of_words (drop at words)) in
+    (λ k. take k (elements_of_numbers front ++ elements_of_numbers (drop at numbers))) (sym size)
+    ∙ take-append_seam (elements_of_numbers front) (elements_of_numbers (drop at numbers)) in
     ap (take (64 * at + n)) split
-    ∙ ap (λ k. take (k + n) (elements_of_words front
-    ++ elements_of_words (w ∷ drop (suc at) words))) (sym size)
-    ∙ take-append-add (elements_of_words front) (elements_of_words (w ∷ drop (suc at) words)) n
-    ∙ ap (λ l. elements_of_words front ++ l) (words-first w (drop (suc at) words) n few)
+    ∙ ap (λ k. take (k + n) (elements_of_numbers front
+    ++ elements_of_numbers (w ∷ drop (suc at) numbers))) (sym size)
+    ∙ take-append-add (elements_of_numbers front)
+    (elements_of_numbers (w ∷ drop (suc at) numbers)) n
+    ∙ ap (λ l. elements_of_numbers front ++ l) (numbers-first w (drop (suc at) numbers) n few)
     ∙ ap (λ l. l ++ take n (elements_from 64 w)) (sym before)
 
 -- ---- the masks of the digits 0 and 1
@@ -126,16 +128,16 @@ elements-ones digits ones size o =
     ap (elements_from 64) o ∙ ap (λ n. elements_from n (mask_l (map is_one digits))) (sym long)
     ∙ elements-mask (map is_one digits)
 
--- ---- the words of more digits
+-- ---- the numbers of more digits
 
-pub packed-more : (digits words : List ℕ) (place w n : ℕ) → place < length words → n ≤ 64
-    → take (64 * place) (elements_of_words words) ≡ map is_one (take (64 * place) digits)
+pub packed-more : (digits numbers : List ℕ) (place w n : ℕ) → place < length numbers → n ≤ 64
+    → take (64 * place) (elements_of_numbers numbers) ≡ map is_one (take (64 * place) digits)
     → take n (elements_from 64 w)
     ≡ map is_one (take n (take (length digits - 64 * place) (drop (64 * place) digits)))
-    → take (64 * place + n) (elements_of_words (set words place w))
+    → take (64 * place + n) (elements_of_numbers (set numbers place w))
     ≡ map is_one (take (64 * place + n) digits)
-packed-more digits words place w n below few before here =
-    words-set words place w n below few
+packed-more digits numbers place w n below few before here =
+    numbers-set numbers place w n below few
     ∙ ap (λ l. l ++ take n (elements_from 64 w)) before
     ∙ ap (λ l. map is_one (take (64 * place) digits) ++ l)
     (here ∙ ap (λ l. map is_one (take n l)) (take_rest digits (64 * place)))
@@ -156,20 +158,20 @@ rest-size : (digits : List ℕ) (at : ℕ)
     → length (take (length digits - at) (drop at digits)) ≡ length digits - at
 rest-size digits at = ap length (take_rest digits at) ∙ length-drop at digits
 
--- and those of the last digits, which don't fill a word
-pub packed-last : (digits words : List ℕ) (place w : ℕ) → place < length words
+-- and those of the last digits, which don't fill a number
+pub packed-last : (digits numbers : List ℕ) (place w : ℕ) → place < length numbers
     → length digits ≤ 64 * place + 64 → 64 * place ≤ length digits
-    → take (64 * place) (elements_of_words words) ≡ map is_one (take (64 * place) digits)
+    → take (64 * place) (elements_of_numbers numbers) ≡ map is_one (take (64 * place) digits)
     → take (length (take (length digits - 64 * place) (drop (64 * place) digits)))
     (elements_from 64 w) ≡ map is_one
     (take (length digits - 64 * place) (drop (64 * place) digits))
-    → take (length digits) (elements_of_words (set words place w)) ≡ map is_one digits
-packed-last digits words place w below few within before here =
+    → take (length digits) (elements_of_numbers (set numbers place w)) ≡ map is_one digits
+packed-last digits numbers place w below few within before here =
     let rest = take (length digits - 64 * place) (drop (64 * place) digits) in
     let size = rest-size digits (64 * place) in
     let whole : 64 * place + length rest ≡ length digits = omega (arith, size, within) in
-    ap (λ n. take n (elements_of_words (set words place w))) (sym whole)
-    ∙ packed-more digits words place w (length rest) below (omega (arith, size, few)) before
+    ap (λ n. take n (elements_of_numbers (set numbers place w))) (sym whole)
+    ∙ packed-more digits numbers place w (length rest) below (omega (arith, size, few)) before
     (here ∙ ap (map is_one) (sym (take_all (length rest) rest (omega arith))))
     ∙ ap (λ n. map is_one (take n digits)) whole
     ∙ ap (map is_one) (take_all (length digits) digits (omega arith))

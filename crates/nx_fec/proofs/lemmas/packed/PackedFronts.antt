@@ -11,11 +11,11 @@ use Rattle.std.proofs.lemmas.Nat.Bits.{bit_at-trailing_ones, bit_at_ones, bit_at
 use Rattle.std.proofs.lemmas.Simd.{bit_mask_l}
 use Rattle.std.proofs.Math.ListN.{get_or-map}
 use Rattle.std.proofs.Math.Logic.{⊎_elim}
-use Rattle.nx_code.specs.Packed.{elements_of_words}
+use Rattle.nx_code.specs.Packed.{elements_of_numbers}
 use Rattle.nx_code.specs.Word.{elements_from}
 use Rattle.nx_code.proofs.lemmas.Packed.{elements_from-take}
 use Rattle.nx_fec.specs.private.Packing.{are_elements, is_element, is_one}
-use Rattle.nx_fec.proofs.lemmas.packed.Packed.{elements-mask, words-set}
+use Rattle.nx_fec.proofs.lemmas.packed.Packed.{elements-mask, numbers-set}
 
 -- bytes of which each is a digit
 elements-to : (bytes : List ℕ) (n : ℕ)
@@ -74,13 +74,13 @@ ones-front bytes size ones count long few o within =
     ∙ take-map is_one count (take size bytes)
     ∙ ap (map is_one) (take-take count size bytes within)
 
--- the first word is set
-pub word-put : (words : List ℕ) (word count : ℕ) → 0 < length words → count ≤ 64
-    → take count (elements_of_words (set words 0 word)) ≡ take count (elements_from 64 word)
-word-put words word count some few =
+-- the first number is set
+pub number-put : (numbers : List ℕ) (number count : ℕ) → 0 < length numbers → count ≤ 64
+    → take count (elements_of_numbers (set numbers 0 number)) ≡ take count (elements_from 64 number)
+number-put numbers number count some few =
     let here : 64 * 0 + count ≡ count = omega arith in
-    ap (λ n. take n (elements_of_words (set words 0 word))) (sym here)
-    ∙ words-set words 0 word count some few
+    ap (λ n. take n (elements_of_numbers (set numbers 0 number))) (sym here)
+    ∙ numbers-set numbers 0 number count some few
 
 -- a mask of fewer places has none set at a place behind them
 mask-ends : (bits : List Bool) (i : ℕ) → length bits ≤ i → bit_at (mask_l bits) i ≡ 0

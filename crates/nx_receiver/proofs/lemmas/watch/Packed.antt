@@ -2,7 +2,7 @@
 use Rattle.std.proofs.Common.{◌≡◌, ℕ, ◌+◌, ◌-◌, ◌≤◌, Bool, List, length, take}
 use Rattle.std.proofs.Common.{drop, sym, ap, ◌∙◌, arith, length-drop}
 use Rattle.std.proofs.lemmas.List.{drop-take, take_all}
-use Rattle.nx_code.specs.Packed.{elements_of_words, packed_part}
+use Rattle.nx_code.specs.Packed.{elements_of_numbers, packed_part}
 
 -- the elements behind a place among the first so many
 rest_of : (all : List Bool) (many place : ℕ) → place ≤ many
@@ -13,10 +13,10 @@ rest_of all many place h =
 
 -- all packed elements behind a place are those of the elements
 pub all_is : (bits : List Bool) (numbers : List ℕ) (place : ℕ)
-    → bits ≡ take (length bits) (elements_of_words numbers) → place ≤ length bits
+    → bits ≡ take (length bits) (elements_of_numbers numbers) → place ≤ length bits
     → packed_part numbers place (length bits - place) ≡ drop place bits
 all_is bits numbers place is room =
-    sym (ap (drop place) is ∙ rest_of (elements_of_words numbers) (length bits) place room)
+    sym (ap (drop place) is ∙ rest_of (elements_of_numbers numbers) (length bits) place room)
 
 -- the piece of the elements from the place on
 pub rest_is : (bits : List Bool) (at : ℕ) → take (length bits - at) (drop at bits) ≡ drop at bits

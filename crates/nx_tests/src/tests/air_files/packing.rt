@@ -13,10 +13,10 @@ fn packed_digits(rt: HostRuntime) {
     let mut packed = PackedElements::new();
     assert!(rt; packed.read(&digits));
     assert_eq!(rt; packed.len(), 65);
-    assert_eq!(rt; packed.words()[0], 0x8000_0000_0000_0001);
-    assert_eq!(rt; packed.words()[1], 1);
+    assert_eq!(rt; packed.numbers()[0], 0x8000_0000_0000_0001);
+    assert_eq!(rt; packed.numbers()[1], 1);
     assert!(rt; packed.read(b"01"));
-    assert_eq!(rt; (packed.len(), packed.words()[0]), (2, 2));
+    assert_eq!(rt; (packed.len(), packed.numbers()[0]), (2, 2));
     assert!(rt; !packed.read(b"02"));
     assert_eq!(rt; packed.len(), 0);
 }
@@ -26,9 +26,9 @@ fn packed_digits(rt: HostRuntime) {
 fn packed_bools(rt: HostRuntime) {
     let mut packed = PackedElements::new();
     packed.pack_bits(&[false, true, true]);
-    assert_eq!(rt; (packed.len(), packed.words()[0]), (3, 6));
+    assert_eq!(rt; (packed.len(), packed.numbers()[0]), (3, 6));
     packed.pack_bits(&[true; 512]);
-    assert_eq!(rt; (packed.len(), packed.words()[7]), (512, u64::MAX));
+    assert_eq!(rt; (packed.len(), packed.numbers()[7]), (512, u64::MAX));
     packed.pack_bits(&[]);
     assert_eq!(rt; packed.len(), 0);
 }

@@ -3,8 +3,8 @@ use Rattle.std.proofs.lemmas.List.{length-take-le}
 use Rattle.nx_fec.proofs.lemmas.packed.Packed.{elements-ones, masks-full}
 use Rattle.nx_fec.proofs.air_files.packed.pack_64.Goals as goal
 
-pub returns-clause-word : goal.returns-clause-word
-returns-clause-word c =
+pub returns-clause-number : goal.returns-clause-number
+returns-clause-number c =
     let digits = c.args.digits.now in
     elements-ones (take 64 digits) _ (length-take-le 64 digits c.requires) c.places_of-ones.ensures
 

@@ -7,6 +7,6 @@ use Rattle.nx_fec.proofs.air_files.packed.pack_last.Given as goal
 abbrev pub invariant-loop-place : goal.invariant-loop-place
 invariant-loop-place l = record {
   within : l.place ≤ length l.digits;
-  word : l.word ≡ mask_l (map is_one (drop l.place l.digits));
+  number : l.number ≡ mask_l (map is_one (drop l.place l.digits));
   right : l.right ≡ are_elements (drop l.place l.digits);
 }

@@ -11,8 +11,8 @@ returns-clause-count c =
     let fits = or_lt 64 _ _ c.near_places_of-ones.type_inv c.near_places_of.type_inv in
     omega (arith, c.trailing_ones.ensures, (near-marks marks none fits).0)
 
-pub returns-clause-word : goal.returns-clause-word
-returns-clause-word c =
+pub returns-clause-number : goal.returns-clause-number
+returns-clause-number c =
     let marks = bit_or c.near_places_of-ones.result c.near_places_of.result in
     let none = near-ends c.args.bytes.now _ _ c.requires c.near_places_of-ones.ensures
     c.near_places_of.ensures in

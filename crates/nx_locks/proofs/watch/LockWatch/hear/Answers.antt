@@ -9,9 +9,9 @@ returns c = rw (← c.self.view_is) (record {
       let i = c.self.inside in
       let all = c.args.elements.now in
       let heard = c.hear.ensures.taken.taken in
-      let numbers = c.words.result.now in
+      let numbers = c.numbers.result.now in
       let bits : take c.hear.result.0 (packed_part numbers 0 c.len.result) ≡ all =
-      heard_all all numbers c.len.result c.hear.result.0 c.words.ensures.elements
+      heard_all all numbers c.len.result c.hear.result.0 c.numbers.ensures.elements
       c.len.ensures.count (c.hear.ensures.all heard.none) in
       watch_hears i.synchroniser c.hear.new.self i.taker c.clear.new.self c.hear.new.taker _ all
       c.hear.result.1 c.clear.ensures bits heard;

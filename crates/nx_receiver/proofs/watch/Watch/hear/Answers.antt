@@ -12,9 +12,9 @@ returns-clause-hears c =
     let from = c.args.from in
     let hear = c.hear in
     let bits : List Bool = drop from all in
-    let same : packed_part c.words.result.now from (c.len.result - from) ≡ bits =
-    ap (λ m. packed_part c.words.result.now from (m - from)) c.len.ensures.count
-    ∙ all_is all c.words.result.now from c.words.ensures.elements (omega arith) in
+    let same : packed_part c.numbers.result.now from (c.len.result - from) ≡ bits =
+    ap (λ m. packed_part c.numbers.result.now from (m - from)) c.len.ensures.count
+    ∙ all_is all c.numbers.result.now from c.numbers.ensures.elements (omega arith) in
     let new : Watching = watch_of hear.new.self hear.new.taker in
     let heard : List Bool = take hear.result.0 bits in
     subst (λ w. HearsAll w new heard hear.result.1) c.self.view_is

@@ -9,19 +9,19 @@ pub invariant_of-self : goal.invariant_of-self
 invariant_of-self c =
     let piece = c.args.piece.now in
     let digits = c.args.digits.now in
-    let count = c.pack_near-word.result.1 in
+    let count = c.pack_near-number.result.1 in
     let size : length piece ≡ 2 + length digits = omega (arith, ap length c.requires.front) in
     let found : Digits piece None digits 2 count c.put.new.self = record {
       whole = c.requires.front;
       starts = omega (arith, size);
       some = omega (arith, c.if-count-eq0.false);
       fits = omega (arith, c.if-count-gt-NEAR_ELEMENTS.false);
-      right = c.pack_near-word.ensures.right;
+      right = c.pack_near-number.ensures.right;
       within = omega (arith, size, c.requires.long, c.if-count-gt-NEAR_ELEMENTS.false);
       feed = sym (get_or-append-add (codes "B ") digits count 0)
           ∙ ap (λ l. get_or l (2 + count) 0) (sym c.requires.front)
           ∙ c.if-piece-end-ne-LINE_END.false;
-      are = c.put.ensures ∙ c.pack_near-word.ensures.word;
+      are = c.put.ensures ∙ c.pack_near-number.ensures.number;
     } in (
       omega (
         arith,
@@ -39,19 +39,19 @@ pub returns-clause-taken : goal.returns-clause-taken
 returns-clause-taken c = λ _.
     let piece = c.args.piece.now in
     let digits = c.args.digits.now in
-    let count = c.pack_near-word.result.1 in
+    let count = c.pack_near-number.result.1 in
     let size : length piece ≡ 2 + length digits = omega (arith, ap length c.requires.front) in
     let found : Digits piece None digits 2 count c.put.new.self = record {
       whole = c.requires.front;
       starts = omega (arith, size);
       some = omega (arith, c.if-count-eq0.false);
       fits = omega (arith, c.if-count-gt-NEAR_ELEMENTS.false);
-      right = c.pack_near-word.ensures.right;
+      right = c.pack_near-number.ensures.right;
       within = omega (arith, size, c.requires.long, c.if-count-gt-NEAR_ELEMENTS.false);
       feed = sym (get_or-append-add (codes "B ") digits count 0)
           ∙ ap (λ l. get_or l (2 + count) 0) (sym c.requires.front)
           ∙ c.if-piece-end-ne-LINE_END.false;
-      are = c.put.ensures ∙ c.pack_near-word.ensures.word;
+      are = c.put.ensures ∙ c.pack_near-number.ensures.number;
     } in
     takes-digits c.args.self.now _ piece None digits 2 count c.put.new.self found c.requires.empty
     refl refl (ap (λ s. s.lines + 1) c.self.view_is)
