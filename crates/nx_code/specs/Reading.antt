@@ -31,6 +31,14 @@ newline = 10
 abbrev pub space : ℕ
 space = 32
 
+-- the digit 0, from which the others follow in order
+abbrev pub digit_zero : ℕ
+digit_zero = 48
+
+-- the digit 1
+abbrev pub digit_one : ℕ
+digit_one = 49
+
 -- what a combination prints in a shift: the line feed a newline, the space combination a space,
 -- else the character of its row in the column of the shift, where one character stands there
 unfoldable pub character_of : ℕ → Shift → Option ℕ

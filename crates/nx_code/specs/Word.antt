@@ -1,6 +1,14 @@
 -- Words and their elements (ITU-R M.476 and M.625: seven elements, each B or Y; four B and three Y
 -- in a signal).
-use Rattle.std.specs.Prelude.{ℕ, ◌+◌, ◌*◌, ◌/◌, ◌%◌, ◌==◌, Bool, true, false, not, List, [], ◌∷◌, sum_by, take, drop, zero, suc, if◌then◌else◌}
+use Rattle.std.specs.Prelude.{ℕ, ◌+◌, ◌*◌, ◌/◌, ◌%◌, ◌==◌, ◌≢◌, Bool, true, false, not, List, [], ◌∷◌, sum_by, take, drop, zero, suc, if◌then◌else◌}
+
+-- how many elements a word has
+abbrev pub word_elements : ℕ
+word_elements = 7
+
+-- the place of a word's last element in the word, from 0
+abbrev pub last_element : ℕ
+last_element = 6
 
 -- the lowest elements of a number, so many of them, in the order of sending: the least place first,
 -- 1 is B
@@ -10,7 +18,7 @@ elements_from (suc count) number = (number % 2 == 1) ∷ elements_from count (nu
 
 -- the seven elements of a word
 unfoldable pub elements : ℕ → List Bool
-elements number = elements_from 7 number
+elements number = elements_from word_elements number
 
 -- what an element counts: B is 1, Y is 0
 abbrev pub value_of : Bool → ℕ
@@ -28,11 +36,19 @@ weight number = sum_by value_of (elements number)
 
 -- the number of the word whose seven elements begin at this place of a list
 abbrev pub word_from : List Bool → ℕ → ℕ
-word_from bits place = number_of (take 7 (drop place bits))
+word_from bits place = number_of (take word_elements (drop place bits))
 
--- a word that is no signal: not four of its seven elements are B (M.476, M.625)
+-- how many elements are B in a word that stands for a signal (M.476, M.625)
+abbrev pub signal_weight : ℕ
+signal_weight = 4
+
+-- a word has another weight than a signal, and so stands for none
+abbrev pub HasWrongWeight : ℕ → Type 0
+HasWrongWeight word = weight word ≢ signal_weight
+
+-- whether a word has another weight than a signal
 abbrev pub is_wrong : ℕ → Bool
-is_wrong word = not (weight word == 4)
+is_wrong word = not (weight word == signal_weight)
 
 -- how many of the words i to i + n - 1 have the wrong weight
 unfoldable pub wrong_in : (ℕ → ℕ) → ℕ → ℕ → ℕ

@@ -1,10 +1,7 @@
 -- ITU-R M.540: a message is named by its station, its subject and its number.
 use Rattle.std.specs.Prelude.{ℕ, Bool, ◌==◌, ◌&&◌, List, ◌∷◌, [], ◌%◌, ◌+◌, ◌/◌}
+use Rattle.nx_code.specs.Reading.{digit_zero}
 use Rattle.nx_envelope.specs.declared.identity.Identity.{Identity}
-
--- the digit 0, behind which stand those from 1 to 9
-abbrev pub digit_zero : ℕ
-digit_zero = 48
 
 -- the two decimal digits of a number below 100
 abbrev pub two_digits : ℕ → List ℕ

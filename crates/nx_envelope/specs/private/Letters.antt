@@ -2,8 +2,7 @@
 use Rattle.std.specs.Prelude.{◌≡◌, ℕ, ◌+◌, ◌*◌, ◌-◌, nat_le, refl, Bool, true, false, Option, Some, None}
 use Rattle.std.proofs.Math.Nat.{add-le-add, mul-le-mul_right}
 use Rattle.std.proofs.lemmas.Bool.{leb-true}
-use Rattle.nx_code.specs.Reading.{capital_a, capital_z}
-use Rattle.nx_envelope.specs.Identity.{digit_zero}
+use Rattle.nx_code.specs.Reading.{capital_a, capital_z, digit_zero}
 use Rattle.nx_envelope.specs.declared.digit.Digit.{Digit}
 use Rattle.nx_envelope.specs.declared.identity.Identity.{Identity}
 use Rattle.nx_envelope.specs.declared.letter.Letter.{Letter}

@@ -6,9 +6,9 @@ use Rattle.std.specs.Str.{bytes_eq}
 use Rattle.std.proofs.Common.{lit≤}
 use Rattle.std.proofs.Math.Nat.{le-min, le-max_left, min-le_left}
 use Rattle.nx_code.specs.Lists.{last_of}
-use Rattle.nx_code.specs.Reading.{capital_a, capital_z, space}
+use Rattle.nx_code.specs.Reading.{capital_a, capital_z, digit_zero, space}
 use Rattle.nx_envelope.specs.Header.{start_marker, end_marker}
-use Rattle.nx_envelope.specs.Identity.{digit_zero, identity_bytes}
+use Rattle.nx_envelope.specs.Identity.{identity_bytes}
 use Rattle.nx_envelope.specs.declared.identity.Identity.{Identity}
 use Rattle.nx_envelope.specs.declared.found.How.{How}
 use Rattle.nx_envelope.specs.declared.found.How.TheVariants.{Cut, Full}

@@ -7,8 +7,7 @@ use Rattle.std.specs.Cmp.{nat_cmp_total}
 use Rattle.std.specs.Ordering.{nat_cmp}
 use Rattle.std.specs.Prelude.{◌==◌, ◌||◌}
 use Rattle.clap.specs.Words.{Row, Text}
-use Rattle.nx_code.specs.Reading.{IsCapital}
-use Rattle.nx_envelope.specs.Identity.{digit_zero}
+use Rattle.nx_code.specs.Reading.{IsCapital, digit_zero}
 use Rattle.nx_fec.specs.air_files.Channels.{channel_number}
 use Rattle.nx_fec.specs.declared.air_files.channel.Channel.{Channel}
 use Rattle.nx_fec.specs.declared.air_files.channel.Channel.TheVariants.{One, Two, Zero}
