@@ -1,7 +1,7 @@
 -- The text of words that stand in their slots from slot 0 on (ITU-R M.625, collective mode B).
-use Rattle.std.specs.Prelude.{◌≡◌, ◌≢◌, ℕ, ◌+◌, ◌*◌, ◌/◌, ◌%◌, Bool, List, length, map, slice_index}
+use Rattle.std.specs.Prelude.{◌≡◌, ℕ, ◌+◌, ◌*◌, ◌/◌, ◌%◌, Bool, List, length, map, slice_index}
 use Rattle.std.specs.List.{range_with_len}
-use Rattle.nx_code.specs.Word.{word_from}
+use Rattle.nx_code.specs.Word.{word_elements, word_from}
 use Rattle.nx_code.specs.Reading.{Reception, text}
 use Rattle.nx_code.specs.declared.shifts.Shift.TheVariants.{Letters}
 use Rattle.nx_fec.specs.declared.emissions.aligned.AlignedFault.{AlignedFault}
@@ -10,11 +10,11 @@ use Rattle.nx_fec.specs.emissions.Pairing.{Counted, counts_as, pairing, five_bef
 
 -- word k of the elements: those from 7k to 7k+6
 unfoldable pub word_in : List Bool → ℕ → ℕ
-word_in bits slot = word_from bits (7 * slot)
+word_in bits slot = word_from bits (word_elements * slot)
 
 -- the whole words, in order
 unfoldable pub words_of : List Bool → List ℕ
-words_of bits = map (word_in bits) (range_with_len 0 (length bits / 7))
+words_of bits = map (word_in bits) (range_with_len 0 (length bits / word_elements))
 
 -- What the first DX words of a lock count as, so many of them, oldest first. The first of them is
 -- word 0, or word 1 of a lock that begins with an RX word. RX word k comes after those before it:
@@ -36,7 +36,11 @@ receptions words = map (λ i. taken_at words (2 * i + 1)) (range_with_len 0 (len
 abbrev pub aligned_text : List ℕ → List ℕ
 aligned_text words = text (receptions words) Letters
 
+-- the elements are whole words
+abbrev pub AreWhole : List Bool → Type 0
+AreWhole bits = length bits % word_elements ≡ 0
+
 -- elements are refused for their number where they are no whole words
 abbrev pub ExplainsAligned : List Bool → AlignedFault → Type 0
-ExplainsAligned bits (Ragged given) = (given ≡ length bits) × (length bits % 7 ≢ 0)
-ExplainsAligned bits (Memory _) = length bits % 7 ≡ 0
+ExplainsAligned bits (Ragged given) = (given ≡ length bits) × ¬ AreWhole bits
+ExplainsAligned bits (Memory _) = AreWhole bits

@@ -35,25 +35,46 @@ rx_word _ = phasing_1
 abbrev pub position_at : List SentPosition → ℕ → SentPosition
 position_at positions i = slice_index_or positions i end_position
 
--- P positions are sent in 2P-1 words, and none in none. Position i has its DX word in slot 2i and
--- its RX word in slot 2i+5, where that is at most 2P-2; slots 1 and 3 hold P1.
+-- how many slots after its DX word the RX word of a position comes (M.625)
+abbrev pub rx_delay : ℕ
+rx_delay = 5
+
+-- the slot of the DX word of a position, by its index (M.625)
+abbrev pub dx_slot : ℕ → ℕ
+dx_slot i = 2 * i
+
+-- the slot of the RX word of a position, by its index (M.625)
+abbrev pub rx_slot : ℕ → ℕ
+rx_slot i = dx_slot i + rx_delay
+
+-- whether a slot is one of a DX word, and not of an RX word: those with an even number are (M.625)
+abbrev pub is_dx_slot : ℕ → Bool
+is_dx_slot slot = slot % 2 == 0
+
+-- how many slots positions have: P positions have 2P-1, and none have none (M.625)
+abbrev pub slots_of : List SentPosition → ℕ
+slots_of positions = 2 * length positions - 1
+
+-- Each position has its DX word in its DX slot, and its RX word in its RX slot, where the emission
+-- has that; slots 1 and 3 hold P1.
 pub record IsEmission (positions : List SentPosition) (sent : List ℕ) : Type 0 where
-  pub slots : length sent ≡ 2 * length positions - 1
+  pub slots : length sent ≡ slots_of positions
   pub dx : (i : ℕ) → i < length positions
-      → slice_index sent (2 * i) ≡ dx_word (position_at positions i)
-  pub rx : (i : ℕ) → 2 * i + 5 ≤ 2 * length positions - 2
-      → slice_index sent (2 * i + 5) ≡ rx_word (position_at positions i)
+      → slice_index sent (dx_slot i) ≡ dx_word (position_at positions i)
+  pub rx : (i : ℕ) → rx_slot i < slots_of positions
+      → slice_index sent (rx_slot i) ≡ rx_word (position_at positions i)
   pub first_rx : 1 < length sent → slice_index sent 1 ≡ phasing_1
   pub second_rx : 3 < length sent → slice_index sent 3 ≡ phasing_1
 
 -- the word that is sent in a slot
 unfoldable pub word_sent : List SentPosition → ℕ → ℕ
 word_sent positions slot =
-    if slot % 2 == 0 then dx_word (position_at positions (slot / 2))
-    else (if nat_lt slot 5 then phasing_1 else rx_word (position_at positions ((slot - 5) / 2)))
+    if is_dx_slot slot then dx_word (position_at positions (slot / 2))
+    else (if nat_lt slot rx_delay then phasing_1
+    else rx_word (position_at positions ((slot - rx_delay) / 2)))
 
 unfoldable pub emission : List SentPosition → List ℕ
-emission positions = map (word_sent positions) (range_with_len 0 (2 * length positions - 1))
+emission positions = map (word_sent positions) (range_with_len 0 (slots_of positions))
 
 -- the bits of words: their elements in order
 unfoldable pub bits_of : List ℕ → List Bool

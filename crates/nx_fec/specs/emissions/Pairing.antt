@@ -1,12 +1,13 @@
 -- Pairing (ITU-R M.625, collective mode B: each position is sent twice, as DX and, five slots
 -- later, as RX; that differing signals are lost is this profile's).
-use Rattle.std.specs.Prelude.{◌≡◌, ◌≢◌, ℕ, ◌+◌, ◌-◌, ◌==◌, nat_lt, if◌then◌else◌, List, ◌∷◌, length, drop, slice_index_or}
+use Rattle.std.specs.Prelude.{◌≡◌, ℕ, ◌+◌, ◌-◌, ◌==◌, nat_lt, if◌then◌else◌, List, ◌∷◌, length, drop, slice_index_or}
 use Rattle.std.specs.Option.{option_map_or}
 use Rattle.nx_code.specs.declared.signals.Signal.TheVariants.{Traffic, Alpha, Beta, Repeat}
-use Rattle.nx_code.specs.Word.{weight}
+use Rattle.nx_code.specs.Word.{HasWrongWeight}
 use Rattle.nx_code.specs.Table.{place_of}
 use Rattle.nx_code.specs.Signal.{number_of_signal}
 use Rattle.nx_code.specs.Reading.{Reception, combination, idle, lost}
+use Rattle.nx_fec.specs.emissions.Emission.{rx_delay}
 use Rattle.nx_fec.specs.declared.emissions.diversity.Heard.{Heard}
 use Rattle.nx_fec.specs.declared.emissions.diversity.Heard.TheVariants.{Intact, Wrong}
 
@@ -57,9 +58,9 @@ IsLatest latest words = latest ≡ drop (length words) (nothing ∷ nothing ∷ 
 -- this is what arrived of a word: the signal that it stands for, or none
 abbrev pub IsHeardOf : Heard → ℕ → Type 0
 IsHeardOf (Intact signal) word = number_of_signal signal ≡ word
-IsHeardOf Wrong word = weight word ≢ 4
+IsHeardOf Wrong word = HasWrongWeight word
 
 -- what the word five before word k counts as, where `words` gives each word's number: before word
 -- 0 none was seen
 abbrev pub five_before : (ℕ → ℕ) → ℕ → Counted
-five_before words k = if nat_lt k 5 then nothing else counts_as (words (k - 5))
+five_before words k = if nat_lt k rx_delay then nothing else counts_as (words (k - rx_delay))

@@ -1,9 +1,11 @@
 -- Words as text: a line for each (this profile).
-use Rattle.std.specs.Prelude.{ℕ, ◌%◌, ◌==◌, if◌then◌else◌, List, [], ◌∷◌, ◌++◌, codes, length, map, slice_index, slice_index_or}
+use Rattle.std.specs.Prelude.{ℕ, if◌then◌else◌, List, [], ◌∷◌, ◌++◌, codes, length, map, slice_index, slice_index_or}
 use Rattle.std.specs.Fmt.{decimal}
 use Rattle.std.specs.List.{flat_map, range_with_len}
 use Rattle.std.specs.Option.{option_map_or}
+use Rattle.nx_code.specs.Reading.{newline, space}
 use Rattle.nx_code.specs.Table.{row, table, place_of}
+use Rattle.nx_fec.specs.emissions.Emission.{is_dx_slot}
 use Rattle.nx_fec.specs.texts.Hexadecimal.{two_hex_digits}
 
 -- the name of a word: what stands in the column Letter of its row, and `wrong` for a word that has
@@ -13,16 +15,16 @@ word_name word =
     option_map_or (λ place. (slice_index_or table place (row 0x00 [] [])).letter) (place_of word)
     (codes "wrong")
 
--- the role of a slot: those with an even number are DX, and the others RX
+-- the role of a slot, as text
 abbrev pub role_name : ℕ → List ℕ
-role_name slot = if slot % 2 == 0 then codes "DX" else codes "RX"
+role_name slot = if is_dx_slot slot then codes "DX" else codes "RX"
 
 -- the line of a word in a slot: slot, role, number and name, with a space between two of them, and
--- a line feed
+-- a newline
 unfoldable pub word_line : ℕ → ℕ → List ℕ
 word_line slot word =
-    decimal slot ++ 32 ∷ role_name slot ++ 32 ∷ two_hex_digits word ++ 32 ∷ word_name word
-    ++ 10 ∷ []
+    decimal slot ++ space ∷ role_name slot ++ space ∷ two_hex_digits word ++ space ∷ word_name word
+    ++ newline ∷ []
 
 -- the words of the first slots, so many of them, each with its slot
 abbrev pub first_slots : List ℕ → ℕ → List (ℕ × ℕ)
