@@ -1,7 +1,7 @@
 -- The lines of an air file (this profile): what they say, and how they are spelled.
 use Rattle.std.specs.Prelude.{◌≡◌, ◌≢◌, ℕ, ◌+◌, ◌-◌, ◌^◌, ◌<◌, ◌≤◌, Bool, true, false, List, [], ◌∷◌, ◌++◌, length, map, codes, Option, Some, None}
 use Rattle.std.specs.Fmt.{decimal}
-use Rattle.nx_code.specs.Reading.{IsCapital}
+use Rattle.nx_code.specs.Reading.{IsCapital, digit_one, digit_zero, space}
 use Rattle.nx_fec.specs.air_files.Channels.{channel_number, channel_of}
 use Rattle.nx_fec.specs.declared.air_files.channel.Channel.{Channel}
 use Rattle.nx_fec.specs.declared.air_files.lines.AirLine.{AirLine}
@@ -20,19 +20,19 @@ pub data Line : Type 0 where
 
 -- an element is written as the digit 1 where it is B, and as 0 where it is Y
 abbrev pub element_digit : Bool → ℕ
-element_digit true = 49
-element_digit false = 48
+element_digit true = digit_one
+element_digit false = digit_zero
 
 -- a channel is named by its digit
 abbrev pub mark_bytes : Option Channel → List ℕ
 mark_bytes None = []
-mark_bytes (Some channel) = (48 + channel_number channel) ∷ []
+mark_bytes (Some channel) = (digit_zero + channel_number channel) ∷ []
 
 -- a word, the channel, a space, and what follows
 abbrev pub with_mark : List ℕ → Option Channel → List ℕ → List ℕ
-with_mark word mark rest = word ++ (mark_bytes mark ++ (32 ∷ rest))
+with_mark word mark rest = word ++ (mark_bytes mark ++ (space ∷ rest))
 
--- the bytes of a line, without its line feed
+-- the bytes of a line, without its newline
 abbrev pub spelling : Line → List ℕ
 spelling (moment n) = codes "T " ++ decimal n
 spelling (elements mark bits) = with_mark (codes "B") mark (map element_digit bits)
@@ -41,11 +41,20 @@ spelling (accept_station mark letter) = with_mark (codes "AS") mark (letter ∷ 
 spelling (refuse_subject mark letter) = with_mark (codes "RJ") mark (letter ∷ [])
 spelling (accept_subject mark letter) = with_mark (codes "AJ") mark (letter ∷ [])
 
--- a moment has at most 11 digits; a line of elements has at least one, and at most 512, one less
--- where it names its channel; and a letter is one of A to Z
+-- the most digits of a moment
+abbrev pub max_moment_digits : ℕ
+max_moment_digits = 11
+
+-- the most elements of a line that names no channel
+abbrev pub max_line_elements : ℕ
+max_line_elements = 512
+
+-- a moment has no more digits than it may; a line of elements has at least one, and no more than it
+-- may, one less where it names its channel; and a letter is one of A to Z
 abbrev pub IsLine : Line → Type 0
-IsLine (moment n) = n < 10 ^ 11
-IsLine (elements mark bits) = (0 < length bits) × (length bits ≤ 512 - length (mark_bytes mark))
+IsLine (moment n) = n < 10 ^ max_moment_digits
+IsLine (elements mark bits) =
+    (0 < length bits) × (length bits ≤ max_line_elements - length (mark_bytes mark))
 IsLine (refuse_station mark letter) = IsCapital letter
 IsLine (accept_station mark letter) = IsCapital letter
 IsLine (refuse_subject mark letter) = IsCapital letter
