@@ -1,9 +1,10 @@
 -- What checking an air file answers (this profile).
 use Rattle.std.specs.Prelude.{◌≡◌, ℕ, Bool, List, [], ◌∷◌, ◌++◌, codes, length, map, Option, Result, Ok, Err}
 use Rattle.std.specs.Io.KnownBytes.{Appends}
+use Rattle.nx_code.specs.Reading.{newline}
 use Rattle.nx_envelope.specs.Message.{MessageView}
 use Rattle.nx_fec.specs.Transfers.{WroteSome, Devices, Extent, Transfers, as_read, at_the_end, whole_input}
-use Rattle.nx_fec.specs.air_files.Lines.{IsBitFile, IsFaultless, line_end}
+use Rattle.nx_fec.specs.air_files.Lines.{IsBitFile, IsFaultless}
 use Rattle.nx_fec.specs.Runs.{ExplainsReading, IsOutside, file_limit}
 use Rattle.nx_fec.specs.declared.fault.RunFault.TheVariants as run
 use Rattle.nx_station.specs.MessageFile.{file_message_of, message_file_bytes}
@@ -14,7 +15,7 @@ use Rattle.nx_station.specs.declared.fault.CheckFault.TheVariants.{Run, Emission
 
 -- the line of the station
 abbrev pub station_line : ℕ → List ℕ
-station_line station = codes "station " ++ station ∷ line_end ∷ []
+station_line station = codes "station " ++ station ∷ newline ∷ []
 
 -- what is written of messages: the line of their station, and their message file
 abbrev pub report : ℕ → List MessageView → List ℕ

@@ -2,8 +2,7 @@
 use Rattle.std.specs.Prelude.{◌≡◌, ◌≢◌, ℕ, ◌+◌, ◌≤◌, List, [], ◌∷◌, ◌++◌, codes, length, Option, Some, None, ⊤}
 use Rattle.std.specs.List.{flat_map, AllByRecursion}
 use Rattle.nx_envelope.specs.Identity.{two_digits}
-use Rattle.nx_fec.specs.air_files.Lines.{line_end}
-use Rattle.nx_code.specs.Reading.{IsCapital}
+use Rattle.nx_code.specs.Reading.{IsCapital, newline}
 use Rattle.nx_envelope.specs.Message.{AreLines, IsMessageFault, text_of, MessageView}
 use Rattle.nx_envelope.specs.declared.message.MessageFault.{MessageFault}
 use Rattle.nx_envelope.specs.declared.message.MessageFault.TheVariants as message
@@ -32,11 +31,11 @@ closing = codes ";"
 
 -- the lines of a message up to the last line of its text
 abbrev pub opening : FileMessage → List ℕ
-opening entry = heading entry.subject entry.number ++ line_end ∷ text_of entry.lines
+opening entry = heading entry.subject entry.number ++ newline ∷ text_of entry.lines
 
 -- all lines of a message
 abbrev pub file_message_bytes : FileMessage → List ℕ
-file_message_bytes entry = opening entry ++ (closing ++ line_end ∷ [])
+file_message_bytes entry = opening entry ++ (closing ++ newline ∷ [])
 
 -- the file of these messages
 abbrev pub message_file_bytes : List FileMessage → List ℕ
@@ -57,9 +56,9 @@ pub record IsMessageFile (bytes : List ℕ) (entries : List FileMessage) : Type 
   pub whole : bytes ≡ message_file_bytes entries
   pub each : AllByRecursion IsFileMessage entries
 
--- bytes without a line feed
+-- bytes without a newline
 abbrev pub IsOneLine : List ℕ → Type 0
-IsOneLine line = AllByRecursion (λ byte. byte ≢ line_end) line
+IsOneLine line = AllByRecursion (λ byte. byte ≢ newline) line
 
 -- a line inside a message that doesn't end it
 pub record IsInside (line : List ℕ) : Type 0 where
@@ -88,7 +87,7 @@ IsBegunIf (Some entry) = IsBegun entry
 pub record IsBadLine (bytes : List ℕ) : Type 0 where
   pub line : List ℕ
   pub more : List ℕ
-  pub whole : bytes ≡ line ++ line_end ∷ more
+  pub whole : bytes ≡ line ++ newline ∷ more
   pub one_line : IsOneLine line
   pub begins_none : (subject number : ℕ) → IsNamed subject number → line ≢ heading subject number
 

@@ -1,16 +1,16 @@
 -- The lines of any bytes (this profile).
 use Rattle.std.specs.Prelude.{◌≡◌, ◌≢◌, ℕ, List, [], ◌∷◌, ◌++◌, Option, Some, None}
 use Rattle.std.specs.List.{flat_map, AllByRecursion, AllZip}
+use Rattle.nx_code.specs.Reading.{newline}
 use Rattle.nx_fec.specs.air_files.AirFile.{IsLine, IsNoLine, Line, spelling}
-use Rattle.nx_fec.specs.air_files.Lines.{line_end}
 
 -- none of the bytes ends a line
 abbrev pub HasNoEnd : List ℕ → Type 0
-HasNoEnd bytes = AllByRecursion (λ byte. byte ≢ line_end) bytes
+HasNoEnd bytes = AllByRecursion (λ byte. byte ≢ newline) bytes
 
 -- the bytes of a line with its end
 abbrev pub ended : List ℕ → List ℕ
-ended text = text ++ line_end ∷ []
+ended text = text ++ newline ∷ []
 
 -- what the bytes of a line say, without its end: a line of an air file, or nothing that is
 -- understood, as each text of more than 514 bytes

@@ -1,6 +1,7 @@
 -- The lines of a whole air file, its first fault, and its elements (this profile).
 use Rattle.std.specs.Prelude.{◌≡◌, ◌≢◌, ℕ, ◌+◌, ◌<◌, ◌≤◌, Bool, List, [], ◌∷◌, ◌++◌, length, take, drop, Option, if◌then◌else◌, ⊤}
 use Rattle.std.specs.List.{flat_map, AllByRecursion}
+use Rattle.nx_code.specs.Reading.{newline}
 use Rattle.nx_fec.specs.air_files.Channels.{channel_of, same_channel}
 use Rattle.nx_fec.specs.declared.air_files.channel.Channel.{Channel}
 use Rattle.nx_fec.specs.declared.air_files.channel.Channel.TheVariants.{Zero}
@@ -8,25 +9,21 @@ use Rattle.nx_fec.specs.air_files.AirFile.{Line, elements, spelling, IsLine, IsN
 use Rattle.nx_fec.specs.declared.fault.LineFault.{LineFault}
 use Rattle.nx_fec.specs.declared.fault.LineFault.TheVariants.{TooLong, LineLong, LineCut, BadLine}
 
--- the byte that ends each line
-abbrev pub line_end : ℕ
-line_end = 10
-
 -- the most bytes of a line before its end
 abbrev pub max_line_bytes : ℕ
 max_line_bytes = 514
 
 -- a line with its end
 abbrev pub line_bytes : Line → List ℕ
-line_bytes line = spelling line ++ line_end ∷ []
+line_bytes line = spelling line ++ newline ∷ []
 
 -- the file of these lines
 abbrev pub file_of : List Line → List ℕ
 file_of lines = flat_map line_bytes lines
 
--- the beginning of a line that isn't ended: no line feed, and no more bytes than a line may have
+-- the beginning of a line that isn't ended: no newline, and no more bytes than a line may have
 pub record IsBeginning (rest : List ℕ) : Type 0 where
-  pub none : AllByRecursion (λ byte. byte ≢ line_end) rest
+  pub none : AllByRecursion (λ byte. byte ≢ newline) rest
   pub short : length rest ≤ max_line_bytes
 
 -- the bytes are these lines, and then the beginning of one more
@@ -45,16 +42,16 @@ pub record IsFaultless (limit : ℕ) (bytes : List ℕ) : Type 0 where
 
 -- After `lines` and the beginning `rest` of one more, which are `front` bytes, comes the fault: at
 -- the next byte, the first of `more`, or at the end of the file. A byte past the limit isn't looked
--- at. The 515th byte of a line is too many. A line feed ends a line, which has to be one of the air
+-- at. The 515th byte of a line is too many. A newline ends a line, which has to be one of the air
 -- file. At the end of the file no line is open.
 abbrev pub IsCause : ℕ → ℕ → List Line → List ℕ → List ℕ → LineFault → Type 0
 IsCause limit front lines rest [] (LineCut line) =
     (front ≤ limit) × (0 < length rest) × (line ≡ length lines + 1)
 IsCause limit front lines rest (byte ∷ more) TooLong = front ≡ limit
 IsCause limit front lines rest (byte ∷ more) (LineLong line) =
-    (front < limit) × (byte ≢ line_end) × (length rest ≡ max_line_bytes) × (line ≡ length lines + 1)
+    (front < limit) × (byte ≢ newline) × (length rest ≡ max_line_bytes) × (line ≡ length lines + 1)
 IsCause limit front lines rest (byte ∷ more) (BadLine line) =
-    (front < limit) × (byte ≡ line_end) × IsNoLine rest × (line ≡ length lines + 1)
+    (front < limit) × (byte ≡ newline) × IsNoLine rest × (line ≡ length lines + 1)
 IsCause limit front lines rest more why = ⊥
 
 -- the bytes are good lines, and the beginning of one more, and what follows, of which this holds
@@ -82,7 +79,7 @@ pub record IsLineRefused (refuses : List Line → Line → Type 0) (limit : ℕ)
   pub after : List ℕ
   pub good : IsLine line
   pub spelled : rest ≡ spelling line
-  pub ended : more ≡ line_end ∷ after
+  pub ended : more ≡ newline ∷ after
   pub within : length (file_of lines ++ rest) < limit
   pub counted : number ≡ length lines + 1
   pub refused : refuses lines line

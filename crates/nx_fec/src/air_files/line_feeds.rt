@@ -3,7 +3,7 @@
 ghost use Rattle.std.specs.Prelude.{◌≡◌, ◌↔◌, ◌<◌, ◌≤◌, ℕ, length, slice_index};
 ghost use Rattle.std.specs.Int.{bit_at};
 ghost use Rattle.memchr.specs.Find.{IsFirstByte, is_byte};
-ghost use Rattle.nx_fec.specs.air_files.Lines.{line_end};
+ghost use Rattle.nx_code.specs.Reading.{newline};
 
 use memchr::memchr;
 use std::simd::prelude::*;
@@ -17,7 +17,7 @@ const LANES: usize = 32;
 /// The place of the first line feed of a piece, if it has one.
 #[inline(always)]
 pub(crate) fn first_feed(piece: &[u8]) -> Option<usize>
-    ensures { IsFirstByte (is_byte line_end) piece.now result }
+    ensures { IsFirstByte (is_byte newline) piece.now result }
 {
     // A short line ends within one vector; `memchr` sets out for long ones.
     if piece.len() >= LANES {
@@ -33,7 +33,7 @@ pub(crate) fn first_feed(piece: &[u8]) -> Option<usize>
 #[inline(always)]
 fn feeds(piece: &[u8]) -> u64
     requires { 32 ≤ length piece.now }
-    ensures { (k : ℕ) → (bit_at result k ≡ 1) ↔ ((k < 32) × (slice_index piece.now k ≡ line_end)) }
+    ensures { (k : ℕ) → (bit_at result k ≡ 1) ↔ ((k < 32) × (slice_index piece.now k ≡ newline)) }
 {
     u8x32::from_slice(piece)
         .simd_eq(u8x32::splat(LINE_END))

@@ -4,8 +4,9 @@
 ghost use Rattle.std.specs.Prelude.{◌≡◌, ◌≢◌, ◌+◌, ◌<◌, ◌≤◌, ℕ, List, [], ◌∷◌, ◌++◌, None, option_to_list, codes, IfOk, IfErr, IfSome, OnOk, OnErr, IsSomeAnd, length, take, MatchResult};
 ghost use Rattle.std.specs.List.{AllByRecursion};
 ghost use Rattle.std.specs.Option.{option_map};
+ghost use Rattle.nx_code.specs.Reading.{newline};
 ghost use Rattle.nx_fec.specs.air_files.AirFile.{IsLine, Line, spelling};
-ghost use Rattle.nx_fec.specs.air_files.Lines.{Scans, StopsIn, IsCause, IsAirFile, IsAtByte, line_end};
+ghost use Rattle.nx_fec.specs.air_files.Lines.{Scans, StopsIn, IsCause, IsAirFile, IsAtByte};
 ghost use Rattle.nx_fec.specs.air_files.Scanner.{elements_kept, kind_kept};
 ghost use Rattle.nx_fec.specs.private.WholeLines.{TakesLine, Waits};
 
@@ -332,7 +333,7 @@ impl Scanner {
     #[inline(always)]
     fn go_on(&mut self, piece: &[u8], count: usize) -> Result<(), LineFault>
         requires within { count ≤ length piece.now }
-        requires none { AllByRecursion (λ byte. byte ≢ line_end) (take count piece.now) }
+        requires none { AllByRecursion (λ byte. byte ≢ newline) (take count piece.now) }
         ensures bytes { (limit : ℕ) (before : List ℕ) (lines : List Line)
             → Scans limit self.old before lines →
             MatchResult result

@@ -1,8 +1,9 @@
 //! Writing bytes, and the elements of an air file, to a writer.
 ghost use Rattle.std.specs.Prelude.{◌≡◌, ◌+◌, ◌≤◌, ℕ, List, [], ◌∷◌, ◌++◌, codes, length, Option, IfErr, OnOk, MatchResult, None};
 ghost use Rattle.std.specs.Io.KnownBytes.{Appends};
+ghost use Rattle.nx_code.specs.Reading.{newline};
 ghost use Rattle.nx_fec.specs.air_files.AirFile.{elements};
-ghost use Rattle.nx_fec.specs.air_files.Lines.{file_of, line_bytes, line_end};
+ghost use Rattle.nx_fec.specs.air_files.Lines.{file_of, line_bytes};
 ghost use Rattle.nx_fec.specs.air_files.BitLines.{bit_lines};
 ghost use Rattle.nx_fec.specs.Transfers.{FailsOnce, HasWritten, WroteSome};
 
@@ -109,7 +110,7 @@ pub(crate) fn push_digits(digits: &[u8], batch: &mut BoundedBytes<BATCH_BYTES>)
     requires short { length digits.now ≤ LINE_ELEMENTS }
     requires room { length batch.old + LINE_BYTES ≤ BATCH_BYTES }
     ensures { batch.new ≡ batch.old
-        ++ (codes "B " ++ (digits.now ++ line_end ∷ [])) }
+        ++ (codes "B " ++ (digits.now ++ newline ∷ [])) }
 {
     batch.append(b"B ");
     batch.append(digits);

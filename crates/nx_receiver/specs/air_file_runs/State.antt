@@ -3,7 +3,7 @@ use Rattle.std.specs.Prelude.{◌≡◌, ◌≢◌, ◌⊎◌, ℕ, ◌+◌, Lis
 use Rattle.std.specs.Prelude.{Ok, Err, ⊤}
 use Rattle.std.specs.List.{flat_map}
 use Rattle.std.specs.Io.KnownBytes.{IsAtEnd}
-use Rattle.nx_fec.specs.air_files.Lines.{line_end}
+use Rattle.nx_code.specs.Reading.{newline}
 use Rattle.nx_fec.specs.Transfers.{CountedDevice, Extent, Reads, read_to, whole_input}
 use Rattle.nx_memory.specs.Saved.{SavedStates}
 use Rattle.nx_memory.specs.StateText.{BeginsNoText, BeginsText, IsShortLine, IsStateText, text_2, longest_saved_line}
@@ -12,7 +12,7 @@ use Rattle.nx_receiver.specs.declared.air_file_runs.state_fault.StateFault.TheVa
 
 -- the bytes of lines, each with the line feed that ends it
 abbrev pub ended_lines : List (List ℕ) → List ℕ
-ended_lines lines = flat_map (λ line. line ++ line_end ∷ []) lines
+ended_lines lines = flat_map (λ line. line ++ newline ∷ []) lines
 
 -- State text, by its bytes: they are the lines of a text of a state, of version 1 or 2, each with
 -- its line feed, and stand for what is saved of the three channels
@@ -56,8 +56,8 @@ pub record StopsInText (input : List ℕ) (holds : List (List ℕ) → List ℕ 
 abbrev pub IsNotUnderstood : Extent → List (List ℕ) → List ℕ → List ℕ → Type 0
 IsNotUnderstood extent lines rest [] = ⊥
 IsNotUnderstood extent lines rest (byte ∷ more) =
-    extent.is_left more × (((byte ≡ line_end) × BeginsNoText (lines ++ rest ∷ []))
-    ⊎ ((byte ≢ line_end) × (length rest ≡ longest_saved_line)))
+    extent.is_left more × (((byte ≡ newline) × BeginsNoText (lines ++ rest ∷ []))
+    ⊎ ((byte ≢ newline) × (length rest ≡ longest_saved_line)))
 
 -- What a fault of reading a state says of bytes of this extent of the input: its line, from 1, is
 -- the one in which the fault stands. What follows the byte that shows it, or a failed read, is

@@ -1,7 +1,7 @@
 -- What the parts of reading the text of a state give: one byte, and one line.
 use Rattle.std.specs.Prelude.{◌≡◌, ◌≢◌, ℕ, List, [], ◌∷◌, ◌++◌, length, Option}
 use Rattle.std.specs.Io.KnownBytes.{Consumes, IsAtEnd}
-use Rattle.nx_fec.specs.air_files.Lines.{line_end}
+use Rattle.nx_code.specs.Reading.{newline}
 use Rattle.nx_fec.specs.Transfers.{CountedDevice}
 use Rattle.nx_memory.specs.StateText.{IsShortLine}
 use Rattle.nx_receiver.specs.declared.air_file_runs.state.LineRead.{LineRead}
@@ -35,11 +35,11 @@ abbrev pub IsNextLine : {R : Type 0} → (R → Option (List ℕ)) → CountedDe
     → LineRead → Type 0
 IsNextLine remaining old new (Whole bytes) =
     IsShortLine bytes.items
-    × Consumes (remaining old.inner) (remaining new.inner) (bytes.items ++ line_end ∷ [])
+    × Consumes (remaining old.inner) (remaining new.inner) (bytes.items ++ newline ∷ [])
     × (new.failures ≡ 0)
 IsNextLine remaining old new Long =
     HasReadPart remaining old new (λ line more. (byte : ℕ) × (more ≡ byte ∷ [])
-    × (byte ≢ line_end) × (length line ≡ 16) × (new.failures ≡ 0))
+    × (byte ≢ newline) × (length line ≡ 16) × (new.failures ≡ 0))
 IsNextLine remaining old new Cut =
     HasReadPart remaining old new (λ line more. (more ≡ []) × IsAtEnd (remaining new.inner)
     × (new.failures ≡ 0))

@@ -2,7 +2,7 @@
 
 ghost use Rattle.std.specs.Prelude.{◌≡◌, ◌≤◌, [], ◌∷◌, ◌++◌, length, IfErr, IfSome, OnOk, MatchResult};
 ghost use Rattle.std.specs.Io.KnownBytes.{Appends};
-ghost use Rattle.nx_fec.specs.air_files.Lines.{line_end};
+ghost use Rattle.nx_code.specs.Reading.{newline};
 ghost use Rattle.nx_fec.specs.Transfers.{FailsOnce, WroteSome};
 ghost use Rattle.nx_memory.specs.Saved.{AreSavedStates, SavedStates};
 ghost use Rattle.nx_receiver.specs.air_file_runs.State.{BeginsWithState, ReadsState, state_bytes};
@@ -138,7 +138,7 @@ pub fn write_state<W: Write>(states: &SavedSet, writer: &mut Counting<W>) -> Res
 /// A line with the line feed that ends it.
 fn ended(line: &[u8]) -> ArrayVec<u8, ENDED_LINE>
     requires { length line.now ≤ 16 }
-    ensures { result.items ≡ line.now ++ line_end ∷ [] }
+    ensures { result.items ≡ line.now ++ newline ∷ [] }
 {
     let mut bytes = ArrayVec::new();
     bytes.try_extend_from_slice(line).unwrap();

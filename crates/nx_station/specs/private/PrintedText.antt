@@ -1,9 +1,9 @@
 -- What the private functions answer that read the printed text of messages back.
 use Rattle.std.specs.Prelude.{◌≢◌, ℕ, List, ◌∷◌, ◌++◌, ⊤}
 use Rattle.std.specs.List.{flat_map, AllByRecursion}
+use Rattle.nx_code.specs.Reading.{newline}
 use Rattle.nx_envelope.specs.Header.{end_marker}
 use Rattle.nx_envelope.specs.Message.{AreLines, text_of, MessageView}
-use Rattle.nx_fec.specs.air_files.Lines.{line_end}
 use Rattle.nx_station.specs.Broadcast.{printed_text}
 use Rattle.nx_station.specs.MessageFile.{IsOneLine}
 use Rattle.nx_station.specs.declared.fault.EmissionFault.{EmissionFault}
@@ -16,7 +16,7 @@ pub record IsTextLine (line : List ℕ) : Type 0 where
 
 -- lines, and after them the end of a message, as they are printed
 abbrev pub ended_lines : List (List ℕ) → List ℕ → List ℕ
-ended_lines lines more = text_of lines ++ (end_marker ++ line_end ∷ more)
+ended_lines lines more = text_of lines ++ (end_marker ++ newline ∷ more)
 
 -- the lines of each message are those of a message
 abbrev pub AreSound : List MessageView → Type 0

@@ -1,8 +1,9 @@
 -- How a scanner of any bytes stands.
 use Rattle.std.specs.Prelude.{◌≡◌, ℕ, ◌<◌, Bool, true, false, if◌then◌else◌, List, [], ◌∷◌, ◌++◌}
 use Rattle.std.specs.Prelude.{length, map, take, slice_index, Option, Some, None, option_to_list, ⊤}
+use Rattle.nx_code.specs.Reading.{newline}
 use Rattle.nx_fec.specs.air_files.AirFile.{IsNoLine, Line}
-use Rattle.nx_fec.specs.air_files.Lines.{Scans, line_end, max_line_bytes}
+use Rattle.nx_fec.specs.air_files.Lines.{Scans, max_line_bytes}
 use Rattle.nx_watch.specs.Acting.{most_bytes}
 use Rattle.nx_watch.specs.AnyLines.{AreLines, HasNoEnd, cut_line}
 use Rattle.nx_watch.specs.declared.lines.any_scanner.AnyScanner.{AnyScanner}
@@ -43,7 +44,7 @@ pub record IsScanning (now : AnyScanner) (bytes : List ℕ) (lines : List (Optio
 -- The open line of these bytes isn't understood, wherever in the piece it ends; and where it
 -- doesn't end there, it is too long.
 pub record IsPassedOver (part piece : List ℕ) : Type 0 where
-  pub line : (at : ℕ) → at < length piece → slice_index piece at ≡ line_end
+  pub line : (at : ℕ) → at < length piece → slice_index piece at ≡ newline
       → HasNoEnd (take at piece) → IsNoLine (part ++ take at piece)
   pub long : HasNoEnd piece → max_line_bytes < length (part ++ piece)
 

@@ -15,8 +15,8 @@ use Rattle.nx_fec.specs.air_files.AirFile.{Line, moment, elements, refuse_statio
 use Rattle.nx_fec.specs.air_files.AirFile.{refuse_subject, accept_subject, element_digit, mark_bytes}
 use Rattle.nx_fec.specs.air_files.AirFile.{with_mark, spelling, IsLine}
 use Rattle.nx_fec.specs.air_files.Lines.{IsAtByte, line_bytes, file_of, IsBeginning, Splits, IsCause}
-use Rattle.nx_fec.specs.air_files.Lines.{HasFault, IsAirFile, IsBitFile, elements_on, line_end}
-use Rattle.nx_code.specs.Reading.{IsCapital}
+use Rattle.nx_fec.specs.air_files.Lines.{HasFault, IsAirFile, IsBitFile, elements_on}
+use Rattle.nx_code.specs.Reading.{IsCapital, newline}
 use Rattle.nx_fec.specs.declared.air_files.channel.Channel.{Channel}
 use Rattle.nx_fec.specs.declared.air_files.channel.Channel.TheVariants.{Zero, One, Two}
 use Rattle.nx_fec.specs.declared.fault.LineFault.{LineFault}
@@ -83,7 +83,7 @@ spelling-injective a b h k e =
 -- ---- a line holds no line feed, and is short
 
 abbrev pub NoFeed : List ℕ → Type 0
-NoFeed bytes = AllByRecursion (λ byte. byte ≢ line_end) bytes
+NoFeed bytes = AllByRecursion (λ byte. byte ≢ newline) bytes
 
 digits-no_feed : (ds : List ℕ) → AreDigits ds → NoFeed ds
 digits-no_feed [] h = tt

@@ -3,7 +3,7 @@ use Rattle.std.proofs.Common.{◌≡◌, ℕ, ◌+◌, List, [], ◌∷◌, ◌+
 use Rattle.std.proofs.Common.{inl, inr, refl, sym, ap, ◌∙◌, subst, append_assoc, append-nil, arith}
 use Rattle.std.specs.Io.KnownBytes.{Consumes}
 use Rattle.std.proofs.KnownBytes.{Consumes-trans}
-use Rattle.nx_fec.specs.air_files.Lines.{line_end}
+use Rattle.nx_code.specs.Reading.{newline}
 use Rattle.nx_fec.specs.Transfers.{CountedDevice, whole_input}
 use Rattle.nx_fec.proofs.lemmas.devices.TransferLaws.{IfSome-end, IfSome-front, Ok-not_err, read_failed-none}
 use Rattle.nx_memory.specs.Saved.{SavedStates}
@@ -59,7 +59,7 @@ module _ {R : Type 0} (remaining : R → Option (List ℕ)) (old mid new : Count
     (lines : List (List ℕ)) (begins : BeginsText lines)
     (before : Consumes (remaining old.inner) (remaining mid.inner) (ended_lines lines)) where
   pub reads-done : (line : List ℕ) (states : SavedStates)
-      → Consumes (remaining mid.inner) (remaining new.inner) (line ++ line_end ∷ [])
+      → Consumes (remaining mid.inner) (remaining new.inner) (line ++ newline ∷ [])
       → new.failures ≡ 0 → IsStateText (lines ++ line ∷ []) states
       → ReadsState remaining old new (Ok states)
   reads-done line states consumed none is =
@@ -95,19 +95,19 @@ module _ {R : Type 0} (remaining : R → Option (List ℕ)) (old mid new : Count
 
   pub reads-bad : (line : List ℕ) (number : ℕ)
       → IsShortLine line
-      → Consumes (remaining mid.inner) (remaining new.inner) (line ++ line_end ∷ [])
+      → Consumes (remaining mid.inner) (remaining new.inner) (line ++ newline ∷ [])
       → new.failures ≡ 0 → number ≡ length lines + 1 → BeginsNoText (lines ++ line ∷ [])
       → ReadsState remaining old new (Err (StateLine number))
   reads-bad line number part consumed none count bad =
       let all = Consumes-trans _ _ _ _ _ before consumed in
       record {
-        bytes = ended_lines lines ++ (line ++ line_end ∷ []);
+        bytes = ended_lines lines ++ (line ++ newline ∷ []);
         consumed = all;
-        answer = stops-here lines line (line_end ∷ []) _ begins part
+        answer = stops-here lines line (newline ∷ []) _ begins part
             (count, (refl, inl (refl, bad)));
         file = IfSome-front _ _ _ (λ input. AnswersState whole_input input
             (Err (StateLine number))) all
-            (λ more. stops lines line (line_end ∷ []) more _ begins part
+            (λ more. stops lines line (newline ∷ []) more _ begins part
             (count, (tt, inl (refl, bad))));
         before = λ e. tt;
         failed = read_failed-none _ _ _ (Line-not_read number) none;

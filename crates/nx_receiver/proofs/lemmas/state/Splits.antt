@@ -3,7 +3,7 @@ use Rattle.std.proofs.Common.{◌≡◌, ◌≢◌, ℕ, ◌≤◌, List, [], �
 use Rattle.std.proofs.Common.{append_assoc, append-nil, arith}
 use Rattle.std.specs.List.{AllByRecursion}
 use Rattle.std.proofs.lemmas.List.Concat.{flat_map-append}
-use Rattle.nx_fec.specs.air_files.Lines.{line_end}
+use Rattle.nx_code.specs.Reading.{newline}
 use Rattle.nx_memory.specs.StateText.{IsShortLine}
 use Rattle.nx_receiver.specs.air_file_runs.State.{ended_lines}
 
@@ -12,14 +12,14 @@ HasNoFeed bytes = AllByRecursion (λ byte. byte ≢ 10) bytes
 
 -- the bytes of one line more
 pub ended-one : (lines : List (List ℕ)) (line : List ℕ)
-    → ended_lines (lines ++ line ∷ []) ≡ ended_lines lines ++ (line ++ line_end ∷ [])
+    → ended_lines (lines ++ line ∷ []) ≡ ended_lines lines ++ (line ++ newline ∷ [])
 ended-one lines line =
-    flat_map-append (λ (l : List ℕ). l ++ line_end ∷ []) lines (line ∷ [])
-    ∙ ap (λ l. ended_lines lines ++ l) (append-nil (line ++ line_end ∷ []))
+    flat_map-append (λ (l : List ℕ). l ++ newline ∷ []) lines (line ∷ [])
+    ∙ ap (λ l. ended_lines lines ++ l) (append-nil (line ++ newline ∷ []))
 
 pub ended-append : (lines more : List (List ℕ))
     → ended_lines (lines ++ more) ≡ ended_lines lines ++ ended_lines more
-ended-append lines more = flat_map-append (λ (l : List ℕ). l ++ line_end ∷ []) lines more
+ended-append lines more = flat_map-append (λ (l : List ℕ). l ++ newline ∷ []) lines more
 
 -- two lines are the same up to their first line feed
 pub same_line : (a b x y : List ℕ) → HasNoFeed a → HasNoFeed b → a ++ 10 ∷ x ≡ b ++ 10 ∷ y

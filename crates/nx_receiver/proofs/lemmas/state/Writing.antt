@@ -4,7 +4,7 @@ use Rattle.std.proofs.Common.{slice_get, Option, OnOk, IfErr, Result, Ok, Err, M
 use Rattle.std.proofs.Common.{sym, ap, ◌∙◌, subst, take-append-drop, arith}
 use Rattle.std.proofs.KnownBytes.{Appends-nil}
 use Rattle.std.specs.Io.KnownBytes.{Appends}
-use Rattle.nx_fec.specs.air_files.Lines.{line_end}
+use Rattle.nx_code.specs.Reading.{newline}
 use Rattle.nx_fec.specs.air_files.LineRuns.{HasGiven, Waiting}
 use Rattle.nx_fec.specs.Transfers.{WroteSome}
 use Rattle.nx_fec.specs.declared.fault.WriteFault.{WriteFault}
@@ -26,7 +26,7 @@ take-next (first ∷ lines) (suc place) line e =
 
 ended-next : (lines : List (List ℕ)) (place : ℕ) (line : List ℕ) → slice_get lines place ≡ Some line
     → ended_lines (take (place + 1) lines)
-    ≡ ended_lines (take place lines) ++ (line ++ line_end ∷ [])
+    ≡ ended_lines (take place lines) ++ (line ++ newline ∷ [])
 ended-next lines place line at =
     let next : place + 1 ≡ suc place = omega arith in
     ap (λ n. ended_lines (take n lines)) next ∙ ap ended_lines (take-next lines place line at)
@@ -35,7 +35,7 @@ ended-next lines place line at =
 -- one line more is given
 pub given-next : (old new : Option (List ℕ)) (batch : Waiting) (lines : List (List ℕ)) (place : ℕ)
     (line : List ℕ) → slice_get lines place ≡ Some line
-    → HasGiven old new batch (ended_lines (take place lines) ++ (line ++ line_end ∷ []))
+    → HasGiven old new batch (ended_lines (take place lines) ++ (line ++ newline ∷ []))
     → HasGiven old new batch (ended_lines (take (place + 1) lines))
 given-next old new batch lines place line at h =
     subst (HasGiven old new batch) (sym (ended-next lines place line at)) h
@@ -43,7 +43,7 @@ given-next old new batch lines place line at h =
 -- a write failed before all lines were written
 pub wrote-front : (old new : Option (List ℕ)) (lines : List (List ℕ)) (place : ℕ)
     (line : List ℕ) (written : ℕ) → slice_get lines place ≡ Some line
-    → WroteSome old new (ended_lines (take place lines) ++ (line ++ line_end ∷ [])) written
+    → WroteSome old new (ended_lines (take place lines) ++ (line ++ newline ∷ [])) written
     → WroteSome old new (ended_lines lines) written
 wrote-front old new lines place line written at h =
     let front = sym (ended-next lines place line at) in

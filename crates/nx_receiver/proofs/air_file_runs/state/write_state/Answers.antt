@@ -1,7 +1,7 @@
 use Rattle.std.proofs.Common.{◌∷◌, [], ◌++◌, take, sym, ap, ◌∙◌, subst, arith}
 use Rattle.std.proofs.lemmas.Option.{slice_get_within}
 use Rattle.std.proofs.lemmas.Result.{err_from_is_err_and}
-use Rattle.nx_fec.specs.air_files.Lines.{line_end}
+use Rattle.nx_code.specs.Reading.{newline}
 use Rattle.nx_fec.specs.air_files.LineRuns.{HasGiven}
 use Rattle.nx_fec.specs.Transfers.{WroteSome}
 use Rattle.nx_memory.specs.StateText.{text_2}
@@ -40,7 +40,7 @@ pub loop-line-preserved : goal.loop-line-preserved
 loop-line-preserved g c =
     let contents = g.W.Write.contents in
     let bytes = c.deref-in-Some.ensures.0 ∙ c.ended.ensures
-    ∙ ap (λ l. l ++ line_end ∷ []) c.deref.ensures.0 in
+    ∙ ap (λ l. l ++ newline ∷ []) c.deref.ensures.0 in
     record {
       none = c.in_ok-give.ensures.counts.none;
       within = omega (
@@ -63,7 +63,7 @@ pub returns-in_err-give-clause-err : goal.returns-in_err-give-clause-err
 returns-in_err-give-clause-err g c =
     let contents = g.W.Write.contents in
     let bytes = c.deref-in-Some.ensures.0 ∙ c.ended.ensures
-    ∙ ap (λ l. l ++ line_end ∷ []) c.deref.ensures.0 in
+    ∙ ap (λ l. l ++ newline ∷ []) c.deref.ensures.0 in
     let p = err_from_is_err_and c.from_residual.result c.from_residual.ensures.1 in
     let written = c.in_err-give.field-0.0.written in
     rw p.1 (rw p.2 (subst (λ l. WroteSome (contents c.args.writer.now.inner)
