@@ -12,8 +12,8 @@ use crate::words::Word;
 /// project's own numbers).
 pub const CLASSES: usize = 34;
 
-/// The class of a word of the wrong weight, and of a lost position.
-pub(crate) const NO_CLASS: u8 = 0;
+/// The class of a word of the wrong weight, of one that wasn't seen, and of a lost position.
+pub const NO_CLASS: u8 = 0;
 
 /// The class of each word, by its number.
 #[rattlefmt::skip]

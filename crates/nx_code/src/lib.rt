@@ -16,8 +16,8 @@ mod table;
 mod table_indexes;
 mod words;
 
-pub use characters::{char_to_code, code_to_char};
-pub use classes::{CLASSES, class_of, pair_classes};
+pub use characters::{NEWLINE, char_to_code, code_to_char};
+pub use classes::{CLASSES, NO_CLASS, class_of, pair_classes};
 pub use packed::{WORDS_AT_ONCE, elements_at, packed_word, words_of};
 pub use printer_steps::FourPrinted;
 pub use printing::{ASTERISK, Printer, Taken};

@@ -7,7 +7,7 @@ ghost use Rattle.nx_code.specs.private.Pieces.{numbers_of_piece};
 ghost use Rattle.nx_code.specs.Spelling.{Spells};
 ghost use Rattle.nx_code.specs.declared.signals.Comb.{Comb};
 
-use crate::characters::char_to_code;
+use crate::characters::{NEWLINE, char_to_code};
 use crate::shifts::Shift;
 use crate::signals::Comb;
 use std::alloc::{AllocError, Global};
@@ -34,9 +34,6 @@ impl From<AllocError> for SpellFault {
         SpellFault::Memory(error)
     }
 }
-
-/// A newline, which is sent as carriage return and line feed.
-const NEWLINE: u8 = b'\n';
 
 /// What a character is sent as: a carriage return or a shift ahead, where one is needed, and its
 /// combination; and the shift that is then in force.

@@ -8,11 +8,11 @@ ghost use Rattle.nx_envelope.specs.Found.{IsFoundOf};
 
 use crate::found::{FinderStep, Found, FoundHead, HeldCopy, How, MAX_FOUND, TextEvent};
 use crate::identity::Identity;
-use crate::message::{NEWLINE, START_MARKER};
+use crate::message::START_MARKER;
 use crate::stage::Stage;
 use crate::windows::{eight_of, ends_marker, four_behind, marker_of};
 use arrayvec::ArrayVec;
-use nx_code::ASTERISK;
+use nx_code::{ASTERISK, NEWLINE};
 use std::marker::Model;
 
 /// The length of a marker.

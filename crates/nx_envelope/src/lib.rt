@@ -16,5 +16,5 @@ pub use finder::Finder;
 pub use found::{FinderStep, Found, FoundHead, How, MAX_FOUND, TextEvent};
 pub use identity::Identity;
 pub use letter::Letter;
-pub use message::{END_MARKER, MAX_LINE, MAX_TEXT, Message, MessageFault, NEWLINE, START_MARKER};
+pub use message::{END_MARKER, MAX_LINE, MAX_TEXT, Message, MessageFault, START_MARKER};
 pub use moment::{CIVIL_LEN, LAST_MOMENT, civil};

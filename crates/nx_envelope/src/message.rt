@@ -6,7 +6,7 @@ ghost use Rattle.nx_envelope.specs.Header.{HoldsWord};
 ghost use Rattle.nx_envelope.specs.Message.{MessageView};
 
 use crate::identity::Identity;
-use nx_code::char_to_code;
+use nx_code::{NEWLINE, char_to_code};
 use std::alloc::{AllocError, Global};
 use std::marker::Model;
 use thiserror::Error;
@@ -22,9 +22,6 @@ pub const START_MARKER: [u8; 4] = *b"ZCZC";
 
 /// The letters that end a message.
 pub const END_MARKER: [u8; 4] = *b"NNNN";
-
-/// The byte that ends a line of a text.
-pub const NEWLINE: u8 = b'\n';
 
 /// Why lines make no message.
 #[derive(Debug, PartialEq, Eq, Drop, Error)]

@@ -12,8 +12,8 @@ ghost use Rattle.nx_receiver.specs.copies.Log.{is_of_lines};
 ghost use Rattle.nx_sync.specs.declared.step.Role.TheVariants.{Dx as DxRole};
 
 use crate::report_text::{Shown, append_some};
-use nx_code::{WORDS_AT_ONCE, Word, check_bits};
-use nx_envelope::{Finder, NEWLINE, TextEvent};
+use nx_code::{NEWLINE, WORDS_AT_ONCE, Word, check_bits};
+use nx_envelope::{Finder, TextEvent};
 use nx_receiver::LockPrinter;
 use nx_sync::Role;
 use std::marker::Model;

@@ -9,8 +9,7 @@ ghost use Rattle.nx_locks.specs.private.Taker.{Closes, HasRoom, Opens, ReadsWord
 use crate::reader::LockReader;
 use crate::report_text::{Counts, Shown, close_lock, end_report, open_lock};
 use arrayvec::ArrayVec;
-use nx_code::{ELEMENTS, WORDS_AT_ONCE, Word};
-use nx_envelope::NEWLINE;
+use nx_code::{ELEMENTS, NEWLINE, WORDS_AT_ONCE, Word};
 use nx_sync::{Change, Role, Step, StepTaker};
 use std::marker::Model;
 

@@ -17,7 +17,8 @@ ghost use Rattle.nx_receiver.specs.private.Heads.{headed_copy};
 use crate::entry::Entry;
 use arrayvec::ArrayVec;
 use itoa::Buffer;
-use nx_envelope::{CIVIL_LEN, FoundHead, How, MAX_FOUND, NEWLINE, civil};
+use nx_code::NEWLINE;
+use nx_envelope::{CIVIL_LEN, FoundHead, How, MAX_FOUND, civil};
 use nx_fec::{Batch, Channel, Counting, WriteFault, write_out};
 use std::io::Write;
 

@@ -14,8 +14,8 @@ ghost use Rattle.nx_station.specs.Sendable.{AreOf, HavePositions, IsRefusal, IsS
 use crate::fault::SendFault;
 use crate::heads::{ENDING, HEAD, ending_len, head_of};
 use crate::slots::has_slots;
-use nx_code::{Comb, Extent, Shift, SpellFault, extent_of, spell};
-use nx_envelope::{Letter, Message, NEWLINE};
+use nx_code::{Comb, Extent, NEWLINE, Shift, SpellFault, extent_of, spell};
+use nx_envelope::{Letter, Message};
 use nx_fec::Position;
 use std::alloc::{AllocError, Global};
 

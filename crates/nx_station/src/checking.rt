@@ -7,7 +7,8 @@ ghost use Rattle.nx_station.specs.MessageFile.{file_message_of, file_message_byt
 use crate::broadcast::text_bytes;
 use crate::fault::CheckFault;
 use crate::reading::read_emission;
-use nx_envelope::{Letter, Message, NEWLINE};
+use nx_code::NEWLINE;
+use nx_envelope::{Letter, Message};
 use nx_fec::{Counting, read_bits, write_out};
 use std::alloc::{AllocError, Global};
 use std::io::{Read, Write};

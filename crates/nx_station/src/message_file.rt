@@ -7,7 +7,8 @@ ghost use Rattle.nx_station.specs.FileSending.{ExplainsFile};
 ghost use Rattle.nx_station.specs.private.MessageParts.{ExplainsFirst, text_fault};
 
 use crate::fault::SendRunFault;
-use nx_envelope::{Identity, Letter, Message, MessageFault, NEWLINE};
+use nx_code::NEWLINE;
+use nx_envelope::{Identity, Letter, Message, MessageFault};
 use std::alloc::{AllocError, Global};
 
 /// The line that ends a message.

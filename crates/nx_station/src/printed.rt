@@ -9,7 +9,8 @@ ghost use Rattle.nx_station.specs.private.PrintedText.{AreSound, ExplainsFirstPr
 
 use crate::fault::EmissionFault;
 use crate::message_file::{Body, split_line};
-use nx_envelope::{END_MARKER, Identity, Message, NEWLINE};
+use nx_code::NEWLINE;
+use nx_envelope::{END_MARKER, Identity, Message};
 use std::alloc::{AllocError, Global};
 
 /// The first message of a printed text, and what follows it.

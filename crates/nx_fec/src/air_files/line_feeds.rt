@@ -6,10 +6,8 @@ ghost use Rattle.memchr.specs.Find.{IsFirstByte, is_byte};
 ghost use Rattle.nx_code.specs.Reading.{newline};
 
 use memchr::memchr;
+use nx_code::NEWLINE;
 use std::simd::prelude::*;
-
-/// The byte that ends a line.
-pub(crate) const LINE_END: u8 = b'\n';
 
 /// How many bytes are compared at once.
 const LANES: usize = 32;
@@ -26,7 +24,7 @@ pub(crate) fn first_feed(piece: &[u8]) -> Option<usize>
             return Some(near.trailing_zeros() as usize);
         }
     }
-    memchr(LINE_END, piece)
+    memchr(NEWLINE, piece)
 }
 
 /// The line feeds among the first 32 bytes of a piece: bit k says whether byte k is one.
@@ -36,6 +34,6 @@ fn feeds(piece: &[u8]) -> u64
     ensures { (k : ℕ) → (bit_at result k ≡ 1) ↔ ((k < 32) × (slice_index piece.now k ≡ newline)) }
 {
     u8x32::from_slice(piece)
-        .simd_eq(u8x32::splat(LINE_END))
+        .simd_eq(u8x32::splat(NEWLINE))
         .to_bitmask()
 }

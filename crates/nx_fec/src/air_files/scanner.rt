@@ -11,13 +11,14 @@ ghost use Rattle.nx_fec.specs.air_files.Scanner.{elements_kept, kind_kept};
 ghost use Rattle.nx_fec.specs.private.WholeLines.{TakesLine, Waits};
 
 use crate::air_files::bounded_bytes::BoundedBytes;
-use crate::air_files::line_feeds::{LINE_END, first_feed};
+use crate::air_files::line_feeds::first_feed;
 use crate::air_files::lines::{
     LineKind, MAX_ELEMENTS, digits_behind, moment_front, read_line, unpack,
 };
 use crate::air_files::packed::{PackedElements, pack_near};
 use crate::fault::LineFault;
 use arrayvec::ArrayVec;
+use nx_code::NEWLINE;
 use std::marker::Model;
 use std::mem::size_of;
 
@@ -264,7 +265,7 @@ impl Scanner {
     {
         let (number, count) = pack_near(digits);
         let end = 2 + count;
-        if count == 0 || count > NEAR_ELEMENTS || piece[end] != LINE_END {
+        if count == 0 || count > NEAR_ELEMENTS || piece[end] != NEWLINE {
             return 0;
         }
         self.kept.clear();
@@ -289,7 +290,7 @@ impl Scanner {
     {
         let (moment, count) = moment_front(digits);
         let end = 2 + count;
-        if count == 0 || piece[end] != LINE_END {
+        if count == 0 || piece[end] != NEWLINE {
             return 0;
         }
         self.kept.clear();
@@ -317,7 +318,7 @@ impl Scanner {
         self.open();
         let count = self.elements.read_front(digits);
         let end = piece.len() - digits.len() + count;
-        if count == 0 || end > MAX_LINE_BYTES || digits[count] != LINE_END {
+        if count == 0 || end > MAX_LINE_BYTES || digits[count] != NEWLINE {
             self.elements.clear();
             return 0;
         }

@@ -9,7 +9,7 @@ ghost use Rattle.nx_fec.specs.emissions.Aligned.{dx_words};
 ghost use Rattle.nx_fec.specs.emissions.Pairing.{Counted, IsHeardOf, IsLatest, counts_as, heard_as, pairing, third_last};
 ghost use Rattle.nx_fec.specs.private.WordClasses.{counted_by};
 
-use nx_code::{Comb, Signal, Taken, Word, class_of, pair_classes, signal_of};
+use nx_code::{Comb, NO_CLASS, Signal, Taken, Word, class_of, pair_classes, signal_of};
 use std::marker::Model;
 use std::mem::size_of;
 
@@ -30,9 +30,6 @@ impl Default for Heard {
         Heard::Wrong
     }
 }
-
-/// The class of a word of the wrong weight, of one that wasn't seen, and of a lost position.
-const NO_CLASS: u8 = 0;
 
 /// The class of a service signal, and of an idle position.
 const SERVICE_CLASS: u8 = 33;

@@ -10,8 +10,7 @@ ghost use Rattle.nx_log.specs.Logged.{IsLoggedAs, is_text_byte as the_is_text_by
 ghost use Rattle.nx_log.specs.View.{IsViewOf};
 
 use crate::entries::head::{LoggedHead, head_at};
-use nx_code::char_to_code;
-use nx_envelope::NEWLINE;
+use nx_code::{NEWLINE, char_to_code};
 
 /// The most bytes of a logged entry.
 pub const MAX_LOGGED: usize = 4146;

@@ -17,7 +17,7 @@ use crate::writing::json_value::{UTC_LEN, how_name, utc_time};
 use arrayvec::ArrayVec;
 use itoa::Buffer;
 use memchr::memchr;
-use nx_envelope::NEWLINE;
+use nx_code::NEWLINE;
 use nx_fec::{Batch, Counting, WriteFault};
 use std::io::Write;
 

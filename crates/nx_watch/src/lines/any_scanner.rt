@@ -9,6 +9,7 @@ ghost use Rattle.nx_watch.specs.Acting.{most_bytes};
 ghost use Rattle.nx_watch.specs.private.Scanning.{CutsAs, IsPassedOver, IsScanning, OnLine, lines_ended};
 
 use memchr::memchr;
+use nx_code::NEWLINE;
 use nx_fec::{LineKind, PackedElements, Scanner};
 
 /// The most bytes of the input of a watch: 2^63 - 1.
@@ -16,9 +17,6 @@ pub(crate) const MOST_BYTES: u64 = 9_223_372_036_854_775_807;
 
 /// The most bytes of a piece.
 pub(crate) const CHUNK: usize = 65_536;
-
-/// The byte that ends a line.
-const LINE_END: u8 = b'\n';
 
 /// Reads the lines of any bytes piece by piece.
 #[derive(Drop)]
@@ -98,7 +96,7 @@ impl AnyScanner {
         ensures room { self.new.scanner.room ≡ most_bytes }
     {
         *self = AnyScanner::new();
-        match memchr(LINE_END, piece) {
+        match memchr(NEWLINE, piece) {
             Some(at) => (at + 1, Ended::Unknown),
             None => {
                 self.is_passing = true;

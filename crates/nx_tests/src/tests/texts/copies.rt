@@ -1,7 +1,8 @@
 //! The cases of copies: what a finder answers to texts.
 
 use super::super::expect_text;
-use nx_envelope::{Finder, FinderStep, Found, How, Identity, NEWLINE, TextEvent};
+use nx_code::NEWLINE;
+use nx_envelope::{Finder, FinderStep, Found, How, Identity, TextEvent};
 use std::alloc::Global;
 use std::fmt::Write;
 use std::process::Abort;

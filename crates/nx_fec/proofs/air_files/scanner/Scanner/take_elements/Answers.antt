@@ -19,7 +19,7 @@ invariant_of-self-2 c =
       fits = omega (arith, c.if-end-gt-MAX_LINE_BYTES.false);
       right = c.read_front-count.ensures.right;
       within = omega (arith, c.read_front-count.ensures.count);
-      feed = c.if-digits-count-ne-LINE_END.false;
+      feed = c.if-digits-count-ne-NEWLINE.false;
       are = c.read_front-count.ensures.elements;
     } in
     let none = ap (λ s. s.latest) c.self-2.view_is ∙ c.open.ensures.latest in
@@ -55,7 +55,7 @@ returns-clause-taken c = λ _.
       fits = omega (arith, c.if-end-gt-MAX_LINE_BYTES.false);
       right = c.read_front-count.ensures.right;
       within = omega (arith, c.read_front-count.ensures.count);
-      feed = c.if-digits-count-ne-LINE_END.false;
+      feed = c.if-digits-count-ne-NEWLINE.false;
       are = c.read_front-count.ensures.elements;
     } in
     takes-digits c.args.self.now _ piece mark digits start count bits found c.requires refl refl

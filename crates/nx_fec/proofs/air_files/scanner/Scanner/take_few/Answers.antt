@@ -20,7 +20,7 @@ invariant_of-self c =
       within = omega (arith, size, c.requires.long, c.if-count-gt-NEAR_ELEMENTS.false);
       feed = sym (get_or-append-add (codes "B ") digits count 0)
           ∙ ap (λ l. get_or l (2 + count) 0) (sym c.requires.front)
-          ∙ c.if-piece-end-ne-LINE_END.false;
+          ∙ c.if-piece-end-ne-NEWLINE.false;
       are = c.put.ensures ∙ c.pack_near-number.ensures.number;
     } in (
       omega (
@@ -50,7 +50,7 @@ returns-clause-taken c = λ _.
       within = omega (arith, size, c.requires.long, c.if-count-gt-NEAR_ELEMENTS.false);
       feed = sym (get_or-append-add (codes "B ") digits count 0)
           ∙ ap (λ l. get_or l (2 + count) 0) (sym c.requires.front)
-          ∙ c.if-piece-end-ne-LINE_END.false;
+          ∙ c.if-piece-end-ne-NEWLINE.false;
       are = c.put.ensures ∙ c.pack_near-number.ensures.number;
     } in
     takes-digits c.args.self.now _ piece None digits 2 count c.put.new.self found c.requires.empty

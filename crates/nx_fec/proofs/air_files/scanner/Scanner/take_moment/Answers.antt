@@ -36,7 +36,7 @@ returns-clause-taken c = λ _.
     (omega (arith, size, c.requires.long, c.moment_front-moment.ensures.count))
     (sym (get_or-append-add (codes "T ") digits count 0)
     ∙ ap (λ l. get_or l (2 + count) 0) (sym c.requires.front)
-    ∙ c.if-piece-end-ne-LINE_END.false)
+    ∙ c.if-piece-end-ne-NEWLINE.false)
     c.requires.empty
     refl refl (ap (λ s. s.lines + 1) c.self.view_is)
     (omega (
