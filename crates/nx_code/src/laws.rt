@@ -5,7 +5,7 @@ ghost use Rattle.std.specs.Option.{option_to_list};
 ghost use Rattle.std.specs.List.{list_all, list_any};
 ghost use Rattle.nx_code.specs.Reading.{is_in_code, Reception, IsShiftAfter, combination, character_of, byte_of, shift_after_all, text};
 ghost use Rattle.nx_code.specs.Spelling.{IsSilent, Spells};
-ghost use Rattle.nx_code.specs.Word.{elements, number_of, weight};
+ghost use Rattle.nx_code.specs.Word.{elements, number_of, signal_weight, weight};
 ghost use Rattle.nx_code.specs.Signal.{number_of_signal};
 ghost use Rattle.nx_code.specs.Table.{row_of, traffic_word, phasing_1, phasing_2, elements_of_phasing_1, elements_of_phasing_2};
 ghost use Rattle.nx_code.specs.declared.signals.Comb.{Comb};
@@ -55,7 +55,8 @@ pub fn phasing_signals_are_in_the_table()
     ensures second_elements { elements phasing_2 ≡ elements_of_phasing_2 }
     ensures first_number { number_of elements_of_phasing_1 ≡ phasing_1 }
     ensures second_number { number_of elements_of_phasing_2 ≡ phasing_2 }
-    ensures weights { (weight phasing_1 ≡ 4) × (weight phasing_2 ≡ 4) }
+    ensures weights { (weight phasing_1 ≡ signal_weight)
+        × (weight phasing_2 ≡ signal_weight) }
 {}
 
 /// What is printed of positions and then of more is what is printed of each, the later ones from

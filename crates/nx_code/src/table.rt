@@ -1,7 +1,7 @@
 //! The one table of the code, from which all calls answer (M.476, M.625).
 
 ghost use Rattle.std.specs.Prelude.{◌≡◌, ◌+◌, ◌<◌, ◌↔◌, Some, IsSome, IfSome, slice_index};
-ghost use Rattle.nx_code.specs.Word.{weight};
+ghost use Rattle.nx_code.specs.Word.{signal_weight, weight};
 ghost use Rattle.nx_code.specs.Table.{words};
 ghost use Rattle.nx_code.specs.Signal.{place, number_of_signal, cell_of_signal};
 ghost use Rattle.nx_code.specs.Reading.{character_of};
@@ -134,7 +134,7 @@ pub fn signal_at(at: usize) -> Signal
 
 /// The signal that a word stands for; None for a wrong weight (M.476 and M.625, conversion tables).
 pub fn signal_of(word: Word) -> Option<Signal>
-    ensures signals { IsSome result ↔ (weight word ≡ 4) }
+    ensures signals { IsSome result ↔ (weight word ≡ signal_weight) }
     ensures value { IfSome result (λ signal. number_of_signal signal ≡ word) }
     ensures only { (signal : Signal) → number_of_signal signal ≡ word → result ≡ Some signal }
 {

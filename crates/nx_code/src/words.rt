@@ -1,7 +1,7 @@
 //! Words: what is sent for one signal, seven elements each.
 
 ghost use Rattle.std.specs.Prelude.{◌≡◌, ◌<◌, ◌^◌, ◌↔◌, IsTrue, IsSome, IfSome};
-ghost use Rattle.nx_code.specs.Word.{elements, number_of, weight};
+ghost use Rattle.nx_code.specs.Word.{elements, number_of, signal_weight, weight};
 
 use crate::classes::{NO_CLASS, class_of};
 use std::marker::Model;
@@ -90,7 +90,7 @@ impl Word {
 
 /// Whether a word has the weight of a signal, four B and three Y (M.476, M.625).
 pub fn check_bits(word: Word) -> bool
-    ensures { IsTrue result ↔ (weight word ≡ 4) }
+    ensures { IsTrue result ↔ (weight word ≡ signal_weight) }
 {
     // The proof takes from this that the number is below 128; nothing runs for it.
     let _ = word.number();

@@ -1,12 +1,12 @@
 //! Laws of emissions, of their decoding, of air files and of devices, over their definitions: each
 //! is the contract of a function that does nothing.
 
-ghost use Rattle.std.specs.Prelude.{◌≡◌, ◌+◌, ◌-◌, ◌*◌, ◌^◌, ◌%◌, ◌≤◌, Bool, List, ℕ, [], ◌∷◌, ◌++◌, Option, length, map, min, slice_index, take};
+ghost use Rattle.std.specs.Prelude.{◌≡◌, ◌+◌, ◌-◌, ◌*◌, ◌^◌, ◌≤◌, Bool, List, ℕ, [], ◌∷◌, ◌++◌, Option, length, map, min, slice_index, take};
 ghost use Rattle.std.specs.Io.KnownBytes.{Appends};
 ghost use Rattle.nx_code.specs.Reading.{combination, idle, text};
 ghost use Rattle.nx_code.specs.declared.shifts.Shift.TheVariants.{Letters};
 ghost use Rattle.nx_fec.specs.air_files.AirFile.{IsLine, Line, spelling};
-ghost use Rattle.nx_fec.specs.emissions.Aligned.{aligned_text, dx_words, receptions, words_of};
+ghost use Rattle.nx_fec.specs.emissions.Aligned.{AreWhole, aligned_text, dx_words, receptions, words_of};
 ghost use Rattle.nx_fec.specs.emissions.Pairing.{five_before, counts_as, third_last};
 ghost use Rattle.nx_fec.specs.air_files.BitLines.{bit_lines};
 ghost use Rattle.nx_fec.specs.Transfers.{WroteSome};
@@ -27,8 +27,8 @@ pub fn emissions()
 /// Words and their elements give each other back.
 pub fn words_and_bits()
     ensures words { (sent : List ℕ) → AreWords sent → words_of (bits_of sent) ≡ sent }
-    ensures whole { (sent : List ℕ) → length (bits_of sent) % 7 ≡ 0 }
-    ensures bits { (bits : List Bool) → length bits % 7 ≡ 0 → bits_of (words_of bits) ≡ bits }
+    ensures whole { (sent : List ℕ) → AreWhole (bits_of sent) }
+    ensures bits { (bits : List Bool) → AreWhole bits → bits_of (words_of bits) ≡ bits }
     ensures sound { (bits : List Bool) → AreWords (words_of bits) }
 {}
 

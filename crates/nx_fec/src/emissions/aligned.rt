@@ -1,7 +1,7 @@
 //! Decoding of words that stand in their slots from slot 0 on.
 
-ghost use Rattle.std.specs.Prelude.{◌≡◌, ◌+◌, ◌*◌, ◌%◌, ◌≤◌, length, IfOk, IfErr, OnOk, slice_get};
-ghost use Rattle.nx_fec.specs.emissions.Aligned.{ExplainsAligned, aligned_text, word_in, words_of};
+ghost use Rattle.std.specs.Prelude.{◌≡◌, ◌+◌, ◌*◌, ◌≤◌, length, IfOk, IfErr, OnOk, slice_get};
+ghost use Rattle.nx_fec.specs.emissions.Aligned.{AreWhole, ExplainsAligned, aligned_text, word_in, words_of};
 
 use crate::emissions::diversity::{Diversity, Heard};
 use nx_code::{ELEMENTS, Printer, Word};
@@ -50,7 +50,7 @@ pub(crate) fn word_of_slot(bits: &[bool], slot: usize) -> Word
 /// M.625, mode B; that slot 0 comes first is this profile's).
 pub fn decode_aligned(alloc: Global, bits: &[bool]) -> Result<Vec<u8>, AlignedFault>
     ensures text { IfOk result (λ text. text.items ≡ aligned_text (words_of bits.now)) }
-    ensures whole { OnOk result (length bits.now % 7 ≡ 0) }
+    ensures whole { OnOk result (AreWhole bits.now) }
     ensures refused { IfErr result (ExplainsAligned bits.now) }
 {
     if bits.len() % ELEMENTS != 0 {

@@ -1,7 +1,7 @@
 //! Words as text.
 
-ghost use Rattle.std.specs.Prelude.{◌≡◌, ◌+◌, ◌*◌, ◌%◌, ◌≤◌, ◌++◌, length, IfErr, IfOk, OnOk};
-ghost use Rattle.nx_fec.specs.emissions.Aligned.{ExplainsAligned, words_of};
+ghost use Rattle.std.specs.Prelude.{◌≡◌, ◌+◌, ◌*◌, ◌≤◌, ◌++◌, IfErr, IfOk, OnOk};
+ghost use Rattle.nx_fec.specs.emissions.Aligned.{AreWhole, ExplainsAligned, words_of};
 ghost use Rattle.nx_fec.specs.texts.WordLines.{role_name, word_line, word_lines, word_name};
 
 use crate::emissions::aligned::{AlignedFault, word_of_slot};
@@ -14,7 +14,7 @@ use std::alloc::{AllocError, Global};
 /// where the count of elements is no multiple of seven.
 pub(crate) fn word_lines(alloc: Global, bits: &[bool]) -> Result<Vec<u8>, AlignedFault>
     ensures text { IfOk result (λ text. text.items ≡ word_lines (words_of bits.now)) }
-    ensures whole { OnOk result (length bits.now % 7 ≡ 0) }
+    ensures whole { OnOk result (AreWhole bits.now) }
     ensures refused { IfErr result (ExplainsAligned bits.now) }
 {
     if bits.len() % ELEMENTS != 0 {
