@@ -2,12 +2,13 @@
 use Rattle.std.specs.Prelude.{◌≡◌, ℕ, ◌+◌, ◌-◌, ◌/◌, ◌%◌, ◌≤◌, ◌==◌, ◌&&◌, not, nat_lt, if◌then◌else◌, Bool, true, List, [], ◌∷◌, ◌++◌, length, Option, Result, Ok, Err, ⊤}
 use Rattle.std.specs.List.{flat_map}
 use Rattle.std.specs.Io.KnownBytes.{Appends}
-use Rattle.nx_code.specs.Word.{value_of}
+use Rattle.nx_code.specs.Word.{value_of, word_elements}
 use Rattle.nx_fec.specs.air_files.AirFile.{Line, elements}
 use Rattle.nx_fec.specs.air_files.Channels.{channel_of}
 use Rattle.nx_fec.specs.Transfers.{WroteSome, Devices, Extent, Transfers, as_read, on_the_way, whole_input}
 use Rattle.nx_fec.specs.air_files.LineRuns.{IsPlaced}
 use Rattle.nx_fec.specs.air_files.Lines.{StopsAt, air_limit, IsAirFile, IsCause, elements_on, file_of}
+use Rattle.nx_fec.specs.emissions.Emission.{is_dx_slot}
 use Rattle.nx_fec.specs.declared.air_files.channel.Channel.{Channel}
 use Rattle.nx_fec.specs.declared.air_files.channel.Channel.TheVariants.{Zero}
 use Rattle.nx_fec.specs.declared.fault.LineFault.{LineFault}
@@ -23,10 +24,10 @@ pub record Damage : Type 0 where
   pub from : ℕ
   pub count : ℕ
 
--- whether a kind names a word: the even ones are DX words, and the odd ones RX words
+-- whether a kind names a word, where word k stands in slot k
 abbrev pub names : DamageKind → ℕ → Bool
-names Dx word = word % 2 == 0
-names Rx word = word % 2 == 1
+names Dx word = is_dx_slot word
+names Rx word = not (is_dx_slot word)
 names All word = true
 
 -- whether a word is damaged: it isn't before the first one, fewer than so many lie between, and its
@@ -37,9 +38,9 @@ hits damage word =
     && names damage.kind word
 
 -- whether the element at this place of all elements of channel 0 is inverted: it is the first of a
--- word that is damaged, where word k has the elements 7k to 7k+6
+-- word that is damaged, where words stand one behind the other from the first element on
 abbrev pub inverts : Damage → ℕ → Bool
-inverts damage place = (place % 7 == 0) && hits damage (place / 7)
+inverts damage place = (place % word_elements == 0) && hits damage (place / word_elements)
 
 abbrev pub damaged_element : Damage → ℕ → Bool → Bool
 damaged_element damage place element = if inverts damage place then not element else element

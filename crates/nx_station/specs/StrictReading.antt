@@ -1,11 +1,11 @@
 -- What strict reading finds in elements: the messages of an emission, or the first of its faults
 -- (ITU-R M.625, mode B, for words and pairs; ITU-R M.540, form of a message). That all else is
 -- refused, and in which order, is this profile's.
-use Rattle.std.specs.Prelude.{◌≡◌, ◌≢◌, ℕ, ◌+◌, ◌*◌, ◌%◌, ◌<◌, Bool, List, length, slice_index, ⊤}
-use Rattle.nx_code.specs.Word.{weight}
+use Rattle.std.specs.Prelude.{◌≡◌, ℕ, ◌<◌, Bool, List, length, slice_index, ⊤}
+use Rattle.nx_code.specs.Word.{HasWrongWeight}
 use Rattle.nx_envelope.specs.Message.{MessageView}
-use Rattle.nx_fec.specs.emissions.Aligned.{words_of}
-use Rattle.nx_fec.specs.emissions.Emission.{SentPosition, IsInCode, bits_of, dx_word, emission, rx_word}
+use Rattle.nx_fec.specs.emissions.Aligned.{AreWhole, words_of}
+use Rattle.nx_fec.specs.emissions.Emission.{SentPosition, IsInCode, bits_of, dx_slot, dx_word, emission, rx_slot, rx_word}
 use Rattle.nx_station.specs.Broadcast.{IsBroadcast}
 use Rattle.nx_station.specs.Sendable.{IsSendable}
 use Rattle.nx_station.specs.declared.fault.EmissionFault.{EmissionFault}
@@ -26,7 +26,7 @@ pub record IsLeast (Holds : ℕ → Type 0) (n : ℕ) : Type 0 where
 -- the word of this slot has the wrong weight
 pub record IsWrongWord (words : List ℕ) (slot : ℕ) : Type 0 where
   pub within : slot < length words
-  pub wrong : weight (slice_index words slot) ≢ 4
+  pub wrong : HasWrongWeight (slice_index words slot)
 
 -- two words are those of a position that is sent: one traffic word twice, P2 and then P1, or P1
 -- twice
@@ -36,14 +36,11 @@ pub record IsPair (dx rx : ℕ) : Type 0 where
   pub first : dx ≡ dx_word position
   pub second : rx ≡ rx_word position
 
--- the two words of this position, slots 2i and 2i+5, are there and are no pair
+-- the two words of this position are there and are no pair
 pub record IsUnpaired (words : List ℕ) (position : ℕ) : Type 0 where
-  pub within : 2 * position + 5 < length words
-  pub no_pair : ¬ IsPair (slice_index words (2 * position)) (slice_index words (2 * position + 5))
-
--- the elements are whole words
-abbrev pub AreWhole : List Bool → Type 0
-AreWhole bits = length bits % 7 ≡ 0
+  pub within : rx_slot position < length words
+  pub no_pair : ¬ IsPair (slice_index words (dx_slot position))
+      (slice_index words (rx_slot position))
 
 -- no word has the wrong weight
 abbrev pub AreRight : List Bool → Type 0
@@ -61,7 +58,7 @@ AreOfNone bits = (messages : List MessageView) → ¬ IsEmissionOf messages bits
 -- hold: no whole words; then the least slot of a wrong word; then the least unpaired position; then
 -- all else. Memory is taken after these.
 abbrev pub ExplainsEmission : List Bool → EmissionFault → Type 0
-ExplainsEmission bits (Ragged given) = (given ≡ length bits) × (length bits % 7 ≢ 0)
+ExplainsEmission bits (Ragged given) = (given ≡ length bits) × ¬ AreWhole bits
 ExplainsEmission bits (WrongWord slot) = AreWhole bits × IsLeast (IsWrongWord (words_of bits)) slot
 ExplainsEmission bits (Unpaired position) =
     AreWhole bits × AreRight bits × IsLeast (IsUnpaired (words_of bits)) position

@@ -1,7 +1,7 @@
 //! Strict reading: from the elements of an emission back to its messages (M.625, mode B; M.540).
 ghost use Rattle.std.specs.Prelude.{◌≡◌, ◌↔◌, ◌<◌, ◌/◌, IfErr, IfOk, IfSome, IsNone, IsTrue, OnOk, length};
-ghost use Rattle.nx_fec.specs.emissions.Aligned.{aligned_text, words_of};
-ghost use Rattle.nx_station.specs.StrictReading.{ArePaired, AreRight, AreWhole, ExplainsEmission, IsEmissionOf, IsLeast, IsPair, IsUnpaired, IsWrongWord};
+ghost use Rattle.nx_fec.specs.emissions.Aligned.{AreWhole, aligned_text, words_of};
+ghost use Rattle.nx_station.specs.StrictReading.{ArePaired, AreRight, ExplainsEmission, IsEmissionOf, IsLeast, IsPair, IsUnpaired, IsWrongWord};
 
 use crate::broadcast::emission;
 use crate::fault::EmissionFault;

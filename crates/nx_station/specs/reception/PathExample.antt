@@ -4,6 +4,7 @@ use Rattle.std.specs.Prelude.{ℕ, ◌+◌, ◌-◌, ◌%◌, ◌==◌, ◌||◌
 use Rattle.std.proofs.Common.{lit≤}
 use Rattle.nx_envelope.specs.Message.{MessageView}
 use Rattle.nx_envelope.specs.declared.identity.Identity.{Identity}
+use Rattle.nx_fec.specs.emissions.Emission.{dx_slot, is_dx_slot, rx_slot}
 use Rattle.nx_station.specs.reception.Path.{message_slot, phasing_words}
 use Rattle.nx_station.specs.reception.Sendings.{Part, ReceivedEmission, Sending, gap, received}
 
@@ -54,11 +55,11 @@ heard_with is_hit = phasing_words 24 ++ damaged_in is_hit message_slot example_w
 
 -- one word of each position is lost: the DX words
 unfoldable pub heard_half : List ℕ
-heard_half = heard_with (λ slot. slot % 2 == 0)
+heard_half = heard_with is_dx_slot
 
 -- both words of position 75 are lost
 unfoldable pub heard_without_75 : List ℕ
-heard_without_75 = heard_with (λ slot. slot == 150 || slot == 155)
+heard_without_75 = heard_with (λ slot. slot == dx_slot 75 || slot == rx_slot 75)
 
 -- the emission, received with one word of each position
 abbrev pub example_emission : ReceivedEmission

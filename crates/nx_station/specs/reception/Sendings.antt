@@ -3,8 +3,9 @@
 use Rattle.std.specs.Prelude.{◌≡◌, ℕ, ◌+◌, ◌-◌, ◌*◌, Bool, List, [], ◌∷◌, ◌++◌, ◌≤◌, length, map, take, slice_get, Some}
 use Rattle.std.specs.List.{AllByRecursion, AllZip, flat_map}
 use Rattle.nx_code.specs.Reading.{combination, shift_after_all, text}
+use Rattle.nx_code.specs.Word.{last_element, word_elements}
 use Rattle.nx_code.specs.declared.shifts.Shift.TheVariants.{Figures}
-use Rattle.nx_fec.specs.emissions.Emission.{SentPosition, traffic_position, bits_of}
+use Rattle.nx_fec.specs.emissions.Emission.{SentPosition, bits_of, rx_slot, traffic_position}
 use Rattle.nx_envelope.specs.Message.{AreLines, MessageView, text_of}
 use Rattle.nx_station.specs.Broadcast.{IsSpelled, end_positions, ending, first_phasing, further_phasing, head, layout}
 use Rattle.nx_station.specs.reception.Path.{PassesChannel, first_slot}
@@ -59,10 +60,6 @@ positions_before (numbers ∷ more) = (length numbers + further_phasing) + posit
 abbrev pub second_digit : ℕ
 second_digit = 10
 
--- the slot in which a position is sent as RX
-abbrev pub rx_slot : ℕ → ℕ
-rx_slot position = 2 * position + 5
-
 -- the slot in which the second digit of message i is sent as RX; messages count from 0
 abbrev pub digit_slot : List (List ℕ) → ℕ → ℕ
 digit_slot spellings i = rx_slot (positions_before (take i spellings) + second_digit)
@@ -78,7 +75,7 @@ pub record IsSentAt (parts : List Part) (sent : MessageView) (at : ℕ) : Type 0
   pub index : ℕ
   pub message : slice_get emission.messages index ≡ Some sent
   pub place : at ≡ length (flat_map part_bits before)
-      + 7 * (digit_slot emission.spellings index - first_slot) + 6
+      + word_elements * (digit_slot emission.spellings index - first_slot) + last_element
 
 -- a message that is sent, and the place of its header
 pub record Sending : Type 0 where

@@ -15,10 +15,10 @@ use Rattle.nx_code.proofs.lemmas.Spelling.{Spells-push, spells_here, spells_newl
 use Rattle.nx_envelope.specs.Message.{AreLines, IsMessageLine, IsLineByte}
 use Rattle.nx_envelope.proofs.lemmas.messages.WordsInTexts.{holds_none}
 use Rattle.nx_fec.specs.emissions.Emission.{SentPosition, phasing_position, traffic_position, end_position}
-use Rattle.nx_fec.specs.emissions.Emission.{bits_of, position_at, word_sent}
+use Rattle.nx_fec.specs.emissions.Emission.{bits_of, position_at, slots_of, word_sent}
 use Rattle.nx_station.specs.Broadcast.{IsSpelled, ending, first_phasing, head, layout}
 use Rattle.nx_station.specs.reception.Path.{PassesChannel, IsAsSent, first_slot, heard_in, message_slot}
-use Rattle.nx_station.specs.reception.Path.{phasing_received, phasing_words, slots_of}
+use Rattle.nx_station.specs.reception.Path.{phasing_received, phasing_words}
 use Rattle.nx_station.specs.reception.PathExample.{damaged_in, example_emission, example_parts}
 use Rattle.nx_station.specs.reception.PathExample.{example_sending, example_message, example_numbers}
 use Rattle.nx_station.specs.reception.PathExample.{example_words, heard_half, heard_without_75}

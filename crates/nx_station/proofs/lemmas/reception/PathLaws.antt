@@ -8,13 +8,13 @@ use Rattle.nx_code.specs.Word.{weight, wrong_in}
 use Rattle.nx_code.specs.Reading.{combination, lost}
 use Rattle.nx_code.proofs.lemmas.Table.{traffic_word-is}
 use Rattle.nx_fec.specs.emissions.Emission.{SentPosition, phasing_position, traffic_position, end_position}
-use Rattle.nx_fec.specs.emissions.Emission.{dx_word, rx_word, position_at, word_sent, reception, IsInCode}
+use Rattle.nx_fec.specs.emissions.Emission.{dx_word, rx_word, position_at, slots_of, word_sent, reception, IsInCode}
 use Rattle.nx_fec.specs.emissions.Pairing.{Counted, traffic, idle_signal, nothing, counts_as, pairing}
 use Rattle.nx_fec.proofs.lemmas.emissions.Emission.{word_sent-dx, word_sent-rx}
 use Rattle.nx_fec.proofs.lemmas.emissions.Pairing.{counts_as-combination, counts_as-wrong}
 use Rattle.nx_fec.proofs.lemmas.emissions.RoundTrip.{counts_as-phasing_1, counts_as-phasing_2}
 use Rattle.nx_station.specs.reception.Path.{PassesChannel, IsAsSent, heard_in, first_slot, message_slot}
-use Rattle.nx_station.specs.reception.Path.{slots_of, window, most_wrong}
+use Rattle.nx_station.specs.reception.Path.{window, most_wrong}
 use Rattle.nx_station.proofs.lemmas.reception.PathCounts.{one_if_wrong, right-counts_none, one_if_wrong-le}
 use Rattle.nx_station.proofs.lemmas.reception.PathCounts.{wrong_in-right, wrong_in-one}
 use Rattle.nx_code.proofs.lemmas.WordCounts.{wrong_in-add, wrong_in-le}

@@ -8,13 +8,13 @@ use Rattle.std.proofs.lemmas.List.{take_all, drop-append-le, take-append-le}
 use Rattle.std.proofs.Math.Seq.{drop-append-add}
 use Rattle.nx_code.specs.Word.{is_wrong, number_of, word_from, weight, wrong_in}
 use Rattle.nx_fec.specs.emissions.Aligned.{word_in}
-use Rattle.nx_fec.specs.emissions.Emission.{SentPosition, bits_of, AreWords}
+use Rattle.nx_fec.specs.emissions.Emission.{SentPosition, bits_of, AreWords, slots_of}
 use Rattle.nx_fec.proofs.lemmas.emissions.RoundTrip.{length-bits_of, words_of-bits_of}
 use Rattle.nx_fec.proofs.lemmas.emissions.Aligned.{get_or-words_of}
 use Rattle.nx_station.specs.Broadcast.{IsBroadcast, layout}
 use Rattle.nx_envelope.specs.Message.{MessageView}
 use Rattle.nx_station.specs.reception.Path.{PassesChannel, heard_in, first_slot, message_slot}
-use Rattle.nx_station.specs.reception.Path.{phasing_received, slots_of, window, most_wrong}
+use Rattle.nx_station.specs.reception.Path.{phasing_received, window, most_wrong}
 use Rattle.nx_station.proofs.lemmas.reception.PathCounts.{wrong_in-count}
 use Rattle.nx_code.proofs.lemmas.WordCounts.{wrong_in-add, wrong_in-le}
 use Rattle.nx_station.proofs.lemmas.reception.PathCounts.{wrong_in-right}

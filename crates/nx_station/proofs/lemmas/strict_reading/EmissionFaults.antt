@@ -4,12 +4,12 @@ use Rattle.std.proofs.Common.{subst, arith}
 use Rattle.std.specs.List.{flat_map}
 use Rattle.std.proofs.lemmas.Bool.{cases_lt}
 use Rattle.nx_envelope.specs.Message.{MessageView}
-use Rattle.nx_fec.specs.emissions.Aligned.{aligned_text, words_of}
+use Rattle.nx_fec.specs.emissions.Aligned.{AreWhole, aligned_text, words_of}
 use Rattle.nx_fec.specs.emissions.Emission.{SentPosition, bits_of, emission}
 use Rattle.nx_station.specs.Broadcast.{IsBroadcast, printed_text}
 use Rattle.nx_station.specs.Faults.{unread_fault}
 use Rattle.nx_station.specs.Sendable.{IsRefusal, IsSendable, HasSlots}
-use Rattle.nx_station.specs.StrictReading.{ArePaired, AreRight, AreWhole, ExplainsEmission}
+use Rattle.nx_station.specs.StrictReading.{ArePaired, AreRight, ExplainsEmission}
 use Rattle.nx_station.specs.StrictReading.{IsEmissionOf, IsLeast, IsMemory}
 use Rattle.nx_station.specs.private.PrintedText.{AreSound, ExplainsPrinted}
 use Rattle.nx_station.specs.declared.fault.EmissionFault.{EmissionFault}

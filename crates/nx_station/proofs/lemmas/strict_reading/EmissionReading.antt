@@ -12,7 +12,7 @@ use Rattle.nx_code.specs.Word.{weight}
 use Rattle.nx_code.specs.declared.shifts.Shift.TheVariants.{Letters}
 use Rattle.nx_code.proofs.lemmas.Reading.{text-append}
 use Rattle.nx_envelope.specs.Message.{MessageView}
-use Rattle.nx_fec.specs.emissions.Aligned.{aligned_text, words_of}
+use Rattle.nx_fec.specs.emissions.Aligned.{AreWhole, aligned_text, words_of}
 use Rattle.nx_fec.specs.emissions.Emission.{SentPosition, AreInCode, IsInCode, bits_of, emission}
 use Rattle.nx_fec.specs.emissions.Emission.{end_position, phasing_position, position_at, reception}
 use Rattle.nx_fec.specs.emissions.Emission.{traffic_position, word_sent}
@@ -22,7 +22,7 @@ use Rattle.nx_fec.proofs.lemmas.emissions.RoundTrip.{length-bits_of, receptions-
 use Rattle.nx_station.specs.Broadcast.{AreSpelled, IsBroadcast, IsSpelled, layout}
 use Rattle.nx_station.specs.Broadcast.{phasing_and_message, printed_text, first_phasing}
 use Rattle.nx_station.specs.Broadcast.{further_phasing, end_positions}
-use Rattle.nx_station.specs.StrictReading.{IsEmissionOf, AreRight, ArePaired, AreWhole, IsPair}
+use Rattle.nx_station.specs.StrictReading.{IsEmissionOf, AreRight, ArePaired, IsPair}
 use Rattle.nx_station.proofs.lemmas.reception.PathPositions.{IsCombination, each-append, spelled-combinations}
 use Rattle.nx_station.proofs.lemmas.strict_reading.PrintedText.{printed-one}
 use Rattle.nx_station.proofs.lemmas.strict_reading.ReadingBack.{broadcast-prints}
