@@ -1,6 +1,6 @@
 -- Words heard at once: what is held after them, and what was brought, is what one word after the
 -- other makes of it.
-use Rattle.std.proofs.Common.{◌≡◌, ℕ, zero, suc, ◌+◌, ◌-◌, ◌*◌, ◌/◌, ◌%◌, ◌^◌, ◌<◌, ◌≤◌, ◌==◌}
+use Rattle.std.proofs.Common.{◌≡◌, ℕ, zero, suc, ◌+◌, ◌-◌, ◌*◌, ◌/◌, ◌^◌, ◌<◌, ◌≤◌, ◌==◌}
 use Rattle.std.proofs.Common.{nat_le, List, [], ◌∷◌, ◌++◌, length, take, get_or, Bool, true}
 use Rattle.std.proofs.Common.{false, not, ◌&&◌, ◌||◌, cond, count_by, refl, sym, ap, ap₂, subst}
 use Rattle.std.proofs.Common.{subst₂, ◌∙◌, arith, Option, Some, None, append_assoc, append-nil}
@@ -14,11 +14,11 @@ use Rattle.nx_code.specs.Table.{phasing_1}
 use Rattle.nx_code.specs.Classes.{class_of}
 use Rattle.nx_code.specs.Word.{elements, number_of, weight, is_wrong}
 use Rattle.nx_code.proofs.lemmas.Class.{weight-class_of}
-use Rattle.nx_code.proofs.lemmas.Word.{value_of-le, number_of-elements, number_of-lt}
+use Rattle.nx_code.proofs.lemmas.Word.{number_of-elements}
 use Rattle.nx_sync.specs.declared.step.Role.{Role}
 use Rattle.nx_sync.specs.declared.step.Role.TheVariants.{Dx, Rx}
 use Rattle.nx_sync.specs.declared.track.Track.{Track}
-use Rattle.nx_sync.specs.Words.{marked_words, losing_count, other_role, is_dx, word_of_lock}
+use Rattle.nx_sync.specs.Words.{marked_words, losing_count, other_role, is_dx}
 use Rattle.nx_sync.specs.Words.{role_of}
 use Rattle.nx_sync.specs.private.Windows.{next_word_window}
 use Rattle.nx_sync.specs.private.Calls.{track_from, track_after, fills_releasing_word, Completes}

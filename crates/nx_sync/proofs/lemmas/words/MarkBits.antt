@@ -1,24 +1,21 @@
 -- The marks of the last words of a lock as the bits of one number, the newest in the highest place.
 -- Marks that aren't there are bits that aren't set.
 use Rattle.std.proofs.Common.{◌≡◌, ℕ, zero, suc, ◌+◌, ◌-◌, ◌*◌, ◌/◌, ◌%◌, ◌^◌, ◌<◌, ◌≤◌, ◌==◌, min}
-use Rattle.std.proofs.Common.{List, [], ◌∷◌, ◌++◌, length, take, drop, set, get_or, replicate}
+use Rattle.std.proofs.Common.{List, [], ◌∷◌, ◌++◌, length, drop, replicate}
 use Rattle.std.proofs.Common.{Bool, true, false, cond, count_by, refl, sym, ap, ap₂, subst, ◌∙◌}
 use Rattle.std.proofs.Common.{inl, inr, arith, append_assoc, append-nil, length-append, length-drop}
 use Rattle.std.proofs.Common.{drop-drop}
 use lib.Count.{ones_step}
 use Rattle.std.specs.Int.RustNames.{count_ones}
 use Rattle.std.specs.Simd.Lanes.{mask_l}
-use Rattle.std.proofs.Math.Nat.{pow-succ', pow-le-pow_right}
+use Rattle.std.proofs.Math.Nat.{pow-succ'}
 use Rattle.std.proofs.Math.Pow.{shr_lt}
-use Rattle.std.proofs.Math.Seq.{drop-append-add, take-suc-set}
+use Rattle.std.proofs.Math.Seq.{drop-append-add}
 use Rattle.std.proofs.lemmas.Bool.{cases_eq, cases_lt, ne_eqb}
-use Rattle.std.proofs.lemmas.Nat.{shr-shr}
-use Rattle.std.proofs.lemmas.List.{drop-append-le, length-map, length-replicate, drop_all}
-use Rattle.std.proofs.lemmas.List.{drop_more, take_more}
+use Rattle.std.proofs.lemmas.List.{drop-append-le, length-map, length-replicate}
 use Rattle.std.proofs.lemmas.List.Sums.{sum_by-append, sum_by-cons, sum_by-take-drop}
 use Rattle.circular_buffer.specs.Buffer.{keep_last}
 use Rattle.nx_code.specs.Word.{elements_from, number_of, value_of, is_wrong}
-use Rattle.nx_code.proofs.lemmas.Word.{number_of-lt}
 use Rattle.nx_code.proofs.lemmas.Packed.{length-elements_from, elements_from-drop}
 use Rattle.nx_code.proofs.lemmas.Packed.{elements_from-join, number_of-elements_from}
 use Rattle.nx_sync.specs.Words.{marked_words}

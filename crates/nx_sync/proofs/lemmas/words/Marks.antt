@@ -1,16 +1,15 @@
 -- The marks of the words of a lock, and what is decided by them.
 use Rattle.std.proofs.Common.{◌≡◌, ℕ, zero, suc, ◌+◌, ◌-◌, ◌*◌, ◌/◌, ◌%◌, ◌^◌, ◌<◌, ◌≤◌, ◌==◌, List}
-use Rattle.std.proofs.Common.{[], ◌∷◌, ◌++◌, length, drop, replicate, Bool, true, false, not, ◌&&◌}
-use Rattle.std.proofs.Common.{cond, count_by, refl, sym, ap, ap₂, subst, ◌∙◌, inl, inr, arith}
+use Rattle.std.proofs.Common.{[], ◌∷◌, ◌++◌, length, drop, Bool, true, false, ◌&&◌}
+use Rattle.std.proofs.Common.{cond, count_by, refl, sym, ap, ap₂, ◌∙◌, inl, inr, arith}
 use Rattle.std.proofs.lemmas.Bool.{cases_lt, le-leb, lt-leb}
 use Rattle.std.proofs.lemmas.List.{length_push, drop-append-le, drop_all}
-use Rattle.std.proofs.lemmas.List.Sums.{sum_by_push, sum_by-cons}
+use Rattle.std.proofs.lemmas.List.Sums.{sum_by_push}
 use Rattle.circular_buffer.specs.Buffer.{keep_last}
 use Rattle.nx_sync.specs.declared.step.Role.{Role}
-use Rattle.nx_sync.specs.declared.step.Role.TheVariants.{Dx, Rx}
 use Rattle.nx_sync.specs.declared.track.Track.{Track}
 use Rattle.nx_code.specs.Table.{phasing_1}
-use Rattle.nx_sync.specs.Words.{marked_words, other_role, is_dx, role_of, wrong_until}
+use Rattle.nx_sync.specs.Words.{marked_words, is_dx, role_of, wrong_until}
 use Rattle.nx_code.proofs.lemmas.WordCounts.{one_if}
 use Rattle.nx_sync.specs.private.Releases.{releases_as_ended, change_at}
 use Rattle.nx_sync.specs.Synchroniser.{wrong_marks, was_p1, p1_marks}

@@ -2,7 +2,7 @@ use Rattle.std.proofs.Common.{◌≡◌, ◌==◌, ◌∙◌, ◌<◌, ◌^◌, 
 use Rattle.std.specs.Simd.Lanes.{mask_l}
 use Rattle.std.proofs.lemmas.List.{length-map}
 use Rattle.std.proofs.lemmas.Simd.{bitmask_splat, mask_l-lt}
-use Rattle.nx_code.specs.Word.{number_of, is_wrong}
+use Rattle.nx_code.specs.Word.{is_wrong}
 use Rattle.nx_sync.specs.private.Eight.{wrong_ones}
 use Rattle.nx_sync.proofs.lemmas.words.MarkBits.{mask_is_number}
 use Rattle.nx_sync.proofs.mark_bits.wrong_bits.Goals as goal

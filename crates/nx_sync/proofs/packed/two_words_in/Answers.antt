@@ -1,4 +1,4 @@
-use Rattle.std.proofs.Common.{◌≡◌, ◌∙◌, ◌+◌, ◌*◌, ◌/◌, ◌%◌, ◌^◌, ◌<◌, ◌++◌, ℕ, List, Bool, sym, ap, ap₂, append-nil, arith}
+use Rattle.std.proofs.Common.{◌≡◌, ◌∙◌, ◌+◌, ◌*◌, ◌/◌, ◌%◌, ◌^◌, ◌++◌, ℕ, List, Bool, sym, ap, ap₂, append-nil, arith}
 use Rattle.nx_code.specs.Word.{elements, elements_from}
 use Rattle.nx_code.proofs.lemmas.Packed.{elements_from-join}
 use Rattle.nx_sync.proofs.packed.two_words_in.Goals as goal

@@ -1,4 +1,4 @@
-use Rattle.std.proofs.Common.{◌≡◌, ◌∙◌, ◌==◌, ℕ, List, Bool, length, arith, rules}
+use Rattle.std.proofs.Common.{◌≡◌, ◌∙◌, ◌==◌, ℕ, List, length, arith, rules}
 use Rattle.std.proofs.lemmas.Grind.{get_or_default_zero}
 use Rattle.nx_code.specs.Table.{phasing_1}
 use Rattle.nx_sync.specs.Synchroniser.{has_dx_phasing_1}
