@@ -10,6 +10,7 @@ ghost use Rattle.nx_sync.specs.Locks.{pattern_elements};
 ghost use Rattle.nx_sync.specs.Steps.{step, LockStands, LimitStands, IsStep, HuntsThrough, IsWordStep};
 ghost use Rattle.nx_sync.specs.private.Windows as spec;
 ghost use Rattle.nx_sync.specs.private.Calls.{heard_one, track_from, BeginsLock, Fills, Completes, Passes, Skips, SkipsSome, SkipsEarly};
+ghost use Rattle.nx_sync.specs.private.Taking.{HasPart};
 ghost use Rattle.nx_sync.specs.Synchroniser.{StandsAfter, is_hunting, is_between_words};
 
 use crate::mark_bits::Marks;
@@ -275,8 +276,7 @@ impl Synchroniser {
 
     /// Hears the packed elements that come too early to be the last of 28, and says how many.
     fn skip_packed_early(&mut self, numbers: &[u64], from: usize, count: usize) -> usize
-        requires room { from + count ≤ packed_elements * length numbers.now }
-        requires counted { from + count < 2 ^ 64 }
+        requires { HasPart numbers.now from count }
         ensures { SkipsEarly self.old (packed_part numbers.now from count) result self.new }
     {
         let early = ((PATTERN - 1).saturating_sub(self.seen) as usize).min(count);

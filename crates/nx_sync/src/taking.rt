@@ -9,6 +9,7 @@ ghost use Rattle.nx_code.specs.Packed.{packed_elements, packed_part};
 ghost use Rattle.nx_code.specs.Word.{elements};
 ghost use Rattle.nx_sync.specs.Synchroniser.{Held, is_between_words, is_hunting};
 ghost use Rattle.nx_sync.specs.Taking.{BringsStep, BringsWords, IsTaken};
+ghost use Rattle.nx_sync.specs.private.Taking.{HasPart, TakesSome};
 
 use crate::packed::{eight_words_in, element, two_words_in, word_in};
 use crate::step::Step;
@@ -131,14 +132,11 @@ impl Synchroniser {
         from: usize,
         count: usize,
     ) -> (usize, Option<T::Over>)
-        requires room { from + count ≤ packed_elements * length numbers.now }
-        requires counted { from + count < 2 ^ 64 }
+        requires part { HasPart numbers.now from count }
         requires can { T.can_take taker.old count }
-        ensures within { result.0 ≤ count }
-        ensures some { 0 < count → 0 < result.0 }
+        ensures takes { TakesSome T.hears T.can_take self.old taker.old numbers.now from count
+            self.new taker.new result }
         ensures all { result.1 ≡ None → result.0 ≡ count }
-        ensures taken { IsTaken T.hears T.can_take self.old taker.old
-            (take result.0 (packed_part numbers.now from count)) self.new taker.new result.1 }
     {
         let mut heard = 0;
         while heard < count {
@@ -161,13 +159,10 @@ impl Synchroniser {
         count: usize,
     ) -> (usize, Option<T::Over>)
         requires some { 0 < count }
-        requires room { from + count ≤ packed_elements * length numbers.now }
-        requires counted { from + count < 2 ^ 64 }
+        requires part { HasPart numbers.now from count }
         requires can { T.can_take taker.old count }
-        ensures within { result.0 ≤ count }
-        ensures some { 0 < result.0 }
-        ensures taken { IsTaken T.hears T.can_take self.old taker.old
-            (take result.0 (packed_part numbers.now from count)) self.new taker.new result.1 }
+        ensures takes { TakesSome T.hears T.can_take self.old taker.old numbers.now from count
+            self.new taker.new result }
     {
         if !self.is_locked() {
             return self.hear_hunting(taker, numbers, from, count);
@@ -192,13 +187,10 @@ impl Synchroniser {
     ) -> (usize, Option<T::Over>)
         requires hunting { IsTrue (is_hunting self.old) }
         requires some { 0 < count }
-        requires room { from + count ≤ packed_elements * length numbers.now }
-        requires counted { from + count < 2 ^ 64 }
+        requires part { HasPart numbers.now from count }
         requires can { T.can_take taker.old count }
-        ensures within { result.0 ≤ count }
-        ensures some { 0 < result.0 }
-        ensures taken { IsTaken T.hears T.can_take self.old taker.old
-            (take result.0 (packed_part numbers.now from count)) self.new taker.new result.1 }
+        ensures takes { TakesSome T.hears T.can_take self.old taker.old numbers.now from count
+            self.new taker.new result }
     {
         let quiet = self.hunt_packed(numbers, from, count);
         if quiet == count {
@@ -222,13 +214,10 @@ impl WordSynchroniser {
     ) -> (usize, Option<T::Over>)
         requires limit { IsTrue (is_between_words self.old) }
         requires some { 7 ≤ count }
-        requires room { from + count ≤ packed_elements * length numbers.now }
-        requires counted { from + count < 2 ^ 64 }
+        requires part { HasPart numbers.now from count }
         requires can { T.can_take taker.old count }
-        ensures within { result.0 ≤ count }
-        ensures some { 0 < result.0 }
-        ensures taken { IsTaken T.hears T.can_take self.old taker.old
-            (take result.0 (packed_part numbers.now from count)) self.new taker.new result.1 }
+        ensures takes { TakesSome T.hears T.can_take self.old taker.old numbers.now from count
+            self.new taker.new result }
     {
         let mut heard = 0;
         while count - heard >= ELEMENTS {
@@ -254,13 +243,10 @@ impl WordSynchroniser {
     ) -> (usize, Option<T::Over>)
         requires limit { IsTrue (is_between_words self.old) }
         requires some { 7 ≤ count }
-        requires room { from + count ≤ packed_elements * length numbers.now }
-        requires counted { from + count < 2 ^ 64 }
+        requires part { HasPart numbers.now from count }
         requires can { T.can_take taker.old count }
-        ensures within { result.0 ≤ count }
-        ensures some { 0 < result.0 }
-        ensures taken { IsTaken T.hears T.can_take self.old taker.old
-            (take result.0 (packed_part numbers.now from count)) self.new taker.new result.1 }
+        ensures takes { TakesSome T.hears T.can_take self.old taker.old numbers.now from count
+            self.new taker.new result }
     {
         if count >= EIGHT_WORDS {
             if self.hear_eight(taker, &eight_words_in(numbers, from)) {
@@ -286,13 +272,10 @@ impl WordSynchroniser {
     ) -> (usize, Option<T::Over>)
         requires limit { IsTrue (is_between_words self.old) }
         requires some { 7 ≤ count }
-        requires room { from + count ≤ packed_elements * length numbers.now }
-        requires counted { from + count < 2 ^ 64 }
+        requires part { HasPart numbers.now from count }
         requires can { T.can_take taker.old count }
-        ensures within { result.0 ≤ count }
-        ensures some { 0 < result.0 }
-        ensures taken { IsTaken T.hears T.can_take self.old taker.old
-            (take result.0 (packed_part numbers.now from count)) self.new taker.new result.1 }
+        ensures takes { TakesSome T.hears T.can_take self.old taker.old numbers.now from count
+            self.new taker.new result }
     {
         let mut heard = 0;
         while count - heard >= ELEMENTS {
@@ -319,10 +302,8 @@ impl WordSynchroniser {
         requires some { 7 ≤ count }
         requires room { from + count ≤ packed_elements * length numbers.now }
         requires can { T.can_take taker.old count }
-        ensures within { result.0 ≤ count }
-        ensures some { 0 < result.0 }
-        ensures taken { IsTaken T.hears T.can_take self.old taker.old
-            (take result.0 (packed_part numbers.now from count)) self.new taker.new result.1 }
+        ensures takes { TakesSome T.hears T.can_take self.old taker.old numbers.now from count
+            self.new taker.new result }
     {
         if count >= TWO_WORDS {
             if self.hear_two(taker, &two_words_in(numbers, from)) {

@@ -5,29 +5,57 @@ use Rattle.std.proofs.Common.{arith, length-append, take-take, take_all}
 use Rattle.std.proofs.lemmas.List.{length-take-le}
 use lib.Seq.{take-add}
 use Rattle.std.specs.List.{flat_map}
-use Rattle.nx_code.specs.Packed.{packed_part}
+use Rattle.nx_code.specs.Packed.{packed_elements, packed_part}
 use Rattle.nx_code.specs.Word.{elements}
 use Rattle.nx_code.proofs.lemmas.Packed.{length-elements}
 use Rattle.nx_sync.specs.Steps.{HuntsThrough, IsLastStep, IsStep, IsWordStep, step}
 use Rattle.nx_sync.specs.Synchroniser.{Held, StandsAfter}
 use Rattle.nx_sync.specs.Taking.{BringsStep, IsTaken}
+use Rattle.nx_sync.specs.private.Taking.{TakesSome}
 use Rattle.nx_sync.specs.declared.step.Step.{Step}
 use Rattle.nx_sync.proofs.lemmas.hunting.PackedParts.{first_part, length-part, part_of_part}
 
 module _ {T O : Type 0} (hears : Held → T → List Bool → Held → T → Option O → Type 0)
     (can_take : T → ℕ → Type 0) where
-  -- the first so many of these elements were taken, and nothing was over
-  pub record Takes (old : Held) (before : T) (bits : List Bool) (at : ℕ) (now : Held) (after : T)
-      : Type 0 where
-    pub within : at ≤ length bits
-    pub taken : IsTaken hears can_take old before (take at bits) now after None
+  -- of so many packed elements from a place on, the first `at` were taken, and nothing was over
+  pub record Takes (old : Held) (before : T) (numbers : List ℕ) (from count at : ℕ) (now : Held)
+      (after : T) : Type 0 where
+    pub within : at ≤ count
+    pub taken : IsTaken hears can_take old before (take at (packed_part numbers from count)) now
+        after None
 
   -- room is left for the others
-  pub room_left : (old now : Held) (before after : T) (bits : List Bool) (at rest : ℕ)
-      → Takes old before bits at now after → can_take before (at + rest) → can_take after rest
-  room_left old now before after bits at rest t can =
-      let size : length (take at bits) ≡ at = length-take-le at bits t.within in
-      t.taken.room rest (subst (λ n. can_take before (n + rest)) (sym size) can)
+  pub room_left : {old now : Held} {before after : T} {numbers : List ℕ} {from count at : ℕ}
+      → Takes old before numbers from count at now after
+      → from + count ≤ packed_elements * length numbers → can_take before count
+      → can_take after (count - at)
+  room_left {old} {now} {before} {after} {numbers} {from} {count} {at} t room can =
+      let bits : List Bool = packed_part numbers from count in
+      let size : length (take at bits) ≡ at =
+      length-take-le at bits (omega (arith, t.within, length-part numbers from count room)) in
+      t.taken.room (count - at) (subst (can_take before) (omega (arith, size, t.within)) can)
+
+  -- the first elements of these were taken
+  pub takes_part : {old new : Held} {u v : T} {bits : List Bool} {over : Option O}
+      {numbers : List ℕ} {from count n : ℕ} → IsTaken hears can_take old u bits new v over
+      → bits ≡ packed_part numbers from n → 0 < n → n ≤ count
+      → TakesSome hears can_take old u numbers from count new v (n, over)
+  takes_part {old} {new} {u} {v} {bits} {over} {numbers} {from} {count} {n} t is some within =
+      record {
+        within = within;
+        some = λ _. some;
+        taken = subst (λ l. IsTaken hears can_take old u l new v over)
+            (is ∙ sym (first_part numbers from count n within)) t;
+      }
+
+  -- some of the first ones of these were taken
+  pub takes_among : {old new : Held} {u v : T} {numbers : List ℕ} {from count n : ℕ}
+      {heard : ℕ × Option O} → TakesSome hears can_take old u numbers from n new v heard → 0 < n
+      → n ≤ count → TakesSome hears can_take old u numbers from count new v heard
+  takes_among {numbers = numbers} {from} {count} {n} {heard} s some within =
+      let k = heard.0 in
+      takes_part s.taken (first_part numbers from n k s.within) (s.some some)
+      (omega (arith, s.within, within))
 
   module _ (none : (held : Held) (taker : T) → hears held taker [] held taker None)
       (both : (old mid new : Held) (first between last : T) (xs ys : List Bool) (over : Option O)
@@ -48,37 +76,43 @@ module _ {T O : Type 0} (hears : Held → T → List Bool → Held → T → Opt
           (subst (can_take u) (omega (arith, length-append xs ys)) can));
     }
 
-    pub takes_first : (held : Held) (taker : T) (bits : List Bool)
-        → Takes held taker bits 0 held taker
-    takes_first held taker bits =
+    pub takes_none : (held : Held) (taker : T) (numbers : List ℕ) (from count : ℕ)
+        → Takes held taker numbers from count 0 held taker
+    takes_none held taker numbers from count =
         record { within = omega arith; taken = none_taken held taker }
 
-    -- packed elements are taken from the place where those before them end
-    pub takes_part : (old mid new : Held) (u v w : T) (numbers : List ℕ) (from count at n : ℕ)
-        (over : Option O) → from + count ≤ 64 * length numbers
-        → Takes old u (packed_part numbers from count) at mid v → at ≤ count → n ≤ count - at
-        → IsTaken hears can_take mid v (take n (packed_part numbers (from + at) (count - at))) new w
-        over
-        → IsTaken hears can_take old u (take (at + n) (packed_part numbers from count)) new w over
-    takes_part old mid new u v w numbers from count at n over room t here within more =
+    -- a step of a loop: some of the others are taken, from the place where those before them end
+    pub takes_more : {old mid new : Held} {u v w : T} {numbers : List ℕ} {from count at : ℕ}
+        {heard : ℕ × Option O} → Takes old u numbers from count at mid v
+        → TakesSome hears can_take mid v numbers (from + at) (count - at) new w heard → at < count
+        → TakesSome hears can_take old u numbers from count new w (at + heard.0, heard.1)
+    takes_more {old} {mid} {new} {u} {v} {w} {numbers} {from} {count} {at} {heard} t s left =
         let bits : List Bool = packed_part numbers from count in
+        let n = heard.0 in
         let is : take n (packed_part numbers (from + at) (count - at)) ≡ take n (drop at bits) =
-        first_part numbers (from + at) (count - at) n within
-        ∙ sym (part_of_part numbers from count at n (omega arith)) in
-        subst (λ l. IsTaken hears can_take old u l new w over) (sym (take-add at n bits))
-        (taken_on old mid new u v w (take at bits) (take n (drop at bits)) over t.taken
-        (subst (λ l. IsTaken hears can_take mid v l new w over) is more))
+        first_part numbers (from + at) (count - at) n s.within
+        ∙ sym (part_of_part numbers from count at n (omega (arith, t.within, s.within))) in
+        record {
+          within = omega (arith, t.within, s.within);
+          some = λ _. omega (arith, s.some (omega arith));
+          taken = subst (λ l. IsTaken hears can_take old u l new w heard.1)
+              (sym (take-add at n bits))
+              (taken_on old mid new u v w (take at bits) (take n (drop at bits)) heard.1 t.taken
+              (subst (λ l. IsTaken hears can_take mid v l new w heard.1) is s.taken));
+        }
 
-    pub takes_on : (old mid new : Held) (u v w : T) (numbers : List ℕ) (from count at n : ℕ)
-        → from + count ≤ 64 * length numbers
-        → Takes old u (packed_part numbers from count) at mid v → at ≤ count → n ≤ count - at
-        → IsTaken hears can_take mid v (take n (packed_part numbers (from + at) (count - at))) new w
-        None
-        → Takes old u (packed_part numbers from count) (at + n) new w
-    takes_on old mid new u v w numbers from count at n room t here within more = record {
-      within = omega (arith, length-part numbers from count room);
-      taken = takes_part old mid new u v w numbers from count at n None room t here within more;
-    }
+    -- and where nothing is over with them, the loop goes on
+    pub takes_on : {old mid new : Held} {u v w : T} {numbers : List ℕ} {from count at : ℕ}
+        {heard : ℕ × Option O} → Takes old u numbers from count at mid v
+        → TakesSome hears can_take mid v numbers (from + at) (count - at) new w heard → at < count
+        → heard.1 ≡ None → Takes old u numbers from count (at + heard.0) new w
+    takes_on {old} {mid} {new} {u} {v} {w} {numbers} {from} {count} {at} {heard} t s left over =
+        let some = takes_more t s left in
+        record {
+          within = some.within;
+          taken = subst (IsTaken hears can_take old u
+              (take (at + heard.0) (packed_part numbers from count)) new w) over some.taken;
+        }
 
   -- what so many elements bring, the last of them a step
   pub step_taken : (old new : Held) (u v : T) (bits : List Bool) (n : ℕ) (s : Step)

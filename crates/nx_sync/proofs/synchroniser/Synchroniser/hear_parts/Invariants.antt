@@ -1,13 +1,11 @@
-use Rattle.std.proofs.Common.{◌-◌, ◌≤◌}
-use Rattle.nx_code.specs.Packed.{packed_part}
+use Rattle.std.proofs.Common.{◌-◌}
 use Rattle.nx_sync.proofs.lemmas.words.TakenSteps.{Takes}
 use Rattle.nx_sync.proofs.synchroniser.Synchroniser.hear_parts.Given as goal
 
 abbrev pub invariant-loop-heard : goal.invariant-loop-heard
 invariant-loop-heard g l = record {
   takes : Takes g.T.StepTaker.hears g.T.StepTaker.can_take l.fn.self l.fn.taker
-      (packed_part l.numbers l.from l.count) l.heard l.self l.taker;
-  within : l.heard ≤ l.count;
+      l.numbers l.from l.count l.heard l.self l.taker;
 }
 
 abbrev pub decreases-loop-heard : goal.decreases-loop-heard

@@ -1,25 +1,34 @@
-use Rattle.std.proofs.Common.{◌≡◌, ◌+◌, ◌-◌, ◌∙◌, List, Bool, None, take, arith, rules, subst, subst₂, sym}
-use Rattle.nx_code.specs.Packed.{packed_part}
-use Rattle.nx_sync.specs.Taking.{IsTaken}
-use Rattle.nx_sync.proofs.lemmas.hunting.PackedParts.{first_part}
+use Rattle.std.proofs.Common.{◌≡◌, ◌-◌, ◌∙◌, arith, rules, subst, subst₂, sym}
+use Rattle.nx_sync.specs.private.Taking.{TakesSome}
+use Rattle.nx_sync.proofs.lemmas.words.TakenSteps.{takes_among, takes_part}
 use Rattle.nx_sync.proofs.word_synchroniser.WordSynchroniser.hear_some.Goals as goal
-use Rattle.nx_sync.proofs.word_synchroniser.WordSynchroniser.hear_some.Goals.{then-count-ge-EIGHT_WORDS+else-hear_eight, else-count-ge-EIGHT_WORDS}
+use Rattle.nx_sync.proofs.word_synchroniser.WordSynchroniser.hear_some.Goals.{After-hear_few, then-count-ge-EIGHT_WORDS+else-hear_eight, else-count-ge-EIGHT_WORDS}
 
 pub hear_eight-requires-clause-can : goal.hear_eight-requires-clause-can
 hear_eight-requires-clause-can g c =
     g.met.T.StepTaker.fewer c.args.taker.now 56 (c.args.count - 56)
     (subst (g.T.StepTaker.can_take c.args.taker.now) (omega arith) c.requires.can)
 
-pub returns-then-hear_eight-clause-taken : goal.returns-then-hear_eight-clause-taken
-returns-then-hear_eight-clause-taken g c =
-    subst (λ (l : List Bool). IsTaken g.T.StepTaker.hears g.T.StepTaker.can_take c.args.self.now
-    c.args.taker.now l c.hear_eight.new.self c.hear_eight.new.taker None)
-    (c.eight_words_in.ensures
-    ∙ sym (first_part c.args.numbers.now c.args.from c.args.count 56 (omega arith)))
-    (c.hear_eight.ensures.taken c.if-hear_eight.true)
+pub returns-then-hear_eight : goal.returns-then-hear_eight
+returns-then-hear_eight g c = record {
+  takes = takes_part g.T.StepTaker.hears g.T.StepTaker.can_take
+      (c.hear_eight.ensures.taken c.if-hear_eight.true) c.eight_words_in.ensures (omega arith)
+      (omega arith);
+}
+
+pub hear_few-requires-clause-can : goal.hear_few-requires-clause-can
+hear_few-requires-clause-can g c =
+    g.met.T.StepTaker.fewer c.if-count-ge-EIGHT_WORDS.taker c.min.result
+    (c.args.count - c.min.result)
+    (subst₂ (λ t n. g.T.StepTaker.can_take t n)
+    (sym (elim c.if-count-ge-EIGHT_WORDS.branch [
+      | then-count-ge-EIGHT_WORDS+else-hear_eight w ↦
+          w.taker-is ∙ w.hear_eight.ensures.same_taker (search rules)
+      | else-count-ge-EIGHT_WORDS w ↦ w.taker-is
+    ])) (omega (arith, c.min.ensures)) c.requires.can)
 
 -- where eight words are not heard at once, nothing was heard before
-unheard : (g : _) → (c : goal.After-min g) → (c.if-count-ge-EIGHT_WORDS.self ≡ c.args.self.now)
+unheard : (g : _) → (c : After-hear_few g) → (c.if-count-ge-EIGHT_WORDS.self ≡ c.args.self.now)
     × (c.if-count-ge-EIGHT_WORDS.taker ≡ c.args.taker.now)
 unheard g c = elim c.if-count-ge-EIGHT_WORDS.branch [
   | then-count-ge-EIGHT_WORDS+else-hear_eight w ↦ (
@@ -29,9 +38,11 @@ unheard g c = elim c.if-count-ge-EIGHT_WORDS.branch [
   | else-count-ge-EIGHT_WORDS w ↦ (w.self-is, w.taker-is)
 ]
 
-pub hear_few-requires-clause-can : goal.hear_few-requires-clause-can
-hear_few-requires-clause-can g c =
-    g.met.T.StepTaker.fewer c.if-count-ge-EIGHT_WORDS.taker c.min.result
-    (c.args.count - c.min.result)
-    (subst₂ (λ t n. g.T.StepTaker.can_take t n) (sym (unheard g c).1)
-    (omega (arith, c.min.ensures)) c.requires.can)
+pub returns : goal.returns
+returns g c = record {
+  takes = takes_among g.T.StepTaker.hears g.T.StepTaker.can_take
+      (subst₂ (λ s t. TakesSome g.T.StepTaker.hears g.T.StepTaker.can_take s t c.args.numbers.now
+      c.args.from c.min.result c.hear_few.new.self c.hear_few.new.taker c.hear_few.result)
+      (unheard g c).0 (unheard g c).1 c.hear_few.ensures.takes) (omega (arith, c.min.ensures))
+      (omega (arith, c.min.ensures));
+}

@@ -1,27 +1,25 @@
-use Rattle.std.proofs.Common.{◌≡◌, ◌-◌, ◌∙◌, List, Bool, None, arith, rules, subst, subst₂, sym}
+use Rattle.std.proofs.Common.{◌≡◌, ◌-◌, ◌∙◌, List, Bool, arith, rules, subst, subst₂, sym}
 use Rattle.nx_code.proofs.lemmas.Packed.{length-elements}
 use Rattle.nx_code.specs.Word.{elements}
 use Rattle.nx_sync.specs.Taking.{IsTaken}
-use Rattle.nx_sync.proofs.lemmas.hunting.PackedParts.{first_part}
-use Rattle.nx_sync.proofs.lemmas.words.TakenSteps.{step_taken, word_last}
+use Rattle.nx_sync.proofs.lemmas.words.TakenSteps.{step_taken, takes_part, word_last}
 use Rattle.nx_sync.proofs.word_synchroniser.WordSynchroniser.hear_word.Goals as goal
-use Rattle.nx_sync.proofs.word_synchroniser.WordSynchroniser.hear_word.Goals.{then-count-ge-TWO_WORDS+else-hear_two, else-count-ge-TWO_WORDS}
+use Rattle.nx_sync.proofs.word_synchroniser.WordSynchroniser.hear_word.Goals.{After-take, then-count-ge-TWO_WORDS+else-hear_two, else-count-ge-TWO_WORDS}
 
 pub hear_two-requires-clause-can : goal.hear_two-requires-clause-can
 hear_two-requires-clause-can g c =
     g.met.T.StepTaker.fewer c.args.taker.now 14 (c.args.count - 14)
     (subst (g.T.StepTaker.can_take c.args.taker.now) (omega arith) c.requires.can)
 
-pub returns-then-hear_two-clause-taken : goal.returns-then-hear_two-clause-taken
-returns-then-hear_two-clause-taken g c =
-    subst (λ (l : List Bool). IsTaken g.T.StepTaker.hears g.T.StepTaker.can_take c.args.self.now
-    c.args.taker.now l c.hear_two.new.self c.hear_two.new.taker None)
-    (c.two_words_in.ensures
-    ∙ sym (first_part c.args.numbers.now c.args.from c.args.count 14 (omega arith)))
-    (c.hear_two.ensures.taken c.if-hear_two.true)
+pub returns-then-hear_two : goal.returns-then-hear_two
+returns-then-hear_two g c = record {
+  takes = takes_part g.T.StepTaker.hears g.T.StepTaker.can_take
+      (c.hear_two.ensures.taken c.if-hear_two.true) c.two_words_in.ensures (omega arith)
+      (omega arith);
+}
 
 -- where a word is heard alone, nothing was heard before
-unheard : (g : _) → (c : goal.After-take g) → (c.if-count-ge-TWO_WORDS.self ≡ c.args.self.now)
+unheard : (g : _) → (c : After-take g) → (c.if-count-ge-TWO_WORDS.self ≡ c.args.self.now)
     × (c.if-count-ge-TWO_WORDS.taker ≡ c.args.taker.now)
 unheard g c = elim c.if-count-ge-TWO_WORDS.branch [
   | then-count-ge-TWO_WORDS+else-hear_two w ↦ (
@@ -41,19 +39,19 @@ take-requires-clause-can g c =
       | else-count-ge-TWO_WORDS w ↦ w.taker-is
     ])) (omega arith) c.requires.can)
 
-pub returns-clause-taken : goal.returns-clause-taken
-returns-clause-taken g c =
+pub returns : goal.returns
+returns g c =
     let word : List Bool = elements c.word_in.result in
     let hears = g.T.StepTaker.hears in
     let can_take = g.T.StepTaker.can_take in
-    subst (λ (l : List Bool). IsTaken hears can_take c.args.self.now c.args.taker.now l
-    c.push-step.new.self c.take.new.self c.take.result)
-    (c.word_in.ensures
-    ∙ sym (first_part c.args.numbers.now c.args.from c.args.count 7 (omega arith)))
-    (subst₂ (λ s t. IsTaken hears can_take s t word c.push-step.new.self c.take.new.self
-    c.take.result) (unheard g c).0 (unheard g c).1
-    (step_taken hears can_take c.if-count-ge-TWO_WORDS.self c.push-step.new.self
-    c.if-count-ge-TWO_WORDS.taker c.take.new.self word 7 c.push-step.result c.take.result
-    (length-elements c.word_in.result) c.push-step.ensures.stands
-    (λ h a. word_last h word c.push-step.result (length-elements c.word_in.result)
-    (c.push-step.ensures.step h a)) c.take.ensures.hears c.take.ensures.can))
+    record {
+      takes = takes_part hears can_take
+          (subst₂ (λ s t. IsTaken hears can_take s t word c.push-step.new.self c.take.new.self
+          c.take.result) (unheard g c).0 (unheard g c).1
+          (step_taken hears can_take c.if-count-ge-TWO_WORDS.self c.push-step.new.self
+          c.if-count-ge-TWO_WORDS.taker c.take.new.self word 7 c.push-step.result c.take.result
+          (length-elements c.word_in.result) c.push-step.ensures.stands
+          (λ h a. word_last h word c.push-step.result (length-elements c.word_in.result)
+          (c.push-step.ensures.step h a)) c.take.ensures.hears c.take.ensures.can))
+          c.word_in.ensures (omega arith) (omega arith);
+    }
