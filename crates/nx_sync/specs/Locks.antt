@@ -16,26 +16,26 @@ use Rattle.nx_sync.specs.Words.{lock_words}
 abbrev pub pattern_elements : ℕ
 pattern_elements = 28
 
--- The two patterns of 28 bits that give a lock: P2 P1 P2 P1, after which a DX word follows, and P1
--- P2 P1 P2, after which an RX word follows (this profile).
+-- The two patterns of bits that give a lock: P2 P1 P2 P1, after which a DX word follows, and P1 P2
+-- P1 P2, after which an RX word follows (this profile).
 unfoldable pub before_dx : List Bool
 before_dx = flat_map elements (phasing_2 ∷ phasing_1 ∷ phasing_2 ∷ phasing_1 ∷ [])
 
 unfoldable pub before_rx : List Bool
 before_rx = flat_map elements (phasing_1 ∷ phasing_2 ∷ phasing_1 ∷ phasing_2 ∷ [])
 
--- the 28 bits before the bit count t
-abbrev pub last_28 : List Bool → ℕ → List Bool
-last_28 bits t = take 28 (drop (t - 28) bits)
+-- the last bits before the bit count t, as many as a pattern has
+abbrev pub last_elements : List Bool → ℕ → List Bool
+last_elements bits t = take pattern_elements (drop (t - pattern_elements) bits)
 
--- the 28 bits before the bit count t are there, and are one of the two patterns (this profile)
+-- the last bits before the bit count t are there, and are one of the two patterns (this profile)
 pub record IsPattern (bits : List Bool) (t : ℕ) : Type 0 where
-  pub enough : 28 ≤ t
+  pub enough : pattern_elements ≤ t
   pub heard : t ≤ length bits
-  pub pattern : (last_28 bits t ≡ before_dx) ⊎ (last_28 bits t ≡ before_rx)
+  pub pattern : (last_elements bits t ≡ before_dx) ⊎ (last_elements bits t ≡ before_rx)
 
--- A search from p finds t: the least bit count greater than p with a pattern before it. The 28 bits
--- of the pattern may begin before p (this profile).
+-- A search from p finds t: the least bit count greater than p with a pattern before it. The bits of
+-- the pattern may begin before p (this profile).
 pub record Finds (bits : List Bool) (p t : ℕ) : Type 0 where
   pub after : p < t
   pub here : IsPattern bits t

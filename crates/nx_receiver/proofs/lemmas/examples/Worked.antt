@@ -17,7 +17,7 @@ use Rattle.nx_station.specs.reception.Path.{phasing_words}
 use Rattle.nx_station.specs.reception.PathExample.{damaged_in, example_words, heard_half}
 use Rattle.nx_sync.specs.Words.{word_of_lock, first_role, role_of, wrong_until, losing_count}
 use Rattle.nx_sync.specs.Words.{whole_words}
-use Rattle.nx_sync.specs.Locks.{before_dx, last_28, Past, IsLocked}
+use Rattle.nx_sync.specs.Locks.{before_dx, last_elements, Past, IsLocked}
 use Rattle.nx_sync.specs.private.Releases.{releases_as_ended, change_at}
 use Rattle.nx_sync.proofs.lemmas.words.Computed.{holds-to}
 use Rattle.nx_sync.specs.declared.step.Role.TheVariants.{Dx, Rx}
@@ -36,7 +36,7 @@ lock_word sent k = get_or sent (k + 4) 0
 pub record Computed (sent : List ℕ) : Type 0 where
   pub long : length sent ≡ 203
   pub are_words : agree_below (λ k. ltb (get_or sent k 0) 128) (λ _. true) 203 ≡ true
-  pub pattern : last_28 (bits_of sent) 28 ≡ before_dx
+  pub pattern : last_elements (bits_of sent) 28 ≡ before_dx
   pub before : get_or sent 3 0 ≡ phasing_1
   pub no_end : agree_below (releases_as_ended Dx (lock_word sent)) (λ _. false) 199 ≡ true
   pub few_wrong : wrong_in (lock_word sent) 0 199 ≤ 30

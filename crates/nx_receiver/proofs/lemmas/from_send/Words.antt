@@ -27,7 +27,7 @@ use Rattle.nx_station.proofs.lemmas.reception.PathPositions.{HasInner, layout-in
 use Rattle.nx_station.proofs.lemmas.reception.PathUndamaged.{undamaged-received}
 use Rattle.nx_station.proofs.lemmas.strict_reading.ReadingBack.{broadcast-prints}
 use Rattle.nx_sync.specs.Laws.{IsOnPhasing, LockedBeforeDx, phasing}
-use Rattle.nx_sync.specs.Locks.{IsLocked, Past, before_dx, last_28}
+use Rattle.nx_sync.specs.Locks.{IsLocked, Past, before_dx, last_elements}
 use Rattle.nx_sync.specs.Words.{first_role, losing_count, role_of, whole_words, word_of_lock}
 use Rattle.nx_sync.specs.declared.step.Role.TheVariants.{Dx}
 use Rattle.nx_sync.proofs.lemmas.words.Roles.{role_of-even}
@@ -45,7 +45,7 @@ use Rattle.nx_receiver.proofs.lemmas.emissions.Texts.{layout-parts, on_air}
 
 -- ---- the first 48 words, which are phasing
 
-first_28 : last_28 (phasing 24) 28 ≡ before_dx
+first_28 : last_elements (phasing 24) 28 ≡ before_dx
 unfolding phasing before_dx elements elements_from
 first_28 = refl
 
@@ -56,7 +56,7 @@ length_28 : length (take 28 (phasing 24)) ≡ 28
 unfolding phasing
 length_28 = refl
 
-pattern_28 : last_28 (take 28 (phasing 24)) 28 ≡ before_dx
+pattern_28 : last_elements (take 28 (phasing 24)) 28 ≡ before_dx
 unfolding phasing before_dx elements elements_from
 pattern_28 = refl
 

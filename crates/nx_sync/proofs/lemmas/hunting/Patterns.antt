@@ -8,7 +8,7 @@ use Rattle.circular_buffer.specs.Buffer.{keep_last}
 use Rattle.nx_code.specs.Word.{number_of, elements, elements_from}
 use Rattle.nx_sync.specs.declared.step.Role.TheVariants.{Dx, Rx}
 use Rattle.nx_sync.specs.Words.{first_role}
-use Rattle.nx_sync.specs.Locks.{before_dx, before_rx, last_28}
+use Rattle.nx_sync.specs.Locks.{before_dx, before_rx, last_elements}
 use Rattle.nx_sync.specs.Windows.{window_before_dx, window_before_rx}
 use Rattle.nx_sync.specs.private.Windows.{role_after}
 use Rattle.nx_sync.proofs.lemmas.states.Lists.{keep_last-padded}
@@ -65,13 +65,13 @@ which w l = elim (cases_eq (number_of w) window_before_dx) [
   ]
 ]
 
-pub length-last_28 : (bits : List Bool) (t : ℕ) → 28 ≤ t → t ≤ length bits
-    → length (last_28 bits t) ≡ 28
-length-last_28 bits t low h = simp (length-take, length-drop) (omega arith)
+pub length-last_elements : (bits : List Bool) (t : ℕ) → 28 ≤ t → t ≤ length bits
+    → length (last_elements bits t) ≡ 28
+length-last_elements bits t low h = simp (length-take, length-drop) (omega arith)
 
 -- the word before the bit count t is the last of the 28 bits before it
 pub last_word-window : (bits : List Bool) (t : ℕ) → 28 ≤ t → t ≤ length bits
-    → take 7 (drop (t - 7) bits) ≡ drop 21 (last_28 bits t)
+    → take 7 (drop (t - 7) bits) ≡ drop 21 (last_elements bits t)
 last_word-window bits t low h =
     let e : t - 28 + 21 ≡ t - 7 = omega arith in
     ap (λ i. take 7 (drop i bits)) (sym e)
@@ -80,18 +80,18 @@ last_word-window bits t low h =
 
 -- the role that follows a pattern
 pub first_role-dx : (bits : List Bool) (t : ℕ) → 28 ≤ t → t ≤ length bits
-    → last_28 bits t ≡ before_dx → first_role bits t ≡ Dx
+    → last_elements bits t ≡ before_dx → first_role bits t ≡ Dx
 unfolding first_role before_dx number_of elements elements_from
 first_role-dx bits t low h e = rw (last_word-window bits t low h ∙ ap (drop 21) e) refl
 
 pub first_role-rx : (bits : List Bool) (t : ℕ) → 28 ≤ t → t ≤ length bits
-    → last_28 bits t ≡ before_rx → first_role bits t ≡ Rx
+    → last_elements bits t ≡ before_rx → first_role bits t ≡ Rx
 unfolding first_role before_rx number_of elements elements_from
 first_role-rx bits t low h e = rw (last_word-window bits t low h ∙ ap (drop 21) e) refl
 
 -- the last 28 bits behind the padding, where so many were heard
 pub window-heard : (bits : List Bool) → 28 ≤ length bits
-    → keep_last 28 (replicate 28 false ++ bits) ≡ last_28 bits (length bits)
+    → keep_last 28 (replicate 28 false ++ bits) ≡ last_elements bits (length bits)
 window-heard bits h =
     keep_last-padded 28 bits h
     ∙ sym (take_all 28 (drop (length bits - 28) bits) (simp length-drop (omega arith)))

@@ -5,7 +5,7 @@ use Rattle.nx_code.specs.Word.{number_of, is_wrong, wrong_in}
 use Rattle.nx_sync.specs.declared.step.Role.{Role}
 use Rattle.nx_sync.specs.Words.{marked_words, word_of_lock, first_role, role_of, wrong_until}
 use Rattle.nx_code.proofs.lemmas.WordCounts.{one_if}
-use Rattle.nx_sync.specs.Locks.{last_28, IsPattern, Finds, IsSecondPhasing1, IsReleased, Lock}
+use Rattle.nx_sync.specs.Locks.{last_elements, IsPattern, Finds, IsSecondPhasing1, IsReleased, Lock}
 use Rattle.nx_sync.specs.Locks.{IsPast, Past}
 use Rattle.nx_sync.specs.private.Releases.{releases_as_ended, change_at, release}
 use Rattle.nx_sync.proofs.lemmas.states.Lists.{part-append}
@@ -51,12 +51,13 @@ module _ (bits more : List Bool) where
       ∙ change_at-same (first_role bits t) (word_of_lock (bits ++ more) t) (word_of_lock bits t) k
       (λ j le. word_at-more t j (omega arith))
 
-  pub last_28-more : (t : ℕ) → 28 ≤ t → t ≤ length bits → last_28 (bits ++ more) t ≡ last_28 bits t
-  last_28-more t low h = part-append (t - 28) 28 bits more (omega arith)
+  pub last_elements-more : (t : ℕ) → 28 ≤ t → t ≤ length bits
+      → last_elements (bits ++ more) t ≡ last_elements bits t
+  last_elements-more t low h = part-append (t - 28) 28 bits more (omega arith)
 
   pub IsPattern-more : (t : ℕ) → IsPattern bits t → IsPattern (bits ++ more) t
   IsPattern-more t here =
-      let same = last_28-more t here.enough here.heard in
+      let same = last_elements-more t here.enough here.heard in
       record {
         enough = here.enough;
         heard = simp length-append (omega (arith, here.heard));
@@ -65,7 +66,7 @@ module _ (bits more : List Bool) where
 
   pub IsPattern-less : (t : ℕ) → t ≤ length bits → IsPattern (bits ++ more) t → IsPattern bits t
   IsPattern-less t h here =
-      let same = sym (last_28-more t here.enough h) in
+      let same = sym (last_elements-more t here.enough h) in
       record {
         enough = here.enough;
         heard = h;

@@ -17,7 +17,7 @@ use Rattle.nx_sync.specs.declared.track.Track.{Track}
 use Rattle.nx_code.specs.Table.{phasing_1}
 use Rattle.nx_sync.specs.Words.{marked_words, other_role, is_dx, word_of_lock, first_role, role_of}
 use Rattle.nx_sync.specs.private.Releases.{release}
-use Rattle.nx_sync.specs.Locks.{before_dx, before_rx, last_28, IsPattern, Lock, Now, hunting}
+use Rattle.nx_sync.specs.Locks.{before_dx, before_rx, last_elements, IsPattern, Lock, Now, hunting}
 use Rattle.nx_sync.specs.Locks.{locked, IsHunting, IsLocked, IsNow}
 use Rattle.nx_sync.specs.Steps.{LockStands, step, found, word, inside, over, hunts, IsStep}
 use Rattle.nx_sync.specs.Synchroniser.{Held, wrong_marks, p1_marks, Follows, Tracks, StandsAfter}
@@ -28,7 +28,7 @@ use Rattle.nx_sync.proofs.lemmas.states.Lists.{padded-push, length-padded}
 use Rattle.nx_sync.proofs.lemmas.hunting.Numbers.{number_of-next}
 use Rattle.nx_sync.proofs.lemmas.states.KeptPast.{word_at-more, first_role-more, Past-within}
 use Rattle.nx_sync.proofs.lemmas.states.OneBit.{hunts_on, locks_now, stands_on, ends_now}
-use Rattle.nx_sync.proofs.lemmas.hunting.Patterns.{length-last_28, IsNeither, Which, dx, rx, neither, which}
+use Rattle.nx_sync.proofs.lemmas.hunting.Patterns.{length-last_elements, IsNeither, Which, dx, rx, neither, which}
 use Rattle.nx_sync.proofs.lemmas.hunting.Patterns.{first_role-dx, first_role-rx, window-heard, newest_word}
 use Rattle.nx_sync.proofs.lemmas.words.Marks.{wrong_marks-same, p1_marks-same, p1_number-next, p1_number-none}
 use Rattle.nx_sync.proofs.lemmas.words.Marks.{wrong_marks-next, change_of-change_at}
@@ -131,7 +131,7 @@ module _ (s : Held) (bits : List Bool) (b : Bool) (a : StandsAfter s bits) where
 
   -- no pattern ends with the bit where the last 28 bits are neither
   no_pattern : 28 ≤ length (bits ++ b ∷ [])
-      → IsNeither (last_28 (bits ++ b ∷ []) (length (bits ++ b ∷ [])))
+      → IsNeither (last_elements (bits ++ b ∷ []) (length (bits ++ b ∷ [])))
       → IsPattern (bits ++ b ∷ []) (length bits + 1) → ⊥
   no_pattern enough not here =
       let at : IsPattern (bits ++ b ∷ []) (length (bits ++ b ∷ [])) =
@@ -140,8 +140,8 @@ module _ (s : Held) (bits : List Bool) (b : Bool) (a : StandsAfter s bits) where
 
   -- a pattern ends with the bit
   a_pattern : 28 ≤ length (bits ++ b ∷ [])
-      → (last_28 (bits ++ b ∷ []) (length (bits ++ b ∷ [])) ≡ before_dx)
-      ⊎ (last_28 (bits ++ b ∷ []) (length (bits ++ b ∷ [])) ≡ before_rx)
+      → (last_elements (bits ++ b ∷ []) (length (bits ++ b ∷ [])) ≡ before_dx)
+      ⊎ (last_elements (bits ++ b ∷ []) (length (bits ++ b ∷ [])) ≡ before_rx)
       → IsPattern (bits ++ b ∷ []) (length bits + 1)
   a_pattern enough pattern =
       subst (λ t. IsPattern (bits ++ b ∷ []) t) (length_push bits b)
@@ -153,7 +153,7 @@ module _ (s : Held) (bits : List Bool) (b : Bool) (a : StandsAfter s bits) where
       → (role_after (heard_one s b).recent ≡ None → (x ≡ heard_one s b) × (r ≡ step None None))
       → ((role : Role) → 28 ≤ (heard_one s b).seen → role_after (heard_one s b).recent ≡ Some role
       → BeginsLock (heard_one s b) role x r)
-      → Which (last_28 (bits ++ b ∷ []) (length (bits ++ b ∷ [])))
+      → Which (last_elements (bits ++ b ∷ []) (length (bits ++ b ∷ [])))
       → IsGood x (bits ++ b ∷ []) r
   hunts_at x r locks p none now within enough quiet finding (neither not e) =
       let window = recent_heard ∙ ap number_of (window-heard (bits ++ b ∷ []) enough) in
@@ -197,8 +197,8 @@ module _ (s : Held) (bits : List Bool) (b : Bool) (a : StandsAfter s bits) where
             (hunts_on bits b locks p n
             (λ here. absurd (omega (arith, here.enough, length_push bits b)))) within)
         | inr enough ↦ hunts_at x r locks p none n within enough quiet finding
-            (which (last_28 (bits ++ b ∷ []) (length (bits ++ b ∷ [])))
-            (length-last_28 (bits ++ b ∷ []) (length (bits ++ b ∷ [])) enough (omega arith)))
+            (which (last_elements (bits ++ b ∷ []) (length (bits ++ b ∷ [])))
+            (length-last_elements (bits ++ b ∷ []) (length (bits ++ b ∷ [])) enough (omega arith)))
       ]
 
   -- a push while hunting

@@ -6,12 +6,12 @@ use Rattle.std.proofs.lemmas.List.{length_push}
 use Rattle.std.proofs.lemmas.Bool.{cases_lt, cases_eq}
 use Rattle.nx_sync.specs.declared.step.Change.{Change}
 use Rattle.nx_sync.specs.private.Releases.{release}
-use Rattle.nx_sync.specs.Locks.{last_28, IsPattern, Lock, Past, Now, hunting, locked, IsLocked}
+use Rattle.nx_sync.specs.Locks.{last_elements, IsPattern, Lock, Past, Now, hunting, locked, IsLocked}
 use Rattle.nx_sync.specs.Locks.{IsNow}
 use Rattle.nx_sync.specs.Laws.{WhatStands, Extends, same, newer, GoesOn, hunts_on, finds_one}
 use Rattle.nx_sync.specs.Laws.{stands_still, found_and_past, is_past, Stood, OneMore, still_hunts}
 use Rattle.nx_sync.specs.Laws.{now_finds, still_stands, now_over}
-use Rattle.nx_sync.proofs.lemmas.hunting.Patterns.{dx, rx, neither, which, length-last_28}
+use Rattle.nx_sync.proofs.lemmas.hunting.Patterns.{dx, rx, neither, which, length-last_elements}
 use Rattle.nx_sync.proofs.lemmas.states.UniqueStates.{locks-unique, now-unique}
 use Rattle.nx_sync.proofs.lemmas.states.OneBit as one
 
@@ -21,7 +21,7 @@ pattern_or_not bits t = elim (cases_lt t 28) [
   | inl early ↦ inr (λ here. absurd (omega (arith, here.enough)))
   | inr enough ↦ elim (cases_lt (length bits) t) [
     | inl past ↦ inr (λ here. absurd (omega (arith, here.heard)))
-    | inr heard ↦ elim (which (last_28 bits t) (length-last_28 bits t enough heard)) [
+    | inr heard ↦ elim (which (last_elements bits t) (length-last_elements bits t enough heard)) [
       | dx e _ ↦ inl (record { enough = enough; heard = heard; pattern = inl e })
       | rx e _ ↦ inl (record { enough = enough; heard = heard; pattern = inr e })
       | neither not _ ↦ inr (λ here.
