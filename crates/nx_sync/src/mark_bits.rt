@@ -35,13 +35,14 @@ pub(crate) struct Marks {
 impl Model for Marks {
     ghost use Rattle.std.specs.Prelude.{◌≡◌, ◌≤◌, List, Bool, length};
     ghost use Rattle.nx_code.specs.Word.{number_of};
+    ghost use Rattle.nx_sync.specs.Words.{marked_words};
     ghost use Rattle.nx_sync.specs.private.MarkBits.{marks_in, padded};
 
     ghost Value = { List Bool };
 
     ghost view = { λ m. marks_in m.count m.bits };
 
-    ghost invariant = { λ m. (m.count ≤ 64)
+    ghost invariant = { λ m. (m.count ≤ marked_words)
         × (length (marks_in m.count m.bits) ≡ m.count)
         × (number_of (padded (marks_in m.count m.bits)) ≡ m.bits) };
 
@@ -81,7 +82,7 @@ impl Marks {
     #[inline(always)]
     fn wrong_count(&self) -> u32
         ensures count { result ≡ count_by (λ b. b) self.now }
-        ensures within { result ≤ 64 }
+        ensures within { result ≤ marked_words }
     {
         self.bits.count_ones()
     }

@@ -98,7 +98,7 @@ fn block_at(joined: u128, place: u32) -> bool
 #[inline(always)]
 pub(crate) fn has_no_lock(window: u32, number: u64) -> bool
     requires { window < 2 ^ pattern_elements }
-    ensures { IsTrue result → (count : ℕ) → count ≤ 64
+    ensures { IsTrue result → (count : ℕ) → count ≤ packed_elements
         → IsBeforeLockIn (spec.joined window number) count count }
 {
     if !may_lock_in_blocks(window, number) {
@@ -112,7 +112,7 @@ pub(crate) fn has_no_lock(window: u32, number: u64) -> bool
 #[inline(always)]
 pub(crate) fn count_before_lock_in(window: u32, number: u64, count: usize) -> usize
     requires window { window < 2 ^ pattern_elements }
-    requires few { count ≤ 64 }
+    requires few { count ≤ packed_elements }
     ensures { IsBeforeLockIn (spec.joined window number) count result }
 {
     if has_no_lock(window, number) {
@@ -125,7 +125,7 @@ pub(crate) fn count_before_lock_in(window: u32, number: u64, count: usize) -> us
 #[inline(never)]
 fn count_by_windows(window: u32, number: u64, count: usize) -> usize
     requires window { window < 2 ^ pattern_elements }
-    requires few { count ≤ 64 }
+    requires few { count ≤ packed_elements }
     ensures { IsBeforeLockIn (spec.joined window number) count result }
 {
     let mut at = 0;

@@ -311,8 +311,8 @@ impl Synchroniser {
     fn skip_clear(&mut self, numbers: &[u64], first: usize, count: usize) -> usize
         requires seen { pattern_elements ≤ self.old.seen + 1 }
         requires room { first + count ≤ length numbers.now }
-        ensures passes { Passes self.old (packed_part numbers.now (64 * first) (64 * count))
-            (64 * result) self.new }
+        ensures passes { Passes self.old (packed_part numbers.now (packed_elements * first)
+            (packed_elements * count)) (packed_elements * result) self.new }
         ensures none { result ≡ 0 → self.new ≡ self.old }
     {
         let _seen = self.seen;
@@ -330,7 +330,8 @@ impl Synchroniser {
     #[inline(always)]
     fn hear_clear(&mut self, number: u64) -> bool
         requires { pattern_elements ≤ self.old.seen + 1 }
-        ensures heard { IsTrue result → Passes self.old (elements_from 64 number) 64 self.new }
+        ensures heard { IsTrue result → Passes self.old (elements_from packed_elements number)
+            packed_elements self.new }
         ensures none { result ≡ false → self.new ≡ self.old }
     {
         if !has_no_lock(self.recent, number) {
@@ -345,7 +346,7 @@ impl Synchroniser {
     #[inline(always)]
     fn skip_number(&mut self, number: u64, count: usize) -> usize
         requires seen { pattern_elements ≤ self.old.seen + 1 }
-        requires few { count ≤ 64 }
+        requires few { count ≤ packed_elements }
         ensures { Skips self.old (elements_from count number) result self.new }
     {
         let heard = count_before_lock_in(self.recent, number, count);

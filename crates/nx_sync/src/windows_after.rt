@@ -4,6 +4,7 @@
 //! more than its few instructions.
 
 ghost use Rattle.std.specs.Prelude.{◌≡◌, ℕ, ◌+◌, ◌/◌, ◌^◌, ◌<◌, ◌≤◌, length, take, slice_index};
+ghost use Rattle.nx_code.specs.Packed.{packed_elements};
 ghost use Rattle.nx_code.specs.Word.{elements_from};
 ghost use Rattle.nx_sync.specs.Locks.{pattern_elements};
 ghost use Rattle.nx_sync.specs.private.Eight.{last_four};
@@ -94,7 +95,7 @@ pub(crate) fn joined(window: u32, number: u64) -> u128
 #[inline(always)]
 pub(crate) fn window_after_number(window: u32, number: u64, count: usize) -> u32
     requires window { window < 2 ^ pattern_elements }
-    requires few { count ≤ 64 }
+    requires few { count ≤ packed_elements }
     ensures value { result ≡ spec.window_after window (elements_from count number) }
     ensures within { result < 2 ^ pattern_elements }
 {
@@ -106,7 +107,7 @@ pub(crate) fn window_after_number(window: u32, number: u64, count: usize) -> u32
 #[inline(always)]
 pub(crate) fn window_after_whole(number: u64) -> u32
     ensures value { (window : ℕ) → window < 2 ^ pattern_elements
-        → result ≡ spec.window_after window (elements_from 64 number) }
+        → result ≡ spec.window_after window (elements_from packed_elements number) }
     ensures within { result < 2 ^ pattern_elements }
 {
     (number >> 36) as u32

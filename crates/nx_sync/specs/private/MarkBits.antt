@@ -3,11 +3,12 @@
 use Rattle.std.specs.Prelude.{ℕ, ◌-◌, ◌++◌, Bool, false, List, drop, replicate}
 use Rattle.circular_buffer.specs.Buffer.{keep_last}
 use Rattle.nx_code.specs.Word.{elements_from}
+use Rattle.nx_sync.specs.Words.{marked_words}
 
 -- the marks, so many of them, that the highest bits of a number are
 abbrev pub marks_in : ℕ → ℕ → List Bool
-marks_in count bits = drop (64 - count) (elements_from 64 bits)
+marks_in count bits = drop (marked_words - count) (elements_from marked_words bits)
 
--- at most 64 marks behind as many that aren't set as are missing to 64
+-- marks, at most as many as a lock keeps, behind as many that aren't set as are missing to those
 abbrev pub padded : List Bool → List Bool
-padded marks = keep_last 64 (replicate 64 false ++ marks)
+padded marks = keep_last marked_words (replicate marked_words false ++ marks)

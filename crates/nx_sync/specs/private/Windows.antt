@@ -1,10 +1,11 @@
 -- Windows, one after the other: what the private functions of the hunt answer.
-use Rattle.std.specs.Prelude.{◌≡◌, ℕ, ◌+◌, ◌*◌, ◌/◌, ◌%◌, ◌^◌, ◌<◌, ◌≤◌, ◌==◌, Bool, true, false}
+use Rattle.std.specs.Prelude.{◌≡◌, ℕ, ◌+◌, ◌-◌, ◌*◌, ◌/◌, ◌%◌, ◌^◌, ◌<◌, ◌≤◌, ◌==◌, Bool, true, false}
 use Rattle.std.specs.Prelude.{◌&&◌, ◌||◌, List, [], ◌∷◌, length, slice_index, Option, Some, None}
 use Rattle.std.specs.Prelude.{if◌then◌else◌}
 use Rattle.nx_code.specs.Word.{value_of}
 use Rattle.nx_sync.specs.declared.step.Role.{Role}
 use Rattle.nx_sync.specs.declared.step.Role.TheVariants.{Dx, Rx}
+use Rattle.nx_sync.specs.Locks.{pattern_elements}
 use Rattle.nx_sync.specs.Windows.{window_before_dx, window_before_rx, is_lock_window, HasNoLock}
 
 -- so many windows come before the first pattern, all where there is none
@@ -22,7 +23,7 @@ role_after window =
 
 -- the window after one more element
 abbrev pub next_window : ℕ → Bool → ℕ
-next_window window bit = window / 2 + 2 ^ 27 * value_of bit
+next_window window bit = window / 2 + 2 ^ (pattern_elements - 1) * value_of bit
 
 -- the window after one more word, by its number
 abbrev pub next_word_window : ℕ → ℕ → ℕ
@@ -50,11 +51,11 @@ is_block block = is_one_of blocks block
 
 -- a window, and above it the elements of the number that comes after it
 abbrev pub joined : ℕ → ℕ → ℕ
-joined window number = window + 2 ^ 28 * number
+joined window number = window + 2 ^ pattern_elements * number
 
 -- the window from a place on
 abbrev pub window_in : ℕ → ℕ → ℕ
-window_in joined place = joined / 2 ^ place % 2 ^ 28
+window_in joined place = joined / 2 ^ place % 2 ^ pattern_elements
 
 -- the ten elements from a place on
 abbrev pub block_in : ℕ → ℕ → ℕ
