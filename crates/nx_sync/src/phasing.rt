@@ -7,7 +7,7 @@
 //!
 //! All is inlined always, since a call would cost more than its few instructions.
 
-ghost use Rattle.std.specs.Prelude.{◌≡◌, ◌/◌, ◌^◌, ◌<◌};
+ghost use Rattle.std.specs.Prelude.{◌≡◌, ◌^◌, ◌<◌};
 ghost use Rattle.nx_sync.specs.Locks.{pattern_elements};
 ghost use Rattle.nx_sync.specs.Windows as locking;
 ghost use Rattle.nx_sync.specs.private.Windows as spec;
@@ -101,7 +101,7 @@ pub(crate) fn is_lock_window(window: u32) -> bool
 #[inline(always)]
 pub(crate) fn may_lock(window: u32) -> bool
     requires { window < 2 ^ pattern_elements }
-    ensures { result ≡ spec.is_in_phasing (window / 2 ^ 21) }
+    ensures { result ≡ spec.is_in_phasing (spec.last_word window) }
 {
     let word = window >> 21;
     (IN_PHASING[(word / 32) as usize] >> (word % 32)) % 2 == 1

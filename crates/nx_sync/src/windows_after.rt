@@ -3,7 +3,7 @@
 //! to be what the rule gives. All but `windows_after` are inlined always, since a call would cost
 //! more than its few instructions.
 
-ghost use Rattle.std.specs.Prelude.{◌≡◌, ℕ, ◌+◌, ◌/◌, ◌^◌, ◌<◌, ◌≤◌, length, take, slice_index};
+ghost use Rattle.std.specs.Prelude.{◌≡◌, ℕ, ◌+◌, ◌^◌, ◌<◌, ◌≤◌, length, take, slice_index};
 ghost use Rattle.nx_code.specs.Packed.{packed_elements};
 ghost use Rattle.nx_code.specs.Word.{elements_from};
 ghost use Rattle.nx_sync.specs.Locks.{pattern_elements};
@@ -117,7 +117,7 @@ pub(crate) fn window_after_whole(number: u64) -> u32
 #[inline(always)]
 pub(crate) fn last_word(window: u32) -> Word
     requires { window < 2 ^ pattern_elements }
-    ensures { result ≡ window / 2 ^ 21 }
+    ensures { result ≡ spec.last_word window }
 {
     Word::new((window >> 21) as u8).unwrap()
 }

@@ -13,7 +13,7 @@ use Rattle.nx_sync.specs.declared.step.Change.{Change}
 use Rattle.nx_sync.specs.declared.step.Change.TheVariants.{Locked, Ended, LostLock}
 use Rattle.nx_sync.specs.Words.{marked_words, losing_count, other_role, is_dx}
 use Rattle.nx_sync.specs.Locks.{pattern_elements}
-use Rattle.nx_sync.specs.private.Windows.{role_after, next_window, window_after}
+use Rattle.nx_sync.specs.private.Windows.{role_after, last_word, next_window, window_after}
 use Rattle.nx_sync.specs.Steps.{step}
 use Rattle.nx_sync.specs.Synchroniser.{Held}
 
@@ -73,10 +73,10 @@ Fills old track new s =
 pub record Completes (old : Held) (track : Track) (new : Held) (s : Step) : Type 0 where
   pub recent : new.recent ≡ old.recent
   pub seen : new.seen ≡ old.seen
-  pub marks : new.wrong ≡ keep_last marked_words (old.wrong ++ is_wrong (old.recent / 2 ^ 21) ∷ [])
+  pub marks : new.wrong ≡ keep_last marked_words (old.wrong ++ is_wrong (last_word old.recent) ∷ [])
   pub change : s.change ≡ change_of track new.wrong
-  pub word : s.word ≡ Some (old.recent / 2 ^ 21, track.role)
-  pub goes_on : s.change ≡ None → new.track ≡ Some (track_after track (old.recent / 2 ^ 21))
+  pub word : s.word ≡ Some (last_word old.recent, track.role)
+  pub goes_on : s.change ≡ None → new.track ≡ Some (track_after track (last_word old.recent))
   pub over : (how : Change) → s.change ≡ Some how → new.track ≡ None
 
 -- what is held after one element was heard, before it is looked at

@@ -29,6 +29,10 @@ next_window window bit = window / 2 + 2 ^ (pattern_elements - 1) * value_of bit
 abbrev pub next_word_window : ℕ → ℕ → ℕ
 next_word_window window word = window / 2 ^ 7 + 2 ^ 21 * word
 
+-- the number of the last word of a window
+abbrev pub last_word : ℕ → ℕ
+last_word window = window / 2 ^ 21
+
 -- bit n is set where the word n is seven elements in a row of phasing, at any place
 abbrev pub in_phasing : ℕ
 in_phasing = 0x52080042000010088001000081008080
