@@ -12,10 +12,10 @@ ghost use Rattle.nx_receiver.specs.copies.Log.{is_of_lines};
 ghost use Rattle.nx_sync.specs.declared.step.Role.TheVariants.{Dx as DxRole};
 
 use crate::report_text::{Shown, append_some};
-use nx_code::{NEWLINE, WORDS_AT_ONCE, Word, check_bits};
+use nx_code::{NEWLINE, Word, check_bits};
 use nx_envelope::{Finder, TextEvent};
 use nx_receiver::LockPrinter;
-use nx_sync::Role;
+use nx_sync::{EightWords, Role, TwoWords};
 use std::marker::Model;
 
 /// Reads the text of a lock, of which it is given one word after the other, and counts its words,
@@ -134,7 +134,7 @@ impl LockReader {
     /// surely no header begins or ends in what they print, and appends that: `true` where it did.
     /// Else nothing changed, and they have to be heard one by one.
     #[inline(always)]
-    pub(crate) fn hear_eight(&mut self, words: &[Word; WORDS_AT_ONCE], shown: &mut Shown) -> bool
+    pub(crate) fn hear_eight(&mut self, words: &EightWords, shown: &mut Shown) -> bool
         requires room { array_vec_len shown.old + 8 ≤ 57856 }
         ensures few { array_vec_len shown.new ≤ array_vec_len shown.old + 8 }
         ensures shows { IsTrue result → ShowsWords self.old self.new DxRole words.now
@@ -153,7 +153,7 @@ impl LockReader {
         }
         self.printer.diversity = printer.diversity;
         self.printer.printer = printer.printer;
-        self.words = self.words.saturating_add(WORDS_AT_ONCE as u64);
+        self.words = self.words.saturating_add(words.len() as u64);
         self.wrong = self.wrong.saturating_add(wrong_among(words));
         self.is_line_open = is_open_after(self.is_line_open, &four.bytes, four.count);
         append_some(shown, four.bytes, four.count);
@@ -163,7 +163,7 @@ impl LockReader {
     /// Hears the next two words of the lock at once, a DX word and an RX word, as `hear_eight`
     /// hears eight.
     #[inline(always)]
-    pub(crate) fn hear_two(&mut self, words: &[Word; 2], shown: &mut Shown) -> bool
+    pub(crate) fn hear_two(&mut self, words: &TwoWords, shown: &mut Shown) -> bool
         requires room { array_vec_len shown.old + 4 ≤ 57856 }
         ensures few { array_vec_len shown.new ≤ array_vec_len shown.old + 4 }
         ensures shows { IsTrue result → ShowsWords self.old self.new DxRole words.now
@@ -177,7 +177,7 @@ impl LockReader {
             return false;
         }
         self.printer = printer;
-        self.words = self.words.saturating_add(2);
+        self.words = self.words.saturating_add(words.len() as u64);
         self.wrong = self.wrong.saturating_add(wrong_of_two(words));
         self.is_line_open = is_open_after(self.is_line_open, &printed.bytes, printed.count);
         append_some(shown, printed.bytes, printed.count);
@@ -230,7 +230,7 @@ impl LockReader {
 
 /// How many of eight words have the wrong weight.
 #[inline(always)]
-fn wrong_among(words: &[Word; WORDS_AT_ONCE]) -> u64
+fn wrong_among(words: &EightWords) -> u64
     ensures { result ≡ wrong_in (slice_index words.now) 0 8 }
 {
     let first_half = one_if_wrong(words[0])
@@ -246,7 +246,7 @@ fn wrong_among(words: &[Word; WORDS_AT_ONCE]) -> u64
 
 /// How many of two words have the wrong weight.
 #[inline(always)]
-fn wrong_of_two(words: &[Word; 2]) -> u64
+fn wrong_of_two(words: &TwoWords) -> u64
     ensures { result ≡ wrong_in (slice_index words.now) 0 2 }
 {
     one_if_wrong(words[0]) + one_if_wrong(words[1])

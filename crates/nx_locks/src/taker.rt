@@ -9,15 +9,11 @@ ghost use Rattle.nx_locks.specs.private.Taker.{Closes, HasRoom, Opens, ReadsWord
 use crate::reader::LockReader;
 use crate::report_text::{Counts, Shown, close_lock, end_report, open_lock};
 use arrayvec::ArrayVec;
-use nx_code::{ELEMENTS, NEWLINE, WORDS_AT_ONCE, Word};
-use nx_sync::{Change, Role, Step, StepTaker};
+use nx_code::{NEWLINE, Word};
+use nx_sync::{
+    Change, ELEMENTS_OF_EIGHT, ELEMENTS_OF_TWO, EightWords, Role, Step, StepTaker, TwoWords,
+};
 use std::marker::Model;
-
-/// How many elements eight words have.
-const EIGHT_WORDS: u64 = (WORDS_AT_ONCE * ELEMENTS) as u64;
-
-/// How many elements two words have.
-const TWO_WORDS: u64 = 2 * ELEMENTS as u64;
 
 /// Takes what the elements bring, and shows their locks.
 ///
@@ -213,20 +209,20 @@ impl StepTaker for LockTaker {
     }
 
     #[inline(always)]
-    fn take_eight(&mut self, words: &[Word; WORDS_AT_ONCE]) -> bool {
+    fn take_eight(&mut self, words: &EightWords) -> bool {
         if !self.reader.hear_eight(words, &mut self.shown) {
             return false;
         }
-        self.elements = self.elements.saturating_add(EIGHT_WORDS);
+        self.elements = self.elements.saturating_add(ELEMENTS_OF_EIGHT as u64);
         true
     }
 
     #[inline(always)]
-    fn take_two(&mut self, words: &[Word; 2]) -> bool {
+    fn take_two(&mut self, words: &TwoWords) -> bool {
         if !self.reader.hear_two(words, &mut self.shown) {
             return false;
         }
-        self.elements = self.elements.saturating_add(TWO_WORDS);
+        self.elements = self.elements.saturating_add(ELEMENTS_OF_TWO as u64);
         true
     }
 

@@ -7,10 +7,9 @@ ghost use Rattle.nx_receiver.specs.private.CopyTaker.{ReadsStep};
 ghost use Rattle.nx_receiver.specs.private.Watch.{IsFresh, over_with};
 
 use crate::lock_reader::LockReader;
-use nx_code::{WORDS_AT_ONCE, Word};
 use nx_envelope::TextEvent;
 use nx_memory::Selection;
-use nx_sync::{Step, StepTaker};
+use nx_sync::{EightWords, Step, StepTaker, TwoWords};
 
 /// What is over with an element that was heard, where anything is. It is copied for each element,
 /// so it is small; a copy that is over is left with the finder.
@@ -121,12 +120,12 @@ impl StepTaker for CopyTaker {
     }
 
     #[inline(always)]
-    fn take_eight(&mut self, words: &[Word; WORDS_AT_ONCE]) -> bool {
+    fn take_eight(&mut self, words: &EightWords) -> bool {
         self.reader.hear_eight(words)
     }
 
     #[inline(always)]
-    fn take_two(&mut self, words: &[Word; 2]) -> bool {
+    fn take_two(&mut self, words: &TwoWords) -> bool {
         self.reader.hear_two(words)
     }
 

@@ -8,9 +8,9 @@ ghost use Rattle.nx_receiver.specs.copies.LockText.{AreNext};
 ghost use Rattle.nx_sync.specs.Words.{role_of};
 ghost use Rattle.nx_sync.specs.declared.step.Role.{Role};
 
-use nx_code::{FourPrinted, Printer, WORDS_AT_ONCE, Word};
+use nx_code::{FourPrinted, Printer, Word};
 use nx_fec::Diversity;
-use nx_sync::Role;
+use nx_sync::{EightWords, Role, TwoWords};
 
 /// Prints the words of a lock, of which it is given one after the other, DX and RX by turns.
 ///
@@ -58,7 +58,7 @@ impl LockPrinter {
     /// Takes the next two words of the lock at once, a DX word and an RX word, and answers the byte
     /// that they print, if they print one.
     #[inline(always)]
-    pub fn print_two(&mut self, words: &[Word; 2]) -> FourPrinted
+    pub fn print_two(&mut self, words: &TwoWords) -> FourPrinted
         ensures printed { (first : Role) (before : ℕ → ℕ) (n : ℕ)
             → PrintsLock self.old first before n → AreNext first before n words.now
             → HasPrintedWords self.new first before n 2 (take result.count result.bytes) }
@@ -72,7 +72,7 @@ impl LockPrinter {
     /// Takes the next eight words of the lock at once, of which the first is a DX word, and answers
     /// the bytes that they print.
     #[inline(always)]
-    pub fn print_eight(&mut self, words: &[Word; WORDS_AT_ONCE]) -> FourPrinted
+    pub fn print_eight(&mut self, words: &EightWords) -> FourPrinted
         ensures printed { (first : Role) (before : ℕ → ℕ) (n : ℕ)
             → PrintsLock self.old first before n → AreNext first before n words.now
             → HasPrintedWords self.new first before n 8 (take result.count result.bytes) }

@@ -12,9 +12,9 @@ ghost use Rattle.nx_receiver.specs.private.LockReader.{HearsWord, PrintsPlain, R
 ghost use Rattle.nx_receiver.specs.copies.LockText.{AreNext, text_after};
 
 use crate::lock_printer::LockPrinter;
-use nx_code::{WORDS_AT_ONCE, Word};
+use nx_code::Word;
 use nx_envelope::{Finder, Found, FoundHead, TextEvent};
-use nx_sync::Role;
+use nx_sync::{EightWords, Role, TwoWords};
 use std::marker::Model;
 
 /// Reads the text of a lock, of which it is given one word after the other, and finds the copies in
@@ -80,7 +80,7 @@ impl LockReader {
     /// surely none of them begins or ends a copy: `true` where it did. Else nothing changed, and
     /// they have to be heard one by one.
     #[inline(always)]
-    pub(crate) fn hear_eight(&mut self, words: &[Word; WORDS_AT_ONCE]) -> bool
+    pub(crate) fn hear_eight(&mut self, words: &EightWords) -> bool
         ensures stands { IsTrue result → (first : Role) (before : ℕ → ℕ) (n : ℕ)
             → ReadsLock self.old first before n → AreNext first before n words.now
             → ReadsLock self.new first before (n + 8) }
@@ -106,7 +106,7 @@ impl LockReader {
     /// Hears the next two words of the lock at once, a DX word and an RX word, as `hear_eight`
     /// hears eight.
     #[inline(always)]
-    pub(crate) fn hear_two(&mut self, words: &[Word; 2]) -> bool
+    pub(crate) fn hear_two(&mut self, words: &TwoWords) -> bool
         ensures stands { IsTrue result → (first : Role) (before : ℕ → ℕ) (n : ℕ)
             → ReadsLock self.old first before n → AreNext first before n words.now
             → ReadsLock self.new first before (n + 2) }

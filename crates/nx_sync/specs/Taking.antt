@@ -7,6 +7,13 @@ use Rattle.nx_sync.specs.declared.step.Step.{Step}
 use Rattle.nx_sync.specs.Steps.{AreQuietWords, IsLastStep, LimitStands}
 use Rattle.nx_sync.specs.Synchroniser.{Held, StandsAfter}
 
+-- how many elements the words have that are taken at once: eight, or two
+abbrev pub elements_of_eight : ℕ
+elements_of_eight = 56
+
+abbrev pub elements_of_two : ℕ
+elements_of_two = 14
+
 -- A synchroniser heard these bits, after whichever it stood, and the last of them brings s, those
 -- before it nothing.
 pub record BringsStep (old new : Held) (bits : List Bool) (s : Step) : Type 0 where

@@ -18,4 +18,6 @@ pub use step::{Change, Role, Step};
 pub use synchroniser::Synchroniser;
 pub use taking::StepTaker;
 pub use windows::first_lock;
-pub use word_synchroniser::WordSynchroniser;
+pub use word_synchroniser::{
+    ELEMENTS_OF_EIGHT, ELEMENTS_OF_TWO, EightWords, TwoWords, WordSynchroniser,
+};

@@ -8,9 +8,8 @@ ghost use Rattle.nx_code.specs.Word.{number_of};
 ghost use Rattle.nx_sync.specs.Words.{losing_count, marked_words};
 ghost use Rattle.nx_sync.specs.private.Eight.{marks_after_words, wrong_ones};
 
-use crate::track::EIGHT;
-use crate::word_synchroniser::numbers;
-use nx_code::{Word, class_of};
+use crate::word_synchroniser::{EightWords, numbers};
+use nx_code::{WORDS_AT_ONCE, class_of};
 use std::marker::Model;
 use std::simd::prelude::*;
 
@@ -71,7 +70,7 @@ impl Marks {
 
     /// Adds the marks of eight words; of more than 64 the oldest go.
     #[inline(always)]
-    pub(crate) fn push_eight(&mut self, words: &[Word; EIGHT])
+    pub(crate) fn push_eight(&mut self, words: &EightWords)
         ensures { self.new ≡ marks_after_words self.old words.now }
     {
         self.bits = (self.bits >> 8) + (wrong_bits(words) << 56);
@@ -108,7 +107,7 @@ impl Marks {
 /// The marks of eight words, whether each has the wrong weight, as bits of a number, the first
 /// word's in the least place.
 #[inline(always)]
-fn wrong_bits(words: &[Word; EIGHT]) -> u64
+fn wrong_bits(words: &EightWords) -> u64
     ensures number { result ≡ number_of (wrong_ones words.now) }
     ensures within { result < 2 ^ 8 }
 {
@@ -119,7 +118,7 @@ fn wrong_bits(words: &[Word; EIGHT]) -> u64
 
 /// The classes of eight words.
 #[inline(always)]
-fn classes(words: &[Word; EIGHT]) -> [u8; EIGHT]
+fn classes(words: &EightWords) -> [u8; WORDS_AT_ONCE]
     ensures { map (λ class. class == 0) result ≡ wrong_ones words.now }
 {
     // Each word is one of 128. That is all that this says, and nothing runs for it.

@@ -6,12 +6,13 @@ ghost use Rattle.std.specs.List.{flat_map};
 ghost use Rattle.nx_code.specs.Word.{elements};
 ghost use Rattle.nx_code.specs.Packed.{packed_elements, packed_part};
 ghost use Rattle.nx_sync.specs.Locks.{pattern_elements};
+ghost use Rattle.nx_sync.specs.Taking.{elements_of_eight, elements_of_two};
 ghost use Rattle.nx_sync.specs.private.Windows as spec;
 ghost use Rattle.nx_sync.specs.private.Windows.{IsBeforeLockIn};
 
 use crate::phasing::{is_block, is_lock_window};
-use crate::track::{EIGHT, TWO};
 use crate::windows_after::{joined, window_after_number};
+use crate::word_synchroniser::{ELEMENTS_OF_EIGHT, ELEMENTS_OF_TWO, EightWords, TwoWords};
 use nx_code::{ELEMENTS, Word, elements_at, packed_word, words_of};
 
 /// How many elements a packed number has.
@@ -37,21 +38,21 @@ pub(crate) fn word_in(numbers: &[u64], place: usize) -> Word
 
 /// The two words of the 14 elements from a place on.
 #[inline(always)]
-pub(crate) fn two_words_in(numbers: &[u64], place: usize) -> [Word; TWO]
-    requires { place + 14 ≤ packed_elements * length numbers.now }
-    ensures { flat_map elements result ≡ packed_part numbers.now place 14 }
+pub(crate) fn two_words_in(numbers: &[u64], place: usize) -> TwoWords
+    requires { place + elements_of_two ≤ packed_elements * length numbers.now }
+    ensures { flat_map elements result ≡ packed_part numbers.now place elements_of_two }
 {
-    let both = elements_at(numbers, place, TWO * ELEMENTS);
+    let both = elements_at(numbers, place, ELEMENTS_OF_TWO);
     [packed_word(both % 128), packed_word(both >> ELEMENTS)]
 }
 
 /// The eight words of the 56 elements from a place on.
 #[inline(always)]
-pub(crate) fn eight_words_in(numbers: &[u64], place: usize) -> [Word; EIGHT]
-    requires { place + 56 ≤ packed_elements * length numbers.now }
-    ensures { flat_map elements result ≡ packed_part numbers.now place 56 }
+pub(crate) fn eight_words_in(numbers: &[u64], place: usize) -> EightWords
+    requires { place + elements_of_eight ≤ packed_elements * length numbers.now }
+    ensures { flat_map elements result ≡ packed_part numbers.now place elements_of_eight }
 {
-    words_of(elements_at(numbers, place, EIGHT * ELEMENTS))
+    words_of(elements_at(numbers, place, ELEMENTS_OF_EIGHT))
 }
 
 /// Whether one of the windows after each of the 64 elements of a number may be a pattern. The first

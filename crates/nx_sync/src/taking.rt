@@ -8,21 +8,16 @@ ghost use Rattle.std.specs.List.{flat_map};
 ghost use Rattle.nx_code.specs.Packed.{packed_elements, packed_part};
 ghost use Rattle.nx_code.specs.Word.{elements};
 ghost use Rattle.nx_sync.specs.Synchroniser.{Held, is_between_words, is_hunting};
-ghost use Rattle.nx_sync.specs.Taking.{BringsStep, BringsWords, IsTaken};
+ghost use Rattle.nx_sync.specs.Taking.{BringsStep, BringsWords, IsTaken, elements_of_eight, elements_of_two};
 ghost use Rattle.nx_sync.specs.private.Taking.{HasPart, TakesSome};
 
 use crate::packed::{eight_words_in, element, two_words_in, word_in};
 use crate::step::Step;
 use crate::synchroniser::Synchroniser;
-use crate::track::{EIGHT, TWO};
-use crate::word_synchroniser::WordSynchroniser;
-use nx_code::{ELEMENTS, Word};
-
-/// How many elements eight words have.
-const EIGHT_WORDS: usize = EIGHT * ELEMENTS;
-
-/// How many elements two words have.
-const TWO_WORDS: usize = TWO * ELEMENTS;
+use crate::word_synchroniser::{
+    ELEMENTS_OF_EIGHT, ELEMENTS_OF_TWO, EightWords, TwoWords, WordSynchroniser,
+};
+use nx_code::ELEMENTS;
 
 /// Takes what the elements bring that a synchroniser hears, in order.
 pub trait StepTaker {
@@ -48,20 +43,22 @@ pub trait StepTaker {
     /// Takes eight words of a lock that bring no change, the first of which is a DX word, at once,
     /// where surely nothing is over with any of them: `true` where it did. Else nothing changed,
     /// and they have to be taken one by one.
-    fn take_eight(&mut self, words: &[Word; EIGHT]) -> bool
-        requires can { can_take self.old 56 }
+    fn take_eight(&mut self, words: &EightWords) -> bool
+        requires can { can_take self.old elements_of_eight }
         ensures hears { IsTrue result → (old new : Held) → BringsWords old new words.now
             → hears old self.old (flat_map elements words.now) new self.new None }
-        ensures can { (more : ℕ) → can_take self.old (56 + more) → can_take self.new more }
+        ensures can { (more : ℕ) → can_take self.old (elements_of_eight + more)
+            → can_take self.new more }
         ensures same { result ≡ false → self.new ≡ self.old };
 
     /// Takes two words of a lock that bring no change, a DX word and an RX word, as `take_eight`
     /// takes eight.
-    fn take_two(&mut self, words: &[Word; TWO]) -> bool
-        requires can { can_take self.old 14 }
+    fn take_two(&mut self, words: &TwoWords) -> bool
+        requires can { can_take self.old elements_of_two }
         ensures hears { IsTrue result → (old new : Held) → BringsWords old new words.now
             → hears old self.old (flat_map elements words.now) new self.new None }
-        ensures can { (more : ℕ) → can_take self.old (14 + more) → can_take self.new more }
+        ensures can { (more : ℕ) → can_take self.old (elements_of_two + more)
+            → can_take self.new more }
         ensures same { result ≡ false → self.new ≡ self.old };
 
     /// No elements bring nothing.
@@ -248,13 +245,13 @@ impl WordSynchroniser {
         ensures takes { TakesSome T.hears T.can_take self.old taker.old numbers.now from count
             self.new taker.new result }
     {
-        if count >= EIGHT_WORDS {
+        if count >= ELEMENTS_OF_EIGHT {
             if self.hear_eight(taker, &eight_words_in(numbers, from)) {
-                return (EIGHT_WORDS, None);
+                return (ELEMENTS_OF_EIGHT, None);
             }
         }
         let few = if self.awaits_dx() {
-            EIGHT_WORDS
+            ELEMENTS_OF_EIGHT
         } else {
             ELEMENTS
         };
@@ -305,9 +302,9 @@ impl WordSynchroniser {
         ensures takes { TakesSome T.hears T.can_take self.old taker.old numbers.now from count
             self.new taker.new result }
     {
-        if count >= TWO_WORDS {
+        if count >= ELEMENTS_OF_TWO {
             if self.hear_two(taker, &two_words_in(numbers, from)) {
-                return (TWO_WORDS, None);
+                return (ELEMENTS_OF_TWO, None);
             }
         }
         let step = self.push(word_in(numbers, from));
@@ -317,9 +314,9 @@ impl WordSynchroniser {
     /// Hears these two words, which come next, at once, where neither the lock nor anything for the
     /// taker is over with them: `true` where it did. Else nothing changed.
     #[inline(always)]
-    fn hear_two<T: StepTaker>(&mut self, taker: &mut T, words: &[Word; TWO]) -> bool
+    fn hear_two<T: StepTaker>(&mut self, taker: &mut T, words: &TwoWords) -> bool
         requires limit { IsTrue (is_between_words self.old) }
-        requires can { T.can_take taker.old 14 }
+        requires can { T.can_take taker.old elements_of_two }
         ensures taken { IsTrue result → IsTaken T.hears T.can_take self.old taker.old
             (flat_map elements words.now) self.new taker.new None }
         ensures limit { IsTrue (is_between_words self.new) }
@@ -339,9 +336,9 @@ impl WordSynchroniser {
     /// Hears these eight words, which come next, at once, where neither the lock nor anything for
     /// the taker is over with them: `true` where it did. Else nothing changed.
     #[inline(always)]
-    fn hear_eight<T: StepTaker>(&mut self, taker: &mut T, words: &[Word; EIGHT]) -> bool
+    fn hear_eight<T: StepTaker>(&mut self, taker: &mut T, words: &EightWords) -> bool
         requires limit { IsTrue (is_between_words self.old) }
-        requires can { T.can_take taker.old 56 }
+        requires can { T.can_take taker.old elements_of_eight }
         ensures taken { IsTrue result → IsTaken T.hears T.can_take self.old taker.old
             (flat_map elements words.now) self.new taker.new None }
         ensures limit { IsTrue (is_between_words self.new) }

@@ -10,13 +10,6 @@ use crate::phasing::PHASING_1;
 use crate::step::{Change, Role, Step};
 use nx_code::Word;
 
-/// How many words are heard at once where so many are left: an even number, so that the roles stay
-/// in step.
-pub(crate) const EIGHT: usize = 8;
-
-/// How many are heard at once else: a DX word and the RX word behind it.
-pub(crate) const TWO: usize = 2;
-
 /// How a lock is followed. One that is copied for each word, so all of it is small.
 #[derive(Clone, Copy, Debug)]
 pub(crate) struct Track {

@@ -11,7 +11,7 @@ ghost use Rattle.nx_sync.specs.private.Eight.{last_four};
 ghost use Rattle.nx_sync.specs.private.Windows as spec;
 
 use crate::phasing::PATTERN;
-use crate::track::EIGHT;
+use crate::word_synchroniser::EightWords;
 use nx_code::Word;
 
 /// How many elements are hunted through at once. A pattern that ends at one of them has the seven
@@ -73,7 +73,7 @@ pub(crate) fn next_word_window(window: u32, word: Word) -> u32
 /// The window after eight words, which is what the rule gives for their elements, whichever window
 /// was before: it has the last four words.
 #[inline(always)]
-pub(crate) fn window_after_eight(words: &[Word; EIGHT]) -> u32
+pub(crate) fn window_after_eight(words: &EightWords) -> u32
     ensures value { result ≡ last_four words.now }
     ensures within { result < 2 ^ pattern_elements }
 {

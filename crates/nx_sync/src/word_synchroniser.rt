@@ -15,10 +15,23 @@ ghost use Rattle.nx_sync.specs.Synchroniser.{StandsAfter, is_between_words, keep
 use crate::mark_bits::Marks;
 use crate::phasing::PHASING_1;
 use crate::step::{Role, Step};
-use crate::track::{EIGHT, TWO, Track};
+use crate::track::Track;
 use crate::windows_after::{next_word_window, window_after_eight};
-use nx_code::{Word, check_bits};
+use nx_code::{ELEMENTS, WORDS_AT_ONCE, Word, check_bits};
 use std::marker::Model;
+
+/// Eight words of a lock, the first of which is a DX word: heard at once where so many are left.
+/// Their number is even, so that the roles stay in step.
+pub type EightWords = [Word; WORDS_AT_ONCE];
+
+/// How many elements eight words have.
+pub const ELEMENTS_OF_EIGHT: usize = WORDS_AT_ONCE * ELEMENTS;
+
+/// A DX word of a lock and the RX word behind it: heard at once where eight words are not.
+pub type TwoWords = [Word; 2];
+
+/// How many elements two words have.
+pub const ELEMENTS_OF_TWO: usize = 2 * ELEMENTS;
 
 /// How many bytes the fields take (on the target of this toolchain).
 const BYTES: usize = 24;
@@ -147,19 +160,21 @@ impl WordSynchroniser {
     /// `push_two` may hear them. It says no where `keeps_lock` does, but to some in a lock that is
     /// nearly lost.
     #[inline(always)]
-    pub(crate) fn keeps_lock_for_two(&self, words: &[Word; TWO]) -> bool
+    pub(crate) fn keeps_lock_for_two(&self, words: &TwoWords) -> bool
         ensures { result ≡ keeps_lock self.now words.now }
     {
         let Some(track) = self.track else {
             return false;
         };
-        track.awaits_free_dx() & (words[0].number() != PHASING_1) & self.marks.keeps_lock_for(TWO)
+        track.awaits_free_dx()
+            & (words[0].number() != PHASING_1)
+            & self.marks.keeps_lock_for(words.len())
     }
 
     /// Hears two words, a DX word and an RX word: what `push` does of one after the other. Neither
     /// of them brings a change.
     #[inline(always)]
-    pub(crate) fn push_two(&mut self, words: &[Word; TWO])
+    pub(crate) fn push_two(&mut self, words: &TwoWords)
         requires { IsTrue (keeps_lock self.old words.now) }
         ensures stands { (h : List Bool) → StandsAfter self.old h
             → StandsAfter self.new (h ++ flat_map elements words.now) }
@@ -176,19 +191,19 @@ impl WordSynchroniser {
     /// `push_eight` may hear them. It says no to some that bring none: where a lock is in phasing
     /// the other way round, where a DX word is phasing signal 1, and in a lock that is nearly lost.
     #[inline(always)]
-    pub fn keeps_lock(&self, words: &[Word; EIGHT]) -> bool
+    pub fn keeps_lock(&self, words: &EightWords) -> bool
         ensures { result ≡ keeps_lock self.now words.now }
     {
         let Some(track) = self.track else {
             return false;
         };
-        track.awaits_free_dx() & !has_dx_phasing_1(words) & self.marks.keeps_lock_for(EIGHT)
+        track.awaits_free_dx() & !has_dx_phasing_1(words) & self.marks.keeps_lock_for(words.len())
     }
 
     /// Hears eight words, the first of which is a DX word: what `push` does of one after the other.
     /// None of them brings a change.
     #[inline(always)]
-    pub fn push_eight(&mut self, words: &[Word; EIGHT])
+    pub fn push_eight(&mut self, words: &EightWords)
         requires { IsTrue (keeps_lock self.old words.now) }
         ensures stands { (h : List Bool) → StandsAfter self.old h
             → StandsAfter self.new (h ++ flat_map elements words.now) }
@@ -206,7 +221,7 @@ impl WordSynchroniser {
 
 /// The numbers of eight words.
 #[inline(always)]
-pub(crate) fn numbers(words: &[Word; EIGHT]) -> [u8; EIGHT]
+pub(crate) fn numbers(words: &EightWords) -> [u8; WORDS_AT_ONCE]
     ensures value { result ≡ words.now }
     ensures small { (k : ℕ) → k < 8 → slice_index result k < 128 }
 {
@@ -224,7 +239,7 @@ pub(crate) fn numbers(words: &[Word; EIGHT]) -> [u8; EIGHT]
 
 /// Whether the first of eight words, or each second one after it, is phasing signal 1.
 #[inline(always)]
-fn has_dx_phasing_1(words: &[Word; EIGHT]) -> bool
+fn has_dx_phasing_1(words: &EightWords) -> bool
     ensures { result ≡ held.has_dx_phasing_1 words.now }
 {
     (words[0].number() == PHASING_1)

@@ -5,6 +5,7 @@ use Rattle.nx_code.specs.Word.{elements}
 use Rattle.nx_sync.proofs.lemmas.words.TakenSteps.{length-of_words}
 use Rattle.nx_sync.proofs.lemmas.words.WordLimits.{limit_by}
 use Rattle.nx_sync.specs.Synchroniser.{is_between_words}
+use Rattle.nx_sync.specs.Taking.{elements_of_eight}
 use Rattle.nx_sync.proofs.word_synchroniser.WordSynchroniser.hear_eight.Goals as goal
 use Rattle.std.proofs.Common.{refl}
 
@@ -12,7 +13,7 @@ pub returns-clause-taken : goal.returns-clause-taken
 returns-clause-taken g c is =
     let words = c.args.words.now in
     let took : IsTrue c.take_eight.result = search rules in
-    let size : 56 ≡ length (flat_map elements words) =
+    let size : elements_of_eight ≡ length (flat_map elements words) =
     omega (arith, length-of_words words, c.told-words) in
     record {
       taken = c.take_eight.ensures.hears took c.args.self.now c.push_eight.new.self (record {

@@ -2,13 +2,14 @@ use Rattle.std.proofs.Common.{◌≡◌, ◌-◌, ◌∙◌, List, Bool, arith, 
 use Rattle.nx_code.proofs.lemmas.Packed.{length-elements}
 use Rattle.nx_code.specs.Word.{elements}
 use Rattle.nx_sync.specs.Taking.{IsTaken}
+use Rattle.nx_sync.specs.Taking.{elements_of_two}
 use Rattle.nx_sync.proofs.lemmas.words.TakenSteps.{step_taken, takes_part, word_last}
 use Rattle.nx_sync.proofs.word_synchroniser.WordSynchroniser.hear_word.Goals as goal
-use Rattle.nx_sync.proofs.word_synchroniser.WordSynchroniser.hear_word.Goals.{After-take, then-count-ge-TWO_WORDS+else-hear_two, else-count-ge-TWO_WORDS}
+use Rattle.nx_sync.proofs.word_synchroniser.WordSynchroniser.hear_word.Goals.{After-take, then-count-ge-ELEMENTS_OF_TWO+else-hear_two, else-count-ge-ELEMENTS_OF_TWO}
 
 pub hear_two-requires-clause-can : goal.hear_two-requires-clause-can
 hear_two-requires-clause-can g c =
-    g.met.T.StepTaker.fewer c.args.taker.now 14 (c.args.count - 14)
+    g.met.T.StepTaker.fewer c.args.taker.now elements_of_two (c.args.count - elements_of_two)
     (subst (g.T.StepTaker.can_take c.args.taker.now) (omega arith) c.requires.can)
 
 pub returns-then-hear_two : goal.returns-then-hear_two
@@ -19,24 +20,24 @@ returns-then-hear_two g c = record {
 }
 
 -- where a word is heard alone, nothing was heard before
-unheard : (g : _) → (c : After-take g) → (c.if-count-ge-TWO_WORDS.self ≡ c.args.self.now)
-    × (c.if-count-ge-TWO_WORDS.taker ≡ c.args.taker.now)
-unheard g c = elim c.if-count-ge-TWO_WORDS.branch [
-  | then-count-ge-TWO_WORDS+else-hear_two w ↦ (
+unheard : (g : _) → (c : After-take g) → (c.if-count-ge-ELEMENTS_OF_TWO.self ≡ c.args.self.now)
+    × (c.if-count-ge-ELEMENTS_OF_TWO.taker ≡ c.args.taker.now)
+unheard g c = elim c.if-count-ge-ELEMENTS_OF_TWO.branch [
+  | then-count-ge-ELEMENTS_OF_TWO+else-hear_two w ↦ (
     w.self-is ∙ w.hear_two.ensures.same (search rules),
     w.taker-is ∙ w.hear_two.ensures.same_taker (search rules),
   )
-  | else-count-ge-TWO_WORDS w ↦ (w.self-is, w.taker-is)
+  | else-count-ge-ELEMENTS_OF_TWO w ↦ (w.self-is, w.taker-is)
 ]
 
 pub take-requires-clause-can : goal.take-requires-clause-can
 take-requires-clause-can g c =
-    g.met.T.StepTaker.fewer c.if-count-ge-TWO_WORDS.taker 7 (c.args.count - 7)
+    g.met.T.StepTaker.fewer c.if-count-ge-ELEMENTS_OF_TWO.taker 7 (c.args.count - 7)
     (subst₂ (λ t n. g.T.StepTaker.can_take t n)
-    (sym (elim c.if-count-ge-TWO_WORDS.branch [
-      | then-count-ge-TWO_WORDS+else-hear_two w ↦
+    (sym (elim c.if-count-ge-ELEMENTS_OF_TWO.branch [
+      | then-count-ge-ELEMENTS_OF_TWO+else-hear_two w ↦
           w.taker-is ∙ w.hear_two.ensures.same_taker (search rules)
-      | else-count-ge-TWO_WORDS w ↦ w.taker-is
+      | else-count-ge-ELEMENTS_OF_TWO w ↦ w.taker-is
     ])) (omega arith) c.requires.can)
 
 pub returns : goal.returns
@@ -48,9 +49,9 @@ returns g c =
       takes = takes_part hears can_take
           (subst₂ (λ s t. IsTaken hears can_take s t word c.push-step.new.self c.take.new.self
           c.take.result) (unheard g c).0 (unheard g c).1
-          (step_taken hears can_take c.if-count-ge-TWO_WORDS.self c.push-step.new.self
-          c.if-count-ge-TWO_WORDS.taker c.take.new.self word 7 c.push-step.result c.take.result
-          (length-elements c.word_in.result) c.push-step.ensures.stands
+          (step_taken hears can_take c.if-count-ge-ELEMENTS_OF_TWO.self c.push-step.new.self
+          c.if-count-ge-ELEMENTS_OF_TWO.taker c.take.new.self word 7 c.push-step.result
+          c.take.result (length-elements c.word_in.result) c.push-step.ensures.stands
           (λ h a. word_last h word c.push-step.result (length-elements c.word_in.result)
           (c.push-step.ensures.step h a)) c.take.ensures.hears c.take.ensures.can))
           c.word_in.ensures (omega arith) (omega arith);
