@@ -10,6 +10,7 @@ ghost use Rattle.nx_sync.specs.Locks.{pattern_elements};
 ghost use Rattle.nx_sync.specs.Steps.{step, LockStands, LimitStands, IsStep, HuntsThrough, IsWordStep};
 ghost use Rattle.nx_sync.specs.private.Windows as spec;
 ghost use Rattle.nx_sync.specs.private.Calls.{heard_one, track_from, BeginsLock, Fills, Completes, Passes, Skips, SkipsSome, SkipsEarly};
+ghost use Rattle.nx_sync.specs.Taking.{BringsStep};
 ghost use Rattle.nx_sync.specs.private.Taking.{HasPart};
 ghost use Rattle.nx_sync.specs.Synchroniser.{StandsAfter, is_hunting, is_between_words};
 
@@ -24,7 +25,7 @@ use crate::windows_after::{
     windows_after,
 };
 use crate::word_synchroniser::WordSynchroniser;
-use nx_code::{ELEMENTS, Word, check_bits};
+use nx_code::{ELEMENTS, Word, check_bits, elements_at};
 use std::alloc::{AllocError, Global};
 use std::marker::Model;
 
@@ -272,6 +273,30 @@ impl Synchroniser {
         let (next, step) = track.complete(word, self.marks.loses_lock());
         self.track = next;
         step
+    }
+
+    /// Hears the next of these packed elements up to the end of the word in which they stand, all
+    /// where they are fewer: what as many pushes do. Says how many those are, and what the last one
+    /// brings; those before it bring nothing. Never inlined: the loops over whole words have the
+    /// registers to themselves.
+    #[inline(never)]
+    pub(crate) fn push_part(&mut self, numbers: &[u64], from: usize, count: usize) -> (usize, Step)
+        requires locked { is_hunting self.old ≡ false }
+        requires some { 0 < count }
+        requires room { from + count ≤ packed_elements * length numbers.now }
+        ensures within { result.0 ≤ count }
+        ensures some { 0 < result.0 }
+        ensures brings { BringsStep self.old self.new (packed_part numbers.now from result.0)
+            result.1 }
+    {
+        let Some(track) = self.track else {
+            unreachable!();
+        };
+        let heard = count.min(ELEMENTS - usize::from(track.filled));
+        let number = elements_at(numbers, from, heard);
+        self.recent = window_after_number(self.recent, number, heard);
+        let filled = track.filled + (heard - 1) as u8;
+        (heard, self.follow(Track { filled, ..track }))
     }
 
     /// Hears the packed elements that come too early to be the last of 28, and says how many.

@@ -1,7 +1,6 @@
-//! How packed elements are heard for a taker. What comes next, a hunt, one element, one word or
-//! eight of them, is decided here alone, and what the synchroniser holds meanwhile. What runs for
-//! each element or each word is inlined always, since its answers would go through memory
-//! otherwise.
+//! How packed elements are heard for a taker. What comes next, a hunt, a part of a word, one word,
+//! two or eight of them, is decided here alone, and what the synchroniser holds meanwhile. What
+//! runs for each word is inlined always, since its answers would go through memory otherwise.
 
 ghost use Rattle.std.specs.Prelude.{◌≡◌, ℕ, ◌+◌, ◌*◌, ◌^◌, ◌<◌, ◌≤◌, List, Bool, Option, None, false, [], ◌++◌, length, take, IsTrue};
 ghost use Rattle.std.specs.List.{flat_map};
@@ -146,7 +145,7 @@ impl Synchroniser {
         (heard, None)
     }
 
-    /// Hears one or more of these elements: those of a hunt, whole words, or one element.
+    /// Hears one or more of these elements: those of a hunt, whole words, or a part of a word.
     #[inline(always)]
     fn hear_part<T: StepTaker>(
         &mut self,
@@ -170,8 +169,8 @@ impl Synchroniser {
             self.go_on_from(&words);
             return answer;
         }
-        let step = self.push(element(numbers, from));
-        (1, taker.take(1, step))
+        let (part, step) = self.push_part(numbers, from, count);
+        (part, taker.take(part, step))
     }
 
     /// Hears the elements of a hunt: those up to and with the one that locks, all where none does.

@@ -3,6 +3,7 @@ pub mod Computed
 pub mod EightWords
 pub mod MarkBits
 pub mod Marks
+pub mod PartWords
 pub mod Releases
 pub mod Roles
 pub mod TakenSteps

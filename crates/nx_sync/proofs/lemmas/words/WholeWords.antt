@@ -57,11 +57,11 @@ filled_on-front held track b bits =
     (omega arith)
 
 -- what is held inside a word, and that nothing was brought
-record RunsInside (held : Held) (track : Track) (before bits : List Bool) : Type 0 where
+pub record RunsInside (held : Held) (track : Track) (before bits : List Bool) : Type 0 where
   pub stands : StandsAfter (filled_on held track bits) (before ++ bits)
   pub quiet : (k : ℕ) → k < length bits → IsStep (before ++ take (k + 1) bits) (step None None)
 
-runs_inside : (bits : List Bool) (held : Held) (track : Track) (before : List Bool)
+pub runs_inside : (bits : List Bool) (held : Held) (track : Track) (before : List Bool)
     → StandsAfter held before → held.track ≡ Some track → track.filled + length bits < 7
     → RunsInside held track before bits
 runs_inside [] held track before a is short =
@@ -93,7 +93,7 @@ runs_inside (b ∷ bits) held track before a is short =
     }
 
 -- a word that is complete, by another value that holds the same elements and marks
-same_word : (held : Held) (recent recent' seen seen' : ℕ) (track : Track) (filled : ℕ)
+pub same_word : (held : Held) (recent recent' seen seen' : ℕ) (track : Track) (filled : ℕ)
     (others : Option Track) (x : Held) (r : Step) → recent ≡ recent' → seen ≡ seen'
     → Completes (record held { recent = recent; seen = seen }) track x r
     → Completes (record held { recent = recent'; seen = seen'; track = others })
