@@ -317,15 +317,21 @@ impl Finder {
 }
 
 /// Appends the first `count` of these bytes.
+// How many are copied is a constant in each arm, so that no arm calls for a copy.
 #[inline(always)]
 fn append(text: &mut ArrayVec<u8, MAX_FOUND>, bytes: [u8; MARKER_LEN], count: usize)
     requires room { length text.old.items + 4 ≤ 4100 }
     requires few { count ≤ 4 }
     ensures { text.new.items ≡ text.old.items ++ take count bytes }
 {
-    let length = text.len() + count;
-    text.try_extend_from_slice(&bytes).unwrap();
-    text.truncate(length);
+    let [first, second, third, _] = bytes;
+    match count {
+        0 => {}
+        1 => text.push(first),
+        2 => text.try_extend_from_slice(&[first, second]).unwrap(),
+        3 => text.try_extend_from_slice(&[first, second, third]).unwrap(),
+        _ => text.try_extend_from_slice(&bytes).unwrap(),
+    }
 }
 
 /// The errors of a found text.
