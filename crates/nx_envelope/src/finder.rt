@@ -55,7 +55,7 @@ impl Model for Finder {
 }
 
 impl Finder {
-    ghost use Rattle.std.specs.Prelude.{◌↔◌, ◌<◌, [], IsTrue, false, length, reverse};
+    ghost use Rattle.std.specs.Prelude.{◌↔◌, ◌≢◌, ◌<◌, [], Bool, IsTrue, false, length, reverse};
     ghost use Rattle.std.specs.Prelude.{IsNone, MatchOption};
     ghost use Rattle.nx_envelope.specs.private.Backward.{header_back};
     ghost use Rattle.nx_envelope.specs.Copies.{Copy, open_headers};
@@ -63,6 +63,7 @@ impl Finder {
     ghost use Rattle.nx_envelope.specs.Finder.{StandsAfter, held_identity, is_over, is_ready};
     ghost use Rattle.nx_envelope.specs.private.Finding.{Hearing};
     ghost use Rattle.nx_envelope.specs.Found.{IsFound, IsHeadOf};
+    ghost use Rattle.nx_envelope.specs.declared.found.HeldCopy.TheVariants.{Open};
 
     /// A finder of a text of which nothing was seen yet.
     pub fn new() -> Finder
@@ -120,9 +121,9 @@ impl Finder {
     }
 
     /// Takes in the first `count` of these bytes at once, where surely none of them begins or ends
-    /// a copy: `true` where it did. Else nothing changed, and they have to be heard one by one. It
-    /// is `true` only in an open copy behind whose header something stands already, and where no
-    /// copy is open or can be taken and no header has begun.
+    /// a copy: `true` where it did, and a copy that could be taken is gone. Else nothing changed,
+    /// and they have to be heard one by one. In an open copy it is `true` only where something
+    /// stands behind the header already.
     #[inline(always)]
     pub fn hear_plain(&mut self, bytes: [u8; MARKER_LEN], count: usize) -> bool
         requires { count ≤ 4 }
@@ -134,7 +135,7 @@ impl Finder {
         ensures same { result ≡ false → self.new ≡ self.old }
     {
         let HeldCopy::Open(_, fresh) = self.copy else {
-            return self.pass_plain(bytes, count);
+            return self.pass_plain(bytes, count) || self.pass_one_by_one(bytes, count);
         };
         let eight = eight_of(self.recent, bytes);
         if fresh | ends_marker(eight) | (self.text.len() >= MAX_FOUND - MARKER_LEN) {
@@ -165,6 +166,35 @@ impl Finder {
             return false;
         }
         self.recent = four_behind(eight, count).to_le_bytes();
+        true
+    }
+
+    /// Takes in bytes as `hear_plain` does, where no copy is open and none of them completes a
+    /// header. It looks at one after the other, for which a header may have begun.
+    #[inline(always)]
+    fn pass_one_by_one(&mut self, bytes: [u8; MARKER_LEN], count: usize) -> bool
+        requires few { count ≤ 4 }
+        requires none { (identity : Identity) (fresh : Bool) → self.old.copy ≢ Open identity fresh }
+        ensures stands { IsTrue result → (text : List ℕ) → StandsAfter self.old text
+            → StandsAfter self.new (text ++ take count bytes) }
+        ensures brings { IsTrue result → (text : List ℕ) → StandsAfter self.old text
+            → BringNothing text (take count bytes) }
+        ensures ready { IsTrue result → is_ready self.new ≡ false }
+        ensures same { result ≡ false → self.new ≡ self.old }
+    {
+        let eight = eight_of(self.recent, bytes);
+        let mut stage = self.stage;
+        for place in 0..count {
+            let byte = bytes[place];
+            if stage.header(byte).is_some() {
+                return false;
+            }
+            let recent = four_behind(eight, place).to_le_bytes();
+            stage = stage.next(recent == START_MARKER, byte);
+        }
+        self.recent = four_behind(eight, count).to_le_bytes();
+        self.stage = stage;
+        self.copy = HeldCopy::Nothing;
         true
     }
 

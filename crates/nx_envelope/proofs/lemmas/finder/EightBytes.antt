@@ -3,6 +3,7 @@ use Rattle.std.proofs.Common.{◌≡◌, ℕ, ◌+◌, ◌*◌, ◌^◌, ◌/◌
 use Rattle.std.proofs.Common.{◌++◌, length, take, reverse, refl, sym, ap, ◌∙◌, arith, get_or}
 use Rattle.std.specs.Prelude.{slice_index}
 use Rattle.std.specs.Int.{from_le_bytes, to_le_bytes, w32}
+use Rattle.std.proofs.lemmas.List.{reverse-append}
 use Rattle.std.proofs.lemmas.Nat.{le_bytes_4}
 use Rattle.nx_envelope.specs.private.Backward.{last_four}
 use Rattle.nx_envelope.specs.private.Windows.{Four, IsEight, window}
@@ -177,7 +178,7 @@ later_by eight back bytes w (suc (suc (suc (suc zero)))) few r3 r2 r1 r0 =
 later_by eight back bytes w (suc (suc (suc (suc (suc count))))) few r3 r2 r1 r0 =
     absurd (omega arith)
 
-pub four_later : (eight : ℕ) (back bytes : List ℕ) → IsEight eight back bytes → (count : ℕ)
+four_later : (eight : ℕ) (back bytes : List ℕ) → IsEight eight back bytes → (count : ℕ)
     → count ≤ 4
     → to_le_bytes w32 (window eight count) ≡ last_four (reverse (take count bytes) ++ back)
 four_later eight back bytes w count few =
@@ -188,3 +189,11 @@ four_later eight back bytes w count few =
     later_by eight back bytes w count few (rw p3 w.old.first_fits) (rw p2 w.old.second_fits)
     (rw p1 w.old.third_fits) (rw p0 w.old.last_fits)
     ∙ ap (λ (bs : List ℕ). last_four (reverse (take count bs) ++ back)) (sym w.new.spelled)
+
+-- and as the text is read from its front
+pub four_on : (eight : ℕ) (text bytes : List ℕ) → IsEight eight (reverse text) bytes → (count : ℕ)
+    → count ≤ 4
+    → to_le_bytes w32 (window eight count) ≡ last_four (reverse (text ++ take count bytes))
+four_on eight text bytes w count few =
+    four_later eight (reverse text) bytes w count few
+    ∙ ap last_four (sym (reverse-append text (take count bytes)))

@@ -1,12 +1,12 @@
 -- Bytes that an open copy takes in one after the other, where none of them ends it, and bytes
 -- behind which no header begins where no copy is open.
 use Rattle.std.proofs.Common.{◌≡◌, ℕ, ◌+◌, ◌<◌, ◌≤◌, zero, suc, ◌||◌, nat_le, Bool, false, None}
-use Rattle.std.proofs.Common.{List, [], ◌∷◌, ◌++◌, length, take, reverse, refl, sym, ◌∙◌, subst}
-use Rattle.std.proofs.Common.{arith, length-append, append_assoc}
+use Rattle.std.proofs.Common.{List, [], ◌∷◌, ◌++◌, length, take, reverse, refl, sym, ap, ◌∙◌, subst}
+use Rattle.std.proofs.Common.{arith, below_more, length-append, append_assoc}
 use Rattle.std.specs.Prelude.{slice_index}
 use Rattle.std.proofs.lemmas.Bool.{leb-false, or_parts}
-use Rattle.std.proofs.lemmas.List.{append-nil, length-take}
-use Rattle.nx_envelope.specs.private.Backward.{marker_back}
+use Rattle.std.proofs.lemmas.List.{append-nil, get_or-take, length-take, length-take-le, take-take, take_more}
+use Rattle.nx_envelope.specs.private.Backward.{header_back, marker_back}
 use Rattle.nx_envelope.specs.Copies.{open_headers}
 use Rattle.nx_envelope.specs.Finder.{BringNothing, HoldsOpen, Keeps}
 use Rattle.nx_envelope.specs.private.Stage.{IsStageOf}
@@ -93,6 +93,48 @@ no_markers a b c d back m1 m2 m3 m4 (suc (suc zero)) few = (m1, (m2, tt))
 no_markers a b c d back m1 m2 m3 m4 (suc (suc (suc zero))) few = (m1, (m2, (m3, tt)))
 no_markers a b c d back m1 m2 m3 m4 (suc (suc (suc (suc zero)))) few = (m1, (m2, (m3, (m4, tt))))
 no_markers a b c d back m1 m2 m3 m4 (suc (suc (suc (suc (suc count))))) few = absurd (omega arith)
+
+-- so many of these bytes went by where no copy is open, and the header at the end has this stage
+pub record WentBy (reached : Stage) (text bytes : List ℕ) (count : ℕ) : Type 0 where
+  pub none : open_headers (text ++ take count bytes) ≡ []
+  pub stage : IsStageOf reached (reverse (text ++ take count bytes))
+  pub brings : (k : ℕ) → k < count → Keeps (text ++ take k bytes) (slice_index bytes k)
+
+pub none_by : (stage : Stage) (text bytes : List ℕ) → open_headers text ≡ []
+    → IsStageOf stage (reverse text) → WentBy stage text bytes 0
+none_by stage text bytes shut is = record {
+  none = rw (append-nil text) shut;
+  stage = rw (append-nil text) is;
+  brings = λ k lt. absurd (omega arith);
+}
+
+-- the next byte completes no header
+pub one_by : (stage next : Stage) (text bytes : List ℕ) (k b : ℕ) → k < length bytes
+    → b ≡ slice_index bytes k → WentBy stage text bytes k
+    → header_back (b ∷ reverse (text ++ take k bytes)) ≡ None
+    → IsStageOf next (b ∷ reverse (text ++ take k bytes)) → WentBy next text bytes (k + 1)
+one_by stage next text bytes k b lt is w none stands =
+    let before = text ++ take k bytes in
+    let keeps = still_none before b w.none none in
+    let longer : before ++ b ∷ [] ≡ text ++ take (k + 1) bytes =
+    append_assoc text (take k bytes) (b ∷ [])
+    ∙ ap (λ bs. text ++ bs)
+    (ap (λ x. take k bytes ++ x ∷ []) is ∙ sym (take_more bytes k 0 lt)) in
+    record {
+      none = subst (λ t. open_headers t ≡ []) longer (keeps.still_open ∙ w.none);
+      stage = subst (λ t. IsStageOf next (reverse t)) longer (rw (reverse-push before b) stands);
+      brings = below_more (λ i. Keeps (text ++ take i bytes) (slice_index bytes i)) k w.brings
+          (subst (λ x. Keeps before x) is keeps);
+    }
+
+pub all_by : (stage : Stage) (text bytes : List ℕ) (count : ℕ) → count ≤ length bytes
+    → WentBy stage text bytes count → BringNothing text (take count bytes)
+all_by stage text bytes count fits w = λ k lt.
+    let below : k < count = omega (arith, length-take-le count bytes fits) in
+    subst (λ bs. Keeps (text ++ bs) (slice_index (take count bytes) k))
+    (sym (take-take k count bytes (omega (arith, below))))
+    (subst (λ x. Keeps (text ++ take k bytes) x) (sym (get_or-take count bytes k 0 below))
+    (w.brings k below))
 
 -- nothing stands in the way of four bytes
 pub record Clear (is_fresh has_end : Bool) (count : ℕ) : Type 0 where

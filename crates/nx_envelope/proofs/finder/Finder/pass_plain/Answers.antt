@@ -2,12 +2,10 @@ use Rattle.std.proofs.Common.{List, ℕ, take, reverse, sym, ap, ◌∙◌}
 use Rattle.std.specs.Str.{bytes_eq}
 use Rattle.std.specs.Int.{to_le_bytes, w32}
 use Rattle.std.proofs.lemmas.Bool.{or_parts}
-use Rattle.std.proofs.lemmas.List.{reverse-append}
 use Rattle.nx_envelope.specs.Finder.{StandsAfter}
 use Rattle.nx_envelope.specs.FinderView.{FinderView}
 use Rattle.nx_envelope.specs.Header.{start_marker}
-use Rattle.nx_envelope.specs.private.Backward.{last_four}
-use Rattle.nx_envelope.proofs.lemmas.finder.EightBytes.{four_later}
+use Rattle.nx_envelope.proofs.lemmas.finder.EightBytes.{four_on}
 use Rattle.nx_envelope.proofs.lemmas.finder.PlainBytes.{PlainPassed, four_passed, unmarked}
 use Rattle.nx_envelope.proofs.finder.Finder.pass_plain.Goals as goal
 
@@ -34,12 +32,10 @@ pub returns-clause-stands : goal.returns-clause-stands
 returns-clause-stands c = λ yes text h.
     let recent = ap (λ (v : FinderView). v.recent) c.self.view_is ∙ h.recent in
     let w = c.eight_of-eight.ensures (reverse text) recent in
-    let last = four_later c.eight_of-eight.result (reverse text) c.args.bytes w c.args.count
-    c.requires in
     let p = passed c text h in
     record {
-      recent = c.to_le_bytes-self-inside.ensures ∙ ap (to_le_bytes w32) c.four_behind.ensures ∙ last
-          ∙ ap last_four (sym (reverse-append text (take c.args.count c.args.bytes)));
+      recent = c.to_le_bytes-self-inside.ensures ∙ ap (to_le_bytes w32) c.four_behind.ensures
+          ∙ four_on c.eight_of-eight.result text c.args.bytes w c.args.count c.requires;
       stage = rw c.in-Nothing-Nowhere.is-1 p.stage;
       copy = rw c.in-Nothing-Nowhere.is-0 p.none;
     }
