@@ -5,6 +5,7 @@ ghost use Rattle.std.specs.Prelude.{◌≡◌, ◌+◌, ◌≤◌, ◌∷◌, �
 ghost use Rattle.nx_envelope.specs.private.Backward.{last_four};
 ghost use Rattle.nx_envelope.specs.Copies.{errors_of};
 ghost use Rattle.nx_envelope.specs.Found.{IsFoundOf};
+ghost use Rattle.nx_envelope.specs.private.Finding.{begins_no_text};
 
 use crate::found::{FinderStep, Found, FoundHead, HeldCopy, How, MAX_FOUND, TextEvent};
 use crate::identity::Identity;
@@ -122,8 +123,7 @@ impl Finder {
 
     /// Takes in the first `count` of these bytes at once, where surely none of them begins or ends
     /// a copy: `true` where it did, and a copy that could be taken is gone. Else nothing changed,
-    /// and they have to be heard one by one. In an open copy it is `true` only where something
-    /// stands behind the header already.
+    /// and they have to be heard one by one.
     #[inline(always)]
     pub fn hear_plain(&mut self, bytes: [u8; MARKER_LEN], count: usize) -> bool
         requires { count ≤ 4 }
@@ -134,12 +134,18 @@ impl Finder {
         ensures ready { IsTrue result → is_ready self.new ≡ false }
         ensures same { result ≡ false → self.new ≡ self.old }
     {
-        let HeldCopy::Open(_, fresh) = self.copy else {
+        let HeldCopy::Open(identity, fresh) = self.copy else {
             return self.pass_plain(bytes, count) || self.pass_one_by_one(bytes, count);
         };
         let eight = eight_of(self.recent, bytes);
-        if fresh | ends_marker(eight) | (self.text.len() >= MAX_FOUND - MARKER_LEN) {
+        if ends_marker(eight) | (self.text.len() >= MAX_FOUND - MARKER_LEN) {
             return false;
+        }
+        if fresh {
+            if begins_no_text(bytes, count) {
+                return false;
+            }
+            self.copy = HeldCopy::Open(identity, false);
         }
         append(&mut self.text, bytes, count);
         self.recent = four_behind(eight, count).to_le_bytes();
@@ -344,6 +350,15 @@ impl Finder {
         }
         TextEvent::Nothing
     }
+}
+
+/// Whether the text of a copy doesn't begin with the first `count` of these bytes, which come
+/// directly behind its header: there are none, or a newline comes first, which is no part of it.
+#[inline(always)]
+fn begins_no_text(bytes: [u8; MARKER_LEN], count: usize) -> bool
+    ensures { result ≡ begins_no_text (take count bytes) }
+{
+    (count == 0) | (bytes[0] == NEWLINE)
 }
 
 /// Appends the first `count` of these bytes.

@@ -45,6 +45,21 @@ fn plain_bytes_are_heard_at_once(rt: HostRuntime) {
 }
 
 #[test]
+fn plain_bytes_begin_a_text_at_once(rt: HostRuntime) {
+    let mut finder = Finder::new();
+    for byte in *b"ZCZC EA01" {
+        finder.hear(byte);
+    }
+    // A newline directly behind the header is no part of the text, so it isn't taken in.
+    assert!(rt; !finder.hear_plain(*b"\nALL", 4));
+    assert!(rt; finder.hear_plain(*b"ALL\n", 4));
+    for byte in *b"NNNN" {
+        finder.hear(byte);
+    }
+    expect_text(&rt, "begun", finder.ready_text(), b"ALL\n");
+}
+
+#[test]
 fn plain_bytes_between_copies_are_passed_at_once(rt: HostRuntime) {
     let mut finder = Finder::new();
     assert!(rt; finder.hear_plain(*b"ALL ", 4));

@@ -1,6 +1,6 @@
 -- Bytes that an open copy takes in one after the other, where none of them ends it, and bytes
 -- behind which no header begins where no copy is open.
-use Rattle.std.proofs.Common.{◌≡◌, ℕ, ◌+◌, ◌<◌, ◌≤◌, zero, suc, ◌||◌, nat_le, Bool, false, None}
+use Rattle.std.proofs.Common.{◌≡◌, ℕ, ◌+◌, ◌<◌, ◌≤◌, zero, suc, ◌&&◌, ◌||◌, nat_le, Bool, true, false, None}
 use Rattle.std.proofs.Common.{List, [], ◌∷◌, ◌++◌, length, take, reverse, refl, sym, ap, ◌∙◌, subst}
 use Rattle.std.proofs.Common.{arith, below_more, length-append, append_assoc}
 use Rattle.std.specs.Prelude.{slice_index}
@@ -9,6 +9,7 @@ use Rattle.std.proofs.lemmas.List.{append-nil, get_or-take, length-take, length-
 use Rattle.nx_envelope.specs.private.Backward.{header_back, marker_back}
 use Rattle.nx_envelope.specs.Copies.{open_headers}
 use Rattle.nx_envelope.specs.Finder.{BringNothing, HoldsOpen, Keeps}
+use Rattle.nx_envelope.specs.private.Finding.{begins_no_text}
 use Rattle.nx_envelope.specs.private.Stage.{IsStageOf}
 use Rattle.nx_envelope.specs.private.Windows.{IsEight, IsUnmarked}
 use Rattle.nx_envelope.specs.declared.identity.Identity.{Identity}
@@ -38,17 +39,19 @@ first_more text bytes b now later (suc k) lt =
     subst (λ (t : List ℕ). Keeps t (slice_index bytes k))
     (append_assoc text (b ∷ []) (take k bytes)) (later k (omega arith))
 
-pub plain_heard : (kept text bytes : List ℕ) (identity : Identity)
-    → HoldsOpen false kept text identity → NoMarkers (reverse text) bytes
-    → length kept + length bytes < 4100 → PlainHeard kept text bytes identity
-plain_heard kept text [] identity h none short = record {
+pub plain_heard : (fresh : Bool) (kept text bytes : List ℕ) (identity : Identity)
+    → HoldsOpen fresh kept text identity → (fresh && begins_no_text bytes) ≡ false
+    → NoMarkers (reverse text) bytes → length kept + length bytes < 4100
+    → PlainHeard kept text bytes identity
+plain_heard true kept text [] identity h begins none short = absurd (cc)
+plain_heard false kept text [] identity h begins none short = record {
   holds = rw (append-nil kept, append-nil text) h;
   brings = λ k lt. absurd (omega arith);
 }
-plain_heard kept text (b ∷ bytes) identity h none short =
-    let g = goes_on false kept text b identity h refl none.0 (omega arith) in
+plain_heard fresh kept text (b ∷ bytes) identity h begins none short =
+    let g = goes_on fresh kept text b identity h begins none.0 (omega arith) in
     let back = reverse-push text b in
-    let p = plain_heard (kept ++ b ∷ []) (text ++ b ∷ []) bytes identity g.holds
+    let p = plain_heard false (kept ++ b ∷ []) (text ++ b ∷ []) bytes identity g.holds refl
     (rw back none.1) (omega (arith, length-append kept (b ∷ []))) in
     record {
       holds = rw (← append_assoc kept (b ∷ []) bytes, ← append_assoc text (b ∷ []) bytes) p.holds;
@@ -136,18 +139,19 @@ all_by stage text bytes count fits w = λ k lt.
     (subst (λ x. Keeps (text ++ take k bytes) x) (sym (get_or-take count bytes k 0 below))
     (w.brings k below))
 
+pub and_false : (c d : Bool) → d ≡ false → (c && d) ≡ false
+and_false true d e = e
+and_false false d e = refl
+
 -- nothing stands in the way of four bytes
-pub record Clear (is_fresh has_end : Bool) (count : ℕ) : Type 0 where
-  pub fresh : is_fresh ≡ false
+pub record Clear (has_end : Bool) (count : ℕ) : Type 0 where
   pub ends : has_end ≡ false
   pub room : count < 4096
 
-pub clear : (fresh ends : Bool) (count : ℕ) → ((fresh || ends) || nat_le 4096 count) ≡ false
-    → Clear fresh ends count
-clear fresh ends count e =
-    let both = or_parts (fresh || ends) (nat_le 4096 count) e in
-    let two = or_parts fresh ends both.0 in
-    record { fresh = two.0; ends = two.1; room = leb-false 4096 count both.1 }
+pub clear : (ends : Bool) (count : ℕ) → (ends || nat_le 4096 count) ≡ false → Clear ends count
+clear ends count e =
+    let both = or_parts ends (nat_le 4096 count) e in
+    record { ends = both.0; room = leb-false 4096 count both.1 }
 
 -- none of the eight windows is a marker
 pub record AllUnmarked (eight : ℕ) : Type 0 where
@@ -175,11 +179,12 @@ four_unmarked eight count back bytes w m few =
     few in
     rw w.new.spelled none
 
-pub plain_four : (eight count : ℕ) (kept text bytes : List ℕ) (identity : Identity)
-    → HoldsOpen false kept text identity → IsEight eight (reverse text) bytes → AllUnmarked eight
-    → count ≤ 4 → length kept < 4096 → PlainHeard kept text (take count bytes) identity
-plain_four eight count kept text bytes identity h w m few short =
-    plain_heard kept text (take count bytes) identity h
+pub plain_four : (eight count : ℕ) (fresh : Bool) (kept text bytes : List ℕ) (identity : Identity)
+    → HoldsOpen fresh kept text identity → (fresh && begins_no_text (take count bytes)) ≡ false
+    → IsEight eight (reverse text) bytes → AllUnmarked eight → count ≤ 4 → length kept < 4096
+    → PlainHeard kept text (take count bytes) identity
+plain_four eight count fresh kept text bytes identity h begins w m few short =
+    plain_heard fresh kept text (take count bytes) identity h begins
     (four_unmarked eight count (reverse text) bytes w m few)
     (omega (arith, length-take count bytes))
 
