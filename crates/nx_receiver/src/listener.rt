@@ -1,7 +1,7 @@
 //! Three receivers that hear elements as they come: the engine of `listen`. What runs for each line
 //! of elements is inlined always.
 
-ghost use Rattle.std.specs.Prelude.{◌≡◌, ◌+◌, ◌<◌, ◌≤◌, ◌↔◌, ◌∷◌, ℕ, Bool, true, false, List, [], ◌++◌, length, map, take, drop, IfErr, IfOk, IfSome, IsErr, IsNone, IsSome, IsTrue, MatchOption, MatchResult, None, OnErr, OnOk};
+ghost use Rattle.std.specs.Prelude.{◌≡◌, ◌+◌, ◌<◌, ◌≤◌, ◌↔◌, ◌∷◌, ℕ, Bool, true, false, List, [], ◌++◌, length, map, take, drop, IfErr, IfOk, IfSome, IsErr, IsNone, IsTrue, MatchOption, MatchResult, None, OnErr, OnOk};
 ghost use Rattle.nx_envelope.specs.Moment.{last_moment};
 ghost use Rattle.nx_memory.specs.Memory.{newest_moment};
 ghost use Rattle.nx_memory.specs.Saved.{AreSavedEntries};
@@ -12,7 +12,7 @@ ghost use Rattle.nx_receiver.specs.Events.{Refuses, Start, at_moment, command};
 ghost use Rattle.nx_receiver.specs.copies.FoundCopies.{TaggedCopy, copy_of};
 ghost use Rattle.nx_receiver.specs.copies.InTurn.{PrintAllToEnd, PrintsInTurn};
 ghost use Rattle.nx_receiver.specs.Listener.{AreInRange, HearsGiven, IsSpelled, content, last_copies, moment_in_force, receiver_on, starts_of, then_command, then_elements, then_moment, with_receiver};
-ghost use Rattle.nx_receiver.specs.Receiver.{Stands, TakesEvent, entry_list};
+ghost use Rattle.nx_receiver.specs.Receiver.{Stands, TakesEvent};
 ghost use Rattle.nx_receiver.specs.copies.Shares.{Given, MarkedCopy, Starts, marked, saved_of, share, start_on, starts_from};
 ghost use Rattle.nx_receiver.specs.private.Awaiting.{HearsUpTo};
 ghost use Rattle.nx_receiver.specs.private.Listener.{HearsTo};
@@ -254,65 +254,9 @@ impl Listener {
     }
 
     /// Hears elements of a channel, from a place on, up to and with the one that ends the first
-    /// copy that is printed; says how many it heard, and hands out the entry. With `None` it heard
-    /// all.
-    ///
-    /// An answer has room for an entry, which is cleared at each call: `hear_spelled` is faster.
-    pub fn hear(
-        &mut self,
-        channel: Channel,
-        packed: &PackedElements,
-        from: usize,
-    ) -> (usize, Option<Entry>)
-        requires { from ≤ length packed.now }
-        ensures heard { (starts : Starts) (given : List Given) (part : List Bool)
-            (copies : List MarkedCopy)
-            → HearsGiven starts self.old (then_elements given channel part) copies
-            → HearsGiven starts self.new
-            (then_elements given channel (part ++ take result.0 (drop from packed.now)))
-            (copies ++ map (marked channel) (entry_list result.1)) }
-        ensures first { (starts : Starts) (given : List Given) (part : List Bool)
-            (copies : List MarkedCopy)
-            → HearsGiven starts self.old (then_elements given channel part) copies
-            → (k : ℕ) → k < result.0 → PrintsInTurn starts
-            (then_elements given channel (part ++ take k (drop from packed.now))) copies }
-        ensures within { from + result.0 ≤ length packed.now }
-        ensures all { IsNone result.1 → from + result.0 ≡ length packed.now }
-        ensures some { IsSome result.1 → 0 < result.0 }
-        ensures moment { IfSome result.1 (λ entry. entry.moment ≤ last_moment) }
-    {
-        let (count, entry) = self.next_entry_on(channel, packed, from);
-        self.elements = self.elements.saturating_add(count as u64);
-        self.entries = self.entries.saturating_add(u64::from(entry.is_some()));
-        (count, entry)
-    }
-
-    /// Hears elements of a channel as `hear` does, but counts nothing.
-    fn next_entry_on(
-        &mut self,
-        channel: Channel,
-        packed: &PackedElements,
-        from: usize,
-    ) -> (usize, Option<Entry>)
-        requires { from ≤ length packed.now }
-        ensures within { from + result.0 ≤ length packed.now }
-        ensures hears { HearsTo channel self.old self.new (drop from packed.now) result.0
-            (entry_list result.1) }
-        ensures all { IsNone result.1 → from + result.0 ≡ length packed.now }
-        ensures some { IsSome result.1 → 0 < result.0 }
-        ensures moment { IfSome result.1 (λ entry. entry.moment ≤ last_moment) }
-        ensures only { self.new ≡ with_receiver self.old channel (receiver_on self.new channel) }
-    {
-        match channel {
-            Channel::Zero => self.on_0.next_entry(packed, from),
-            Channel::One => self.on_1.next_entry(packed, from),
-            Channel::Two => self.on_2.next_entry(packed, from),
-        }
-    }
-
-    /// Hears elements of a channel as `hear` does, and spells the entry: where it says true,
-    /// `entry` has the bytes of the entry of the copy that ended, with the mark of the channel, in
-    /// place of what it had. With false it heard all, and `entry` is as it was.
+    /// copy that is printed; says how many it heard, and whether there is such a copy. Then `entry`
+    /// has the bytes of its entry, with the mark of the channel, in place of what it had. With
+    /// false it heard all, and `entry` is as it was.
     #[inline(always)]
     pub fn hear_spelled(
         &mut self,

@@ -221,41 +221,8 @@ impl<M: Recall> Receiver<M> {
     }
 
     /// Hears packed elements from a place on, up to and with the one that ends the first copy that
-    /// is printed, as `feed` does.
-    #[inline(always)]
-    pub(crate) fn next_entry(
-        &mut self,
-        packed: &PackedElements,
-        from: usize,
-    ) -> (usize, Option<Entry>)
-        requires { from ≤ length packed.now }
-        ensures within { from + result.0 ≤ length packed.now }
-        ensures stands { (start : Start) (history : List Event) (log : List TaggedCopy) →
-            Stands M.content start self.old history log → Stands M.content start self.new
-            (history ++ elements (take result.0 (drop from packed.now)))
-            (log ++ entry_list result.1) }
-        ensures first { HandsOutNoneBefore M.content self.old (drop from packed.now) result.0 }
-        ensures all { IsNone result.1 → from + result.0 ≡ length packed.now }
-        ensures some { IsSome result.1 → 0 < result.0 }
-        ensures moment { IfSome result.1 (λ entry. entry.moment ≤ last_moment) }
-    {
-        let mut heard = 0;
-        while heard < packed.len() - from {
-            let (count, over) = self.hear(packed, from + heard);
-            heard += count;
-            let Some(over) = over else {
-                return (heard, None);
-            };
-            let entry = self.finish(over);
-            if entry.is_some() {
-                return (heard, entry);
-            }
-        }
-        (heard, None)
-    }
-
-    /// Hears packed elements as `next_entry` does, and spells the entry on a channel in place of
-    /// what `spelled` had: says whether there is one.
+    /// is printed, as `feed` does, and spells its entry on a channel in place of what `spelled`
+    /// had: says whether there is one.
     #[inline(always)]
     pub(crate) fn next_spelled(
         &mut self,

@@ -33,9 +33,8 @@ use Rattle.nx_receiver.specs.private.Listener.{HearsLog, IsListening}
 use Rattle.nx_receiver.specs.private.ListenerBegins.{printed-so_far}
 use Rattle.nx_receiver.specs.copies.Log.{HasPrinted}
 use Rattle.nx_memory.specs.Ring.{RingMemory}
-use Rattle.nx_receiver.specs.Receiver.{Receiving, Stands, TakesEvent, entry_list}
-use Rattle.nx_receiver.specs.declared.entry.Entry.{Entry}
-use Rattle.std.specs.Prelude.{Result, Ok, Err, OnOk, IsSome}
+use Rattle.nx_receiver.specs.Receiver.{Receiving, Stands, TakesEvent}
+use Rattle.std.specs.Prelude.{Result, Ok, Err, OnOk}
 use Rattle.nx_receiver.specs.copies.Shares.{Given, MarkedCopy, Starts, copies_on, events_for, marked}
 use Rattle.nx_receiver.specs.copies.Shares.{share, start_on, to_all, to_one}
 use Rattle.nx_receiver.specs.private.Awaiting.{Awaits, HandsOut, HearsUpTo}
@@ -878,12 +877,7 @@ pub on_ok-map : {A B : Type 0} {P Q : Type 0} (result : Result A B) → OnOk res
 on_ok-map (Ok x) p f = f p
 on_ok-map (Err x) p f = tt
 
--- an entry is one copy, and so is what is spelled
-pub entry-few : (entry : Option Entry) (n : ℕ) → (IsSome entry → 0 < n)
-    → length (entry_list entry) ≤ n
-entry-few None n some = omega arith
-entry-few (Some entry) n some = omega (arith, some refl)
-
+-- what is spelled is one copy
 pub spelled-few : (channel : Channel) (is : Bool) (copies : List TaggedCopy) (bytes : List ℕ)
     (n : ℕ) → IsSpelled channel is copies bytes → (is ≡ true → 0 < n) → length copies ≤ n
 spelled-few channel false copies bytes n h some = omega (arith, ap length h)
