@@ -3,8 +3,9 @@
 ghost use Rattle.std.specs.Prelude.{◌≡◌, ◌+◌, ◌-◌, ◌^◌, ◌<◌, ◌≤◌, ℕ, Bool, false, List, [], ◌∷◌, ◌++◌, length, map, take, drop, Option, Some, IfOk, IfSome, MatchResult, OnOk};
 ghost use Rattle.nx_code.specs.Reading.{IsCapital};
 ghost use Rattle.nx_envelope.specs.Moment.{last_moment};
-ghost use Rattle.nx_fec.specs.air_files.AirFile.{Line};
+ghost use Rattle.nx_fec.specs.air_files.AirFile.{IsLine, Line};
 ghost use Rattle.nx_fec.specs.air_files.AirFile as line;
+ghost use Rattle.nx_fec.specs.air_files.Scanner.{kind_of, line_with};
 ghost use Rattle.nx_fec.specs.Transfers.{FailsOnce, HasWritten, WroteSome, Writes, devices};
 ghost use Rattle.nx_fec.specs.air_files.LineRuns.{ExplainsTaking, HasGiven, HasTaken};
 ghost use Rattle.nx_memory.specs.Selection.{is_vital};
@@ -129,6 +130,36 @@ fn line_listener(alloc: Global, saved: &SavedSet) -> Result<Listener, AllocError
 }
 
 impl Listener {
+    /// Takes a line that sets what is in force: a moment, or a command of selection.
+    pub(crate) fn take_setting(&mut self, kind: LineKind) -> Result<(), LineRefusal>
+        requires { IsLine (line_with kind []) }
+        ensures { (starts : Starts) (lines : List Line) (line : Line) (bytes : List ℕ)
+            → kind_of line ≡ kind → IsListening starts self.old lines bytes
+            → MatchResult result (λ _. IsListening starts self.new (lines ++ line ∷ []) bytes)
+            (λ why. RefusesLine starts lines line why × (self.new ≡ self.old)) }
+    {
+        match kind {
+            LineKind::Moment(moment) => return self.take_moment(moment),
+            LineKind::RefuseStation(mark, byte) => self.refuse_station(
+                Channel::of(mark),
+                Letter::of_capital(byte),
+            ),
+            LineKind::AcceptStation(mark, byte) => self.accept_station(
+                Channel::of(mark),
+                Letter::of_capital(byte),
+            ),
+            LineKind::RefuseSubject(mark, byte) => {
+                return self.take_refusal(Channel::of(mark), byte);
+            }
+            LineKind::AcceptSubject(mark, byte) => self.accept_subject(
+                Channel::of(mark),
+                Letter::of_capital(byte),
+            ),
+            LineKind::Elements(_) => unreachable!(),
+        }
+        Ok(())
+    }
+
     /// Takes a moment, which belongs to all channels.
     fn take_moment(&mut self, moment: u64) -> Result<(), LineRefusal>
         ensures { (starts : Starts) (lines : List Line) (bytes : List ℕ)
@@ -366,27 +397,9 @@ impl LineTaker for Listener {
             return Ok(());
         };
         match kind {
-            LineKind::Moment(moment) => return taking_of(self.take_moment(moment)),
-            LineKind::Elements(mark) => {
-                return self.take_elements(mark, scanner.elements(), writer, batch);
-            }
-            LineKind::RefuseStation(mark, byte) => self.refuse_station(
-                Channel::of(mark),
-                Letter::of_capital(byte),
-            ),
-            LineKind::AcceptStation(mark, byte) => self.accept_station(
-                Channel::of(mark),
-                Letter::of_capital(byte),
-            ),
-            LineKind::RefuseSubject(mark, byte) => {
-                return taking_of(self.take_refusal(Channel::of(mark), byte));
-            }
-            LineKind::AcceptSubject(mark, byte) => self.accept_subject(
-                Channel::of(mark),
-                Letter::of_capital(byte),
-            ),
+            LineKind::Elements(mark) => self.take_elements(mark, scanner.elements(), writer, batch),
+            _ => taking_of(self.take_setting(kind)),
         }
-        Ok(())
     }
 
     ghost whole = { λ first now lines bytes h.

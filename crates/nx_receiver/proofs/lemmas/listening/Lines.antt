@@ -36,14 +36,22 @@ line-is (accept_station mark letter) = refl
 line-is (refuse_subject mark letter) = refl
 line-is (accept_subject mark letter) = refl
 
+-- what a line says but for its elements, where it is the line that was ended
+pub kind-said : (latest : Option Line) (found : Option LineKind) (kind : LineKind) (line : Line)
+    → latest ≡ Some line → found ≡ kind_kept latest → found ≡ Some kind → kind_of line ≡ kind
+kind-said latest found kind line e f g =
+    let kinds : Some (kind_of line) ≡ Some kind = sym (ap kind_kept e) ∙ sym f ∙ g in cc
+
 -- the line is the one that its kind says
+pub of-kind : (line : Line) (kind is : LineKind) → kind_of line ≡ kind → kind ≡ is
+    → line ≡ line_with is (elements_of line)
+of-kind line kind is e h = line-is line ∙ ap (λ k. line_with k (elements_of line)) (e ∙ h)
+
 pub said : (latest : Option Line) (found : Option LineKind) (kind is : LineKind) (line : Line)
     → latest ≡ Some line → found ≡ kind_kept latest → found ≡ Some kind → kind ≡ is
     → line ≡ line_with is (elements_of line)
 said latest found kind is line e f g h =
-    let kinds : Some kind ≡ Some (kind_of line) = sym g ∙ f ∙ ap kind_kept e in
-    let same : kind_of line ≡ is = cc in
-    line-is line ∙ ap (λ k. line_with k (elements_of line)) same
+    of-kind line kind is (kind-said latest found kind line e f g) h
 
 -- the same of a line of elements
 pub said-elements : (latest : Option Line) (found : Option LineKind) (kind : LineKind)
@@ -56,55 +64,36 @@ said-elements latest found kind mark bits line e f g h same =
 
 -- a line that may be refused
 pub taken-line : (first before after : Listening) (old new : Option (List ℕ)) (batch : Waiting)
-    (lines : List Line) (line is : Line)
+    (lines : List Line) (line : Line)
     (taken : Result (Unit {0}) LineRefusal) (result : Result (Unit {0}) (TakeFault LineRefusal))
-    → line ≡ is
     → HasTaken StandsFrom first before lines (HasGiven old new batch)
     → MatchResult taken (λ _. result ≡ Ok tt) (λ why. result ≡ Err (take.Refused why))
     → ((bytes : List ℕ) → IsListening (starts_of first) before lines bytes
-    → MatchResult taken (λ _. IsListening (starts_of first) after (lines ++ is ∷ []) bytes)
-    (λ why. RefusesLine (starts_of first) lines is why × (after ≡ before)))
+    → MatchResult taken (λ _. IsListening (starts_of first) after (lines ++ line ∷ []) bytes)
+    (λ why. RefusesLine (starts_of first) lines line why × (after ≡ before)))
     → MatchResult result (λ _. HasTaken StandsFrom first after (lines ++ line ∷ [])
     (HasGiven old new batch))
     (λ fault. ExplainsTaking StandsFrom BeginsFrom RefusesFrom first after old new batch lines line
     fault)
-taken-line first before after old new batch lines line is (Ok x) result same h answer takes =
+taken-line first before after old new batch lines line (Ok x) result h answer takes =
     subst (λ r. MatchResult r
     (λ _. HasTaken StandsFrom first after (lines ++ line ∷ []) (HasGiven old new batch))
     (λ fault. ExplainsTaking StandsFrom BeginsFrom RefusesFrom first after old new batch lines line
-    fault)) (sym answer) (record {
-      given = h.given;
-      stood = subst (λ l. IsListening (starts_of first) after (lines ++ l ∷ []) h.given) (sym same)
-          (takes h.given h.stood);
-      here = h.here;
-    })
-taken-line first before after old new batch lines line is (Err why) result same h answer takes =
+    fault)) (sym answer)
+    (record { given = h.given; stood = takes h.given h.stood; here = h.here })
+taken-line first before after old new batch lines line (Err why) result h answer takes =
+    let refused = takes h.given h.stood in
     subst (λ r. MatchResult r
     (λ _. HasTaken StandsFrom first after (lines ++ line ∷ []) (HasGiven old new batch))
     (λ fault. ExplainsTaking StandsFrom BeginsFrom RefusesFrom first after old new batch lines line
     fault)) (sym answer) (
-      subst (λ l. RefusesLine (starts_of first) lines l why) (sym same) (takes h.given h.stood).0,
+      refused.0,
       record {
         given = h.given;
-        stood = subst (λ n. IsListening (starts_of first) n lines h.given)
-            (sym (takes h.given h.stood).1) h.stood;
+        stood = subst (λ n. IsListening (starts_of first) n lines h.given) (sym refused.1) h.stood;
         here = h.here;
       },
     )
-
--- a line that is taken always
-pub taken-always : (first before after : Listening) (old new : Option (List ℕ)) (batch : Waiting)
-    (lines : List Line) (line is : Line) → line ≡ is
-    → HasTaken StandsFrom first before lines (HasGiven old new batch)
-    → ((bytes : List ℕ) → IsListening (starts_of first) before lines bytes
-    → IsListening (starts_of first) after (lines ++ is ∷ []) bytes)
-    → HasTaken StandsFrom first after (lines ++ line ∷ []) (HasGiven old new batch)
-taken-always first before after old new batch lines line is same h takes = record {
-  given = h.given;
-  stood = subst (λ l. IsListening (starts_of first) after (lines ++ l ∷ []) h.given) (sym same)
-      (takes h.given h.stood);
-  here = h.here;
-}
 
 -- a line for which nothing is given: there is a log
 pub heard-same : (starts : Starts) (old new : Listening) (lines : List Line) (line is : Line)
@@ -118,16 +107,14 @@ heard-same starts old new lines line is (Ok x) e h =
 heard-same starts old new lines line is (Err why) e h =
     (subst (λ l. RefusesLine starts lines l why) (sym e) h.0, h.1)
 
-pub heard-as : (starts : Starts) (old new : Listening) (lines : List Line) (line is : Line)
-    (log : List ℕ) (result : Result (Unit {0}) LineRefusal) → line ≡ is
-    → MatchResult result (λ _. IsListening starts new (lines ++ is ∷ []) log)
-    (λ why. RefusesLine starts lines is why × (new ≡ old))
+pub heard-as : (starts : Starts) (old new : Listening) (lines : List Line) (line : Line)
+    (log : List ℕ) (result : Result (Unit {0}) LineRefusal)
+    → MatchResult result (λ _. IsListening starts new (lines ++ line ∷ []) log)
+    (λ why. RefusesLine starts lines line why × (new ≡ old))
     → MatchResult result (λ _. HasHeard starts new (lines ++ line ∷ []))
     (λ why. RefusesLine starts lines line why × (new ≡ old))
-heard-as starts old new lines line is log (Ok x) e h =
-    heard-same starts old new lines line is (Ok x) e (log, h)
-heard-as starts old new lines line is log (Err why) e h =
-    heard-same starts old new lines line is (Err why) e h
+heard-as starts old new lines line log (Ok x) h = (log, h)
+heard-as starts old new lines line log (Err why) h = h
 
 -- a line of elements is heard, or refused where there was no moment
 pub heard-elements : (starts : Starts) (old new : Listening) (lines : List Line)
@@ -152,6 +139,17 @@ heard-elements starts old new lines mark channel bits log (Err why) e h heard no
   subst (RefusesLine starts lines (elements mark bits)) (sym none.1) (sym h.moment ∙ none.0),
   none.2,
 )
+
+-- what is taken is the line that its kind says
+pub taken-as : (starts : Starts) (old new : Listening) (lines : List Line) (line is : Line)
+    (bytes : List ℕ) (result : Result (Unit {0}) LineRefusal) → line ≡ is
+    → MatchResult result (λ _. IsListening starts new (lines ++ is ∷ []) bytes)
+    (λ why. RefusesLine starts lines is why × (new ≡ old))
+    → MatchResult result (λ _. IsListening starts new (lines ++ line ∷ []) bytes)
+    (λ why. RefusesLine starts lines line why × (new ≡ old))
+taken-as starts old new lines line is bytes result same h =
+    subst (λ l. MatchResult result (λ _. IsListening starts new (lines ++ l ∷ []) bytes)
+    (λ why. RefusesLine starts lines l why × (new ≡ old))) (sym same) h
 
 -- a command to refuse a subject on a channel
 pub subject-taken : (starts : Starts) (old new : Listening) (lines : List Line)

@@ -14,7 +14,6 @@ use crate::air_file_runs::listen_fault::{LineRefusal, ListenFault};
 use crate::air_file_runs::listening::{Report, line_listener};
 use crate::copy_taker::Over;
 use crate::listener::Listener;
-use nx_envelope::Letter;
 use nx_fec::{
     Channel, Counting, HearFault, LineHearer, LineKind, LinesFault, PackedElements, Scanner,
     hear_lines,
@@ -85,27 +84,9 @@ impl Listener {
             return Ok(());
         };
         match kind {
-            LineKind::Moment(moment) => return self.take_moment(moment),
-            LineKind::Elements(mark) => {
-                return self.hear_unlogged(Channel::of(mark), scanner.elements());
-            }
-            LineKind::RefuseStation(mark, byte) => self.refuse_station(
-                Channel::of(mark),
-                Letter::of_capital(byte),
-            ),
-            LineKind::AcceptStation(mark, byte) => self.accept_station(
-                Channel::of(mark),
-                Letter::of_capital(byte),
-            ),
-            LineKind::RefuseSubject(mark, byte) => {
-                return self.take_refusal(Channel::of(mark), byte);
-            }
-            LineKind::AcceptSubject(mark, byte) => self.accept_subject(
-                Channel::of(mark),
-                Letter::of_capital(byte),
-            ),
+            LineKind::Elements(mark) => self.hear_unlogged(Channel::of(mark), scanner.elements()),
+            _ => self.take_setting(kind),
         }
-        Ok(())
     }
 
     /// Hears the elements of a line on a channel. Refused where there was no moment yet.
