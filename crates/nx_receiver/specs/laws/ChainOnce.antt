@@ -11,7 +11,7 @@ use Rattle.nx_receiver.specs.air_file_runs.Chain.{Run, all_copies, events_in, st
 use Rattle.nx_receiver.specs.Events.{Setting, elements_among, first_setting, setting_at}
 use Rattle.nx_receiver.specs.copies.FoundCopies.{FoundCopy}
 use Rattle.nx_receiver.specs.laws.Once.{IsUnknownAtFirst, FewBetween}
-use Rattle.nx_receiver.specs.copies.Shares.{saved_of, start_on, starts_from}
+use Rattle.nx_receiver.specs.copies.Shares.{saved_of}
 
 -- a run, with the gaps of any bits and the received emissions into which its elements on a channel
 -- are cut
@@ -64,4 +64,5 @@ pub record IsHeardInTimeOver (channel : Channel) (first : SavedStates) (runs : L
       (all_copies channel runs)
   -- 200 identities suffice: fewer than 200 entries are made between its first copy and any later
   -- one, over all runs.
-  pub few : FewBetween (all_copies channel runs) (start_on (starts_from first) channel) message
+  pub few : FewBetween (saved_of first channel).entries message.identity
+      (all_copies channel runs)

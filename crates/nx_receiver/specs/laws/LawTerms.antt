@@ -1,18 +1,17 @@
 -- What the laws of printing speak of.
-use Rattle.std.specs.Prelude.{◌≡◌, ℕ, ◌+◌, ◌-◌, ◌*◌, ◌<◌, Bool, List, [], ◌∷◌, ◌++◌, length, map}
+use Rattle.std.specs.Prelude.{◌≡◌, ℕ, ◌+◌, ◌-◌, ◌*◌, ◌<◌, Bool, List, [], ◌∷◌, map}
 use Rattle.std.specs.Prelude.{take, drop, IsTrue, All, Contains, Option, None}
 use Rattle.nx_envelope.specs.declared.identity.Identity.{Identity}
 use Rattle.nx_fec.specs.air_files.AirFile.{Line, moment, elements, refuse_station, accept_station}
 use Rattle.nx_fec.specs.air_files.AirFile.{refuse_subject, accept_subject}
 use Rattle.nx_fec.specs.declared.air_files.channel.Channel.{Channel}
-use Rattle.nx_envelope.specs.Identity.{same_identity}
-use Rattle.nx_memory.specs.Memory.{seconds_known, most_entries}
+use Rattle.nx_memory.specs.Memory.{seconds_known}
 use Rattle.nx_memory.specs.declared.memories.entry.MemoryEntry.{MemoryEntry}
 use Rattle.nx_receiver.specs.Events as events
 use Rattle.nx_receiver.specs.Events.{Event, at_moment, command, element}
 use Rattle.nx_receiver.specs.copies.FoundCopies.{TaggedCopy}
-use Rattle.nx_receiver.specs.copies.Printing.{is_good, entries_made, entries_after, copies_of}
-use Rattle.nx_receiver.specs.laws.Once.{IsUnknownAtFirst}
+use Rattle.nx_receiver.specs.copies.Printing.{copies_of, is_good}
+use Rattle.nx_receiver.specs.laws.Once.{FewBetween, IsUnknownAtFirst}
 
 -- The bits of the lock at t with n words: those of the words, and of the word before them, which
 -- says the role of the first.
@@ -34,11 +33,7 @@ pub record AreRepeats (entries : List MemoryEntry) (identity : Identity) (copies
   pub close : (one other : TaggedCopy) → Contains (first ∷ repeats) one
       → Contains (first ∷ repeats) other
       → one.moment < other.moment + seconds_known
-  pub few : (before between after : List TaggedCopy) (later : TaggedCopy)
-      → copies ≡ before ++ first ∷ (between ++ later ∷ after)
-      → copies_of identity before ≡ []
-      → IsTrue (same_identity later.identity identity)
-      → length (entries_made (entries_after entries (before ++ first ∷ [])) between) < most_entries
+  pub few : FewBetween entries identity copies
 
 -- the channel that a line names, if it names one
 abbrev pub named_by : Line → Option Channel

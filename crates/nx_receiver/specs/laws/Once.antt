@@ -26,16 +26,16 @@ IsUnknownAtFirst entries identity copies =
     → IsTrue (same_identity first.identity identity)
     → is_remembered (entries_after entries before) first ≡ false
 
--- Fewer than 200 entries are made between the first of the copies that bear the identity of the
--- message and any later one of them.
-abbrev pub FewBetween : List TaggedCopy → Start → MessageView → Type 0
-FewBetween copies start message =
+-- after these first entries, fewer than 200 entries are made between the first of the copies that
+-- bear the identity and any later one of them
+abbrev pub FewBetween : List MemoryEntry → Identity → List TaggedCopy → Type 0
+FewBetween entries identity copies =
     (before between after : List TaggedCopy) (first later : TaggedCopy)
-    → copies ≡ before ++ first ∷ (between ++ later ∷ after) → copies_of message.identity before ≡ []
-    → IsTrue (same_identity first.identity message.identity)
-    → IsTrue (same_identity later.identity message.identity)
-    → length (entries_made (entries_after start.entries (before ++ first ∷ [])) between)
-    < most_entries
+    → copies ≡ before ++ first ∷ (between ++ later ∷ after)
+    → copies_of identity before ≡ []
+    → IsTrue (same_identity first.identity identity)
+    → IsTrue (same_identity later.identity identity)
+    → length (entries_made (entries_after entries (before ++ first ∷ [])) between) < most_entries
 
 -- What has to be met, so that a message is printed once of all that a receiver is given.
 pub record IsHeardInTime (start : Start) (events : List Event) (parts : List Part)
@@ -67,9 +67,8 @@ pub record IsHeardInTime (start : Start) (events : List Event) (parts : List Par
       (tagged_copies (first_setting start) events (found_to_end (elements_among events) locks now))
   -- 200 identities suffice: fewer than 200 entries are made between its first copy and any later
   -- one.
-  pub few : FewBetween
+  pub few : FewBetween start.entries message.identity
       (tagged_copies (first_setting start) events (found_to_end (elements_among events) locks now))
-      start message
 
 -- Exactly one of the printed copies bears the identity of the message: it is full, has 0 errors,
 -- and its text is the message's, letter for letter.

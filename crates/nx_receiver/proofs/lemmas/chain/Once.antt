@@ -22,11 +22,11 @@ use Rattle.nx_receiver.specs.Events.{elements_among}
 use Rattle.nx_receiver.specs.copies.FoundCopies.{FoundCopy, found_to_end, TaggedCopy, tag, tagged_copies}
 use Rattle.nx_receiver.specs.laws.LawTerms.{AreRepeats}
 use Rattle.nx_receiver.specs.copies.Printing.{copies_of, is_good, printed_copies}
-use Rattle.nx_receiver.specs.laws.Once.{IsUnknownAtFirst, IsPrintedOnce}
+use Rattle.nx_receiver.specs.laws.Once.{FewBetween, IsPrintedOnce, IsUnknownAtFirst}
 use Rattle.nx_receiver.specs.laws.Emissions.{copies_at, copy_of_sending}
 use Rattle.nx_receiver.specs.copies.Shares.{copies_on, none_saved, saved_of}
 use Rattle.nx_receiver.proofs.lemmas.chain.Runs.{chain_prints}
-use Rattle.nx_receiver.proofs.lemmas.once.Found.{contains_filter, filter_all, has_first, named_first}
+use Rattle.nx_receiver.proofs.lemmas.once.Found.{contains_filter, filter_all, has_first}
 use Rattle.nx_receiver.proofs.lemmas.once.Found.{no_errors-good}
 use Rattle.nx_receiver.proofs.lemmas.once.Repeats.{none_live, once}
 use Rattle.nx_receiver.proofs.lemmas.once.Rising.{contains_map, one_of_key}
@@ -214,10 +214,7 @@ module _ (channel : Channel) (first last : SavedStates) (runs : List Run) (messa
             (one ∷ rest) each;
         close = λ a b c d. close_of a b (All-contains IsOfSending (one ∷ rest) a each c)
             (All-contains IsOfSending (one ∷ rest) b each d);
-        few = λ before between after later whole none named.
-            h.few before between after one later (heard_is ∙ whole) none
-            (named_first message.identity heard one rest e)
-            named;
+        few = subst (FewBetween begun message.identity) heard_is h.few;
       }
 
   pub chain_once : IsPrintedOnce message (copies_on channel (all_printed runs))

@@ -44,9 +44,9 @@ example = record {
       let a = All-contains P (first_copy ∷ repeated_copy ∷ []) one all h in
       let b = All-contains P (first_copy ∷ repeated_copy ∷ []) other all k in
       omega (arith, a.0, a.1, b.0, b.1);
-  few = λ before between after later e none h.
+  few = λ before between after first later e none named h.
       let long : 4 ≡ length before + suc (length between + suc (length after)) =
-      ap length e ∙ length-append before (first_copy ∷ (between ++ later ∷ after))
+      ap length e ∙ length-append before (first ∷ (between ++ later ∷ after))
       ∙ ap (λ n. length before + suc n) (length-append between (later ∷ after)) in
-      omega (arith, made_few (entries_after [] (before ++ first_copy ∷ [])) between);
+      omega (arith, made_few (entries_after [] (before ++ first ∷ [])) between);
 }

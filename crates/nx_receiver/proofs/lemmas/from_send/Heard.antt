@@ -197,7 +197,8 @@ module _ (messages : List MessageView) (numbers : List ℕ) (others : List (List
           ∙ same_identity-true tagged.identity message.identity named
 
       -- so no two copies bear it
-      no_two : FewBetween (tagged_copies (first_setting at_zero) events found) at_zero message
+      no_two : FewBetween [] message.identity
+          (tagged_copies (first_setting at_zero) events found)
       unfolding tagged_copies
       no_two before between after first later e none named again =
           let two = has_two tagging (λ (c : FoundCopy). c.place) found (copy_at place) before

@@ -5,11 +5,9 @@ use Rattle.std.proofs.Common.{subst, arith, IsTrue, lt-ltb}
 use Rattle.std.specs.List.{All, Contains}
 use Rattle.std.proofs.lemmas.List.Elements.{All-head, All-tail, All-cons, All-nil, All-map}
 use Rattle.std.proofs.lemmas.List.Elements.{All-weaker, All-contains, All-contains_itself}
-use Rattle.std.proofs.lemmas.List.Elements.{filter_passes}
 use Rattle.nx_envelope.specs.Copies.{errors_of}
 use Rattle.nx_envelope.specs.Identity.{same_identity}
 use Rattle.nx_envelope.specs.Message.{text_of, MessageView}
-use Rattle.nx_envelope.specs.declared.identity.Identity.{Identity}
 use Rattle.nx_envelope.proofs.lemmas.headers.Identities.{same_identity-true, same_itself}
 use Rattle.nx_memory.specs.Memory.{seconds_known}
 use Rattle.nx_station.specs.reception.Sendings.{Part, Sending, IsSentAt}
@@ -72,21 +70,6 @@ pub record HasFirst {A : Type 0} (xs : List A) : Type 0 where
 pub has_first : {A : Type 0} (xs : List A) (x : A) → Contains xs x → HasFirst xs
 has_first [] x c = absurd (omega (arith, c.1))
 has_first (y ∷ ys) x c = record { first = y; rest = ys; whole = refl }
-
--- each item that is kept passes the test
-first_passes : {A : Type 0} (p : A → Bool) (xs : List A) (first : A) (rest : List A)
-    → filter p xs ≡ first ∷ rest
-    → p first ≡ true
-first_passes p xs first rest e =
-    All-head (λ x. p x ≡ true) first rest (subst (All (λ x. p x ≡ true)) e (filter_passes p xs))
-
--- the first of the copies of an identity bears it
-pub named_first : (identity : Identity) (heard : List TaggedCopy) (first : TaggedCopy)
-    (rest : List TaggedCopy) → copies_of identity heard ≡ first ∷ rest
-    → same_identity first.identity identity ≡ true
-unfolding copies_of
-named_first identity heard first rest e =
-    first_passes (λ (c : TaggedCopy). same_identity c.identity identity) heard first rest e
 
 pub no_errors-good : (text : List ℕ) → errors_of text ≡ 0
     → ltb (25 * errors_of text) (max 1 (length text)) ≡ true
@@ -195,9 +178,7 @@ module _ (start : Start) (events : List Event) (parts : List Part) (message : Me
         close = λ one other a b. close_of one other
             (All-contains IsOfSending (first ∷ rest) one each a)
             (All-contains IsOfSending (first ∷ rest) other each b);
-        few = λ before between after later whole none named.
-            h.few before between after first later whole none
-            (named_first message.identity heard first rest e) named;
+        few = h.few;
       }
 
   pub printed_once : (log : List TaggedCopy) → PrintsToEnd start events log

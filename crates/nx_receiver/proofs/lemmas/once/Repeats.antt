@@ -308,7 +308,8 @@ once start identity copies first repeats r =
       recent = r.close copy first (there identity s.after repeats more after first copy s.rest e h)
           (0, omega arith, refl);
       few = subst (λ (es : List MemoryEntry). length (entries_made es more) < most_entries) begun
-          (r.few s.before more after copy (s.whole ∙ ap (λ xs. s.before ++ first ∷ xs) e) s.none h);
+          (r.few s.before more after first copy (s.whole ∙ ap (λ xs. s.before ++ first ∷ xs) e)
+          s.none s.named h);
     }) in
     let rest = printed_copies (entries ++ entry_made entries first) s.after in
     ap (λ cs. filter (bears identity) (printed_copies start cs)) s.whole
