@@ -14,13 +14,13 @@ ghost use Rattle.nx_locks.specs.private.ReportWriter.{BeginsFrom, HasClosed, Has
 
 use crate::lock_report::LocksReport;
 use crate::watch::LockWatch;
-use nx_envelope::{LAST_MOMENT, Letter};
+use nx_envelope::Letter;
 use nx_fec::{
     Batch, Channel, Counting, LineKind, LineTaker, LinesRead, PackedElements, Scanner, TakeFault,
     WriteFault, taking_of, write_on,
 };
 use nx_memory::Selection;
-use nx_receiver::{LineRefusal, MomentFault};
+use nx_receiver::{LineRefusal, check_moment};
 use std::alloc::{AllocError, Global};
 use std::io::Write;
 use std::marker::Model;
@@ -71,20 +71,14 @@ impl ReportWriter {
     }
 
     /// Takes a moment.
-    fn take_moment(&mut self, given: u64) -> Result<(), ReportRefusal>
+    fn take_moment(&mut self, given: u64) -> Result<(), LineRefusal>
         ensures taken { (lines : List Line) (bytes : List ℕ) → IsShowing self.old lines bytes
             → MatchResult result
             (λ _. IsShowing self.new (lines ++ line.moment given ∷ []) bytes)
-            (λ why. RefusesLine lines (line.moment given) why) }
+            (λ why. RefusesLine lines (line.moment given) (ReportRefusal.Line why)) }
         ensures unchanged { OnErr result (self.new ≡ self.old) }
     {
-        if given > LAST_MOMENT {
-            return Err(ReportRefusal::Line(LineRefusal::Moment(MomentFault::Range { given })));
-        }
-        let last = self.watch.moment();
-        if given < last {
-            return Err(ReportRefusal::Line(LineRefusal::Moment(MomentFault::Back { last, given })));
-        }
+        check_moment(self.watch.moment(), given)?;
         self.watch.set_moment(given);
         self.has_moment = true;
         Ok(())
@@ -180,9 +174,11 @@ impl LineTaker for ReportWriter {
             return Ok(());
         };
         match kind {
-            LineKind::Moment(moment) => taking_of(self.take_moment(moment)),
+            LineKind::Moment(moment) => taking_of_line(self.take_moment(moment)),
             LineKind::Elements(mark) => self.take_elements(mark, scanner.elements(), writer, batch),
-            LineKind::RefuseSubject(_, byte) => taking_of(check_subject(Letter::of_capital(byte))),
+            LineKind::RefuseSubject(_, byte) => {
+                taking_of_line(check_subject(Letter::of_capital(byte)))
+            }
             // What is selected changes nothing here.
             LineKind::RefuseStation(_, _)
             | LineKind::AcceptStation(_, _)
@@ -201,17 +197,20 @@ fn is_on_0(mark: Option<Channel>) -> bool
 }
 
 /// Whether a subject can be refused.
-fn check_subject(subject: Letter) -> Result<(), ReportRefusal>
+fn check_subject(subject: Letter) -> Result<(), LineRefusal>
     ensures { (lines : List Line) (mark : Option Channel) → MatchResult result
         (λ _. is_vital subject.byte ≡ false)
-        (λ why. RefusesLine lines (line.refuse_subject mark subject.byte) why) }
+        (λ why. RefusesLine lines (line.refuse_subject mark subject.byte)
+        (ReportRefusal.Line why)) }
 {
-    match Selection::all().refuse_subject(subject) {
-        Ok(()) => Ok(()),
-        Err(vital) => {
-            return Err(ReportRefusal::Line(LineRefusal::Vital {
-                subject: vital.subject,
-            }));
-        }
-    }
+    Selection::all().refuse_subject(subject)?;
+    Ok(())
+}
+
+/// What came of taking a line that gives nothing, and that every run may refuse.
+fn taking_of_line(taken: Result<(), LineRefusal>) -> Result<(), TakeFault<ReportRefusal>>
+    ensures { MatchResult taken (λ _. result ≡ Ok tt)
+        (λ why. result ≡ Err (TakeFault.Refused (ReportRefusal.Line why))) }
+{
+    taking_of(taken.map_err(ReportRefusal::Line))
 }

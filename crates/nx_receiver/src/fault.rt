@@ -1,5 +1,10 @@
 //! Why a receiver is not made, or a moment is refused.
 
+ghost use Rattle.std.specs.Prelude.{◌≤◌, IfErr, OnOk};
+ghost use Rattle.nx_envelope.specs.Moment.{last_moment};
+ghost use Rattle.nx_receiver.specs.Events.{Refuses};
+
+use nx_envelope::LAST_MOMENT;
 use std::alloc::AllocError;
 use thiserror::Error;
 
@@ -23,4 +28,20 @@ pub enum MomentFault {
     /// The moment is before the last one that was given.
     #[error("moment {given} is before {last}")]
     Back { last: u64, given: u64 },
+}
+
+/// Whether a moment may be set where this one is in force. `Range` where it is past 2999-12-31
+/// 23:59:59, else `Back` where it is before the one in force.
+#[inline(always)]
+pub fn check_moment(last: u64, given: u64) -> Result<(), MomentFault>
+    ensures taken { OnOk result ((last ≤ given) × (given ≤ last_moment)) }
+    ensures refused { IfErr result (Refuses last given) }
+{
+    if given > LAST_MOMENT {
+        return Err(MomentFault::Range { given });
+    }
+    if given < last {
+        return Err(MomentFault::Back { last, given });
+    }
+    Ok(())
 }

@@ -21,7 +21,7 @@ pub use air_file_runs::resuming::resume;
 pub use air_file_runs::state::{read_state, write_state};
 pub use air_file_runs::state_fault::StateFault;
 pub use entry::Entry;
-pub use fault::{MomentFault, ReceiverFault};
+pub use fault::{MomentFault, ReceiverFault, check_moment};
 pub use judging::judge;
 pub use listener::{LastEntries, Listener};
 pub use lock_printer::LockPrinter;

@@ -30,7 +30,7 @@ ghost use Rattle.nx_fec.specs.Transfers.{FailsOnce, WroteSome};
 
 use crate::copy_taker::{CopyTag, Over};
 use crate::entry::Entry;
-use crate::fault::{MomentFault, ReceiverFault};
+use crate::fault::{MomentFault, ReceiverFault, check_moment};
 use crate::judging::{judge, judge_head};
 use crate::watch::Watch;
 use crate::writing::{MAX_ENTRY, give_entry, spell_entry};
@@ -122,16 +122,7 @@ impl<M: Recall> Receiver<M> {
         ensures refused { IfErr result (Refuses self.old.watch.moment moment) }
         ensures unchanged { OnErr result (self.new ≡ self.old) }
     {
-        if moment > LAST_MOMENT {
-            return Err(MomentFault::Range { given: moment });
-        }
-        let last = self.watch.moment();
-        if moment < last {
-            return Err(MomentFault::Back {
-                last,
-                given: moment,
-            });
-        }
+        check_moment(self.watch.moment(), moment)?;
         self.watch.set_moment(moment);
         Ok(())
     }

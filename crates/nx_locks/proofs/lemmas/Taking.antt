@@ -30,6 +30,8 @@ use Rattle.nx_locks.specs.Run.{elements_on_0, ending_of, moments_on_0}
 use Rattle.nx_locks.specs.private.ReportWriter.{BeginsFrom, IsShowing, RefusesFrom, RefusesLine, Showing}
 use Rattle.nx_locks.specs.private.ReportWriter.{StandsFrom}
 use Rattle.nx_locks.specs.declared.report_writer.ReportRefusal.{ReportRefusal}
+use Rattle.nx_locks.specs.declared.report_writer.ReportRefusal.TheVariants as refusal
+use Rattle.nx_receiver.specs.declared.air_file_runs.listen_fault.LineRefusal.{LineRefusal}
 use Rattle.nx_locks.specs.private.Taker.{all_at}
 use Rattle.nx_locks.specs.private.Watch.{HearsAll, Watching, WatchShows, at_moment}
 
@@ -228,13 +230,14 @@ refuse_subject_line now lines mark letter given allowed h =
 -- a line that may be refused
 pub taken-line : (first before after : Showing) (old new : Option (List ℕ)) (batch : Waiting)
     (lines : List Line) (line is : Line)
-    (taken : Result (Unit {0}) ReportRefusal) (result : Result (Unit {0}) (TakeFault ReportRefusal))
+    (taken : Result (Unit {0}) LineRefusal) (result : Result (Unit {0}) (TakeFault ReportRefusal))
     → line ≡ is
     → HasTaken StandsFrom first before lines (HasGiven old new batch)
-    → MatchResult taken (λ _. result ≡ Ok tt) (λ why. result ≡ Err (take.Refused why))
+    → MatchResult taken (λ _. result ≡ Ok tt)
+    (λ why. result ≡ Err (take.Refused (refusal.Line why)))
     → ((given : List ℕ) → IsShowing before lines given
     → MatchResult taken (λ _. IsShowing after (lines ++ is ∷ []) given)
-    (λ why. RefusesLine lines is why))
+    (λ why. RefusesLine lines is (refusal.Line why)))
     → OnErr taken (after ≡ before)
     → MatchResult result (λ _. HasTaken StandsFrom first after (lines ++ line ∷ [])
     (HasGiven old new batch))
@@ -257,7 +260,7 @@ taken-line first before after old new batch lines line is (Err why) result same 
     (λ _. HasTaken StandsFrom first after (lines ++ line ∷ []) (HasGiven old new batch))
     (λ fault. ExplainsTaking StandsFrom BeginsFrom RefusesFrom first after old new batch lines line
     fault)) (sym answer) (
-      subst (λ l. RefusesLine lines l why) (sym same) (takes h.given h.stood),
+      subst (λ l. RefusesLine lines l (refusal.Line why)) (sym same) (takes h.given h.stood),
       record {
         given = h.given;
         stood =

@@ -3,6 +3,7 @@
 use crate::fault::MomentFault;
 use nx_envelope::Letter;
 use nx_fec::{LineFault, LinesFault, WriteFault};
+use nx_memory::Vital;
 use std::alloc::AllocError;
 use thiserror::Error;
 
@@ -15,6 +16,30 @@ pub enum LineRefusal {
     Moment(MomentFault),
     /// The subject can't be refused.
     Vital { subject: Letter },
+}
+
+impl From<MomentFault> for LineRefusal {
+    ghost use Rattle.std.specs.Prelude.{◌≡◌};
+    ghost use Rattle.nx_receiver.specs.declared.air_file_runs.listen_fault.LineRefusal.TheVariants.{Moment};
+
+    ghost from_gives = { λ fault made. made ≡ Moment fault };
+
+    fn from(fault: MomentFault) -> LineRefusal {
+        LineRefusal::Moment(fault)
+    }
+}
+
+impl From<Vital> for LineRefusal {
+    ghost use Rattle.std.specs.Prelude.{◌≡◌};
+    ghost use Rattle.nx_receiver.specs.declared.air_file_runs.listen_fault.LineRefusal.TheVariants as refusal;
+
+    ghost from_gives = { λ vital made. made ≡ refusal.Vital vital.subject };
+
+    fn from(vital: Vital) -> LineRefusal {
+        LineRefusal::Vital {
+            subject: vital.subject,
+        }
+    }
 }
 
 /// Why a run that listens to an air file ended early. Lines count from 1.

@@ -168,10 +168,8 @@ impl Listener {
             (λ _. IsListening starts self.new (lines ++ line.moment moment ∷ []) bytes)
             (λ why. RefusesLine starts lines (line.moment moment) why × (self.new ≡ self.old)) }
     {
-        match self.set_moment(moment) {
-            Ok(()) => Ok(()),
-            Err(fault) => Err(LineRefusal::Moment(fault)),
-        }
+        self.set_moment(moment)?;
+        Ok(())
     }
 
     /// Takes a command to refuse a subject on a channel.
@@ -187,12 +185,8 @@ impl Listener {
             (λ why. RefusesLine starts lines (line.refuse_subject mark byte) why
             × (self.new ≡ self.old)) }
     {
-        match self.refuse_subject(channel, Letter::of_capital(byte)) {
-            Ok(()) => Ok(()),
-            Err(vital) => Err(LineRefusal::Vital {
-                subject: vital.subject,
-            }),
-        }
+        self.refuse_subject(channel, Letter::of_capital(byte))?;
+        Ok(())
     }
 
     /// Finishes what is over on a channel, and gives the entry that it brings, if it brings one:

@@ -4,6 +4,7 @@ use Rattle.nx_fec.specs.air_files.AirFile.{accept_subject}
 use Rattle.nx_memory.specs.Selection.{is_vital}
 use Rattle.nx_receiver.proofs.lemmas.listening.Lines.{said}
 use Rattle.nx_locks.specs.private.ReportWriter.{IsShowing, RefusesLine}
+use Rattle.nx_locks.specs.declared.report_writer.ReportRefusal.TheVariants as refusal
 use Rattle.nx_locks.proofs.lemmas.Taking.{accept_station_line, accept_subject_line, match-map, on-err}
 use Rattle.nx_locks.proofs.lemmas.Taking.{refuse_station_line, refuse_subject_line, taken-always}
 use Rattle.nx_locks.proofs.lemmas.Taking.{taken-line}
@@ -12,8 +13,9 @@ use Rattle.nx_locks.proofs.report_writer.ReportWriterLineTaker.take.Goals as goa
 pub returns-in-Moment-clause-taken : goal.returns-in-Moment-clause-taken
 returns-in-Moment-clause-taken g c = λ first old lines line latest h.
     taken-line first c.args.self.now c.take_moment.new.self old _ c.args.batch.now lines line
-    (moment c.in-Moment.moment) c.take_moment.result c.taking_of.result
-    (said _ _ _ _ line latest c.latest.ensures c.in-Some.is c.in-Moment.is) h c.taking_of.ensures
+    (moment c.in-Moment.moment) c.take_moment.result c.taking_of_line.result
+    (said _ _ _ _ line latest c.latest.ensures c.in-Some.is c.in-Moment.is) h
+    c.taking_of_line.ensures
     (λ given s. c.take_moment.ensures.taken lines given s) c.take_moment.ensures.unchanged
 
 pub returns-in-RefuseSubject-clause-taken : goal.returns-in-RefuseSubject-clause-taken
@@ -22,16 +24,18 @@ returns-in-RefuseSubject-clause-taken g c = λ first old lines line latest h.
     let byte = c.in-RefuseSubject.byte in
     let taken = c.check_subject.result in
     taken-line first c.args.self.now c.args.self.now old _ c.args.batch.now lines line
-    (refuse_subject mark byte) taken c.taking_of-in-RefuseSubject.result
+    (refuse_subject mark byte) taken c.taking_of_line-in-RefuseSubject.result
     (said _ _ _ _ line latest c.latest.ensures c.in-Some.is c.in-RefuseSubject.is) h
-    c.taking_of-in-RefuseSubject.ensures
+    c.taking_of_line-in-RefuseSubject.ensures
     (λ given s. match-map taken (λ _. is_vital c.of_capital.result.byte ≡ false)
     (λ _. IsShowing c.args.self.now (lines ++ refuse_subject mark byte ∷ []) given)
-    (λ why. RefusesLine lines (refuse_subject mark c.of_capital.result.byte) why)
-    (λ why. RefusesLine lines (refuse_subject mark byte) why) (c.check_subject.ensures lines mark)
+    (λ why. RefusesLine lines (refuse_subject mark c.of_capital.result.byte) (refusal.Line why))
+    (λ why. RefusesLine lines (refuse_subject mark byte) (refusal.Line why))
+    (c.check_subject.ensures lines mark)
     (λ x allowed. refuse_subject_line c.args.self.now lines mark byte given
     (ap is_vital (sym c.of_capital.ensures) ∙ allowed) s)
-    (λ why refused. subst (λ (b : ℕ). RefusesLine lines (refuse_subject mark b) why)
+    (λ why refused.
+    subst (λ (b : ℕ). RefusesLine lines (refuse_subject mark b) (refusal.Line why))
     c.of_capital.ensures refused))
     (on-err taken (c.args.self.now ≡ c.args.self.now) refl)
 

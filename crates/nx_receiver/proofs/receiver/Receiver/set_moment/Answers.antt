@@ -1,4 +1,3 @@
-use Rattle.std.proofs.Common.{rules}
 use Rattle.std.proofs.Common.{sym, subst}
 use Rattle.nx_receiver.specs.Receiver.{Stands}
 use Rattle.nx_receiver.proofs.lemmas.receiver.Events.{stands_after, a_moment}
@@ -8,6 +7,3 @@ pub returns-clause-stands : goal.returns-clause-stands
 returns-clause-stands g c start history log stands =
     stands_after _ _ _ _ a_moment c.set_moment.ensures start history log
     (subst (λ r. Stands g.M.Recall.content start r history log) (sym c.self.view_is) stands)
-
-pub returns-then-moment-last-clause-refused : goal.returns-then-moment-last-clause-refused
-returns-then-moment-last-clause-refused g c = search rules
