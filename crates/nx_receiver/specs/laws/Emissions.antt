@@ -46,13 +46,16 @@ copy_of_sending sending = record {
   place = sending.place;
 }
 
+-- how many characters a header has that is printed: `ZCZC`, a space, and the identity
+abbrev pub header_length : ℕ
+header_length = 9
+
 -- The header is that of one of the messages, in what is printed of them, one after another. It
--- bears the identity of the message, and stands where its printed text begins, which is `ZCZC`, a
--- space and the identity in nine characters.
+-- bears the identity of the message, and stands where its printed text begins.
 pub record IsHeaderOf (messages : List MessageView) (header : Header) : Type 0 where
   pub before : List MessageView
   pub message : MessageView
   pub after : List MessageView
   pub whole : messages ≡ before ++ message ∷ after
   pub named : header.identity ≡ message.identity
-  pub behind : header.behind ≡ length (flat_map printed_text before) + 9
+  pub behind : header.behind ≡ length (flat_map printed_text before) + header_length
