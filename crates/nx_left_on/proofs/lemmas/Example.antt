@@ -25,7 +25,7 @@ use Rattle.nx_station.specs.reception.PathExample.{ea01, example_message, exampl
 use Rattle.nx_station.specs.reception.Sendings.{IsCut, IsSentAt, Part}
 use Rattle.nx_station.proofs.lemmas.reception.PathExamples.{example_sent}
 use Rattle.nx_sync.specs.Locks.{IsNow, locked}
-use Rattle.nx_receiver.specs.air_file_runs.Chain.{AreFoundIn}
+use Rattle.nx_receiver.specs.copies.FoundCopies.{AreFoundIn}
 use Rattle.nx_receiver.specs.examples.Chain.{copy_heard, found_on}
 use Rattle.nx_receiver.specs.laws.Emissions.{copy_of_sending}
 use Rattle.nx_receiver.specs.Events.{Event, Setting, at_moment, elements_among, first_setting}

@@ -8,9 +8,8 @@ use Rattle.nx_fec.specs.declared.air_files.channel.Channel.{Channel}
 use Rattle.nx_memory.specs.Memory.{most_entries}
 use Rattle.nx_memory.specs.Saved.{SavedState, SavedStates}
 use Rattle.nx_memory.specs.declared.memories.entry.MemoryEntry.{MemoryEntry}
-use Rattle.nx_sync.specs.Locks.{IsNow, Lock, Now}
-use Rattle.nx_receiver.specs.Events.{Event, Start, elements_among, first_setting, setting_after_all}
-use Rattle.nx_receiver.specs.copies.FoundCopies.{FoundCopy, found_to_end, TaggedCopy, tagged_copies}
+use Rattle.nx_receiver.specs.Events.{Event, Start, first_setting, setting_after_all}
+use Rattle.nx_receiver.specs.copies.FoundCopies.{AreFoundIn, FoundCopy, TaggedCopy, tagged_copies}
 use Rattle.nx_receiver.specs.air_file_runs.Listen.{IsLogOfFile, events_on}
 use Rattle.nx_receiver.specs.copies.Printing.{entries_after}
 use Rattle.nx_receiver.specs.copies.Shares.{MarkedCopy, Starts, saved_of, start_on, starts_from}
@@ -18,14 +17,6 @@ use Rattle.nx_receiver.specs.copies.Shares.{MarkedCopy, Starts, saved_of, start_
 -- two lists of entries agree in their last 200: a memory would hold the same of both
 abbrev pub AgreeInLast : List MemoryEntry → List MemoryEntry → Type 0
 AgreeInLast one other = last_of most_entries one ≡ last_of most_entries other
-
--- these are all copies that are found where these events are all: the end closes the one that
--- stands open
-pub record AreFoundIn (events : List Event) (copies : List FoundCopy) : Type 0 where
-  pub locks : List Lock
-  pub now : Now
-  pub stands : IsNow (elements_among events) locks now
-  pub whole : copies ≡ found_to_end (elements_among events) locks now
 
 -- what is left where these events are all: the last 200 of all entries made, and what is refused
 -- after all commands

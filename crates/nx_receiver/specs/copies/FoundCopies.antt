@@ -2,7 +2,7 @@
 -- (the form of a message is that of ITU-R M.540). No copy reaches from one lock into another, since
 -- each lock has a text of its own (this profile). Then tagged: a copy bears the moment and the
 -- selection that are in force at the place of its second digit.
-use Rattle.std.specs.Prelude.{ℕ, ◌+◌, ◌-◌, Bool, true, List, [], ◌∷◌, ◌++◌, map}
+use Rattle.std.specs.Prelude.{◌≡◌, ℕ, ◌+◌, ◌-◌, Bool, true, List, [], ◌∷◌, ◌++◌, map}
 use Rattle.std.specs.Prelude.{slice_get, unwrap_or}
 use Rattle.std.specs.Option.{option_map}
 use Rattle.nx_envelope.specs.Copies.{Copy, ended_copies, open_headers, closed_copy, copies}
@@ -10,10 +10,10 @@ use Rattle.nx_envelope.specs.declared.found.Found.{Found}
 use Rattle.nx_envelope.specs.declared.found.How.{How}
 use Rattle.nx_envelope.specs.declared.identity.Identity.{Identity}
 use Rattle.nx_memory.specs.Selection.{admits}
-use Rattle.nx_sync.specs.Locks.{Lock, Now, hunting, locked}
+use Rattle.nx_sync.specs.Locks.{IsNow, Lock, Now, hunting, locked}
 use Rattle.nx_sync.specs.Words.{whole_words}
 use Rattle.nx_receiver.specs.declared.entry.Entry.{Entry}
-use Rattle.nx_receiver.specs.Events.{Event, Setting, setting_at}
+use Rattle.nx_receiver.specs.Events.{Event, Setting, elements_among, setting_at}
 use Rattle.nx_receiver.specs.copies.LockText.{PlacedByte, bytes_of, lock_text}
 
 -- a copy that is found: its identity, how it ended, its text, and its place, which is that of its
@@ -78,6 +78,14 @@ open_so_far bits now = open_in (standing_text bits now)
 -- the copies where the bits end: the text of the lock that stands ends with them
 unfoldable pub found_to_end : List Bool → List Lock → Now → List FoundCopy
 found_to_end bits locks now = past_copies bits locks ++ all_in (standing_text bits now)
+
+-- these are all copies that are found where these events are all: the end closes the one that
+-- stands open
+pub record AreFoundIn (events : List Event) (copies : List FoundCopy) : Type 0 where
+  pub locks : List Lock
+  pub now : Now
+  pub stands : IsNow (elements_among events) locks now
+  pub whole : copies ≡ found_to_end (elements_among events) locks now
 
 -- a copy with its moment, and whether it is selected
 pub record TaggedCopy : Type 0 where

@@ -2,7 +2,6 @@
 -- printed (this profile).
 use Rattle.std.specs.Prelude.{◌≡◌, ℕ, ◌+◌, ◌<◌, List, [], ◌∷◌, ◌++◌, length, Contains, IsTrue}
 use Rattle.std.specs.Prelude.{false}
-use Rattle.nx_sync.specs.Locks.{Lock, Now, IsNow}
 use Rattle.nx_envelope.specs.Copies.{errors_of}
 use Rattle.nx_envelope.specs.Identity.{same_identity}
 use Rattle.nx_envelope.specs.Message.{text_of, MessageView}
@@ -13,7 +12,7 @@ use Rattle.nx_memory.specs.Selection.{admits}
 use Rattle.nx_memory.specs.declared.memories.entry.MemoryEntry.{MemoryEntry}
 use Rattle.nx_station.specs.reception.Sendings.{Part, IsCut, IsSentAt}
 use Rattle.nx_receiver.specs.Events.{Event, Start, elements_among, first_setting, setting_at}
-use Rattle.nx_receiver.specs.copies.FoundCopies.{FoundCopy, found_to_end, TaggedCopy, tagged_copies}
+use Rattle.nx_receiver.specs.copies.FoundCopies.{AreFoundIn, FoundCopy, TaggedCopy, tagged_copies}
 use Rattle.nx_receiver.specs.copies.Printing.{copies_of, entries_made, entries_after, is_remembered}
 
 -- after these first entries, no entry of the identity is live at the first of the copies that bear
@@ -49,11 +48,10 @@ pub record IsHeardInTime (start : Start) (events : List Event) (parts : List Par
   pub numbered : 0 < message.identity.number
   -- Each copy that is found with its identity is one of its sendings, so all carry the same text.
   -- A copy of a badly received sending breaks this, and so does another message of its identity.
-  pub locks : List Lock
-  pub now : Now
-  pub stands : IsNow (elements_among events) locks now
-  pub alone : (copy : FoundCopy) → Contains (found_to_end (elements_among events) locks now) copy
-      → copy.identity ≡ message.identity → IsSentAt parts message copy.place
+  pub copies : List FoundCopy
+  pub found : AreFoundIn events copies
+  pub alone : (copy : FoundCopy) → Contains copies copy → copy.identity ≡ message.identity
+      → IsSentAt parts message copy.place
   -- It is selected at each sending.
   pub selected : (at : ℕ) → IsSentAt parts message at
       → IsTrue (admits (setting_at (first_setting start) events at).refused message.identity)
@@ -64,11 +62,11 @@ pub record IsHeardInTime (start : Start) (events : List Event) (parts : List Par
   -- At its first copy no entry of its identity is live: one that the receiver began with is 66
   -- hours old by then, or 200 came after it. With an empty memory this always holds.
   pub unknown : IsUnknownAtFirst start.entries message.identity
-      (tagged_copies (first_setting start) events (found_to_end (elements_among events) locks now))
+      (tagged_copies (first_setting start) events copies)
   -- 200 identities suffice: fewer than 200 entries are made between its first copy and any later
   -- one.
   pub few : FewBetween start.entries message.identity
-      (tagged_copies (first_setting start) events (found_to_end (elements_among events) locks now))
+      (tagged_copies (first_setting start) events copies)
 
 -- Exactly one of the printed copies bears the identity of the message: it is full, has 0 errors,
 -- and its text is the message's, letter for letter.

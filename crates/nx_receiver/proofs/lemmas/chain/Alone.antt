@@ -5,7 +5,7 @@ use Rattle.nx_envelope.specs.private.Reading.{identity_read}
 use Rattle.nx_fec.specs.air_files.Channels.{same_channel}
 use Rattle.nx_fec.specs.declared.air_files.channel.Channel.{Channel}
 use Rattle.nx_sync.specs.Locks.{IsNow, Past, hunting}
-use Rattle.nx_receiver.specs.air_file_runs.Chain.{AreFoundIn}
+use Rattle.nx_receiver.specs.copies.FoundCopies.{AreFoundIn}
 use Rattle.nx_receiver.specs.Events.{Event, Start, elements_among}
 use Rattle.nx_receiver.specs.copies.FoundCopies.{FoundCopy, TaggedCopy, found_to_end, past_copies}
 use Rattle.nx_receiver.specs.copies.FoundCopies.{tagged_copies}

@@ -12,9 +12,9 @@ use Rattle.nx_memory.specs.Saved.{SavedState}
 use Rattle.nx_memory.specs.Memory.{most_entries}
 use Rattle.nx_memory.specs.declared.memories.entry.MemoryEntry.{MemoryEntry}
 use Rattle.nx_sync.specs.Locks.{IsNow, Lock, Now}
-use Rattle.nx_receiver.specs.air_file_runs.Chain.{AreFoundIn, Leaves}
+use Rattle.nx_receiver.specs.air_file_runs.Chain.{Leaves}
 use Rattle.nx_receiver.specs.Events.{Event, Setting, Start, elements_among, first_setting, settings}
-use Rattle.nx_receiver.specs.copies.FoundCopies.{FoundCopy, ended_so_far, found_copy, found_to_end}
+use Rattle.nx_receiver.specs.copies.FoundCopies.{AreFoundIn, FoundCopy, ended_so_far, found_copy, found_to_end}
 use Rattle.nx_receiver.specs.copies.FoundCopies.{open_so_far, standing_text, TaggedCopy, tag}
 use Rattle.nx_receiver.specs.copies.FoundCopies.{tagged_copies}
 use Rattle.nx_receiver.specs.copies.LockText.{PlacedByte, bytes_of}

@@ -15,11 +15,11 @@ use Rattle.nx_memory.specs.declared.memories.entry.MemoryEntry.{MemoryEntry}
 use Rattle.nx_fec.specs.declared.air_files.channel.Channel.{Channel}
 use Rattle.nx_fec.specs.declared.air_files.channel.Channel.TheVariants.{Zero, One, Two}
 use Rattle.nx_station.specs.reception.Sendings.{Sending}
-use Rattle.nx_receiver.specs.air_file_runs.Chain.{AreFoundIn, IsChain, Run, all_copies, all_printed, copies_in}
+use Rattle.nx_receiver.specs.air_file_runs.Chain.{IsChain, Run, all_copies, all_printed, copies_in}
 use Rattle.nx_receiver.specs.air_file_runs.Chain.{events_in}
 use Rattle.nx_receiver.specs.laws.ChainOnce.{CutRun, IsHeardInTimeOver, IsSentIn, in_force_in}
 use Rattle.nx_receiver.specs.Events.{elements_among}
-use Rattle.nx_receiver.specs.copies.FoundCopies.{FoundCopy, found_to_end, TaggedCopy, tag, tagged_copies}
+use Rattle.nx_receiver.specs.copies.FoundCopies.{AreFoundIn, FoundCopy, found_to_end, TaggedCopy, tag, tagged_copies}
 use Rattle.nx_receiver.specs.laws.LawTerms.{AreRepeats}
 use Rattle.nx_receiver.specs.copies.Printing.{copies_of, is_good, printed_copies}
 use Rattle.nx_receiver.specs.laws.Once.{FewBetween, IsPrintedOnce, IsUnknownAtFirst}

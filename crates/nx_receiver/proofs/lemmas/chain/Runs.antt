@@ -13,13 +13,13 @@ use Rattle.nx_fec.specs.declared.air_files.channel.Channel.{Channel}
 use Rattle.nx_fec.specs.declared.air_files.channel.Channel.TheVariants.{Zero, One, Two}
 use Rattle.nx_fec.proofs.lemmas.lines.LineLaws.{IsAirFile-unique}
 use Rattle.nx_sync.proofs.lemmas.states.StateChanges.{standing_after}
-use Rattle.nx_receiver.specs.air_file_runs.Chain.{AgreeInLast, AreFoundIn, GoesOn, HasGoneOn, IsChain, Leaves}
+use Rattle.nx_receiver.specs.air_file_runs.Chain.{AgreeInLast, GoesOn, HasGoneOn, IsChain, Leaves}
 use Rattle.nx_receiver.specs.air_file_runs.Chain.{Run, all_copies, all_events, all_logs, all_printed, copies_in}
 use Rattle.nx_receiver.specs.air_file_runs.Chain.{events_in, files, start_in}
 use Rattle.nx_receiver.specs.Events.{Event, Setting, Start, at_moment, command, element}
 use Rattle.nx_receiver.specs.Events.{elements_among, first_setting, refused_after, setting_after}
 use Rattle.nx_receiver.specs.Events.{setting_after_all}
-use Rattle.nx_receiver.specs.copies.FoundCopies.{FoundCopy, found_to_end, tagged_copies}
+use Rattle.nx_receiver.specs.copies.FoundCopies.{AreFoundIn, FoundCopy, found_to_end, tagged_copies}
 use Rattle.nx_receiver.specs.copies.InTurn.{PrintAllToEnd}
 use Rattle.nx_receiver.specs.air_file_runs.Listen.{HasListened, IsLogOfFile, events_on, given_by}
 use Rattle.nx_receiver.specs.copies.Log.{IsLog, printed_of}

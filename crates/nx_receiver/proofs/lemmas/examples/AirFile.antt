@@ -169,9 +169,8 @@ module _ (entries : List MemoryEntry) (from : ℕ) (heard : List Event)
     place = place;
     sent = example_sent first_bits [];
     numbered = lit< tt;
-    locks = [];
-    now = locked 0 28;
-    stands = stands-heard;
+    copies = all-found;
+    found = record { locks = []; now = locked 0 28; stands = stands-heard; whole = refl };
     alone = λ copy there named.
         let among : Contains found copy =
         subst (λ (cs : List FoundCopy). Contains cs copy) (sym found-same) there in

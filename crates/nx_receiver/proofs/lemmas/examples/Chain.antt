@@ -27,7 +27,7 @@ use Rattle.nx_station.specs.reception.PathExample.{ea01, example_message, exampl
 use Rattle.nx_station.specs.reception.Sendings.{IsCut, Part, IsSentAt}
 use Rattle.nx_station.proofs.lemmas.reception.PathExamples.{example_sent}
 use Rattle.nx_sync.specs.Locks.{IsNow, locked}
-use Rattle.nx_receiver.specs.air_file_runs.Chain.{AreFoundIn, GoesOn, IsChain, Leaves, Run, all_copies, all_logs}
+use Rattle.nx_receiver.specs.air_file_runs.Chain.{GoesOn, IsChain, Leaves, Run, all_copies, all_logs}
 use Rattle.nx_receiver.specs.air_file_runs.Chain.{events_in}
 use Rattle.nx_receiver.specs.examples.Chain.{copy_heard, example_runs, first_run, found_on}
 use Rattle.nx_receiver.specs.examples.Chain.{saved_after, second_run}
@@ -36,7 +36,7 @@ use Rattle.nx_receiver.specs.Events.{Event, Setting, Start, at_moment, elements_
 use Rattle.nx_receiver.specs.Events.{first_setting, none_refused, setting_after_all, settings}
 use Rattle.nx_receiver.specs.Events.{setting_at}
 use Rattle.nx_receiver.specs.examples.Repeats.{first_copy, heard_at}
-use Rattle.nx_receiver.specs.copies.FoundCopies.{FoundCopy, found_to_end, TaggedCopy, tag, tagged_copies}
+use Rattle.nx_receiver.specs.copies.FoundCopies.{AreFoundIn, FoundCopy, found_to_end, TaggedCopy, tag, tagged_copies}
 use Rattle.nx_receiver.specs.copies.InTurn.{PrintAllToEnd}
 use Rattle.nx_receiver.specs.air_file_runs.Listen.{AreTaken, events_on, given_by}
 use Rattle.nx_receiver.specs.private.Taken.{AreTakenAfter}

@@ -118,9 +118,8 @@ heard_in_time = record {
   numbered = lit< tt;
   place = length first_bits + 517;
   sent = example_sent first_bits [];
-  locks = [];
-  now = locked 0 28;
-  stands = stands_is;
+  copies = found;
+  found = record { locks = []; now = locked 0 28; stands = stands_is; whole = refl };
   alone = λ copy there named.
       subst (IsSentAt (example_parts first_bits []) example_message)
       (ap (λ (c : FoundCopy). c.place)

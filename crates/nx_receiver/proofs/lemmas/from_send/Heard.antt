@@ -215,9 +215,8 @@ module _ (messages : List MessageView) (numbers : List ℕ) (others : List (List
         numbered = numbered;
         place = place;
         sent = is_sent;
-        locks = [];
-        now = locked 0 28;
-        stands = stands;
+        copies = found;
+        found = record { locks = []; now = locked 0 28; stands = stands; whole = refl };
         alone = copy_is_sent;
         selected = λ at sent. selected_at at;
         close = close_at;

@@ -17,7 +17,7 @@ use Rattle.nx_receiver.specs.laws.LawTerms.{AreRepeats}
 use Rattle.nx_receiver.specs.copies.Printing.{copies_of, is_good}
 use Rattle.nx_receiver.specs.copies.Printing.{printed_copies}
 use Rattle.nx_receiver.specs.copies.Log.{PrintsToEnd, printed_of}
-use Rattle.nx_receiver.specs.laws.Once.{IsHeardInTime, IsPrintedOnce}
+use Rattle.nx_receiver.specs.laws.Once.{FewBetween, IsHeardInTime, IsPrintedOnce, IsUnknownAtFirst}
 use Rattle.nx_receiver.specs.laws.Emissions.{copies_at, copy_of_sending}
 use Rattle.nx_receiver.proofs.lemmas.locks.Found.{one_told}
 use Rattle.nx_receiver.proofs.lemmas.once.Repeats.{once}
@@ -78,10 +78,13 @@ no_errors-good text none = lt-ltb (25 * errors_of text) (max 1 (length text)) (o
 module _ (start : Start) (events : List Event) (parts : List Part) (message : MessageView)
     (h : IsHeardInTime start events parts message) where
   abbrev found : List FoundCopy
-  found = found_to_end (elements_among events) h.locks h.now
+  found = found_to_end (elements_among events) h.found.locks h.found.now
 
   abbrev heard : List TaggedCopy
   heard = tagged_copies (first_setting start) events found
+
+  heard_is : tagged_copies (first_setting start) events h.copies ≡ heard
+  heard_is = ap (tagged_copies (first_setting start) events) h.found.whole
 
   -- the copy of a sending of the message, with what is in force there
   abbrev copy_at : ℕ → TaggedCopy
@@ -99,12 +102,14 @@ module _ (start : Start) (events : List Event) (parts : List Part) (message : Me
       → IsOfSending (tag (setting_at (first_setting start) events copy.place) copy)
   unfolding copies_at
   of_found copy there named =
-      let sent = h.alone copy there (same_identity-true copy.identity message.identity named) in
+      let sent = h.alone copy (subst (λ cs. Contains cs copy) (sym h.found.whole) there)
+      (same_identity-true copy.identity message.identity named) in
       let sending : Sending = record { message = message; place = copy.place } in
-      let one = one_found (elements_among events) parts sending h.locks h.now h.cut sent h.stands in
+      let one = one_found (elements_among events) parts sending h.found.locks h.found.now h.cut sent
+      h.found.stands in
       let this =
       one_of_key (λ (c : FoundCopy). c.place) found copy
-      (found_rise (elements_among events) h.locks h.now h.stands) there in
+      (found_rise (elements_among events) h.found.locks h.found.now h.found.stands) there in
       let same : copy ∷ [] ≡ copy_of_sending sending ∷ [] = sym this ∙ one in
       let is : copy ≡ copy_of_sending sending = cc in
       record {
@@ -132,7 +137,7 @@ module _ (start : Start) (events : List Event) (parts : List Part) (message : Me
   some_heard =
       let there : Contains found (copy_of_sending (record { message = message; place = h.place })) =
       sending_in_end (elements_among events) parts (record { message = message; place = h.place })
-      h.locks h.now h.cut h.sent h.stands in
+      h.found.locks h.found.now h.cut h.sent h.found.stands in
       contains_filter (λ (c : TaggedCopy). same_identity c.identity message.identity) heard
       (copy_at h.place)
       (contains_map (λ (copy : FoundCopy). tag (setting_at (first_setting start) events copy.place)
@@ -170,7 +175,7 @@ module _ (start : Start) (events : List Event) (parts : List Part) (message : Me
       record {
         heard = e;
         numbered = h.numbered;
-        unknown = h.unknown;
+        unknown = subst (IsUnknownAtFirst start.entries message.identity) heard_is h.unknown;
         good = All-weaker IsOfSending (λ (copy : TaggedCopy). IsTrue (is_good copy)) good_of
             (first ∷ rest) each;
         selected = All-weaker IsOfSending (λ (copy : TaggedCopy). IsTrue copy.selected) selected_of
@@ -178,7 +183,7 @@ module _ (start : Start) (events : List Event) (parts : List Part) (message : Me
         close = λ one other a b. close_of one other
             (All-contains IsOfSending (first ∷ rest) one each a)
             (All-contains IsOfSending (first ∷ rest) other each b);
-        few = h.few;
+        few = subst (FewBetween start.entries message.identity) heard_is h.few;
       }
 
   pub printed_once : (log : List TaggedCopy) → PrintsToEnd start events log
@@ -193,8 +198,8 @@ module _ (start : Start) (events : List Event) (parts : List Part) (message : Me
       let log_is : log ≡ printed_copies start.entries heard =
       prints.printed
       ∙ ap (printed_of start events)
-      (one_told (found_to_end (elements_among events)) (elements_among events) prints.locks h.locks
-      prints.now h.now prints.stands h.stands) in
+      (one_told (found_to_end (elements_among events)) (elements_among events) prints.locks
+      h.found.locks prints.now h.found.now prints.stands h.found.stands) in
       let text : start_of.first.text ≡ text_of message.lines =
       ap (λ (c : TaggedCopy). c.text) of.is in
       record {
