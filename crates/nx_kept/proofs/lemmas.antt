@@ -1,4 +1,5 @@
 -- Lemmas that several proofs cite.
+pub mod Calls
 pub mod KeptLaws
 pub mod Pieces
 pub mod Putting

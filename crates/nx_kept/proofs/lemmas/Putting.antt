@@ -2,9 +2,11 @@
 use Rattle.std.proofs.Common.{◌≡◌, inl, inr, ℕ, ◌+◌, ◌≤◌, List, [], ◌∷◌, ◌++◌, length, get_or, take, drop, refl, sym, ◌∙◌, ap, subst, arith, append_assoc, length-append, length-drop, take-append-drop}
 use Rattle.std.proofs.lemmas.Bool.{cases_eq}
 use Rattle.std.proofs.lemmas.List.{append-nil, take_at, take-take, take_all, drop_at, drop_all, drop_more}
-use Rattle.nx_kept.specs.Disk.{Elapses, Follows, Holds, Only, Torn}
-use Rattle.nx_kept.proofs.lemmas.Stages.{Stage, begins, steps, knows}
-use Rattle.nx_kept.specs.Kept.{closed_gate, IsBehindOpenGates, StandsFor, WithOrWithout}
+use Rattle.nx_kept.specs.Disk.{Holds, Only, Torn}
+use Rattle.nx_kept.specs.Kept.{closed_gate, open_gate, IsBehindOpenGates, StandsFor, WithOrWithout}
+use Rattle.nx_kept.specs.Log.{IsAtRest, Keeps}
+use Rattle.nx_kept.specs.declared.log.KeptLog.{KeptLog}
+use Rattle.nx_kept.proofs.lemmas.Calls.{File, IsOnlyNow, Leaves, Syncs, Writes, begun, durable, wrote}
 use Rattle.nx_kept.proofs.lemmas.KeptLaws.{closed_tail, more_behind, only_tail, one_behind}
 
 -- bytes written at the end
@@ -130,73 +132,152 @@ module _ (front : List ℕ) where
       })
     ]
 
--- the file with a record and a closed gate behind the closed gate
-pub staged : (front bytes f0 f1 f2 : List ℕ) → f0 ≡ front ++ closed_gate ∷ [] → f1 ≡ f0 ++ bytes
-    → f2 ≡ f1 ++ closed_gate ∷ [] → f2 ≡ front ++ closed_gate ∷ (bytes ++ closed_gate ∷ [])
-staged front bytes f0 f1 f2 zero_is one_is two_is =
-    two_is ∙ ap (λ (l : List ℕ). l ++ closed_gate ∷ [])
-    (one_is ∙ ap (λ (l : List ℕ). l ++ bytes) zero_is)
-    ∙ append_assoc (front ++ closed_gate ∷ []) bytes (closed_gate ∷ [])
-    ∙ append_assoc front (closed_gate ∷ []) (bytes ++ closed_gate ∷ [])
+-- ---- what a read finds after each call of a put
 
-module _ {D : Type 0} (moment : D → ℕ) (left_since : D → ℕ → List ℕ → Type 0)
-    (may_leave : D → List ℕ → Type 0) (is_record : List ℕ → Type 0) (longest : ℕ)
-    (records : List (List ℕ)) (bytes front : List ℕ)
-    (kept : IsBehindOpenGates is_record records front) (is_one : is_record bytes)
-    (short : length bytes ≤ longest) where
+module _ {D G : Type 0} (f : File D) (front bytes : List ℕ) (log : KeptLog D G)
+    (rest : IsAtRest f.seen f.may_leave front log) where
+  -- the bytes that are found once the record stands behind the closed gate
+  abbrev pub with_record : List ℕ
+  with_record = front ++ closed_gate ∷ bytes
+
+  -- and once a closed gate stands behind the record
+  abbrev pub with_gate : List ℕ
+  with_gate = front ++ closed_gate ∷ (bytes ++ closed_gate ∷ [])
+
+  -- the record's place is there
+  pub record_there : log.gate + 1 ≤ length (f.seen log.device)
+  record_there =
+      omega (arith, rest.gate, ap length rest.file, length-append front (closed_gate ∷ []))
+
+  pub found_record : (now : D)
+      → (log.gate + 1 ≤ length (f.seen log.device)
+      → Holds (f.seen log.device) (log.gate + 1) bytes (f.seen now))
+      → f.seen now ≡ with_record
+  found_record now written =
+      written_behind (f.seen log.device) (log.gate + 1) bytes (f.seen now)
+      (omega (arith, rest.gate, ap length rest.file, length-append front (closed_gate ∷ [])))
+      (written record_there)
+      ∙ ap (λ (l : List ℕ). l ++ bytes) rest.file ∙ append_assoc front (closed_gate ∷ []) bytes
+
+  -- so is the place of the gate behind it
+  pub gate_there : (mid : D) → f.seen mid ≡ with_record
+      → log.gate + 1 + length bytes ≤ length (f.seen mid)
+  gate_there mid is =
+      omega (arith, rest.gate, ap length is, length-append front (closed_gate ∷ bytes))
+
+  pub found_gate : (mid now : D) → f.seen mid ≡ with_record
+      → (log.gate + 1 + length bytes ≤ length (f.seen mid)
+      → Holds (f.seen mid) (log.gate + 1 + length bytes) (closed_gate ∷ []) (f.seen now))
+      → f.seen now ≡ with_gate
+  found_gate mid now is written =
+      written_behind (f.seen mid) (log.gate + 1 + length bytes) (closed_gate ∷ []) (f.seen now)
+      (omega (arith, rest.gate, ap length is, length-append front (closed_gate ∷ bytes)))
+      (written (gate_there mid is))
+      ∙ ap (λ (l : List ℕ). l ++ closed_gate ∷ []) is
+      ∙ append_assoc front (closed_gate ∷ bytes) (closed_gate ∷ [])
+
+  -- the gate that is opened is there
+  pub open_there : (mid : D) → f.seen mid ≡ with_gate → log.gate ≤ length (f.seen mid)
+  open_there mid is =
+      omega (
+        arith,
+        rest.gate,
+        ap length is,
+        length-append front
+            (closed_gate ∷ (bytes ++ closed_gate ∷ [])),
+      )
+
+  -- the log is at rest again
+  pub rests_again : (mid now : D) (after : KeptLog D G) → f.seen mid ≡ with_gate
+      → (log.gate ≤ length (f.seen mid)
+      → Holds (f.seen mid) log.gate (open_gate ∷ []) (f.seen now))
+      → after.gate ≡ log.gate + 1 + length bytes → f.seen after.device ≡ f.seen now
+      → Only (f.seen now) (f.may_leave after.device)
+      → IsAtRest f.seen f.may_leave (front ++ open_gate ∷ bytes) after
+  rests_again mid now after is written gate same only = record {
+    file = same
+        ∙ written_over front log.gate closed_gate open_gate (bytes ++ closed_gate ∷ [])
+        (f.seen now) rest.gate
+        (subst (λ (l : List ℕ). Holds l log.gate (open_gate ∷ []) (f.seen now)) is
+        (written (open_there mid is)))
+        ∙ sym (append_assoc front (open_gate ∷ bytes) (closed_gate ∷ []));
+    gate = omega (arith, gate, rest.gate, length-append front (open_gate ∷ bytes));
+    durable = subst (λ (l : List ℕ). Only l (f.may_leave after.device)) (sym same) only;
+  }
+
+-- ---- what a crash leaves in each call of a put
+
+-- A record of these bytes is put into a log that keeps these records.
+pub record Putting {D G : Type 0} (f : File D) (is_record : List ℕ → Type 0) (longest : ℕ)
+    (records : List (List ℕ)) (bytes : List ℕ) (log : KeptLog D G) : Type 0 where
+  pub keeps : Keeps f.seen f.may_leave is_record records log
+  pub is_one : is_record bytes
+  pub short : length bytes ≤ longest
+  pub only_now : IsOnlyNow f log.device
+
+module _ {D G : Type 0} (f : File D) {is_record : List ℕ → Type 0} {longest : ℕ}
+    {records : List (List ℕ)} {bytes : List ℕ} {log : KeptLog D G}
+    (p : Putting f is_record longest records bytes log) where
+  abbrev front : List ℕ
+  front = p.keeps.front
+
+  abbrev rest : IsAtRest f.seen f.may_leave p.keeps.front log
+  rest = p.keeps.at_rest
+
   abbrev BeforeOrAfter : List ℕ → Type 0
   BeforeOrAfter = WithOrWithout is_record longest records bytes
 
-  abbrev Staging : D → D → Type 0
-  Staging = Stage moment left_since may_leave BeforeOrAfter (Behind front (longest + 1))
+  -- a closed gate still stands before the record
+  abbrev pub IsStaging : D → Type 0
+  IsStaging now = Leaves f BeforeOrAfter (Behind p.keeps.front (longest + 1)) log.device now
 
-  still : (c : List ℕ) → Behind front (longest + 1) c → BeforeOrAfter c
-  still c behind = inl (closed_keeps front is_record longest records kept c behind)
+  -- or any gate does
+  abbrev pub IsOpening : D → Type 0
+  IsOpening now =
+      Leaves f BeforeOrAfter (Gated p.keeps.front (bytes ++ closed_gate ∷ [])) log.device now
 
-  -- after the record is written
-  pub wrote_record : (old now : D) (file : List ℕ) (at : ℕ) → at ≡ length front + 1
-      → ((c : List ℕ) → left_since old (moment old) c → may_leave old c)
-      → file ≡ front ++ closed_gate ∷ [] → Only file (may_leave old)
-      → Elapses (moment old) (moment now) (left_since old) (left_since now) (may_leave now)
-      → Follows (Torn at (length bytes)) (may_leave old) (may_leave now) → Staging old now
-  wrote_record old now file at here only_now is only time follows =
-      let at_start = begins moment left_since may_leave BeforeOrAfter (Behind front (longest + 1))
-      old only_now (λ c left. at_rest front (longest + 1) c (only c left ∙ is)) still in
-      steps moment left_since may_leave BeforeOrAfter (Behind front (longest + 1))
-      (Behind front (longest + 1)) (Torn at (length bytes)) old old now at_start time follows
-      (λ d c was torn. torn_behind front (longest + 1) (longest + 1) at (length bytes) d c was torn
-      (omega arith) (omega arith) (omega arith)) still
+  still : (c : List ℕ) → Behind p.keeps.front (longest + 1) c → BeforeOrAfter c
+  still c behind = inl (closed_keeps p.keeps.front is_record longest records p.keeps.kept c behind)
 
-  -- after the closed gate is written behind it
-  pub wrote_gate : (old mid now : D) (at : ℕ) → at ≡ length front + 1 + length bytes
-      → Staging old mid
-      → Elapses (moment mid) (moment now) (left_since mid) (left_since now) (may_leave now)
-      → Follows (Torn at 1) (may_leave mid) (may_leave now) → Staging old now
-  wrote_gate old mid now at here stage time follows =
-      steps moment left_since may_leave BeforeOrAfter (Behind front (longest + 1))
-      (Behind front (longest + 1)) (Torn at 1) old mid now stage time follows
-      (λ d c was torn. torn_behind front (longest + 1) (longest + 1) at 1 d c was torn (omega arith)
-      (omega arith) (omega arith)) still
+  -- the record is written
+  pub wrote_record : (now : D) → Writes f (log.gate + 1) bytes log.device now → IsStaging now
+  wrote_record now writes =
+      let here = rest.gate in
+      let short = p.short in
+      wrote f (Behind front (longest + 1))
+      (begun f p.only_now
+      (λ c left. at_rest front (longest + 1) c (rest.durable c left ∙ rest.file)) still)
+      (record_there f front bytes log rest) writes
+      (λ d c was torn. torn_behind front (longest + 1) (longest + 1) (log.gate + 1) (length bytes)
+      d c was torn (omega arith) (omega arith) (omega arith)) still
 
-  -- after the gate before it is opened
-  pub opened_gate : (old mid now : D) (file : List ℕ) (at : ℕ) → at ≡ length front → Staging old mid
-      → file ≡ front ++ closed_gate ∷ (bytes ++ closed_gate ∷ []) → Only file (may_leave mid)
-      → Elapses (moment mid) (moment now) (left_since mid) (left_since now) (may_leave now)
-      → Follows (Torn at 1) (may_leave mid) (may_leave now)
-      → Stage moment left_since may_leave BeforeOrAfter (Gated front (bytes ++ closed_gate ∷ []))
-      old now
-  opened_gate old mid now file at here stage is only time follows =
+  -- the closed gate is written behind it
+  pub wrote_gate : (mid now : D) → IsStaging mid → f.seen mid ≡ front ++ closed_gate ∷ bytes
+      → Writes f (log.gate + 1 + length bytes) (closed_gate ∷ []) mid now → IsStaging now
+  wrote_gate mid now stage is writes =
+      let here = rest.gate in
+      let short = p.short in
+      wrote f (Behind front (longest + 1)) stage (gate_there f front bytes log rest mid is) writes
+      (λ d c was torn. torn_behind front (longest + 1) (longest + 1) (log.gate + 1 + length bytes) 1
+      d c was torn (omega arith) (omega arith) (omega arith)) still
+
+  -- once both are on the disk, the gate before the record is opened
+  pub opened_gate : (mid synced now : D) → IsStaging mid
+      → f.seen mid ≡ front ++ closed_gate ∷ (bytes ++ closed_gate ∷ []) → Syncs f mid synced
+      → Only (f.seen mid) (f.may_leave synced)
+      → Writes f log.gate (open_gate ∷ []) synced now → IsOpening now
+  opened_gate mid synced now stage is syncs only writes =
       let whole = front ++ closed_gate ∷ (bytes ++ closed_gate ∷ []) in
+      let short = p.short in
       let behind : Behind front (longest + 1) whole = record {
         rest = bytes ++ closed_gate ∷ [];
         split = refl;
         short = omega (arith, length-append bytes (closed_gate ∷ []));
       } in
-      let known = knows moment left_since may_leave BeforeOrAfter (Behind front (longest + 1))
-      (λ c. c ≡ whole) old mid stage (λ c left. only c left ∙ is)
-      (λ c same. subst BeforeOrAfter (sym same) (still whole behind)) in
-      steps moment left_since may_leave BeforeOrAfter (λ c. c ≡ whole)
-      (Gated front (bytes ++ closed_gate ∷ [])) (Torn at 1) old mid now known time follows
-      (λ d c same torn. torn_gate front at closed_gate (bytes ++ closed_gate ∷ []) d c here same
-      torn)
-      (λ c gated. any_gate_keeps front is_record longest records kept bytes c is_one short gated)
+      wrote f (Gated front (bytes ++ closed_gate ∷ []))
+      (durable f whole stage syncs only is (still whole behind))
+      (open_there f front bytes log rest synced (syncs.seen ∙ is)) writes
+      (λ d c was torn. torn_gate front log.gate closed_gate (bytes ++ closed_gate ∷ []) d c
+      rest.gate was torn)
+      (λ c gated. any_gate_keeps front is_record longest records p.keeps.kept bytes c p.is_one
+      p.short gated)

@@ -1,13 +1,16 @@
 -- What a crash leaves while the end of a log is put right.
-use Rattle.std.proofs.Common.{◌≡◌, inl, inr, ℕ, suc, ◌+◌, ◌-◌, ◌≤◌, List, [], ◌++◌, length, take, drop, refl, sym, ◌∙◌, ap, subst, arith, length-drop, length-take, take-append-drop}
+use Rattle.std.proofs.Common.{◌≡◌, ◌⊎◌, inl, inr, ℕ, suc, ◌+◌, ◌-◌, ◌<◌, ◌≤◌, List, [], ◌∷◌, ◌++◌, length, take, drop, refl, sym, ◌∙◌, ap, subst, arith, length-append, length-drop, length-take, take-append-drop}
 use Rattle.std.proofs.lemmas.List.{append-nil, take_at, take_all, drop_at}
-use Rattle.nx_kept.specs.Disk.{Cut, Torn}
-use Rattle.nx_kept.specs.Kept.{IsBehindOpenGates, IsTail, StandsFor}
-use Rattle.nx_kept.specs.private.Scan.{IsCutThere, ReadsUpTo}
+use Rattle.nx_kept.specs.Disk.{Cut, LeavesOnly, Only, Torn}
+use Rattle.nx_kept.specs.Kept.{closed_gate, IsBehindOpenGates, IsTail, StandsFor}
+use Rattle.nx_kept.specs.private.Scan.{Ends, IsCutThere, ReadsUpTo}
+use Rattle.nx_kept.specs.declared.scan.Rest.{Rest}
 use Rattle.nx_kept.specs.Open.{HasCause}
 use Rattle.nx_kept.specs.declared.fault.OpenFault.{OpenFault}
 use Rattle.nx_kept.specs.declared.fault.OpenFault.TheVariants.{Read, Disk, Damaged, Memory}
-use Rattle.nx_kept.proofs.lemmas.KeptLaws.{more_behind, only_tail, short_tail, tail_begins}
+use Rattle.nx_kept.proofs.lemmas.KeptLaws.{more_behind, one_list, only_tail, short_tail, tail_begins}
+use Rattle.nx_kept.proofs.lemmas.Calls.{Cuts, File, IsOnlyNow, Leaves, Reads, Syncs, Writes, begun, cut, durable, reads_leave, wrote}
+use Rattle.nx_kept.proofs.lemmas.Stages.{joined, reads_both}
 use Rattle.nx_kept.proofs.lemmas.Pieces.{take_past}
 
 -- the file itself
@@ -81,6 +84,69 @@ cut_keeps is_record longest records front tail place file c kept end split at cu
     subst (StandsFor is_record longest records) whole
     (subst (λ (l : List (List ℕ)). StandsFor is_record longest l (front ++ cut.rest))
     (append-nil records) stands)
+
+-- from old to now a crash leaves the file, cut there
+abbrev pub IsRepairing : {D : Type 0} → File D → ℕ → D → D → Type 0
+IsRepairing f place old now =
+    Leaves f (IsCutThere place (f.seen old)) (IsCutThere place (f.seen old)) old now
+
+module _ {D : Type 0} (f : File D) (place : ℕ) {old : D}
+    (within : place ≤ length (f.seen old)) where
+  -- the file is cut
+  pub is_cutting : {now : D} → IsOnlyNow f old → Only (f.seen old) (f.may_leave old)
+      → Cuts f place old now → IsRepairing f place old now
+  is_cutting only_now only cuts =
+      cut f (IsCutThere place (f.seen old))
+      (begun f only_now only (λ c is. all_there place (f.seen old) c is)) within cuts
+      (λ d c is cut. cut_there place (f.seen old) d c within is cut) (λ c is. is)
+
+  -- once the cut is on the disk, a gate is written
+  pub is_shutting : {mid synced now : D} → IsRepairing f place old mid
+      → f.seen mid ≡ take place (f.seen old) → Syncs f mid synced
+      → Only (f.seen mid) (f.may_leave synced) → Writes f place (closed_gate ∷ []) synced now
+      → IsRepairing f place old now
+  is_shutting stage is syncs only writes =
+      wrote f (IsCutThere place (f.seen old))
+      (durable f (take place (f.seen old)) stage syncs only is
+      (is_cut place (f.seen old) (take place (f.seen old)) refl))
+      (omega (arith, within, ap length (syncs.seen ∙ is), length-take place (f.seen old))) writes
+      (λ d c is torn. torn_there place (f.seen old) d c within is torn) (λ c is. is)
+
+-- a file that was brought to the disk, read, and repaired behind its records
+pub repaired : {D T : Type 0} (f : File D) (is_record : List ℕ → Type 0) (longest : ℕ)
+    (some : (bytes : List ℕ) → is_record bytes → 0 < length bytes)
+    (one : (bytes more : List ℕ) → is_record bytes → is_record (bytes ++ more) → more ≡ [])
+    {takes : T → List ℕ → T → Type 0} {before after : T} (records : List (List ℕ)) (end : Rest)
+    {old mid read now : D} → StandsFor is_record longest records (f.seen old) → Reads f old mid
+    → Only (f.seen old) (f.may_leave mid) → Reads f mid read
+    → Ends is_record longest takes (f.seen mid) before after end
+    → (end.gate ≤ length (f.seen read) → Only (f.seen read) (f.may_leave read)
+    → LeavesOnly f.moment f.left_since read now (IsCutThere end.gate (f.seen read)))
+    → LeavesOnly f.moment f.left_since old now
+    (λ c. f.may_leave old c ⊎ StandsFor is_record longest records c)
+repaired f is_record longest some one records end {old} {mid} {read} {now} stands first only second
+    ends repairs =
+    let Kept = λ (c : List ℕ). f.may_leave old c ⊎ StandsFor is_record longest records c in
+    let same : f.seen read ≡ f.seen old = second.same ∙ first.same in
+    let file_is : f.seen read ≡ ends.front ++ ends.tail = second.same ∙ ends.split in
+    let found : StandsFor is_record longest ends.records (f.seen old) = record {
+      front = ends.front;
+      tail = ends.tail;
+      kept = ends.kept;
+      end = ends.is_tail;
+      split = sym first.same ∙ ends.split;
+    } in
+    let same_records =
+    one_list is_record longest some one ends.records records (f.seen old) found stands in
+    joined f.moment f.left_since f.may_leave Kept (IsCutThere end.gate (f.seen read)) old read now
+    (reads_leave f (StandsFor is_record longest records)
+    (reads_both f.moment f.left_since f.may_leave f.seen old mid read first second))
+    (repairs
+    (omega (arith, ends.gate, ap length file_is, length-append ends.front ends.tail))
+    (λ c left. only c (second.crash c left) ∙ sym same))
+    (λ c cut. inr (subst (λ (r : List (List ℕ)). StandsFor is_record longest r c) same_records
+    (cut_keeps is_record longest ends.records ends.front ends.tail end.gate (f.seen read) c
+    ends.kept ends.is_tail file_is ends.gate cut)))
 
 -- why a reading failed is why the opening failed
 pub read_cause : {D : Type 0} → (faults : D → ℕ) (to_read to_write : D → Type 0) (fault : OpenFault)
