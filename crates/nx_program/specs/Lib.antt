@@ -2,6 +2,6 @@ pub mod Status
 pub mod LogWords
 pub mod Program
 pub mod Report
-pub mod Watching
+pub mod WatchCommand
 pub mod Words
 pub mod private

@@ -38,7 +38,7 @@ use Rattle.nx_program.specs.declared.fault.CallFault.TheVariants as call
 use Rattle.nx_program.specs.declared.fault.Fault.{Fault}
 use Rattle.nx_program.specs.declared.fault.Fault.TheVariants as fault
 use Rattle.nx_program.specs.Status.{status_of}
-use Rattle.nx_program.specs.Watching.{Beside, IsUnused, WatchesLog}
+use Rattle.nx_program.specs.WatchCommand.{Beside, IsUnused, WatchesLog}
 use Rattle.nx_program.specs.Words.{AsksForHelp, AsksForVersion, IsRefusedByClap, LacksKind}
 use Rattle.nx_program.specs.Words.{LacksStation, LacksValue, Names}
 

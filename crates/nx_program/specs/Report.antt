@@ -14,7 +14,7 @@ use Rattle.nx_program.specs.declared.fault.Fault.{Fault}
 use Rattle.nx_program.specs.declared.fault.Fault.TheVariants as fault
 use Rattle.nx_program.specs.Program.{EndsRun, IsUntouched}
 use Rattle.nx_program.specs.Status.{fault_status, status_of}
-use Rattle.nx_program.specs.Watching.{Beside, watch_fault_line, with_faults}
+use Rattle.nx_program.specs.WatchCommand.{Beside, watch_fault_line, with_faults}
 
 -- a line that reports a fault: `navtex: `, what the fault is shown as, and a newline
 pub record IsFaultLine (line : List ℕ) : Type 0 where

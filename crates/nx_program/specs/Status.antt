@@ -18,8 +18,8 @@ use Rattle.nx_station.specs.declared.fault.SendRunFault.{SendRunFault}
 use Rattle.nx_station.specs.declared.fault.SendRunFault.TheVariants as send
 use Rattle.nx_disk.specs.declared.file.FileFault.TheVariants as file
 use Rattle.nx_watch.specs.declared.watch_fault.WatchFault.TheVariants as watch
-use Rattle.nx_program.specs.declared.watching.WatchFailure.{WatchFailure}
-use Rattle.nx_program.specs.declared.watching.WatchFailure.TheVariants.{Unopened, Ended}
+use Rattle.nx_program.specs.declared.watch_command.WatchFailure.{WatchFailure}
+use Rattle.nx_program.specs.declared.watch_command.WatchFailure.TheVariants.{Unopened, Ended}
 use Rattle.nx_program.specs.declared.fault.CallFault.{CallFault}
 use Rattle.nx_program.specs.declared.fault.CallFault.TheVariants as call
 use Rattle.nx_program.specs.declared.fault.Fault.{Fault}

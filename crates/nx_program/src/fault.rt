@@ -10,7 +10,7 @@ ghost use Rattle.nx_program.specs.declared.fault.Fault.TheVariants.{Call};
 ghost use Rattle.nx_fec.specs.declared.fault.RunFault.TheVariants.{Memory};
 
 use crate::file_name::FileName;
-use crate::watching::WatchFailure;
+use crate::watch_command::WatchFailure;
 use nx_fec::{Counting, RunFault, write_out};
 use nx_log::LogFault;
 use nx_receiver::{ListenFault, ResumeFault, StateFault};

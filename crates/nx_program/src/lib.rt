@@ -11,11 +11,11 @@ pub mod log_laws;
 mod log_words;
 mod program;
 mod slots;
-mod watching;
+mod watch_command;
 mod words;
 
 pub use fault::CallFault;
 pub use file_name::FileName;
 pub use program::{Answered, answer, run};
-pub use watching::{LogFiles, NoFile, NoFiles, SystemFiles, WatchFailure};
+pub use watch_command::{LogFiles, NoFile, NoFiles, SystemFiles, WatchFailure};
 pub use words::Call;

@@ -5,7 +5,7 @@ ghost use Rattle.nx_program.specs.Program.{EndsOnStreams, EndsRun, Exits, NamesW
 ghost use Rattle.nx_program.specs.Program.{Succeeds, WritesText, fresh_device, version_text};
 ghost use Rattle.nx_program.specs.Report.{Answers, IsFaultLine, IsWantOfWords, LacksWords, WritesOne};
 ghost use Rattle.nx_program.specs.Status.{IsStatus};
-ghost use Rattle.nx_program.specs.Watching.{beside};
+ghost use Rattle.nx_program.specs.WatchCommand.{beside};
 ghost use Rattle.nx_program.specs.Words.{IsRefused, Names};
 ghost use Rattle.nx_program.specs.private.Reading.{ExplainsWords, IsOnStreams};
 ghost use Rattle.clap.specs.Words.{Text};
@@ -16,7 +16,7 @@ ghost use Rattle.nx_program.specs.declared.words.Call.{Call};
 use crate::commands::VERSION;
 use crate::fault::{CallFault, Fault};
 use crate::slots::print_slot;
-use crate::watching::{LogFiles, NoFile, NoFiles, watch_log};
+use crate::watch_command::{LogFiles, NoFile, NoFiles, watch_log};
 use crate::words::{Call, WordsFault, call_of};
 use nx_disk::Noted;
 use nx_fec::{Counting, RunFault, decode_run, encode_run, show_run, write_out, write_table};

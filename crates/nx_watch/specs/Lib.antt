@@ -1,6 +1,6 @@
 pub mod Acting
 pub mod AnyLines
+pub mod LineRun
 pub mod Start
 pub mod Watch
-pub mod Watching
 pub mod private

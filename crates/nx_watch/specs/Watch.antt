@@ -21,7 +21,7 @@ use Rattle.nx_watch.specs.Acting.{acting_lines, count_without, ends_watch, first
 use Rattle.nx_watch.specs.Acting.{in_force, moments_said, most_bytes}
 use Rattle.nx_watch.specs.AnyLines.{AreLines, cut_line}
 use Rattle.nx_watch.specs.Start.{remembered_at}
-use Rattle.nx_watch.specs.Watching.{HasTold, StopsBehind, told_of}
+use Rattle.nx_watch.specs.LineRun.{HasTold, StopsBehind, told_of}
 use Rattle.nx_watch.specs.declared.watch_report.WatchReport.{WatchReport}
 use Rattle.nx_watch.specs.declared.watch_fault.WatchFault.{WatchFault}
 use Rattle.nx_watch.specs.declared.watch_fault.WatchFault.TheVariants.{Open, Damaged, Disk, Memory}
@@ -198,13 +198,13 @@ module _ {D R W E : Type 0} (d : WatchDevices D R W E) where
   -- What a watch answers that started at this moment over a file that stands for these entries:
   -- which is never damaged. Where the file couldn't be opened, or memory ran out, only the file was
   -- touched.
-  abbrev pub AnswersWatching : ℕ → List MarkedCopy → Result WatchReport WatchFault → Type 0
-  AnswersWatching now entries (Err Open) = HasOpened entries
-  AnswersWatching now entries (Err Memory) = HasOpened entries
-  AnswersWatching now entries (Err (Damaged line)) = ⊥
-  AnswersWatching now entries (Err Disk) =
+  abbrev pub AnswersWatch : ℕ → List MarkedCopy → Result WatchReport WatchFault → Type 0
+  AnswersWatch now entries (Err Open) = HasOpened entries
+  AnswersWatch now entries (Err Memory) = HasOpened entries
+  AnswersWatch now entries (Err (Damaged line)) = ⊥
+  AnswersWatch now entries (Err Disk) =
       HasOpened entries ⊎ AnswersStarted (starts_at now entries) entries (Err Disk)
-  AnswersWatching now entries outcome = AnswersStarted (starts_at now entries) entries outcome
+  AnswersWatch now entries outcome = AnswersStarted (starts_at now entries) entries outcome
 
 abbrev pub watch_devices : {D R W E : Type 0} → (D → List ℕ) → (D → List ℕ → Type 0) → (D → ℕ)
     → (D → ℕ → List ℕ → Type 0) → D → D → (R → Option (List ℕ)) → CountedDevice R

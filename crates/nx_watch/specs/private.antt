@@ -6,4 +6,4 @@ pub mod Keeping
 pub mod Remembering
 pub mod Entries
 pub mod Answering
-pub mod Watcher
+pub mod LoggingListener

@@ -3,17 +3,17 @@
 
 mod kept_log;
 pub mod laws;
+mod left_on;
 mod lines;
+mod logging_listener;
 #[cfg(test)]
 mod tests;
 mod watch_fault;
 mod watch_report;
-mod watcher;
-mod watching;
 
 pub use kept_log::start::remembered;
-pub use lines::line_watch::{ActingTaker, LinesWatched, WatchEnd, WriteFailed, watch_lines};
+pub use left_on::watch;
+pub use lines::line_run::{ActingTaker, LinesWatched, WatchEnd, WriteFailed, watch_lines};
 pub use lines::telling::{tell, write_more};
 pub use watch_fault::WatchFault;
 pub use watch_report::WatchReport;
-pub use watching::watch;

@@ -3,7 +3,7 @@ use Rattle.std.proofs.Common.{◌≡◌, ℕ, true, false, cond, List, [], ◌�
 use Rattle.std.proofs.Common.{option_to_list, refl, sym, ap, ap₂, ◌∙◌, subst, append-nil, append_assoc}
 use Rattle.nx_fec.specs.air_files.AirFile.{Line}
 use Rattle.nx_watch.specs.Acting.{acting_behind, acting_lines, acts, moment_said, moments_said}
-use Rattle.nx_watch.specs.Watching.{MayAct}
+use Rattle.nx_watch.specs.LineRun.{MayAct}
 use Rattle.nx_watch.proofs.lemmas.lines.Run.{may-act}
 use Rattle.nx_left_on.proofs.lemmas.entries.Climbing.{Act}
 

@@ -5,4 +5,4 @@ pub mod Keeping
 pub mod Opening
 pub mod Remembering
 pub mod Start
-pub mod Watcher
+pub mod LoggingListener

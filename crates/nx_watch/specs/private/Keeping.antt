@@ -9,7 +9,7 @@ use Rattle.nx_kept.specs.Log.{Keeps}
 use Rattle.nx_log.specs.Entries.{IsWholeEntry}
 use Rattle.nx_receiver.specs.Listener.{count_of}
 use Rattle.nx_watch.specs.Watch.{longest_entry}
-use Rattle.nx_watch.specs.Watching.{WereGiven}
+use Rattle.nx_watch.specs.LineRun.{WereGiven}
 use Rattle.nx_watch.specs.declared.kept_log.keeper.Keeper.{Keeper}
 
 -- the file of a log, by any first content, and its calls that failed

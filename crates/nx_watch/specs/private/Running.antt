@@ -2,12 +2,12 @@
 use Rattle.std.specs.Prelude.{ℕ, List, ◌++◌, Option, Err}
 use Rattle.nx_fec.specs.air_files.AirFile.{Line}
 use Rattle.nx_watch.specs.AnyLines.{AreLines, cut_line}
-use Rattle.nx_watch.specs.Watching.{AnswersWatch, AreCounted, HasTaken, HasTold, Standing, first_told}
-use Rattle.nx_watch.specs.Watching.{told_of}
+use Rattle.nx_watch.specs.LineRun.{AnswersRun, AreCounted, HasTaken, HasTold, Standing, first_told}
+use Rattle.nx_watch.specs.LineRun.{told_of}
 use Rattle.nx_watch.specs.declared.lines.line_effects.LineEffects.{LineEffects}
-use Rattle.nx_watch.specs.declared.lines.line_watch.LineRun.{LineRun}
-use Rattle.nx_watch.specs.declared.lines.line_watch.LinesWatched.{LinesWatched}
-use Rattle.nx_watch.specs.declared.lines.line_watch.WatchEnd.{WatchEnd}
+use Rattle.nx_watch.specs.declared.lines.line_run.LineRun.{LineRun}
+use Rattle.nx_watch.specs.declared.lines.line_run.LinesWatched.{LinesWatched}
+use Rattle.nx_watch.specs.declared.lines.line_run.WatchEnd.{WatchEnd}
 use Rattle.nx_watch.specs.private.Effects.{IsKept}
 use Rattle.nx_watch.specs.private.Scanning.{IsScanning}
 
@@ -30,7 +30,7 @@ pub record IsRunning {T : Type 0} (stands : Standing T) (start now : T) (first :
 abbrev pub EndsRun : {T : Type 0} → Standing T → T → T → ℕ → LineEffects
     → Option (List ℕ) → Option (List ℕ) → ℕ → WatchEnd → List ℕ → Type 0
 EndsRun stands start now first kept old new failures end bytes =
-    AnswersWatch stands start now first ⊥ (TellsFirst first kept old new failures) (Err end)
+    AnswersRun stands start now first ⊥ (TellsFirst first kept old new failures) (Err end)
     bytes
 
 -- the input ended: these are the counts of the lines, a cut one too, and all was told

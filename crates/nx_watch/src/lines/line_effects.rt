@@ -6,10 +6,10 @@ ghost use Rattle.nx_fec.specs.air_files.Scanner.{kind_of};
 ghost use Rattle.nx_memory.specs.Selection.{is_vital};
 ghost use Rattle.nx_watch.specs.declared.lines.line_effects.LineEffects.{LineEffects as TheEffects};
 ghost use Rattle.nx_watch.specs.Acting.{acts, moment_said, moments_said};
-ghost use Rattle.nx_watch.specs.Watching.{AreCounted};
+ghost use Rattle.nx_watch.specs.LineRun.{AreCounted};
 ghost use Rattle.nx_watch.specs.private.Effects.{is_acting, IsEffect, IsKept, KeepsMoments, SameCounts};
 
-use crate::lines::line_watch::LinesWatched;
+use crate::lines::line_run::LinesWatched;
 use nx_envelope::{LAST_MOMENT, Letter};
 use nx_fec::LineKind;
 use nx_memory::{LIFETIME, Selection};

@@ -1,7 +1,7 @@
 //! What is told of lines without effect.
 
 ghost use Rattle.std.specs.Prelude.{◌≡◌, ◌+◌, ◌≤◌, ◌<◌, ◌^◌, ℕ, List, ◌++◌, IsSome, Some, Option, codes, decimal, length};
-ghost use Rattle.nx_watch.specs.Watching.{HasTold, first_told, number_told};
+ghost use Rattle.nx_watch.specs.LineRun.{HasTold, first_told, number_told};
 
 use arrayvec::ArrayVec;
 use itoa::Buffer;

@@ -29,11 +29,11 @@ use Rattle.nx_disk.specs.declared.file.FileFault.TheVariants as file
 use Rattle.nx_watch.specs.declared.watch_fault.WatchFault.{WatchFault}
 use Rattle.nx_watch.specs.declared.watch_fault.WatchFault.TheVariants as watch
 use Rattle.nx_watch.specs.declared.watch_report.WatchReport.{WatchReport}
-use Rattle.nx_program.specs.declared.watching.WatchFailure.{WatchFailure}
-use Rattle.nx_program.specs.declared.watching.WatchFailure.TheVariants.{Ended, Unopened}
+use Rattle.nx_program.specs.declared.watch_command.WatchFailure.{WatchFailure}
+use Rattle.nx_program.specs.declared.watch_command.WatchFailure.TheVariants.{Ended, Unopened}
 use Rattle.nx_program.specs.Program.{EndsOnStreams, EndsRun, Exits, IsUntouchedByWant, Performs}
 use Rattle.nx_program.specs.Program.{PerformsOnStreams, Succeeds, Tells, fresh_device}
-use Rattle.nx_program.specs.Watching.{Beside, IsUnused, WatchesLog, beside, watch_outcome}
+use Rattle.nx_program.specs.WatchCommand.{Beside, IsUnused, WatchesLog, beside, watch_outcome}
 use Rattle.nx_program.specs.declared.words.Call.TheVariants.{Watch}
 use Rattle.std.specs.declared.alloc.AllocError.{AllocError}
 use Rattle.nx_program.specs.Status.{IsStatus, call_status, check_status, damage_status}

@@ -14,17 +14,17 @@ use Rattle.nx_code.specs.Reading.{newline}
 use Rattle.nx_fec.specs.Transfers.{CountedDevice, Devices}
 use Rattle.nx_disk.specs.declared.file.FileFault.TheVariants as file
 use Rattle.nx_watch.specs.declared.watch_fault.WatchFault.TheVariants as watch
-use Rattle.nx_program.specs.declared.watching.WatchFailure.{WatchFailure}
-use Rattle.nx_program.specs.declared.watching.WatchFailure.TheVariants.{Ended, Unopened}
+use Rattle.nx_program.specs.declared.watch_command.WatchFailure.{WatchFailure}
+use Rattle.nx_program.specs.declared.watch_command.WatchFailure.TheVariants.{Ended, Unopened}
 use Rattle.nx_watch.specs.Acting.{count_without, first_without}
-use Rattle.nx_watch.specs.Watching.{HasTold, TellsOfLines, first_told, number_told, told_of}
+use Rattle.nx_watch.specs.LineRun.{HasTold, TellsOfLines, first_told, number_told, told_of}
 use Rattle.nx_program.specs.declared.fault.Fault.{Fault}
 use Rattle.nx_program.specs.declared.fault.Fault.TheVariants as fault
 use Rattle.nx_program.specs.Program.{EndsRun, Exits, NamesWatch, Performs}
 use Rattle.nx_program.specs.Report.{Answers, IsFaultLine, IsFaultText, Reports, WritesLast, WritesOne}
 use Rattle.nx_program.specs.Status.{fault_status, status_of}
-use Rattle.nx_program.specs.Watching.{Beside, IsUnused, WatchesLog, watch_fault_line}
-use Rattle.nx_program.specs.Watching.{with_faults}
+use Rattle.nx_program.specs.WatchCommand.{Beside, IsUnused, WatchesLog, watch_fault_line}
+use Rattle.nx_program.specs.WatchCommand.{with_faults}
 use Rattle.nx_program.specs.Words.{Names}
 use Rattle.nx_program.specs.declared.words.Call.{Call}
 use Rattle.nx_program.proofs.lemmas.outcomes.Program.{fault-status, success-exits, success-named}

@@ -3,7 +3,7 @@ use Rattle.std.proofs.Common.{◌≡◌, ◌∙◌, ◌++◌, ◌-◌, ◌^◌, 
 use Rattle.std.proofs.Common.{subst, append_assoc}
 use Rattle.std.proofs.KnownBytes.{Appends-nil}
 use Rattle.nx_fec.specs.Transfers.{CountedDevice}
-use Rattle.nx_watch.specs.Watching.{HasTold}
+use Rattle.nx_watch.specs.LineRun.{HasTold}
 use Rattle.nx_program.specs.Report.{WritesOne}
 
 pub two-told : (old new : Option (List ℕ)) (failures : ℕ) (text a b : List ℕ)

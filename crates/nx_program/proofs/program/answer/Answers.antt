@@ -1,6 +1,6 @@
 use Rattle.std.proofs.Common.{map, string_bytes}
 use Rattle.nx_program.proofs.lemmas.outcomes.Report.{answers-called, answers-reported, answers-silent}
-use Rattle.nx_program.specs.Watching.{beside}
+use Rattle.nx_program.specs.WatchCommand.{beside}
 use Rattle.nx_fec.specs.Transfers.{devices}
 use Rattle.nx_program.proofs.program.answer.Goals as goal
 

@@ -18,16 +18,16 @@ use Rattle.nx_memory.specs.Selection.{is_vital}
 use Rattle.nx_watch.specs.Acting.{acting_behind, acting_lines, acts, ends_watch, goes_on}
 use Rattle.nx_watch.specs.Acting.{goes_on_behind, in_force, is_far_back, moment_said, moments_said, went_far_back}
 use Rattle.nx_watch.specs.AnyLines.{AreLines, cut_line}
-use Rattle.nx_watch.specs.Watching.{AnswersWatch, AreCounted, HasTaken, HasTold, MayAct}
-use Rattle.nx_watch.specs.Watching.{Giving, Standing, StandsWith, first_told, told_of}
-use Rattle.nx_watch.specs.Watching.{with_writer}
+use Rattle.nx_watch.specs.LineRun.{AnswersRun, AreCounted, HasTaken, HasTold, MayAct}
+use Rattle.nx_watch.specs.LineRun.{Giving, Standing, StandsWith, first_told, told_of}
+use Rattle.nx_watch.specs.LineRun.{with_writer}
 use Rattle.nx_fec.specs.Transfers.{CountedDevice}
-use Rattle.nx_watch.specs.declared.lines.line_watch.LinesWatched.{LinesWatched}
-use Rattle.nx_watch.specs.declared.lines.line_watch.WatchEnd.{WatchEnd}
-use Rattle.nx_watch.specs.declared.lines.line_watch.WatchEnd.TheVariants.{Read, Back, Write}
+use Rattle.nx_watch.specs.declared.lines.line_run.LinesWatched.{LinesWatched}
+use Rattle.nx_watch.specs.declared.lines.line_run.WatchEnd.{WatchEnd}
+use Rattle.nx_watch.specs.declared.lines.line_run.WatchEnd.TheVariants.{Read, Back, Write}
 use Rattle.nx_watch.specs.private.Effects.{IsKept}
 use Rattle.nx_watch.specs.declared.lines.any_scanner.Ended.{Ended}
-use Rattle.nx_watch.specs.declared.lines.line_watch.LineRun.{LineRun}
+use Rattle.nx_watch.specs.declared.lines.line_run.LineRun.{LineRun}
 use Rattle.nx_watch.specs.private.Running.{EndsInput, IsRunning, TellsFirst}
 use Rattle.nx_watch.specs.private.Scanning.{IsScanning, lines_ended}
 use Rattle.nx_watch.proofs.lemmas.lines.Acting.{both}
@@ -236,8 +236,8 @@ ends-input first bytes lines more old new failures counts rest are cut counted t
 pub answers-told : {T : Type 0} (stands : Standing T) (start now : T)
     (first : ℕ) (AtEnd : Type 0) (before after : List (Option Line) → Type 0) (end : WatchEnd)
     (bytes : List ℕ) → ((lines : List (Option Line)) → before lines → after lines)
-    → AnswersWatch stands start now first ⊥ before (Err end) bytes
-    → AnswersWatch stands start now first AtEnd after (Err end) bytes
+    → AnswersRun stands start now first ⊥ before (Err end) bytes
+    → AnswersRun stands start now first AtEnd after (Err end) bytes
 answers-told stands start now first AtEnd before after Read bytes step h =
     (h.0, h.1, h.2, h.3, step h.0 h.4)
 answers-told stands start now first AtEnd before after (Back line last given) bytes step h =
@@ -249,7 +249,7 @@ answers-told stands start now first AtEnd before after Write bytes step h =
 pub tells-some : {T : Type 0} (stands : Standing T) (start now : T)
     (first : ℕ) (AtEnd : Type 0) (tells : List (Option Line) → Type 0)
     (answer : Result LinesWatched WatchEnd) (bytes : List ℕ)
-    → AnswersWatch stands start now first AtEnd tells answer bytes
+    → AnswersRun stands start now first AtEnd tells answer bytes
     → (lines : List (Option Line)) × tells lines
 tells-some stands start now first AtEnd tells (Ok counts) bytes h = (h.1 ++ cut_line h.2, h.6)
 tells-some stands start now first AtEnd tells (Err Read) bytes h = (h.0, h.4)

@@ -10,7 +10,7 @@ use Rattle.std.proofs.lemmas.List.{take-append-le}
 use Rattle.std.proofs.lemmas.Bool.Decides.{nat_tests}
 use Rattle.nx_fec.specs.Transfers.{CountedDevice, FailsOnce, WroteSome}
 use Rattle.nx_fec.specs.declared.fault.WriteFault.{WriteFault}
-use Rattle.nx_watch.specs.Watching.{HasTold, number_told}
+use Rattle.nx_watch.specs.LineRun.{HasTold, number_told}
 
 -- nothing more is told once a write failed
 pub told-stopped : (old new : Option (List ℕ)) (failures : ℕ) (text more : List ℕ)

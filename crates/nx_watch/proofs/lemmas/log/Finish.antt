@@ -19,16 +19,16 @@ use Rattle.nx_receiver.specs.copies.Shares.{MarkedCopy, Starts}
 use Rattle.nx_watch.specs.Acting.{acting_lines, most_bytes}
 use Rattle.nx_watch.specs.Watch.{AnswersStarted, AnswersStop, HasCause, HasRead, HasWatched, KeepsAll, KeepsSome, LeavesAtAnyMoment}
 use Rattle.nx_watch.specs.Watch.{PrintsUntil, StandsForEntries, Stop, WatchDevices, at_end, back, unread, unwritten, watch_devices}
-use Rattle.nx_watch.specs.Watching.{HasTold, WereGiven, told_of}
+use Rattle.nx_watch.specs.LineRun.{HasTold, WereGiven, told_of}
 use Rattle.nx_watch.specs.declared.kept_log.keeper.Keeper.{Keeper}
 use Rattle.nx_watch.specs.declared.watch_report.WatchReport.{WatchReport}
 use Rattle.nx_watch.specs.declared.watch_fault.WatchFault.{WatchFault}
 use Rattle.nx_watch.specs.declared.watch_fault.WatchFault.TheVariants as fault
 use Rattle.nx_watch.specs.private.Keeping.{AllKept, DiskOf, HasKept, HasKeptSo, KeepsTexts, SomeKept, StandsForFirst, StandsForTexts}
-use Rattle.nx_watch.specs.private.Watcher.{HasRun, IsLineInRange, WatcherStands}
-use Rattle.nx_watch.specs.declared.watcher.Watcher.{Watcher}
+use Rattle.nx_watch.specs.private.LoggingListener.{HasRun, IsLineInRange, KeepsLines}
+use Rattle.nx_watch.specs.declared.logging_listener.LoggingListener.{LoggingListener}
 use Rattle.nx_watch.proofs.lemmas.log.Keeping.{keeps-stands}
-use Rattle.nx_watch.proofs.lemmas.log.Watcher.{log-of}
+use Rattle.nx_watch.proofs.lemmas.log.LoggingListener.{log-of}
 
 -- ---- entries and their bytes, side by side
 
@@ -234,13 +234,13 @@ unread-written e = cc
 pub unwritten-apart : unwritten ≡ unread → ⊥
 unwritten-apart e = cc
 
--- a watcher before its first line
-pub stands-first : {D : Type 0} (disk : DiskOf D) (watcher : Watcher D)
-    → (starts_of watcher.listener).moment ≤ last_moment
-    → HearsGiven (starts_of watcher.listener) watcher.listener [] []
-    → HasKept disk watcher.keeper watcher.keeper [] []
-    → WatcherStands disk watcher watcher [] []
-stands-first disk watcher range heard kept = record {
+-- before the first line
+pub stands-first : {D : Type 0} (disk : DiskOf D) (logging : LoggingListener D)
+    → (starts_of logging.listener).moment ≤ last_moment
+    → HearsGiven (starts_of logging.listener) logging.listener [] []
+    → HasKept disk logging.keeper logging.keeper [] []
+    → KeepsLines disk logging logging [] []
+stands-first disk logging range heard kept = record {
   first = range;
   in_range = All-nil IsLineInRange;
   copies = [];
@@ -279,7 +279,7 @@ stop-cause faults to_read to_write old new first unread lines copies (Err fault.
 stop-cause faults to_read to_write old new first unwritten lines copies (Err fault.Disk) h well =
     absurd h
 
-module _ {D R W E : Type 0} (disk : DiskOf D) (watcher : Watcher D) (first : ℕ)
+module _ {D R W E : Type 0} (disk : DiskOf D) (logging : LoggingListener D) (first : ℕ)
     (remaining : R → Option (List ℕ)) (reader reader_after : CountedDevice R)
     (contents : W → Option (List ℕ)) (writer writer_after : CountedDevice W)
     (told : E → Option (List ℕ)) (faults faults_after : CountedDevice E)
@@ -293,13 +293,13 @@ module _ {D R W E : Type 0} (disk : DiskOf D) (watcher : Watcher D) (first : ℕ
       pub given : List ℕ
       pub bytes : List ℕ
       pub each : AllZip IsLoggedAs copies texts
-      pub kept : HasKept disk watcher.keeper now texts given
+      pub kept : HasKept disk logging.keeper now texts given
       pub wrote : WereGiven contents writer writer_after given
       pub consumed : Consumes (remaining reader.inner) (remaining reader_after.inner) bytes
       pub within : length bytes ≤ most_bytes
       pub read : HasRead (IsAtEnd (remaining reader_after.inner) ⊎ (length bytes ≡ most_bytes))
           first stop bytes lines
-      pub printed : PrintsUntil stop (starts_of watcher.listener)
+      pub printed : PrintsUntil stop (starts_of logging.listener)
           (given_by (acting_lines first lines)) copies
       pub failed_read : (stop ≡ unread) ↔ (reader_after.failures ≡ 1)
       pub failed_write : stop ≡ unwritten → writer_after.failures ≡ 1
@@ -309,30 +309,30 @@ module _ {D R W E : Type 0} (disk : DiskOf D) (watcher : Watcher D) (first : ℕ
     abbrev at-hand-with : D → List ℕ → WatchDevices D R W E
     at-hand-with device content =
         watch_devices (disk.seen content) (disk.may_leave content) disk.clock
-        (disk.left_since content) watcher.keeper.log.device device remaining reader reader_after
+        (disk.left_since content) logging.keeper.log.device device remaining reader reader_after
         contents writer writer_after told faults faults_after
 
     answers-stopped : (stop : Stop) (now : Keeper D) (h : HasStopped stop now)
-        (outcome : Result WatchReport WatchFault) → first ≡ (starts_of watcher.listener).moment
+        (outcome : Result WatchReport WatchFault) → first ≡ (starts_of logging.listener).moment
         → (now.has_failed ≡ true → outcome ≡ Err fault.Disk)
-        → (now.has_failed ≡ false → AllKept disk watcher.keeper now h.texts h.given
+        → (now.has_failed ≡ false → AllKept disk logging.keeper now h.texts h.given
         → AnswersStop first stop h.lines h.copies outcome)
         → (content : List ℕ) (entries : List MarkedCopy) (texts : List (List ℕ))
-        → AllZip IsLoggedAs entries texts → KeepsTexts disk content texts watcher.keeper
-        → AnswersStarted (at-hand-with now.log.device content) (starts_of watcher.listener) entries
+        → AllZip IsLoggedAs entries texts → KeepsTexts disk content texts logging.keeper
+        → AnswersStarted (at-hand-with now.log.device content) (starts_of logging.listener) entries
         outcome
     answers-stopped stop now h outcome is failed well content entries texts each keeps =
-        answers-started disk content watcher.keeper remaining reader reader_after contents writer
-        writer_after told faults faults_after (starts_of watcher.listener) entries h.copies texts
+        answers-started disk content logging.keeper remaining reader reader_after contents writer
+        writer_after told faults faults_after (starts_of logging.listener) entries h.copies texts
         h.texts now h.given stop h.lines outcome each h.each keeps h.kept h.wrote (record {
           bytes = h.bytes;
           consumed = h.consumed;
           within = h.within;
           read = subst (λ f. HasRead (IsAtEnd (remaining reader_after.inner)
               ⊎ (length h.bytes ≡ most_bytes)) f stop h.bytes h.lines) is h.read;
-          printed = subst (λ f. PrintsUntil stop (starts_of watcher.listener)
+          printed = subst (λ f. PrintsUntil stop (starts_of logging.listener)
               (given_by (acting_lines f h.lines)) h.copies) is h.printed;
-          any_moment = moments-of disk content watcher.keeper remaining reader reader_after contents
+          any_moment = moments-of disk content logging.keeper remaining reader reader_after contents
               writer writer_after told faults faults_after entries h.copies texts h.texts now
               h.given each h.each keeps h.kept;
           failed_read = h.failed_read;
@@ -345,19 +345,19 @@ module _ {D R W E : Type 0} (disk : DiskOf D) (watcher : Watcher D) (first : ℕ
     -- what such a run answers, whose device is that of its keeper
     pub has-run : (to_read : D → Type 0) (stop : Stop) (now : Keeper D) (h : HasStopped stop now)
         (outcome : Result WatchReport WatchFault) (device : D)
-        → first ≡ (starts_of watcher.listener).moment → device ≡ now.log.device
+        → first ≡ (starts_of logging.listener).moment → device ≡ now.log.device
         → (now.has_failed ≡ true → outcome ≡ Err fault.Disk)
-        → (now.has_failed ≡ false → AllKept disk watcher.keeper now h.texts h.given
+        → (now.has_failed ≡ false → AllKept disk logging.keeper now h.texts h.given
         → AnswersStop first stop h.lines h.copies outcome)
-        → HasRun disk to_read watcher (at-hand-with device) outcome device
+        → HasRun disk to_read logging (at-hand-with device) outcome device
     has-run to_read stop now h outcome device is same failed well =
-        subst (λ (d : D). HasRun disk to_read watcher (at-hand-with d) outcome d) (sym same)
+        subst (λ (d : D). HasRun disk to_read logging (at-hand-with d) outcome d) (sym same)
         (record {
           answers = answers-stopped stop now h outcome is failed well;
-          cause = cause-of disk to_read watcher.keeper now h.texts h.given outcome h.kept failed
-              (λ w all. stop-cause disk.faults to_read disk.to_write watcher.keeper.log.device
+          cause = cause-of disk to_read logging.keeper now h.texts h.given outcome h.kept failed
+              (λ w all. stop-cause disk.faults to_read disk.to_write logging.keeper.log.device
               now.log.device first stop h.lines h.copies outcome (well w all) all.well);
-          explained = explained-of disk to_read watcher.keeper now h.texts h.given h.kept;
+          explained = explained-of disk to_read logging.keeper now h.texts h.given h.kept;
         })
 
 -- a writer whose write failed was given bytes, so not all was kept

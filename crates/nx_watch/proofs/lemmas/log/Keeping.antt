@@ -13,7 +13,7 @@ use Rattle.nx_log.specs.Entries.{IsWholeEntry}
 use Rattle.nx_receiver.specs.Listener.{count_of}
 use Rattle.nx_receiver.proofs.lemmas.listening.Listener.{counts-on}
 use Rattle.nx_watch.specs.Watch.{longest_entry}
-use Rattle.nx_watch.specs.Watching.{HasTold, WereGiven}
+use Rattle.nx_watch.specs.LineRun.{HasTold, WereGiven}
 use Rattle.nx_watch.specs.private.Entries.{entry_some}
 use Rattle.nx_watch.specs.private.Keeping.{AllKept, DiskOf, HasKept, HasKeptSo, KeepsTexts, LeavesFirst, SomeKept, StandsForFirst, StandsForTexts}
 use Rattle.nx_kept.specs.declared.log.KeptLog.{KeptLog}

@@ -15,7 +15,7 @@ use Rattle.nx_kept.proofs.lemmas.Stages.{joined, weaker}
 use Rattle.nx_log.specs.Entries.{IsWholeEntry}
 use Rattle.nx_log.specs.Logged.{IsLoggedAs}
 use Rattle.nx_receiver.specs.copies.Shares.{MarkedCopy, Starts}
-use Rattle.nx_watch.specs.Watch.{AnswersStarted, AnswersStop, AnswersWatching, HasCause, HasOpened, StandsForEntries, Stop}
+use Rattle.nx_watch.specs.Watch.{AnswersStarted, AnswersStop, AnswersWatch, HasCause, HasOpened, StandsForEntries, Stop}
 use Rattle.nx_watch.specs.Watch.{WatchDevices, at_end, back, longest_entry, starts_at, unread, unwritten, watch_devices}
 use Rattle.nx_watch.specs.declared.watch_report.WatchReport.{WatchReport}
 use Rattle.nx_watch.specs.declared.watch_fault.WatchFault.{WatchFault}
@@ -69,7 +69,7 @@ module _ {D R W E : Type 0} (disk : DiskOf D) (content : List ℕ) (old new : D)
 pub answers-opening : {D R W E : Type 0} (d : WatchDevices D R W E) (now : ℕ)
     (entries : List MarkedCopy) (fault : OpenFault) → HasOpened d entries
     → ((line : ℕ) → fault ≡ why.Damaged line → ⊥)
-    → AnswersWatching d now entries (Err (fault_answered fault))
+    → AnswersWatch d now entries (Err (fault_answered fault))
 answers-opening d now entries why.Read h whole = h
 answers-opening d now entries why.Disk h whole = inl h
 answers-opening d now entries (why.Damaged line) h whole = whole line refl
@@ -143,20 +143,20 @@ module _ {D R W E : Type 0} (d : WatchDevices D R W E) (entries : List MarkedCop
       other : err (Damaged line) ≡ err Disk → ⊥
       other e = cc
 
-  pub answers-watching : (now : ℕ) (outcome : Result WatchReport WatchFault)
+  pub answers-watch : (now : ℕ) (outcome : Result WatchReport WatchFault)
       → AnswersStarted d (starts_at now entries) entries outcome
-      → AnswersWatching d now entries outcome
-  answers-watching now (Ok report) h = h
-  answers-watching now (Err Read) h = h
-  answers-watching now (Err (Back line last given)) h = h
-  answers-watching now (Err Disk) h = inr h
-  answers-watching now (Err (Damaged line)) h = not-damaged (starts_at now entries) line h
-  answers-watching now (Err Open) h = absurd (⊎_elim
+      → AnswersWatch d now entries outcome
+  answers-watch now (Ok report) h = h
+  answers-watch now (Err Read) h = h
+  answers-watch now (Err (Back line last given)) h = h
+  answers-watch now (Err Disk) h = inr h
+  answers-watch now (Err (Damaged line)) h = not-damaged (starts_at now entries) line h
+  answers-watch now (Err Open) h = absurd (⊎_elim
       (λ k. never-open (starts_at now entries).moment h.0 h.1 h.2 k.1) (λ k. other k.1) h.4)
     where
       other : err Open ≡ err Disk → ⊥
       other e = cc
-  answers-watching now (Err Memory) h = absurd (⊎_elim
+  answers-watch now (Err Memory) h = absurd (⊎_elim
       (λ k. never-memory (starts_at now entries).moment h.0 h.1 h.2 k.1) (λ k. other k.1) h.4)
     where
       other : err Memory ≡ err Disk → ⊥

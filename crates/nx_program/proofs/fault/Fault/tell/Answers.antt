@@ -1,6 +1,6 @@
 use Rattle.std.proofs.Common.{[], refl, sym, subst}
 use Rattle.nx_program.specs.Report.{IsFaultText, WritesOne}
-use Rattle.nx_program.specs.Watching.{watch_fault_line}
+use Rattle.nx_program.specs.WatchCommand.{watch_fault_line}
 use Rattle.nx_program.specs.declared.fault.Fault.{Fault}
 use Rattle.nx_program.specs.declared.fault.Fault.TheVariants as fault
 use Rattle.nx_program.proofs.lemmas.outcomes.WatchLines.{told-one, untold}

@@ -1,6 +1,6 @@
 use Rattle.std.proofs.Common.{◌≡◌, ◌++◌, ◌∙◌, ap, subst}
 use Rattle.std.specs.Prelude.{decimal}
-use Rattle.nx_watch.specs.Watching.{HasTold}
+use Rattle.nx_watch.specs.LineRun.{HasTold}
 use Rattle.nx_watch.proofs.lemmas.lines.Telling.{three}
 use Rattle.nx_watch.proofs.lines.telling.tell.Goals as goal
 

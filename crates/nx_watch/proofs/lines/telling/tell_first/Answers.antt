@@ -1,5 +1,5 @@
 use Rattle.std.proofs.Common.{[], sym, subst}
-use Rattle.nx_watch.specs.Watching.{HasTold, first_told}
+use Rattle.nx_watch.specs.LineRun.{HasTold, first_told}
 use Rattle.nx_watch.proofs.lemmas.lines.Acting.{none-is}
 use Rattle.nx_watch.proofs.lines.telling.tell_first.Goals as goal
 

@@ -1,5 +1,5 @@
 use Rattle.std.proofs.Common.{◌++◌, ◌∙◌, ap, sym, subst, append-nil}
-use Rattle.nx_watch.specs.Watching.{HasTold}
+use Rattle.nx_watch.specs.LineRun.{HasTold}
 use Rattle.nx_watch.proofs.lemmas.lines.Telling.{number-none, number-some}
 use Rattle.nx_watch.proofs.lines.telling.tell_number.Goals as goal
 

@@ -1,0 +1,131 @@
+-- What `navtex watch FILE MOMENT` does: the log is opened, watched, and handed back (this profile).
+use Rattle.std.specs.Prelude.{◌≡◌, ◌++◌, ℕ, List, Option, Some, None, Result, Ok, Err}
+use Rattle.std.specs.Prelude.{codes, decimal}
+use Rattle.clap.specs.Words.{Text}
+use Rattle.nx_fec.specs.Transfers.{CountedDevice, Devices}
+use Rattle.nx_kept.specs.Disk.{OnlyReads}
+use Rattle.nx_kept.specs.Kept.{IsDamaged, IsKeptLog}
+use Rattle.nx_kept.specs.declared.disk.DiskFile.{Ghosts as TellsOfDisk}
+use Rattle.nx_log.specs.Entries.{IsWholeEntry}
+use Rattle.nx_receiver.specs.copies.Shares.{MarkedCopy}
+use Rattle.nx_disk.specs.declared.file.FileFault.{FileFault}
+use Rattle.nx_disk.specs.declared.file.FileFault.TheVariants as file
+use Rattle.nx_watch.specs.Watch.{AnswersWatch, HasCause, StandsForEntries, WatchDevices}
+use Rattle.nx_watch.specs.Watch.{longest_entry, watch_devices}
+use Rattle.nx_watch.specs.LineRun.{TellsOfLines}
+use Rattle.nx_watch.specs.declared.watch_fault.WatchFault.{WatchFault}
+use Rattle.nx_watch.specs.declared.watch_fault.WatchFault.TheVariants as watch
+use Rattle.nx_watch.specs.declared.watch_report.WatchReport.{WatchReport}
+use Rattle.nx_program.specs.declared.fault.Fault.{Fault}
+use Rattle.nx_program.specs.declared.fault.Fault.TheVariants as fault
+use Rattle.nx_program.specs.declared.watch_command.WatchFailure.{WatchFailure}
+use Rattle.nx_program.specs.declared.watch_command.WatchFailure.TheVariants.{Unopened, Ended}
+
+-- What the program has beside its input and its output, as it stands before a call and after it.
+-- That is what opens the file of a log, and what opening one may give; that file, where one was
+-- opened, and what it tells of itself; and standard error.
+pub record Beside (F D E : Type 0) : Type 1 where
+  pub files : F
+  pub gives : F → List ℕ → Result D FileFault → Type 0
+  pub disk_after : Option D
+  pub tells : TellsOfDisk D
+  pub contents : E → Option (List ℕ)
+  pub faults : CountedDevice E
+  pub faults_after : CountedDevice E
+
+abbrev pub beside : {F D E : Type 0} → F → (F → List ℕ → Result D FileFault → Type 0) → Option D
+    → TellsOfDisk D → (E → Option (List ℕ)) → CountedDevice E → CountedDevice E → Beside F D E
+beside files gives disk_after tells contents faults faults_after = record {
+  files = files;
+  gives = gives;
+  disk_after = disk_after;
+  tells = tells;
+  contents = contents;
+  faults = faults;
+  faults_after = faults_after;
+}
+
+-- the same with standard error as it stood at another moment after the call
+abbrev pub with_faults : {F D E : Type 0} → Beside F D E → CountedDevice E → Beside F D E
+with_faults b after = record b { faults_after = after }
+
+-- no file was opened, and nothing was told on standard error
+pub record IsUnused {F D E : Type 0} (b : Beside F D E) : Type 0 where
+  pub unopened : b.disk_after ≡ None
+  pub untold : b.faults_after ≡ b.faults
+
+-- the line that reports a failed watch of the log of this name
+abbrev pub watch_fault_line : Text → WatchFailure → List ℕ
+watch_fault_line name (Unopened file.Open) =
+    codes "navtex: the log " ++ (name ++ codes " can't be opened\n")
+watch_fault_line name (Unopened file.Busy) =
+    codes "navtex: another watch has the log " ++ (name ++ codes "\n")
+watch_fault_line name (Unopened file.Memory) = codes "navtex: out of memory\n"
+watch_fault_line name (Ended watch.Open) =
+    codes "navtex: the log " ++ (name ++ codes " can't be opened\n")
+watch_fault_line name (Ended (watch.Damaged line)) =
+    codes "navtex: the log " ++ (name ++ (codes " is damaged at line "
+    ++ (decimal line ++ codes "\n")))
+watch_fault_line name (Ended watch.Disk) =
+    codes "navtex: the log " ++ (name ++ codes " can't be written\n")
+watch_fault_line name (Ended watch.Memory) = codes "navtex: out of memory\n"
+watch_fault_line name (Ended watch.Read) = codes "navtex: read failed\n"
+watch_fault_line name (Ended (watch.Back line last given)) =
+    codes "navtex: line " ++ (decimal line ++ (codes ": moment " ++ (decimal given
+    ++ (codes " is before " ++ (decimal last ++ codes "\n")))))
+
+module _ {R W F D E : Type 0} (d : Devices R W) (b : Beside F D E) where
+  -- the devices of the watch of a file, told for this first content of it
+  abbrev pub devices_of : D → D → List ℕ → WatchDevices D R W E
+  devices_of disk disk_after start =
+      watch_devices (b.tells.seen start) (b.tells.may_leave start) b.tells.moment
+      (b.tells.left_since start) disk disk_after d.remaining d.reader d.reader_after d.contents
+      d.writer d.writer_after b.contents b.faults b.faults_after
+
+  -- The file was watched from this moment on, with this answer, and stands so now. Something is
+  -- said for each first content that explains what it answered. Where it stood for entries, all is
+  -- said of what was read, kept, written and told; where it was damaged, at which line. Where it
+  -- was no kept log, nothing was done but to read it. The disk is blamed only where it failed.
+  -- Whatever the file was, some lines were told of on standard error, and nothing else.
+  pub record WatchesFile (moment : ℕ) (disk disk_after : D) (answer : Result WatchReport WatchFault)
+      : Type 0 where
+    pub watched : (start : List ℕ) (entries : List MarkedCopy)
+        → b.tells.explains start disk_after → StandsForEntries entries (b.tells.seen start disk)
+        → AnswersWatch (devices_of disk disk_after start) moment entries answer
+    pub damaged : (start : List ℕ) (line : ℕ) → b.tells.explains start disk_after
+        → answer ≡ Err (watch.Damaged line)
+        → IsDamaged IsWholeEntry longest_entry line (b.tells.seen start disk)
+    pub foreign : (start : List ℕ) → b.tells.explains start disk_after
+        → (IsKeptLog IsWholeEntry longest_entry (b.tells.seen start disk) → ⊥)
+        → OnlyReads (b.tells.seen start) (b.tells.may_leave start) b.tells.moment
+        (b.tells.left_since start) disk disk_after
+        × (d.reader_after ≡ d.reader) × (d.writer_after ≡ d.writer) × (b.faults_after ≡ b.faults)
+    pub cause : HasCause b.tells.faults b.tells.has_failed_to_read b.tells.has_failed_to_write
+        answer disk disk_after
+    pub explained : (start : List ℕ) → b.tells.explains start disk_after
+        → b.tells.explains start disk
+    pub told : TellsOfLines (b.contents b.faults.inner) (b.contents b.faults_after.inner)
+        b.faults_after.failures
+
+  -- the answer of the watch of the log of this name, as the program tells it
+  abbrev pub watch_outcome : Text → Result WatchReport WatchFault → Result (Unit {0}) Fault
+  watch_outcome name (Ok report) = Ok tt
+  watch_outcome name (Err why) = Err (fault.Watch name (Ended why))
+
+  -- Where the log can't be had, nothing was read, written or told. Else its file was watched, and
+  -- it is handed back.
+  abbrev pub WatchesOpened : Text → ℕ → Result D FileFault → Result (Unit {0}) Fault → Type 0
+  WatchesOpened name moment (Err why) outcome =
+      (d.reader_after ≡ d.reader) × (d.writer_after ≡ d.writer) × IsUnused b
+      × (outcome ≡ Err (fault.Watch name (Unopened why)))
+  WatchesOpened name moment (Ok disk) outcome =
+      (disk_after : D) × (b.disk_after ≡ Some disk_after)
+      × (answer : Result WatchReport WatchFault) × WatchesFile moment disk disk_after answer
+      × (outcome ≡ watch_outcome name answer)
+
+  -- The log of this name was opened, which gave what opening it may give, and watched from this
+  -- moment on.
+  abbrev pub WatchesLog : Text → ℕ → Result (Unit {0}) Fault → Type 0
+  WatchesLog name moment outcome =
+      (opened : Result D FileFault) × b.gives b.files name opened
+      × WatchesOpened name moment opened outcome

@@ -1,0 +1,242 @@
+use Rattle.std.proofs.Common.{◌≡◌, ◌≤◌, ◌∙◌, [], ℕ, Result, Err, ap, inl, refl, subst, sym}
+use Rattle.std.specs.Prelude.{unwrap_or}
+use Rattle.std.specs.List.{AllZip}
+use Rattle.nx_kept.specs.Log.{Keeps}
+use Rattle.nx_log.specs.Entries.{IsWholeEntry}
+use Rattle.nx_log.specs.Logged.{IsLoggedAs}
+use Rattle.nx_envelope.specs.Moment.{last_moment}
+use Rattle.nx_receiver.specs.Listener.{HearsGiven, starts_of}
+use Rattle.nx_watch.specs.declared.watch_report.WatchReport.{WatchReport}
+use Rattle.nx_watch.specs.declared.watch_fault.WatchFault.{WatchFault}
+use Rattle.nx_watch.specs.declared.watch_fault.WatchFault.TheVariants.{Damaged, Memory}
+use Rattle.nx_receiver.specs.copies.Shares.{Starts, starts_from}
+use Rattle.nx_watch.specs.Watch.{AnswersStarted, AnswersWatch, HasCause, HasOpened, starts_at, watch_devices}
+use Rattle.nx_watch.specs.private.Keeping.{HasKept, disk_of}
+use Rattle.nx_watch.proofs.lemmas.log.Keeping.{fresh-keeper, keeps-stands, kept-none}
+use Rattle.nx_watch.proofs.lemmas.log.Opening.{answers-opening, answers-watch, cause-behind, cause-opening, damage-named, entries-of, has-opened, not-damaged, same-texts, started-before}
+use Rattle.nx_watch.proofs.lemmas.log.Remembering.{took-all}
+use Rattle.nx_watch.proofs.lemmas.lines.Run.{nothing}
+use Rattle.nx_watch.proofs.left_on.watch.Goals as goal
+use Rattle.nx_watch.proofs.left_on.watch.Goals.{After-run}
+
+abbrev err : WatchFault → Result WatchReport WatchFault
+err fault = Err fault
+
+apart : (line : ℕ) → err Memory ≡ err (Damaged line) → ⊥
+apart line e = cc
+
+same-fault : (fault : WatchFault) (line : ℕ) → err fault ≡ err (Damaged line) → fault ≡ Damaged line
+same-fault fault line e = cc
+
+-- ---- the log can't be opened
+
+pub returns-in-Err-clause-watched : goal.returns-in-Err-clause-watched
+returns-in-Err-clause-watched g c = λ start entries ex stands.
+    let d = g.D.DiskFile in
+    let disk = disk_of d.explains d.seen d.may_leave d.moment d.left_since d.faults
+    d.has_failed_to_write in
+    let fault = c.in-Err.fault in
+    let opened = has-opened disk start c.args.device c.in-Err.device g.R.Read.remaining
+    c.args.reader.now c.args.reader.now g.W.Write.contents c.args.writer.now c.args.writer.now
+    g.F.Write.contents c.args.faults.now c.args.faults.now entries stands.texts stands.each
+    (c.in-Err.ensures.any_moment_err start stands.texts ex stands.stands) refl refl refl in
+    subst (λ f. AnswersWatch (watch_devices (d.seen start) (d.may_leave start) d.moment
+    (d.left_since start) c.args.device c.in-Err.device g.R.Read.remaining c.args.reader.now
+    c.args.reader.now g.W.Write.contents c.args.writer.now c.args.writer.now g.F.Write.contents
+    c.args.faults.now c.args.faults.now) c.args.moment entries (Err f)) (sym c.fault_of.ensures)
+    (answers-opening _ c.args.moment entries fault opened
+    (λ line e. (c.in-Err.ensures.damaged start line ex e).1.not_as_they_are
+    (stands.texts, stands.stands)))
+
+pub returns-in-Err-clause-damaged : goal.returns-in-Err-clause-damaged
+returns-in-Err-clause-damaged g c = λ start line ex e.
+    c.in-Err.ensures.damaged start line ex
+    (damage-named c.in-Err.fault line (sym c.fault_of.ensures
+    ∙ same-fault c.fault_of.result line e))
+
+pub returns-in-Err-clause-foreign : goal.returns-in-Err-clause-foreign
+returns-in-Err-clause-foreign g c = λ start ex none.
+    (c.in-Err.ensures.only_read_err start ex none, refl, refl, refl)
+
+pub returns-in-Err-clause-cause : goal.returns-in-Err-clause-cause
+returns-in-Err-clause-cause g c =
+    let d = g.D.DiskFile in
+    subst (λ f. HasCause d.faults d.has_failed_to_read d.has_failed_to_write (Err f) c.args.device
+    c.in-Err.device) (sym c.fault_of.ensures)
+    (cause-opening d.faults d.has_failed_to_read d.has_failed_to_write c.in-Err.fault c.args.device
+    c.in-Err.device c.in-Err.ensures.cause)
+
+-- ---- memory ran out
+
+pub returns-in_default-clause-watched : goal.returns-in_default-clause-watched
+returns-in_default-clause-watched g c = λ start entries ex stands.
+    let d = g.D.DiskFile in
+    let disk = disk_of d.explains d.seen d.may_leave d.moment d.left_since d.faults
+    d.has_failed_to_write in
+    let log = c.in-Ok.log in
+    let explained = subst (d.explains start) c.answer.ensures.device ex in
+    let opened = has-opened disk start c.args.device log.device g.R.Read.remaining
+    c.args.reader.now c.args.reader.now g.W.Write.contents c.args.writer.now c.args.writer.now
+    g.F.Write.contents c.args.faults.now c.args.faults.now entries stands.texts stands.each
+    (c.in-Ok.ensures.any_moment start stands.texts explained stands.stands) refl refl refl in
+    subst (λ o. AnswersWatch (watch_devices (d.seen start) (d.may_leave start) d.moment
+    (d.left_since start) c.args.device c.answer.result.1 g.R.Read.remaining c.args.reader.now
+    c.args.reader.now g.W.Write.contents c.args.writer.now c.args.writer.now g.F.Write.contents
+    c.args.faults.now c.args.faults.now) c.args.moment entries o) (sym (c.answer.ensures.well refl))
+    (subst (λ dev. HasOpened (watch_devices (d.seen start) (d.may_leave start) d.moment
+    (d.left_since start) c.args.device dev g.R.Read.remaining c.args.reader.now
+    c.args.reader.now g.W.Write.contents c.args.writer.now c.args.writer.now g.F.Write.contents
+    c.args.faults.now c.args.faults.now) entries) (sym c.answer.ensures.device) opened)
+
+pub returns-in_default-clause-damaged : goal.returns-in_default-clause-damaged
+returns-in_default-clause-damaged g c = λ start line ex e.
+    absurd (apart line (sym (c.answer.ensures.well refl) ∙ e))
+
+pub returns-in_default-clause-foreign : goal.returns-in_default-clause-foreign
+returns-in_default-clause-foreign g c = λ start ex none.
+    let d = g.D.DiskFile in
+    let o = c.in-Ok.ensures.opened start (subst (d.explains start) c.answer.ensures.device ex) in
+    absurd (none (
+      o.records,
+      record {
+        front = o.front;
+        tail = o.tail;
+        kept = o.kept;
+        end = o.end;
+        split = o.split;
+      },
+    ))
+
+pub returns-in_default-clause-cause : goal.returns-in_default-clause-cause
+returns-in_default-clause-cause g c =
+    let d = g.D.DiskFile in
+    subst (λ o. HasCause d.faults d.has_failed_to_read d.has_failed_to_write o c.args.device
+    c.answer.result.1) (sym (c.answer.ensures.well refl))
+    (ap d.faults c.answer.ensures.device ∙ c.in-Ok.ensures.faults)
+
+pub returns-in_default-clause-explained : goal.returns-in_default-clause-explained
+returns-in_default-clause-explained g c = λ start ex.
+    let d = g.D.DiskFile in
+    c.in-Ok.ensures.explained start (subst (d.explains start) c.answer.ensures.device ex)
+
+-- ---- it was started
+
+-- the run begins with a listener that has heard and kept nothing
+begins : (g : _) → (c : After-run g)
+    → (c.unwrap_or-first.result ≡ (starts_of c.in-Ok-starting.listener).moment)
+    × ((starts_of c.in-Ok-starting.listener).moment ≤ last_moment)
+    × HearsGiven (starts_of c.in-Ok-starting.listener) c.in-Ok-starting.listener [] []
+    × HasKept (disk_of g.D.DiskFile.explains g.D.DiskFile.seen g.D.DiskFile.may_leave
+    g.D.DiskFile.moment g.D.DiskFile.left_since g.D.DiskFile.faults
+    g.D.DiskFile.has_failed_to_write) (fresh-keeper c.in-Ok.log) (fresh-keeper c.in-Ok.log) [] []
+begins g c =
+    let d = g.D.DiskFile in
+    let disk = disk_of d.explains d.seen d.may_leave d.moment d.left_since d.faults
+    d.has_failed_to_write in
+    let listener = c.in-Ok-starting.listener in
+    let start = c.in-Ok-starting.ensures.start in (
+      c.unwrap_or-first.ensures ∙ ap (λ o. unwrap_or o 0) c.newest.ensures
+          ∙ sym (ap (λ (s : Starts). s.moment) start),
+      subst (λ (s : Starts). s.moment ≤ last_moment) (sym start) c.in-Ok-starting.ensures.range,
+      subst (λ (s : Starts). HearsGiven s listener [] []) (sym start)
+          c.in-Ok-starting.ensures.heard,
+      kept-none disk (fresh-keeper c.in-Ok.log) refl refl
+          (λ content file left. g.met.D.DiskFile.only_now content c.in-Ok.log.device file left),
+    )
+
+pub returns-clause-watched : goal.returns-clause-watched
+returns-clause-watched g c = λ start entries ex stands.
+    let d = g.D.DiskFile in
+    let disk = disk_of d.explains d.seen d.may_leave d.moment d.left_since d.faults
+    d.has_failed_to_write in
+    let log = c.in-Ok.log in
+    let b = begins g (goal.at.returns-clause-watched g c).After-run in
+    let run = c.run.ensures.runs b.0 b.1 b.2 b.3 in
+    let explained = run.explained start ex in
+    let o = c.in-Ok.ensures.opened start explained in
+    let same = same-texts stands.texts o.records o.front o.tail (d.seen start c.args.device)
+    stands.stands o.kept o.end o.split in
+    let each = subst (AllZip IsLoggedAs entries) same stands.each in
+    let keeps : Keeps (d.seen start) (d.may_leave start) IsWholeEntry o.records log =
+    record { front = o.front; kept = o.kept; at_rest = o.at_rest } in
+    let saved = c.saved_at-saved.ensures entries
+    (took-all c.new-memory.result c.open.new.taker entries o.records c.new-memory.ensures each
+    o.taken) in
+    let starts : starts_of c.in-Ok-starting.listener ≡ starts_at c.args.moment entries =
+    c.in-Ok-starting.ensures.start ∙ ap starts_from saved in
+    let answer = run.answers start entries o.records each keeps in
+    answers-watch _ entries c.args.moment c.run.result.0
+    (started-before disk start c.args.device log.device c.run.result.1 g.R.Read.remaining
+    c.args.reader.now c.run.new.reader g.W.Write.contents c.args.writer.now c.run.new.writer
+    g.F.Write.contents c.args.faults.now c.run.new.faults (starts_at c.args.moment entries) entries
+    o.records c.run.result.0 each
+    (c.in-Ok.ensures.any_moment start o.records explained (record {
+      front = o.front;
+      tail = o.tail;
+      kept = o.kept;
+      end = o.end;
+      split = o.split;
+    }))
+    (λ file left. keeps-stands disk start o.records (fresh-keeper log) keeps file left)
+    (subst (λ s. AnswersStarted (watch_devices (d.seen start) (d.may_leave start) d.moment
+    (d.left_since start) log.device c.run.result.1 g.R.Read.remaining c.args.reader.now
+    c.run.new.reader g.W.Write.contents c.args.writer.now c.run.new.writer g.F.Write.contents
+    c.args.faults.now c.run.new.faults) s entries c.run.result.0) starts answer))
+
+pub returns-clause-cause : goal.returns-clause-cause
+returns-clause-cause g c =
+    let d = g.D.DiskFile in
+    let b = begins g (goal.at.returns-clause-cause g c).After-run in
+    cause-behind d.faults d.has_failed_to_read d.has_failed_to_write c.run.result.0 c.args.device
+    c.in-Ok.log.device c.run.result.1 c.in-Ok.ensures.faults
+    (c.run.ensures.runs b.0 b.1 b.2 b.3).cause
+
+pub returns-clause-explained : goal.returns-clause-explained
+returns-clause-explained g c = λ start ex.
+    let b = begins g (goal.at.returns-clause-explained g c).After-run in
+    c.in-Ok.ensures.explained start ((c.run.ensures.runs b.0 b.1 b.2 b.3).explained start ex)
+
+pub returns-clause-damaged : goal.returns-clause-damaged
+returns-clause-damaged g c = λ start line ex e.
+    let d = g.D.DiskFile in
+    let log = c.in-Ok.log in
+    let b = begins g (goal.at.returns-clause-damaged g c).After-run in
+    let run = c.run.ensures.runs b.0 b.1 b.2 b.3 in
+    let o = c.in-Ok.ensures.opened start (run.explained start ex) in
+    let found = entries-of o.records o.front o.kept in
+    let keeps : Keeps (d.seen start) (d.may_leave start) IsWholeEntry o.records log =
+    record { front = o.front; kept = o.kept; at_rest = o.at_rest } in
+    let answer = run.answers start found.0 o.records found.1 keeps in
+    absurd (not-damaged _ found.0 (starts_of c.in-Ok-starting.listener) line
+    (subst (AnswersStarted _ (starts_of c.in-Ok-starting.listener) found.0) e answer))
+
+pub returns-clause-foreign : goal.returns-clause-foreign
+returns-clause-foreign g c = λ start ex none.
+    let b = begins g (goal.at.returns-clause-foreign g c).After-run in
+    let run = c.run.ensures.runs b.0 b.1 b.2 b.3 in
+    let o = c.in-Ok.ensures.opened start (run.explained start ex) in
+    absurd (none (
+      o.records,
+      record {
+        front = o.front;
+        tail = o.tail;
+        kept = o.kept;
+        end = o.end;
+        split = o.split;
+      },
+    ))
+
+-- ---- what was told
+
+pub returns-in-Err-clause-told : goal.returns-in-Err-clause-told
+returns-in-Err-clause-told g c =
+    (0, [], inl (c.requires.faults, nothing (g.F.Write.contents c.args.faults.now.inner)))
+
+pub returns-in_default-clause-told : goal.returns-in_default-clause-told
+returns-in_default-clause-told g c =
+    (0, [], inl (c.requires.faults, nothing (g.F.Write.contents c.args.faults.now.inner)))
+
+pub returns-clause-told : goal.returns-clause-told
+returns-clause-told g c =
+    let b = begins g (goal.at.returns-clause-told g c).After-run in
+    c.run.ensures.told b.0 b.1 b.2 b.3

@@ -1,0 +1,372 @@
+-- The receivers of a watch take lines, and their entries are kept.
+use Rattle.std.proofs.Common.{◌≡◌, ℕ, ◌≤◌, ◌<◌, Bool, true, false, cond, List, [], ◌∷◌, ◌++◌}
+use Rattle.std.proofs.Common.{map, max, nat_le, Option, Some, None, Result, Ok, Err, refl, sym, ◌∙◌, ap, ap₂, subst, arith}
+use Rattle.std.proofs.Common.{append-nil}
+use Rattle.std.specs.Prelude.{IfSome, IsErr, IsTrue, MatchResult, OnOk}
+use Rattle.std.specs.List.{All, AllZip, concat}
+use Rattle.std.proofs.lemmas.Bool.{leb-false}
+use Rattle.std.proofs.lemmas.List.Concat.{flat_map-append}
+use Rattle.std.proofs.lemmas.List.Elements.{All-nil, All-cons, All-head, All-tail, All-append}
+use Rattle.nx_envelope.specs.Moment.{last_moment}
+use Rattle.nx_fec.specs.air_files.AirFile.{Line, moment, elements, refuse_station, accept_station}
+use Rattle.nx_fec.specs.air_files.AirFile.{refuse_subject, accept_subject}
+use Rattle.nx_fec.specs.air_files.Channels.{channel_of, same_channel}
+use Rattle.nx_fec.specs.Transfers.{CountedDevice}
+use Rattle.nx_fec.specs.declared.air_files.channel.Channel.{Channel}
+use Rattle.nx_log.specs.Entries.{IsWholeEntry}
+use Rattle.nx_log.specs.Logged.{IsLogged, IsLoggedAs}
+use Rattle.nx_log.proofs.lemmas.printed.Moments.{AreInRange, IsInRange, end_logged, given_logged}
+use Rattle.nx_receiver.specs.Events as fed
+use Rattle.nx_receiver.specs.Events.{Command, Event, Refuses, at_moment, command}
+use Rattle.nx_receiver.specs.copies.FoundCopies.{TaggedCopy, copy_of}
+use Rattle.nx_receiver.specs.copies.InTurn.{PrintAllToEnd}
+use Rattle.nx_receiver.specs.air_file_runs.Listen.{given_by, given_of}
+use Rattle.nx_receiver.specs.Receiver.{entry_list}
+use Rattle.nx_receiver.specs.declared.entry.Entry.{Entry}
+use Rattle.nx_receiver.specs.declared.listener.LastEntries.{LastEntries}
+use Rattle.nx_fec.specs.declared.air_files.channel.Channel.TheVariants.{Zero as OnZero, One, Two}
+use Rattle.nx_receiver.specs.Listener.{HearsGiven, IsSpelled, Listening, last_copies, moment_in_force, starts_of, then_elements}
+use Rattle.nx_receiver.specs.copies.Log.{IsEntry, IsLog}
+use Rattle.nx_receiver.specs.copies.Shares.{Given, MarkedCopy, Starts, events_for, marked, share, to_one}
+use Rattle.nx_receiver.specs.declared.fault.MomentFault.{MomentFault}
+use Rattle.nx_receiver.specs.declared.fault.MomentFault.TheVariants.{Back, Range}
+use Rattle.nx_receiver.proofs.lemmas.listening.Listener.{given_by-one}
+use Rattle.nx_watch.proofs.lemmas.log.Heard.{none-heard}
+use Rattle.nx_watch.specs.Acting.{in_force, moments_said}
+use Rattle.nx_watch.specs.LineRun.{StandsWith, WithWriter, with_writer}
+use Rattle.nx_watch.specs.private.Keeping.{DiskOf, HasKept, KeepsWith}
+use Rattle.nx_watch.specs.private.LoggingListener.{IsCopyInRange, IsLineInRange, KeepsHeard, KeepsLines}
+use Rattle.nx_watch.specs.declared.logging_listener.LoggingListener.{LoggingListener}
+
+-- the same, with another listener inside
+abbrev pub with_listener : {D : Type 0} → LoggingListener D → Listening → LoggingListener D
+with_listener logging listener = record logging { listener = listener }
+
+-- ---- moments in range
+
+elements_are : (bits : List Bool) → All IsInRange (fed.elements bits)
+elements_are [] = All-nil IsInRange
+elements_are (bit ∷ bits) =
+    All-cons IsInRange (fed.element bit) (fed.elements bits) tt (elements_are bits)
+
+share_is : (b : Bool) (events : List Event) → All IsInRange events
+    → All IsInRange (cond b events [])
+share_is true events h = h
+share_is false events h = All-nil IsInRange
+
+one_is : (event : Event) → IsInRange event → All IsInRange (event ∷ [])
+one_is event h = All-cons IsInRange event [] h (All-nil IsInRange)
+
+line_is : (channel : Channel) (line : Line) → IsLineInRange line
+    → All IsInRange (events_for channel (given_of line))
+line_is channel (moment n) h = one_is (at_moment n) h
+line_is channel (elements mark bits) h =
+    share_is (same_channel (channel_of mark) channel) _ (elements_are bits)
+line_is channel (refuse_station mark letter) h =
+    share_is (same_channel (channel_of mark) channel) _
+    (one_is (command (fed.refuse_station letter)) tt)
+line_is channel (accept_station mark letter) h =
+    share_is (same_channel (channel_of mark) channel) _
+    (one_is (command (fed.accept_station letter)) tt)
+line_is channel (refuse_subject mark letter) h =
+    share_is (same_channel (channel_of mark) channel) _
+    (one_is (command (fed.refuse_subject letter)) tt)
+line_is channel (accept_subject mark letter) h =
+    share_is (same_channel (channel_of mark) channel) _
+    (one_is (command (fed.accept_subject letter)) tt)
+
+pub lines_are : (lines : List Line) → All IsLineInRange lines → AreInRange (given_by lines)
+lines_are [] h channel = All-nil IsInRange
+lines_are (line ∷ lines) h channel =
+    All-append IsInRange (events_for channel (given_of line)) (share channel (given_by lines))
+    (line_is channel line (All-head IsLineInRange line lines h))
+    (lines_are lines (All-tail IsLineInRange line lines h) channel)
+
+part_are : (given : List Given) (channel : Channel) (bits : List Bool) → AreInRange given
+    → AreInRange (then_elements given channel bits)
+part_are given channel bits h on =
+    let last = to_one channel (fed.elements bits) in
+    subst (All IsInRange) (sym (flat_map-append (events_for on) given (last ∷ [])))
+    (All-append IsInRange (share on given) (share on (last ∷ [])) (h on)
+    (All-append IsInRange (events_for on last) []
+    (share_is (same_channel channel on) _ (elements_are bits)) (All-nil IsInRange)))
+
+-- ---- the moment in force
+
+force-moment : (first other n : ℕ) (lines : List Line) → n ≤ last_moment
+    → ((a b : ℕ) → a ≤ b → moment_in_force a (given_by lines)
+    ≤ in_force b (moments_said (map Some lines)))
+    → moment_in_force n (given_by lines)
+    ≤ in_force other (moments_said (map Some (moment n ∷ lines)))
+force-moment first other n lines within rest =
+    subst (λ b. moment_in_force n (given_by lines)
+    ≤ in_force other (cond b (n ∷ []) [] ++ moments_said (map Some lines)))
+    (sym (nat-le-true n last_moment within)) (rest n (max other n) (omega arith))
+  where
+    nat-le-true : (a b : ℕ) → a ≤ b → nat_le a b ≡ true
+    nat-le-true a b h = elim (nat_le a b) as (λ t. nat_le a b ≡ t → t ≡ true) [
+      | true ↦ λ e. refl
+      | false ↦ λ e. let less : b < a = leb-false a b e in absurd (omega arith)
+    ] refl
+
+pub force-le : (first other : ℕ) (lines : List Line) → first ≤ other → All IsLineInRange lines
+    → moment_in_force first (given_by lines) ≤ in_force other (moments_said (map Some lines))
+force-le first other [] le h = le
+force-le first other (moment n ∷ lines) le h =
+    force-moment first other n lines (All-head IsLineInRange (moment n) lines h)
+    (λ a b le. force-le a b lines le (All-tail IsLineInRange (moment n) lines h))
+force-le first other (elements mark bits ∷ lines) le h =
+    force-le first other lines le (All-tail IsLineInRange (elements mark bits) lines h)
+force-le first other (refuse_station mark letter ∷ lines) le h =
+    force-le first other lines le (All-tail IsLineInRange (refuse_station mark letter) lines h)
+force-le first other (accept_station mark letter ∷ lines) le h =
+    force-le first other lines le (All-tail IsLineInRange (accept_station mark letter) lines h)
+force-le first other (refuse_subject mark letter ∷ lines) le h =
+    force-le first other lines le (All-tail IsLineInRange (refuse_subject mark letter) lines h)
+force-le first other (accept_subject mark letter ∷ lines) le h =
+    force-le first other lines le (All-tail IsLineInRange (accept_subject mark letter) lines h)
+
+-- a moment that is in range and isn't before the one in force isn't refused
+pub not-refused : (last n : ℕ) (why : MomentFault) → Refuses last n why → last ≤ n
+    → n ≤ last_moment → ⊥
+not-refused last n (Range at) h later within = omega (arith, h.1, within)
+not-refused last n (Back from at) h later within = omega (arith, h.3, later)
+
+-- ---- entries of copies
+
+-- what is printed of what was given is logged, each with its bytes
+spelled-as : (starts : Starts) (listener : Listening) (given : List Given)
+    (copies : List MarkedCopy)
+    (one : MarkedCopy) (bytes : List ℕ) → starts.moment ≤ last_moment → AreInRange given
+    → HearsGiven starts listener given (copies ++ one ∷ []) → IsEntry one bytes
+    → IsLoggedAs one bytes
+spelled-as starts listener given copies one bytes first within heard entry = record {
+  logged = last-is copies
+      (given_logged starts given (copies ++ one ∷ []) first within heard.in_turn.each);
+  entry = entry;
+}
+  where
+    last-is : (copies : List MarkedCopy) → All IsLogged (copies ++ one ∷ []) → IsLogged one
+    last-is [] h = All-head IsLogged one [] h
+    last-is (x ∷ copies) h = last-is copies (All-tail IsLogged x (copies ++ one ∷ []) h)
+
+pub zip-push : (copies : List MarkedCopy) (texts : List (List ℕ)) (one : MarkedCopy)
+    (text : List ℕ) → AllZip IsLoggedAs copies texts → IsLoggedAs one text
+    → AllZip IsLoggedAs (copies ++ one ∷ []) (texts ++ text ∷ [])
+zip-push [] [] one text h is = (is, tt)
+zip-push [] (other ∷ texts) one text h is = absurd h
+zip-push (other ∷ copies) [] one text h is = absurd h
+zip-push (other ∷ copies) (x ∷ texts) one text h is = (h.0, zip-push copies texts one text h.1 is)
+
+each-entry : (copies : List MarkedCopy) (texts : List (List ℕ)) → AllZip IsLoggedAs copies texts
+    → AllZip IsEntry copies texts
+each-entry [] [] h = tt
+each-entry [] (text ∷ texts) h = absurd h
+each-entry (one ∷ copies) [] h = absurd h
+each-entry (one ∷ copies) (text ∷ texts) h = (h.0.entry, each-entry copies texts h.1)
+
+pub log-of : (copies : List MarkedCopy) (texts : List (List ℕ)) → AllZip IsLoggedAs copies texts
+    → IsLog copies (concat texts)
+log-of copies texts h = record { entries = texts; each = each-entry copies texts h; joined = refl }
+
+module _ {D W : Type 0} (disk : DiskOf D) (contents : W → Option (List ℕ)) where
+  -- one line more, which brings no copies
+  pub next-line : (start : WithWriter (LoggingListener D) W) (old new : LoggingListener D)
+      (writer : CountedDevice W) (lines : List Line) (line : Line)
+      → new.keeper ≡ old.keeper → IsLineInRange line
+      → ((copies : List MarkedCopy)
+      → HearsGiven (starts_of start.taker.listener) old.listener (given_by lines) copies
+      → HearsGiven (starts_of start.taker.listener) new.listener
+      (given_by lines ++ given_of line ∷ []) copies)
+      → StandsWith (KeepsLines disk) contents start (with_writer old writer) lines
+      → StandsWith (KeepsLines disk) contents start (with_writer new writer) (lines ++ line ∷ [])
+  next-line start old new writer lines line same within step h =
+      let s = h.1 in (
+        h.0,
+        record {
+          first = s.first;
+          in_range = All-append IsLineInRange lines (line ∷ []) s.in_range
+              (All-cons IsLineInRange line [] within (All-nil IsLineInRange));
+          copies = s.copies;
+          heard = subst (λ g. HearsGiven (starts_of start.taker.listener) new.listener g s.copies)
+              (sym (given_by-one lines line)) (step s.copies s.heard);
+          texts = s.texts;
+          each = s.each;
+          kept = subst (λ k. HasKept disk start.taker.keeper k s.texts h.0) (sym same) s.kept;
+        },
+        h.2,
+      )
+
+  -- the same of a line that says a command, which was taken for its channel and its letter
+  pub next-command : (start : WithWriter (LoggingListener D) W) (old new : LoggingListener D)
+      (writer : CountedDevice W) (lines : List Line) (line is : Line) (make : ℕ → Command)
+      (mark : Option Channel) (letter : ℕ) {channel : Channel} {byte : ℕ}
+      → given_of is ≡ to_one (channel_of mark) (command (make letter) ∷ []) → IsLineInRange is
+      → line ≡ is → channel ≡ channel_of mark → byte ≡ letter → new.keeper ≡ old.keeper
+      → ((copies : List MarkedCopy)
+      → HearsGiven (starts_of start.taker.listener) old.listener (given_by lines) copies
+      → HearsGiven (starts_of start.taker.listener) new.listener
+      (given_by lines ++ to_one channel (command (make byte) ∷ []) ∷ []) copies)
+      → StandsWith (KeepsLines disk) contents start (with_writer old writer) lines
+      → StandsWith (KeepsLines disk) contents start (with_writer new writer) (lines ++ line ∷ [])
+  next-command start old new writer lines line is make mark letter gives within said at same kept
+      step h =
+      subst (λ l. StandsWith (KeepsLines disk) contents start (with_writer new writer)
+      (lines ++ l ∷ [])) (sym said) (next-line start old new writer lines is kept within
+      (λ copies heard. subst (λ one. HearsGiven (starts_of start.taker.listener) new.listener
+      (given_by lines ++ one ∷ []) copies)
+      (ap₂ (λ to b. to_one to (command (make b) ∷ [])) at same ∙ sym gives) (step copies heard)) h)
+
+  -- a line of elements, of which nothing was heard yet
+  pub none-yet : (start : WithWriter (LoggingListener D) W) (now : LoggingListener D)
+      (writer : CountedDevice W) (lines : List Line) (channel : Channel)
+      → StandsWith (KeepsLines disk) contents start (with_writer now writer) lines
+      → KeepsHeard disk contents start.taker now start.writer writer
+      (then_elements (given_by lines) channel [])
+  none-yet start now writer lines channel h =
+      let s = h.1 in record {
+        copies = s.copies;
+        heard = none-heard (starts_of start.taker.listener) now.listener (given_by lines) channel
+            s.copies s.heard;
+        texts = s.texts;
+        each = s.each;
+        kept = (h.0, s.kept, h.2);
+      }
+
+  -- all of it was heard
+  pub line-heard : (start : WithWriter (LoggingListener D) W) (old now : LoggingListener D)
+      (before writer : CountedDevice W) (lines : List Line) (mark : Option Channel)
+      (channel : Channel) (bits : List Bool) → channel ≡ channel_of mark
+      → StandsWith (KeepsLines disk) contents start (with_writer old before) lines
+      → KeepsHeard disk contents start.taker now start.writer writer
+      (then_elements (given_by lines) channel bits)
+      → StandsWith (KeepsLines disk) contents start (with_writer now writer)
+      (lines ++ elements mark bits ∷ [])
+  line-heard start old now before writer lines mark channel bits is h k =
+      let s = h.1 in
+      let line = elements mark bits in (
+        k.kept.0,
+        record {
+          first = s.first;
+          in_range = All-append IsLineInRange lines (line ∷ []) s.in_range
+              (All-cons IsLineInRange line [] tt (All-nil IsLineInRange));
+          copies = k.copies;
+          heard = subst (λ g. HearsGiven (starts_of start.taker.listener) now.listener g k.copies)
+              (ap (λ (c : Channel). then_elements (given_by lines) c bits) is
+              ∙ sym (given_by-one lines line)) k.heard;
+          texts = k.texts;
+          each = k.each;
+          kept = k.kept.1;
+        },
+        k.kept.2,
+      )
+
+  -- more of it was heard, which brought no copy
+  pub none-more : (start : LoggingListener D) (old new : LoggingListener D)
+      (first writer : CountedDevice W)
+      (given : List Given) (channel : Channel) (part more : List Bool) (next : List TaggedCopy)
+      → new.keeper ≡ old.keeper → next ≡ []
+      → ((copies : List MarkedCopy)
+      → HearsGiven (starts_of start.listener) old.listener (then_elements given channel part) copies
+      → HearsGiven (starts_of start.listener) new.listener
+      (then_elements given channel (part ++ more)) (copies ++ map (marked channel) next))
+      → KeepsHeard disk contents start old first writer (then_elements given channel part)
+      → KeepsHeard disk contents start new first writer (then_elements given channel (part ++ more))
+  none-more start old new first writer given channel part more next same none step h = record {
+    copies = h.copies;
+    heard = subst (HearsGiven (starts_of start.listener) new.listener
+        (then_elements given channel (part ++ more)))
+        (ap (λ (l : List TaggedCopy). h.copies ++ map (marked channel) l) none
+        ∙ append-nil h.copies) (step h.copies h.heard);
+    texts = h.texts;
+    each = h.each;
+    kept = subst (λ k. KeepsWith disk contents start.keeper k first writer h.texts)
+        (sym same) h.kept;
+  }
+
+  -- or brought one, whose entry was kept
+  pub one-more : (start : LoggingListener D) (old new : LoggingListener D)
+      (first before writer : CountedDevice W)
+      (given : List Given) (channel : Channel) (part more : List Bool) (next : List TaggedCopy)
+      (entry : List ℕ) → (starts_of start.listener).moment ≤ last_moment → AreInRange given
+      → IsSpelled channel true next entry
+      → ((copies : List MarkedCopy)
+      → HearsGiven (starts_of start.listener) old.listener (then_elements given channel part) copies
+      → HearsGiven (starts_of start.listener) new.listener
+      (then_elements given channel (part ++ more)) (copies ++ map (marked channel) next))
+      → ((texts : List (List ℕ)) → IsWholeEntry entry
+      → KeepsWith disk contents start.keeper old.keeper first before texts
+      → KeepsWith disk contents start.keeper new.keeper first writer (texts ++ entry ∷ []))
+      → KeepsHeard disk contents start old first before (then_elements given channel part)
+      → KeepsHeard disk contents start new first writer (then_elements given channel (part ++ more))
+  one-more start old new first before writer given channel part more next entry range within
+      spelled step keep h =
+      let one = marked channel spelled.0 in
+      let heard = subst (λ (l : List TaggedCopy). HearsGiven (starts_of start.listener) new.listener
+      (then_elements given channel (part ++ more)) (h.copies ++ map (marked channel) l)) spelled.1
+      (step h.copies h.heard) in
+      let is = spelled-as (starts_of start.listener) new.listener
+      (then_elements given channel (part ++ more)) h.copies one entry range
+      (part_are given channel (part ++ more) within) heard spelled.2 in record {
+        copies = h.copies ++ one ∷ [];
+        heard = heard;
+        texts = h.texts ++ entry ∷ [];
+        each = zip-push h.copies h.texts one entry h.each is;
+        kept = keep h.texts (one, is) h.kept;
+      }
+
+-- ---- the end
+
+pub one-in-range : (channel : Channel) (o : Option Entry)
+    → IfSome o (λ entry. entry.moment ≤ last_moment)
+    → All IsCopyInRange (map (marked channel) (entry_list o))
+one-in-range channel None h = All-nil IsCopyInRange
+one-in-range channel (Some entry) h =
+    All-cons IsCopyInRange (marked channel (copy_of entry)) [] h (All-nil IsCopyInRange)
+
+pub last-in-range : (last : LastEntries) → IfSome last.on_0 (λ entry. entry.moment ≤ last_moment)
+    → IfSome last.on_1 (λ entry. entry.moment ≤ last_moment)
+    → IfSome last.on_2 (λ entry. entry.moment ≤ last_moment)
+    → All IsCopyInRange (last_copies last)
+last-in-range last h k l =
+    let on_0 = map (marked OnZero) (entry_list last.on_0) in
+    let on_1 = map (marked One) (entry_list last.on_1) in
+    let on_2 = map (marked Two) (entry_list last.on_2) in
+    All-append IsCopyInRange (on_0 ++ on_1) on_2
+    (All-append IsCopyInRange on_0 on_1 (one-in-range OnZero last.on_0 h)
+    (one-in-range One last.on_1 k)) (one-in-range Two last.on_2 l)
+
+-- of what the end prints, the next entry
+pub end-spelled : (starts : Starts) (lines : List Line) (copies rest : List MarkedCopy)
+    (one : MarkedCopy) (bytes : List ℕ) → starts.moment ≤ last_moment → All IsLineInRange lines
+    → PrintAllToEnd starts (given_by lines) (copies ++ one ∷ rest) → IsEntry one bytes
+    → IsLoggedAs one bytes
+end-spelled starts lines copies rest one bytes first within printed entry = record {
+  logged = behind copies
+      (end_logged starts (given_by lines) (copies ++ one ∷ rest) first (lines_are lines within)
+      printed);
+  entry = entry;
+}
+  where
+    behind : (copies : List MarkedCopy) → All IsLogged (copies ++ one ∷ rest) → IsLogged one
+    behind [] h = All-head IsLogged one rest h
+    behind (x ∷ copies) h = behind copies (All-tail IsLogged x (copies ++ one ∷ rest) h)
+
+-- ---- what a call answers
+
+pub where-taken : {A B : Type 0} (r : Result A B) (P : Type 0) (F : B → Type 0)
+    → MatchResult r (λ _. P) F → ((why : B) → F why → ⊥) → P
+where-taken (Ok done) P F h never = h
+where-taken (Err why) P F h never = absurd (never why h)
+
+pub where-ok : {A B : Type 0} (r : Result A B) (P : Type 0) → OnOk r P → (IsErr r → ⊥) → P
+where-ok (Ok done) P h never = h
+where-ok (Err why) P h never = absurd (never refl)
+
+pub not-vital : (b : Bool) → b ≡ false → IsTrue b → ⊥
+not-vital b e h = let both : false ≡ true = sym e ∙ h in cc
+
+pub none-spelled : (channel : Channel) (b : Bool) (next : List TaggedCopy) (bytes : List ℕ)
+    → b ≡ false → IsSpelled channel b next bytes → next ≡ []
+none-spelled channel false next bytes e h = h
+none-spelled channel true next bytes e h = cc

@@ -1,0 +1,11 @@
+use Rattle.std.proofs.Common.{◌++◌, ◌∙◌, ap₂, ℕ, List, Option, subst}
+use Rattle.nx_watch.specs.LineRun.{HasTold, first_told, number_told}
+use Rattle.nx_watch.proofs.lines.line_run.LineRun.count.Goals as goal
+
+pub returns-clause-told : goal.returns-clause-told
+returns-clause-told g c = λ first old lines tells.
+    let all : Option ℕ → ℕ → List ℕ = λ o n. first_told o ++ number_told n in
+    subst (HasTold old (g.F.Write.contents c.tell_number.new.faults.inner)
+    c.tell_number.new.faults.failures)
+    (ap₂ all tells.kept_so.first_one (c.without_effect.ensures ∙ tells.kept_so.without))
+    (c.tell_number.ensures old (first_told c.args.self.now.effects.first_without) tells.told)

@@ -1,0 +1,55 @@
+use Rattle.std.proofs.Common.{◌∙◌, ◌++◌, ◌∷◌, [], Some, None, ap, map, option_to_list, refl, sym}
+use Rattle.std.proofs.Common.{subst, take}
+use Rattle.std.specs.Prelude.{IsSomeAnd}
+use Rattle.nx_fec.specs.air_files.AirFile.{IsLine}
+use Rattle.nx_watch.specs.LineRun.{StandsWith, with_writer}
+use Rattle.nx_watch.specs.private.Scanning.{IsScanning, OnLine, lines_ended}
+use Rattle.nx_watch.proofs.lemmas.lines.Run.{run-of, some-line, taken-idle, whole-behind}
+use Rattle.nx_watch.proofs.lemmas.lines.Scanning.{parts}
+use Rattle.nx_watch.proofs.lines.line_run.LineRun.take_line.Goals as goal
+
+pub returns-in-Unknown-clause-taken : goal.returns-in-Unknown-clause-taken
+returns-in-Unknown-clause-taken g c = λ start first old bytes force r.
+    let stands = (StandsWith g.T.ActingTaker.stands g.W.Write.contents) in
+    let latest = c.take-count.new.self.scanner.latest in
+    let scans = c.take-count.ensures.scans bytes r.lines r.scans in
+    run-of stands start (with_writer c.args.taker.now c.args.writer.now) first c.pass_line.new.self
+    old
+    (g.F.Write.contents c.pass_line.new.faults.inner) c.pass_line.new.faults.failures _ r.lines
+    (None ∷ []) c.take-count.result.1 latest (ap (λ e. lines_ended e latest) c.in-Unknown.is)
+    (subst (λ s. IsScanning s (bytes ++ take c.take-count.result.0 c.args.piece.now)
+    (r.lines ++ lines_ended c.take-count.result.1 latest)) (sym c.pass_line.ensures.scanner) scans)
+    (taken-idle stands start (with_writer c.args.taker.now c.args.writer.now) first r.lines None
+    r.taken refl refl)
+    (c.pass_line.ensures.tells first old r.lines r.tells)
+
+pub returns-in-Ok-clause-taken : goal.returns-in-Ok-clause-taken
+returns-in-Ok-clause-taken g c = λ start first old bytes force r.
+    let stands = (StandsWith g.T.ActingTaker.stands g.W.Write.contents) in
+    let latest = c.take-count.new.self.scanner.latest in
+    let scans = c.take-count.ensures.scans bytes r.lines r.scans in
+    let one = some-line latest
+    (subst (λ e. OnLine e (IsSomeAnd latest IsLine)) c.in-Line.is c.take-count.ensures.line) in
+    let k = c.in-Ok.ensures.taken start first old r.lines one.0 force one.1 r.taken r.tells in
+    run-of stands start (with_writer c.take_known.new.taker c.take_known.new.writer) first
+    c.take_known.new.self old
+    (g.F.Write.contents c.take_known.new.faults.inner) c.take_known.new.faults.failures _ r.lines
+    (Some one.0 ∷ []) c.take-count.result.1 latest
+    (ap (λ e. lines_ended e latest) c.in-Line.is ∙ ap (λ o. map Some (option_to_list o)) one.1)
+    (subst (λ s. IsScanning s (bytes ++ take c.take-count.result.0 c.args.piece.now)
+    (r.lines ++ lines_ended c.take-count.result.1 latest)) (sym c.take_known.ensures.scanner)
+    scans) k.0 k.1
+
+pub returns-in-Err-clause-taken : goal.returns-in-Err-clause-taken
+returns-in-Err-clause-taken g c = λ start first old bytes force r more.
+    let latest = c.take-count.new.self.scanner.latest in
+    let one = some-line latest
+    (subst (λ e. OnLine e (IsSomeAnd latest IsLine)) c.in-Line.is c.take-count.ensures.line) in
+    let scans = subst (λ l. IsScanning c.take-count.new.self
+    (bytes ++ take c.take-count.result.0 c.args.piece.now) (r.lines ++ l))
+    (ap (λ e. lines_ended e latest) c.in-Line.is ∙ ap (λ o. map Some (option_to_list o)) one.1)
+    (c.take-count.ensures.scans bytes r.lines r.scans) in
+    let p = parts c.take-count.new.self _ _ scans in
+    c.in-Err.ensures.taken start first old r.lines one.0 force one.1 r.taken r.tells p.front
+    ((bytes ++ c.args.piece.now) ++ more) p.are _
+    (whole-behind bytes c.args.piece.now more p.front _ c.take-count.result.0 p.whole)

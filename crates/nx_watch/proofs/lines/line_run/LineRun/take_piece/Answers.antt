@@ -1,0 +1,33 @@
+use Rattle.std.proofs.Common.{◌++◌, take, subst, arith}
+use Rattle.nx_watch.specs.LineRun.{StandsWith, with_writer}
+use Rattle.nx_watch.specs.private.Running.{EndsRun, IsRunning}
+use Rattle.nx_fec.proofs.lemmas.devices.Piece.{piece-next, piece-rest}
+use Rattle.nx_watch.proofs.lines.line_run.LineRun.take_piece.Goals as goal
+
+pub returns-in-Err-clause-taken : goal.returns-in-Err-clause-taken
+returns-in-Err-clause-taken g c = λ start first old bytes force h more.
+    subst (λ l. EndsRun (StandsWith g.T.ActingTaker.stands g.W.Write.contents) start
+    (with_writer c.take_line.new.taker c.take_line.new.writer) first
+    c.take_line.new.self.effects old (g.F.Write.contents c.take_line.new.faults.inner)
+    c.take_line.new.faults.failures c.in-Err.end l)
+    (piece-rest bytes c.args.piece.now more c.loop-at.at)
+    (c.in-Err.ensures.taken start first old (bytes ++ take c.loop-at.at c.args.piece.now) force
+    (c.loop-at.invariant.taken start first old bytes force h) more)
+
+pub loop-at-preserved : goal.loop-at-preserved
+loop-at-preserved g c = record {
+  writer = c.in-Ok.ensures.open;
+  inside = omega (arith, c.in-Ok.ensures.all, c.loop-at.invariant.inside);
+  room = omega (arith, c.in-Ok.ensures.room, c.loop-at.invariant.room);
+  within = c.in-Ok.ensures.within;
+  few = omega (arith, c.in-Ok.ensures.few, c.loop-at.invariant.few);
+  fewer = c.in-Ok.ensures.fewer;
+  taken = λ start first old bytes force h.
+      subst (IsRunning (StandsWith g.T.ActingTaker.stands g.W.Write.contents) start
+      (with_writer c.take_line.new.taker c.take_line.new.writer) first
+      c.take_line.new.self old (g.F.Write.contents c.take_line.new.faults.inner)
+      c.take_line.new.faults.failures)
+      (piece-next bytes c.args.piece.now c.loop-at.at c.in-Ok.count)
+      (c.in-Ok.ensures.taken start first old (bytes ++ take c.loop-at.at c.args.piece.now) force
+      (c.loop-at.invariant.taken start first old bytes force h));
+}

@@ -1,0 +1,28 @@
+use Rattle.std.proofs.Common.{◌≡◌, ◌+◌, ◌-◌, ◌≤◌, ℕ, Option, List, ◌++◌, length, take}
+use Rattle.nx_watch.specs.Acting.{most_bytes}
+use Rattle.nx_watch.specs.LineRun.{StandsWith, WithWriter, with_writer}
+use Rattle.nx_watch.specs.private.Running.{IsRunning}
+use Rattle.nx_watch.proofs.lines.line_run.LineRun.take_piece.Given as goal
+
+-- the lines that the bytes so far ended were taken
+abbrev pub invariant-loop-at : goal.invariant-loop-at
+invariant-loop-at g l = record {
+  writer : l.writer.failures ≡ 0;
+  inside : l.at ≤ length l.piece;
+  room : l.fn.self.scanner.scanner.room ≤ l.self.scanner.scanner.room + l.at;
+  within : l.self.scanner.scanner.room ≤ most_bytes;
+  few : l.self.effects.lines ≤ l.fn.self.effects.lines + l.at;
+  fewer : l.self.effects.without_effect ≤ l.self.effects.lines;
+  taken : (start : WithWriter g.row.T.Denot g.row.W.Denot) (first : ℕ) (old : Option (List ℕ))
+      (bytes : List ℕ)
+      → g.T.ActingTaker.first_moment start.taker ≡ first
+      → IsRunning (StandsWith g.T.ActingTaker.stands g.W.Write.contents) start
+      (with_writer l.fn.taker l.fn.writer) first l.fn.self old
+      (g.F.Write.contents l.fn.faults.inner) l.fn.faults.failures bytes
+      → IsRunning (StandsWith g.T.ActingTaker.stands g.W.Write.contents) start
+      (with_writer l.taker l.writer) first l.self old
+      (g.F.Write.contents l.faults.inner) l.faults.failures (bytes ++ take l.at l.piece);
+}
+
+abbrev pub decreases-loop-at : goal.decreases-loop-at
+decreases-loop-at g l = length l.piece - l.at

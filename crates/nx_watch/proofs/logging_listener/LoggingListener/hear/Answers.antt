@@ -1,0 +1,66 @@
+use Rattle.std.proofs.Common.{◌≡◌, arith, take, subst, rules}
+use Rattle.std.proofs.lemmas.List.{take_all}
+use Rattle.nx_receiver.specs.air_file_runs.Listen.{given_by}
+use Rattle.nx_receiver.specs.Listener.{then_elements}
+use Rattle.nx_receiver.proofs.lemmas.listening.Listener.{elements-next}
+use Rattle.nx_watch.specs.private.Keeping.{disk_of}
+use Rattle.nx_watch.specs.private.LoggingListener.{KeepsHeard}
+use Rattle.nx_watch.proofs.lemmas.log.LoggingListener.{line-heard, none-yet}
+use Rattle.nx_watch.proofs.logging_listener.LoggingListener.hear.Goals as goal
+
+pub loop-at-init : goal.loop-at-init
+loop-at-init g c =
+    let d = g.D.DiskFile in
+    let disk = disk_of d.explains d.seen d.may_leave d.moment d.left_since d.faults
+    d.has_failed_to_write in
+    record {
+      once = omega (arith, c.requires);
+      within = omega arith;
+      heard = λ start lines h.
+          none-yet disk g.W.Write.contents start c.args.self.now c.args.writer.now lines
+          c.of-channel.result h;
+    }
+
+pub loop-at-preserved : goal.loop-at-preserved
+loop-at-preserved g c =
+    let d = g.D.DiskFile in
+    let disk = disk_of d.explains d.seen d.may_leave d.moment d.left_since d.faults
+    d.has_failed_to_write in
+    let bits = c.args.packed.now in
+    record {
+      once = c.hear_next-at.ensures.once;
+      within = omega (arith, c.hear_next-at.ensures.within);
+      heard = λ start lines h.
+          subst (λ bs. KeepsHeard disk g.W.Write.contents start.taker c.hear_next-at.new.self
+          start.writer c.hear_next-at.new.writer
+          (then_elements (given_by lines) c.of-channel.result bs))
+          (elements-next bits c.loop-at.at c.hear_next-at.result)
+          (c.hear_next-at.ensures.heard start.taker start.writer lines (take c.loop-at.at bits)
+          h.1.first h.1.in_range (c.loop-at.invariant.heard start lines h));
+    }
+
+pub returns-then-failures-gt0-clause-taken : goal.returns-then-failures-gt0-clause-taken
+returns-then-failures-gt0-clause-taken g c = λ start lines h.
+    let d = g.D.DiskFile in
+    let disk = disk_of d.explains d.seen d.may_leave d.moment d.left_since d.faults
+    d.has_failed_to_write in
+    let bits = c.args.packed.now in
+    let all : take c.loop-at.at bits ≡ bits = take_all c.loop-at.at bits (search rules) in
+    line-heard disk g.W.Write.contents start c.args.self.now c.loop-at.self c.args.writer.now
+    c.loop-at.writer lines c.args.mark c.of-channel.result bits c.of-channel.ensures h
+    (subst (λ bs. KeepsHeard disk g.W.Write.contents start.taker c.loop-at.self start.writer
+    c.loop-at.writer (then_elements (given_by lines) c.of-channel.result bs)) all
+    (c.loop-at.invariant.heard start lines h))
+
+pub returns-else-failures-gt0-clause-taken : goal.returns-else-failures-gt0-clause-taken
+returns-else-failures-gt0-clause-taken g c = λ start lines h.
+    let d = g.D.DiskFile in
+    let disk = disk_of d.explains d.seen d.may_leave d.moment d.left_since d.faults
+    d.has_failed_to_write in
+    let bits = c.args.packed.now in
+    let all : take c.loop-at.at bits ≡ bits = take_all c.loop-at.at bits (search rules) in
+    line-heard disk g.W.Write.contents start c.args.self.now c.loop-at.self c.args.writer.now
+    c.loop-at.writer lines c.args.mark c.of-channel.result bits c.of-channel.ensures h
+    (subst (λ bs. KeepsHeard disk g.W.Write.contents start.taker c.loop-at.self start.writer
+    c.loop-at.writer (then_elements (given_by lines) c.of-channel.result bs)) all
+    (c.loop-at.invariant.heard start lines h))

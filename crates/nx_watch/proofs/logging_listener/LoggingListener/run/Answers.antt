@@ -1,0 +1,257 @@
+use Rattle.std.proofs.Common.{◌≡◌, ◌≤◌, ◌⊎◌, ◌∙◌, ◌++◌, ◌∷◌, [], ℕ, Result, Some, Ok, Err, refl, sym, subst, ap, length, length-append}
+use Rattle.std.specs.Io.KnownBytes.{IsAtEnd}
+use Rattle.nx_envelope.specs.Moment.{last_moment}
+use Rattle.nx_fec.specs.air_files.AirFile.{moment}
+use Rattle.nx_receiver.specs.copies.InTurn.{PrintAllToEnd}
+use Rattle.nx_receiver.specs.air_file_runs.Listen.{given_by}
+use Rattle.nx_receiver.specs.Listener.{HearsGiven, count_of, starts_of}
+use Rattle.nx_watch.specs.Acting.{acting_lines, moments_said, most_bytes}
+use Rattle.nx_watch.specs.AnyLines.{cut_line}
+use Rattle.nx_watch.specs.Watch.{AnswersStop, at_end, back, unread, unwritten}
+use Rattle.nx_watch.specs.LineRun.{AnswersRun, HasTold, StandsWith, TellsOfLines, told_of, with_writer}
+use Rattle.nx_watch.specs.private.LoggingListener.{KeepsLines}
+use Rattle.nx_watch.specs.declared.lines.line_run.LinesWatched.{LinesWatched}
+use Rattle.nx_watch.specs.declared.lines.line_run.WatchEnd.{WatchEnd}
+use Rattle.nx_watch.specs.declared.lines.line_run.WatchEnd.TheVariants.{Read, Back, Write}
+use Rattle.nx_watch.specs.private.Keeping.{HasKept, disk_of}
+use Rattle.nx_watch.proofs.lemmas.log.Finish.{back-apart, back-written, end-apart, end-written, has-run, stands-first, unread-written, unwritten-apart, wrote-some, zip-length}
+use Rattle.nx_watch.proofs.lemmas.lines.Run.{acting-cut, acting-idle, ends-idle, tells-some}
+use Rattle.nx_watch.proofs.logging_listener.LoggingListener.run.Goals as goal
+use Rattle.nx_watch.proofs.logging_listener.LoggingListener.run.Goals.{After-watch_lines}
+
+abbrev ok : LinesWatched → Result LinesWatched WatchEnd
+ok counts = Ok counts
+
+abbrev err : WatchEnd → Result LinesWatched WatchEnd
+err end = Err end
+
+-- the answers of a run are apart
+apart-Ok : (counts : LinesWatched) → ok counts ≡ err Read → ⊥
+apart-Ok counts e = cc
+
+apart-Back : (line last given : ℕ) → err (Back line last given) ≡ err Read → ⊥
+apart-Back line last given e = cc
+
+apart-Write : err Write ≡ err Read → ⊥
+apart-Write e = cc
+
+pub returns-in-Ok-clause-runs : goal.returns-in-Ok-clause-runs
+returns-in-Ok-clause-runs g c = λ is range heard kept.
+    let d = g.D.DiskFile in
+    let disk = disk_of d.explains d.seen d.may_leave d.moment d.left_since d.faults
+    d.has_failed_to_write in
+    let self = c.args.self in
+    let start = with_writer self c.args.writer.now in
+    let w = c.in-Ok.ensures.watched self (sym is) (stands-first disk self range heard kept) in
+    let closed = c.close.ensures.closed start (acting_lines c.args.first w.3.1) w.3.4.stood in
+    has-run disk self c.args.first g.R.Read.remaining c.args.reader.now c.watch_lines.new.reader
+    g.W.Write.contents c.args.writer.now c.close.new.writer g.F.Write.contents c.args.faults.now
+    c.watch_lines.new.faults d.has_failed_to_read at_end c.close.result (record {
+      lines = w.3.1 ++ cut_line w.3.2;
+      copies = closed.copies;
+      texts = closed.texts;
+      given = closed.kept.0;
+      bytes = w.0;
+      each = closed.each;
+      kept = closed.kept.1;
+      wrote = closed.kept.2;
+      consumed = w.1;
+      within = w.2;
+      read = (w.3.0, w.3.1, w.3.2, w.3.3, refl, w.3.4.on);
+      printed = subst (λ l. PrintAllToEnd (starts_of self.listener) (given_by l) closed.copies)
+          (sym (acting-cut c.args.first w.3.1 w.3.2)) closed.printed;
+      failed_read = (
+        λ e. absurd (end-apart e),
+        λ f. absurd (apart-Ok c.in-Ok.counts (sym c.in-Ok.is ∙ c.watch_lines.ensures.unread.1 f)),
+      );
+      failed_write = λ e. absurd (end-written e);
+      said = w.3.6;
+    }) c.answer.result.0 c.answer.result.1 is c.answer.ensures.device c.answer.ensures.failed
+    (λ well all. subst (AnswersStop c.args.first at_end (w.3.1 ++ cut_line w.3.2) closed.copies)
+    (sym (c.answer.ensures.well well)) (
+      w.3.5.lines_counted,
+      w.3.5.without,
+      w.3.5.first_one,
+      all.put ∙ ap count_of (sym (zip-length closed.copies closed.texts closed.each)),
+    ))
+
+pub returns-in-Back-clause-runs : goal.returns-in-Back-clause-runs
+returns-in-Back-clause-runs g c = λ is range heard kept.
+    let d = g.D.DiskFile in
+    let disk = disk_of d.explains d.seen d.may_leave d.moment d.left_since d.faults
+    d.has_failed_to_write in
+    let self = c.args.self in
+    let start = with_writer self c.args.writer.now in
+    let lines-read = c.watch_lines.new in
+    let w = c.in-Err.ensures.watched self (sym is) (stands-first disk self range heard kept) in
+    let ended = subst (λ e. AnswersRun (StandsWith (KeepsLines disk)
+    g.W.Write.contents) start (with_writer lines-read.taker lines-read.writer) c.args.first
+    (IsAtEnd (g.R.Read.remaining lines-read.reader.inner) ⊎ (length w.0 ≡ most_bytes))
+    (λ lines. HasTold (g.F.Write.contents c.args.faults.now.inner)
+    (g.F.Write.contents lines-read.faults.inner) lines-read.faults.failures
+    (told_of c.args.first lines)) (Err e) w.0) c.in-Back.is w.3 in
+    let closed = c.close-in-Back.ensures.closed start (acting_lines c.args.first ended.0) ended.5 in
+    let stop = back c.in-Back.line c.in-Back.last c.in-Back.given in
+    let lines = ended.0 ++ Some (moment c.in-Back.given) ∷ [] in
+    has-run disk self c.args.first g.R.Read.remaining c.args.reader.now lines-read.reader
+    g.W.Write.contents c.args.writer.now c.close-in-Back.new.writer g.F.Write.contents
+    c.args.faults.now lines-read.faults d.has_failed_to_read stop c.close-in-Back.result (record {
+      lines = lines;
+      copies = closed.copies;
+      texts = closed.texts;
+      given = closed.kept.0;
+      bytes = w.0;
+      each = closed.each;
+      kept = closed.kept.1;
+      wrote = closed.kept.2;
+      consumed = w.1;
+      within = w.2;
+      read = (
+        ended.0,
+        refl,
+        ended.1,
+        ended.2,
+        ended.3 ∙ sym (length-append ended.0 (Some (moment c.in-Back.given) ∷ [])),
+        ended.4,
+      );
+      printed = subst (λ l. PrintAllToEnd (starts_of self.listener) (given_by l) closed.copies)
+          (sym (acting-idle c.args.first ended.0 (moment c.in-Back.given)
+          (ends-idle c.args.first (moments_said ended.0) c.in-Back.given ended.2))) closed.printed;
+      failed_read = (
+        λ e. absurd (back-apart _ _ _ e),
+        λ f. absurd (apart-Back _ _ _ (sym (c.in-Err.is ∙ ap Err c.in-Back.is)
+            ∙ c.watch_lines.ensures.unread.1 f)),
+      );
+      failed_write = λ e. absurd (back-written _ _ _ e);
+      said = ended.6;
+    }) c.answer-in-Back.result.0 c.answer-in-Back.result.1 is c.answer-in-Back.ensures.device
+    c.answer-in-Back.ensures.failed
+    (λ well all. subst (AnswersStop c.args.first stop lines closed.copies)
+    (sym (c.answer-in-Back.ensures.well well)) (refl, refl, refl))
+
+pub returns-in-Read-clause-runs : goal.returns-in-Read-clause-runs
+returns-in-Read-clause-runs g c = λ is range heard kept.
+    let d = g.D.DiskFile in
+    let disk = disk_of d.explains d.seen d.may_leave d.moment d.left_since d.faults
+    d.has_failed_to_write in
+    let self = c.args.self in
+    let start = with_writer self c.args.writer.now in
+    let lines-read = c.watch_lines.new in
+    let w = c.in-Err.ensures.watched self (sym is) (stands-first disk self range heard kept) in
+    let ended = subst (λ e. AnswersRun (StandsWith (KeepsLines disk)
+    g.W.Write.contents) start (with_writer lines-read.taker lines-read.writer) c.args.first
+    (IsAtEnd (g.R.Read.remaining lines-read.reader.inner) ⊎ (length w.0 ≡ most_bytes))
+    (λ lines. HasTold (g.F.Write.contents c.args.faults.now.inner)
+    (g.F.Write.contents lines-read.faults.inner) lines-read.faults.failures
+    (told_of c.args.first lines)) (Err e) w.0) c.in-Read.is w.3 in
+    let stood = ended.3.stood in
+    has-run disk self c.args.first g.R.Read.remaining c.args.reader.now lines-read.reader
+    g.W.Write.contents c.args.writer.now lines-read.writer g.F.Write.contents c.args.faults.now
+    lines-read.faults d.has_failed_to_read unread c.into_keeper.result (record {
+      lines = ended.0;
+      copies = stood.1.copies;
+      texts = stood.1.texts;
+      given = stood.0;
+      bytes = w.0;
+      each = stood.1.each;
+      kept = subst (λ k. HasKept disk self.keeper k stood.1.texts stood.0)
+          (sym c.into_keeper.ensures) stood.1.kept;
+      wrote = stood.2;
+      consumed = w.1;
+      within = w.2;
+      read = (ended.1, ended.2, ended.3.on);
+      printed = stood.1.heard.in_turn;
+      failed_read =
+          (λ e. c.watch_lines.ensures.unread.0 (c.in-Err.is ∙ ap Err c.in-Read.is), λ f. refl);
+      failed_write = λ e. absurd (unread-written e);
+      said = ended.4;
+    }) c.answer-in-Read.result.0 c.answer-in-Read.result.1 is c.answer-in-Read.ensures.device
+    c.answer-in-Read.ensures.failed
+    (λ well all. subst (AnswersStop c.args.first unread ended.0 stood.1.copies)
+    (sym (c.answer-in-Read.ensures.well well)) tt)
+
+pub returns-in-Write-clause-runs : goal.returns-in-Write-clause-runs
+returns-in-Write-clause-runs g c = λ is range heard kept.
+    let d = g.D.DiskFile in
+    let disk = disk_of d.explains d.seen d.may_leave d.moment d.left_since d.faults
+    d.has_failed_to_write in
+    let self = c.args.self in
+    let start = with_writer self c.args.writer.now in
+    let lines-read = c.watch_lines.new in
+    let w = c.in-Err.ensures.watched self (sym is) (stands-first disk self range heard kept) in
+    let ended = subst (λ e. AnswersRun (StandsWith (KeepsLines disk)
+    g.W.Write.contents) start (with_writer lines-read.taker lines-read.writer) c.args.first
+    (IsAtEnd (g.R.Read.remaining lines-read.reader.inner) ⊎ (length w.0 ≡ most_bytes))
+    (λ lines. HasTold (g.F.Write.contents c.args.faults.now.inner)
+    (g.F.Write.contents lines-read.faults.inner) lines-read.faults.failures
+    (told_of c.args.first lines)) (Err e) w.0) c.in-Write.is w.3 in
+    let stood = ended.3.stood in
+    let keeper = c.into_keeper-in-Write.result in
+    let unwritten_one = c.watch_lines.ensures.unwritten.0 (c.in-Err.is ∙ ap Err c.in-Write.is) in
+    has-run disk self c.args.first g.R.Read.remaining c.args.reader.now lines-read.reader
+    g.W.Write.contents c.args.writer.now lines-read.writer g.F.Write.contents c.args.faults.now
+    lines-read.faults d.has_failed_to_read unwritten keeper (record {
+      lines = ended.0 ++ Some ended.1 ∷ [];
+      copies = stood.1.copies;
+      texts = stood.1.texts;
+      given = stood.0;
+      bytes = w.0;
+      each = stood.1.each;
+      kept = subst (λ k. HasKept disk self.keeper k stood.1.texts stood.0)
+          (sym c.into_keeper-in-Write.ensures) stood.1.kept;
+      wrote = stood.2;
+      consumed = w.1;
+      within = w.2;
+      read = (ended.0, ended.1, refl, ended.2);
+      printed = stood.1.heard.in_turn;
+      failed_read = (
+        λ e. absurd (unwritten-apart e),
+        λ f. absurd (apart-Write (sym (c.in-Err.is ∙ ap Err c.in-Write.is)
+            ∙ c.watch_lines.ensures.unread.1 f)),
+      );
+      failed_write = λ e. unwritten_one;
+      said = ended.4;
+    }) c.answer-in-Write.result.0 c.answer-in-Write.result.1 is c.answer-in-Write.ensures.device
+    c.answer-in-Write.ensures.failed
+    (λ well all. absurd (wrote-some self.keeper keeper _ _ _ _ c.requires.writer unwritten_one
+    stood.2 all))
+
+-- what was told, however the run ended
+tells : (g : _) → (c : After-watch_lines g)
+    → c.args.first ≡ (starts_of c.args.self.listener).moment
+    → (starts_of c.args.self.listener).moment ≤ last_moment
+    → HearsGiven (starts_of c.args.self.listener) c.args.self.listener [] []
+    → HasKept (disk_of g.D.DiskFile.explains g.D.DiskFile.seen g.D.DiskFile.may_leave
+    g.D.DiskFile.moment g.D.DiskFile.left_since g.D.DiskFile.faults
+    g.D.DiskFile.has_failed_to_write) c.args.self.keeper c.args.self.keeper [] []
+    → TellsOfLines (g.F.Write.contents c.args.faults.now.inner)
+    (g.F.Write.contents c.watch_lines.new.faults.inner) c.watch_lines.new.faults.failures
+tells g c is range heard kept =
+    let d = g.D.DiskFile in
+    let disk = disk_of d.explains d.seen d.may_leave d.moment d.left_since d.faults
+    d.has_failed_to_write in
+    let lines-read = c.watch_lines.new in
+    let w = c.watch_lines.ensures.watched c.args.self (sym is)
+    (stands-first disk c.args.self range heard kept) in
+    let told = tells-some (StandsWith (KeepsLines disk) g.W.Write.contents)
+    (with_writer c.args.self c.args.writer.now) (with_writer lines-read.taker lines-read.writer)
+    c.args.first (IsAtEnd (g.R.Read.remaining lines-read.reader.inner) ⊎ (length w.0 ≡ most_bytes))
+    (λ lines. HasTold (g.F.Write.contents c.args.faults.now.inner)
+    (g.F.Write.contents lines-read.faults.inner) lines-read.faults.failures
+    (told_of c.args.first lines)) c.watch_lines.result w.0 w.3 in
+    (c.args.first, told.0, told.1)
+
+pub returns-in-Ok-clause-told : goal.returns-in-Ok-clause-told
+returns-in-Ok-clause-told g c = tells g (goal.at.returns-in-Ok-clause-told g c).After-watch_lines
+
+pub returns-in-Back-clause-told : goal.returns-in-Back-clause-told
+returns-in-Back-clause-told g c =
+    tells g (goal.at.returns-in-Back-clause-told g c).After-watch_lines
+
+pub returns-in-Read-clause-told : goal.returns-in-Read-clause-told
+returns-in-Read-clause-told g c =
+    tells g (goal.at.returns-in-Read-clause-told g c).After-watch_lines
+
+pub returns-in-Write-clause-told : goal.returns-in-Write-clause-told
+returns-in-Write-clause-told g c =
+    tells g (goal.at.returns-in-Write-clause-told g c).After-watch_lines

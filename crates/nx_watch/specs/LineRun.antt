@@ -1,0 +1,135 @@
+-- A run over the lines of any bytes, for a taker of those that act (this profile).
+use Rattle.std.specs.Prelude.{◌≡◌, ◌⊎◌, ℕ, ◌+◌, ◌<◌, ◌≤◌, ◌==◌, if◌then◌else◌, true, false, List, [], ◌∷◌, ◌++◌, codes}
+use Rattle.std.specs.Prelude.{decimal, length, map, take, Option, Some, None, Result, Ok, Err, ⊤}
+use Rattle.std.specs.Io.KnownBytes.{Appends}
+use Rattle.nx_envelope.specs.Moment.{last_moment}
+use Rattle.nx_fec.specs.air_files.AirFile.{Line, moment, elements, refuse_station, accept_station}
+use Rattle.nx_fec.specs.air_files.AirFile.{refuse_subject, accept_subject}
+use Rattle.nx_fec.specs.Transfers.{CountedDevice}
+use Rattle.nx_memory.specs.Selection.{is_vital}
+use Rattle.nx_watch.specs.Acting.{acting_lines, count_without, ends_watch, first_without}
+use Rattle.nx_watch.specs.Acting.{goes_on, in_force, moments_said}
+use Rattle.nx_watch.specs.AnyLines.{AreLines, cut_line}
+use Rattle.nx_watch.specs.declared.lines.line_run.LinesWatched.{LinesWatched}
+use Rattle.nx_watch.specs.declared.lines.line_run.WatchEnd.{WatchEnd}
+use Rattle.nx_watch.specs.declared.lines.line_run.WatchEnd.TheVariants.{Read, Back, Write}
+
+-- A taker of lines that act stood so at first and stands so now, after these lines.
+abbrev pub Standing : Type 0 → Type 1
+Standing T = T → T → List Line → Type 0
+
+-- the same of a taker that gave these bytes for the lines
+abbrev pub Giving : Type 0 → Type 1
+Giving T = T → T → List Line → List ℕ → Type 0
+
+-- the moment in force behind lines that act
+abbrev pub force_behind : ℕ → List Line → ℕ
+force_behind first lines = in_force first (moments_said (map Some lines))
+
+-- A line may act behind these: a moment is in range, and not before the one in force; a subject
+-- that is refused isn't vital.
+abbrev pub MayAct : ℕ → List Line → Line → Type 0
+MayAct first lines (moment n) = (force_behind first lines ≤ n) × (n ≤ last_moment)
+MayAct first lines (elements mark bits) = ⊤
+MayAct first lines (refuse_station mark letter) = ⊤
+MayAct first lines (accept_station mark letter) = ⊤
+MayAct first lines (refuse_subject mark letter) = is_vital letter ≡ false
+MayAct first lines (accept_subject mark letter) = ⊤
+
+-- what is told of the first line without effect, if there is one
+abbrev pub first_told : Option ℕ → List ℕ
+first_told None = []
+first_told (Some line) = codes "navtex: line " ++ (decimal line ++ codes " had no effect\n")
+
+-- what is told at the end of so many lines without effect, if there are any
+abbrev pub number_told : ℕ → List ℕ
+number_told count =
+    if count == 0 then []
+    else codes "navtex: " ++ (decimal count ++ codes " lines had no effect\n")
+
+-- what is told of these lines
+abbrev pub told_of : ℕ → List (Option Line) → List ℕ
+told_of first lines =
+    first_told (first_without first lines) ++ number_told (count_without first lines)
+
+-- this text was told: it was written, or a first part of it, but not all, where a write failed,
+-- after which none was tried
+abbrev pub HasTold : Option (List ℕ) → Option (List ℕ) → ℕ → List ℕ → Type 0
+HasTold old new failures text =
+    ((failures ≡ 0) × Appends old new text)
+    ⊎ ((failures ≡ 1) × (taken : ℕ) × (taken < length text) × Appends old new (take taken text))
+
+-- Some lines were told of.
+abbrev pub TellsOfLines : Option (List ℕ) → Option (List ℕ) → ℕ → Type 0
+TellsOfLines old new failures =
+    (first : ℕ) × (lines : List (Option Line)) × HasTold old new failures (told_of first lines)
+
+-- These bytes were given to a writer: they were written, or a first part of them, where a write
+-- failed. Where there are none, it wasn't called.
+pub record WereGiven {W : Type 0} (contents : W → Option (List ℕ)) (old new : CountedDevice W)
+    (bytes : List ℕ)
+    : Type 0 where
+  pub written : HasTold (contents old.inner) (contents new.inner) new.failures bytes
+  pub uncalled : bytes ≡ [] → new ≡ old
+
+-- a taker, and the writer that it gives its bytes to
+pub record WithWriter (T W : Type 0) : Type 0 where
+  pub taker : T
+  pub writer : CountedDevice W
+
+abbrev pub with_writer : {T W : Type 0} → T → CountedDevice W → WithWriter T W
+with_writer taker writer = record { taker = taker; writer = writer }
+
+-- a taker stands so after these lines, and its writer was given the bytes for them
+abbrev pub StandsWith : {T W : Type 0} → Giving T → (W → Option (List ℕ))
+    → Standing (WithWriter T W)
+StandsWith stands contents start now lines =
+    (given : List ℕ) × stands start.taker now.taker lines given
+    × WereGiven contents start.writer now.writer given
+
+-- None of these lines ended the watch, and those that act were taken.
+pub record HasTaken {T : Type 0} (stands : Standing T) (start now : T) (first : ℕ)
+    (lines : List (Option Line)) : Type 0 where
+  pub on : goes_on first lines ≡ true
+  pub stood : stands start now (acting_lines first lines)
+
+-- These counts are those of these lines.
+pub record AreCounted (first : ℕ) (lines : List (Option Line)) (counts : LinesWatched)
+    : Type 0 where
+  pub lines_counted : counts.lines ≡ length lines
+  pub without : counts.without_effect ≡ count_without first lines
+  pub first_one : counts.first_without_effect ≡ first_without first lines
+
+-- The bytes begin with these lines and this last one, each with its end; none before the last ended
+-- the watch.
+pub record StopsBehind (first : ℕ) (bytes : List ℕ) (lines : List (Option Line)) (last : Line)
+    : Type 0 where
+  pub front : List ℕ
+  pub more : List ℕ
+  pub whole : bytes ≡ front ++ more
+  pub are : AreLines front (lines ++ Some last ∷ []) []
+  pub on : goes_on first lines ≡ true
+
+-- What a run answers of these bytes, where the moment `first` was in force at first, and `tells`
+-- holds of the lines that it tells of. At the end of the input, or at the limit, all lines were
+-- taken, a cut one too. After a failed read all lines with their ends were taken, and behind the
+-- line that ends the watch, those before it. After a failed write the lines up to the one that gave
+-- the bytes were taken.
+abbrev pub AnswersRun : {T : Type 0} → Standing T → T → T → ℕ → Type 0
+    → (List (Option Line) → Type 0) → Result LinesWatched WatchEnd → List ℕ → Type 0
+AnswersRun stands start now first AtEnd tells (Ok counts) bytes =
+    AtEnd × (lines : List (Option Line)) × (rest : List ℕ) × AreLines bytes lines rest
+    × HasTaken stands start now first lines × AreCounted first (lines ++ cut_line rest) counts
+    × tells (lines ++ cut_line rest)
+AnswersRun stands start now first AtEnd tells (Err Read) bytes =
+    (lines : List (Option Line)) × (rest : List ℕ) × AreLines bytes lines rest
+    × HasTaken stands start now first lines × tells lines
+AnswersRun stands start now first AtEnd tells (Err (Back line last given)) bytes =
+    (lines : List (Option Line)) × StopsBehind first bytes lines (moment given)
+    × (ends_watch first (moments_said lines) (Some (moment given)) ≡ true)
+    × (line ≡ length lines + 1) × (last ≡ in_force first (moments_said lines))
+    × stands start now (acting_lines first lines) × tells (lines ++ Some (moment given) ∷ [])
+AnswersRun stands start now first AtEnd tells (Err Write) bytes =
+    (lines : List (Option Line)) × (line : Line) × StopsBehind first bytes lines line
+    × HasTaken stands start now first (lines ++ Some line ∷ [])
+    × tells (lines ++ Some line ∷ [])

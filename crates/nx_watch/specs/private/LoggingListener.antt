@@ -1,0 +1,73 @@
+-- How the receivers of a watch stand, and what is kept of what they print.
+use Rattle.std.specs.Prelude.{ℕ, ◌≤◌, List, ⊤, Option, Result}
+use Rattle.std.specs.List.{All, AllZip}
+use Rattle.nx_envelope.specs.Moment.{last_moment}
+use Rattle.nx_fec.specs.air_files.AirFile.{Line, moment}
+use Rattle.nx_fec.specs.Transfers.{CountedDevice}
+use Rattle.nx_log.specs.Logged.{IsLoggedAs}
+use Rattle.nx_receiver.specs.air_file_runs.Listen.{given_by}
+use Rattle.nx_receiver.specs.Listener.{HearsGiven, starts_of}
+use Rattle.nx_receiver.specs.copies.InTurn.{PrintAllToEnd}
+use Rattle.nx_receiver.specs.copies.Shares.{Given, MarkedCopy, Starts}
+use Rattle.nx_watch.specs.Watch.{AnswersStarted, HasCause, WatchDevices}
+use Rattle.nx_watch.specs.declared.kept_log.keeper.Keeper.{Keeper}
+use Rattle.nx_watch.specs.declared.watch_fault.WatchFault.{WatchFault}
+use Rattle.nx_watch.specs.declared.watch_report.WatchReport.{WatchReport}
+use Rattle.nx_watch.specs.declared.logging_listener.LoggingListener.{LoggingListener}
+use Rattle.nx_watch.specs.private.Keeping.{DiskOf, HasKept, KeepsTexts, KeepsWith}
+
+-- the moment of a line, if it says one, is in range
+abbrev pub IsLineInRange : Line → Type 0
+IsLineInRange (moment n) = n ≤ last_moment
+IsLineInRange line = ⊤
+
+-- the moment of a copy is in range
+abbrev pub IsCopyInRange : MarkedCopy → Type 0
+IsCopyInRange one = one.copy.moment ≤ last_moment
+
+module _ {D : Type 0} (disk : DiskOf D) where
+  -- Since start it took these lines: it printed copies of them, and kept their entries, and gave
+  -- these bytes to a writer.
+  pub record KeepsLines (start now : LoggingListener D) (lines : List Line) (given : List ℕ)
+      : Type 0 where
+    pub first : (starts_of start.listener).moment ≤ last_moment
+    pub in_range : All IsLineInRange lines
+    pub copies : List MarkedCopy
+    pub heard : HearsGiven (starts_of start.listener) now.listener (given_by lines) copies
+    pub texts : List (List ℕ)
+    pub each : AllZip IsLoggedAs copies texts
+    pub kept : HasKept disk start.keeper now.keeper texts given
+
+  -- Since start it was given this, and its writer bytes: it printed copies, and kept their entries.
+  pub record KeepsHeard {W : Type 0} (contents : W → Option (List ℕ))
+      (start now : LoggingListener D) (before after : CountedDevice W) (given : List Given)
+      : Type 0 where
+    pub copies : List MarkedCopy
+    pub heard : HearsGiven (starts_of start.listener) now.listener given copies
+    pub texts : List (List ℕ)
+    pub each : AllZip IsLoggedAs copies texts
+    pub kept : KeepsWith disk contents start.keeper now.keeper before after texts
+
+  -- Since the start the lines were taken, and the input ended: the copies that they print then were
+  -- kept.
+  pub record HasClosed {W : Type 0} (contents : W → Option (List ℕ)) (starts : Starts)
+      (start now : Keeper D) (before after : CountedDevice W) (lines : List Line)
+      : Type 0 where
+    pub copies : List MarkedCopy
+    pub printed : PrintAllToEnd starts (given_by lines) copies
+    pub texts : List (List ℕ)
+    pub each : AllZip IsLoggedAs copies texts
+    pub kept : KeepsWith disk contents start now before after texts
+
+  -- One that had heard and kept nothing ran over its input: with what it had at hand, by each first
+  -- content of the file, it answers so of the entries that its log kept. The outcome has its cause,
+  -- and the file after it tells of itself what it told before.
+  pub record HasRun {R W E : Type 0} (to_read : D → Type 0) (logging : LoggingListener D)
+      (at_hand : List ℕ → WatchDevices D R W E) (outcome : Result WatchReport WatchFault)
+      (device : D) : Type 0 where
+    pub answers : (content : List ℕ) (entries : List MarkedCopy) (texts : List (List ℕ))
+        → AllZip IsLoggedAs entries texts → KeepsTexts disk content texts logging.keeper
+        → AnswersStarted (at_hand content) (starts_of logging.listener) entries outcome
+    pub cause : HasCause disk.faults to_read disk.to_write outcome logging.keeper.log.device device
+    pub explained : (content : List ℕ) → disk.explains content device
+        → disk.explains content logging.keeper.log.device

@@ -1,0 +1,114 @@
+//! A receiver that is left on.
+
+ghost use Rattle.std.specs.Prelude.{◌≡◌, ◌≤◌, ℕ, List, Err};
+ghost use Rattle.nx_kept.specs.Disk.{OnlyReads};
+ghost use Rattle.nx_kept.specs.Kept.{IsDamaged, IsKeptLog};
+ghost use Rattle.nx_log.specs.Entries.{IsWholeEntry};
+ghost use Rattle.nx_receiver.specs.copies.Shares.{MarkedCopy};
+ghost use Rattle.nx_watch.specs.Watch.{AnswersWatch, HasCause, StandsForEntries, longest_entry, watch_devices};
+ghost use Rattle.nx_watch.specs.LineRun.{TellsOfLines};
+ghost use Rattle.nx_watch.specs.private.Answering.{fault_answered};
+ghost use Rattle.nx_watch.specs.declared.watch_fault.WatchFault.TheVariants.{Damaged as DamagedAt};
+
+use crate::kept_log::keeper::Keeper;
+use crate::kept_log::log_grammar::LogGrammar;
+use crate::kept_log::log_memory::LogMemory;
+use crate::logging_listener::LoggingListener;
+use crate::watch_fault::WatchFault;
+use crate::watch_report::WatchReport;
+use arrayvec::ArrayVec;
+use nx_fec::Counting;
+use nx_kept::{DiskFile, KeptLog, OpenFault};
+use nx_receiver::Listener;
+use std::alloc::Global;
+use std::io::{Read, Write};
+
+/// Listens to the lines of any bytes, to their end or to 2^63 - 1 of them, and puts each entry that
+/// `listen_from` would print of the lines that act into the kept log, all of the lines so far
+/// before each further read. Three receivers hear them, one for each channel. They start at
+/// `moment`, in whole seconds since 1970-01-01 00:00:00 UTC, with what is remembered of the log
+/// then; everything is selected. The end of the input closes the channels 0, 1 and 2 in order, and
+/// so does a moment that ends the watch. Lines without effect are told of on `faults`: the first
+/// before the next read, and their number at the end. A failed write there is passed over. Memory
+/// is taken before the first read, and not later. Hands the file back.
+///
+/// From a failed put on the disk isn't called any more: that entry and all later ones are written
+/// to `writer`, each before the next read, as `listen` writes them. Whatever ends the watch then, a
+/// failed write there too, it is answered as `Disk`. Nothing else is written to `writer`.
+///
+/// A crash at any moment leaves a file that stands for the entries from before and a beginning of
+/// those that the lines print; or what it could leave before what the file held was brought to the
+/// disk. That each entry is on the disk before the next read of the input is said by the answer
+/// `Read`: a watch can't know which read will fail, and after each that fails all entries of the
+/// lines that were read whole are kept.
+pub fn watch<D: DiskFile + Drop, R: Read, W: Write, F: Write>(
+    alloc: Global,
+    moment: u64,
+    device: D,
+    reader: &mut Counting<R>,
+    writer: &mut Counting<W>,
+    faults: &mut Counting<F>,
+) -> (Result<WatchReport, WatchFault>, D)
+    requires reader { reader.old.failures ≡ 0 }
+    requires writer { writer.old.failures ≡ 0 }
+    requires faults { faults.old.failures ≡ 0 }
+
+    ensures watched { (start : List ℕ) (entries : List MarkedCopy) → D.explains start result.1
+        → StandsForEntries entries (D.seen start device)
+        → AnswersWatch (watch_devices (D.seen start) (D.may_leave start) D.moment
+        (D.left_since start) device result.1 R.remaining reader.old reader.new W.contents
+        writer.old writer.new F.contents faults.old faults.new) moment entries result.0 }
+
+    // A file that is no kept log is refused at the line of the damage. It is only read, and nothing
+    // is read of the input.
+    ensures damaged { (start : List ℕ) (line : ℕ) → D.explains start result.1
+        → result.0 ≡ Err (DamagedAt line)
+        → IsDamaged IsWholeEntry longest_entry line (D.seen start device) }
+    ensures foreign { (start : List ℕ) → D.explains start result.1
+        → (IsKeptLog IsWholeEntry longest_entry (D.seen start device) → ⊥)
+        → OnlyReads (D.seen start) (D.may_leave start) D.moment (D.left_since start) device result.1
+        × (reader.new ≡ reader.old) × (writer.new ≡ writer.old) × (faults.new ≡ faults.old) }
+
+    // The disk is blamed only where it failed, and called no more after that.
+    ensures cause { HasCause D.faults D.has_failed_to_read D.has_failed_to_write result.0 device
+        result.1 }
+    ensures explained { (start : List ℕ) → D.explains start result.1 → D.explains start device }
+
+    // Whatever the file is, some lines were told of on `faults`, and nothing else.
+    ensures told { TellsOfLines (F.contents faults.old.inner) (F.contents faults.new.inner)
+        faults.new.failures }
+{
+    let mut memory = LogMemory::new();
+    let log = match KeptLog::open(alloc, device, LogGrammar, &mut memory) {
+        Ok(log) => log,
+        Err((fault, device)) => return (Err(fault_of(fault)), device),
+    };
+    let keeper = Keeper {
+        log,
+        put: 0,
+        has_failed: false,
+    };
+    let saved = memory.saved_at(moment);
+    let Ok(listener) = Listener::starting(alloc, &saved) else {
+        return keeper.answer(Err(WatchFault::Memory));
+    };
+    let first = saved.newest().unwrap_or(0);
+    let logging = LoggingListener {
+        listener,
+        keeper,
+        entry: ArrayVec::new(),
+    };
+    logging.run(first, reader, writer, faults)
+}
+
+/// Why a watch can't begin.
+fn fault_of(fault: OpenFault) -> WatchFault
+    ensures { result ≡ fault_answered fault }
+{
+    match fault {
+        OpenFault::Read => WatchFault::Open,
+        OpenFault::Disk => WatchFault::Disk,
+        OpenFault::Damaged { line } => WatchFault::Damaged { line },
+        OpenFault::Memory => WatchFault::Memory,
+    }
+}

@@ -1,0 +1,403 @@
+//! A run over the lines of any bytes, which goes on behind those that aren't understood. What runs
+//! for each line is inlined always; what is done for one that isn't understood never is.
+
+ghost use Rattle.std.specs.Prelude.{◌≡◌, ◌+◌, ◌<◌, ◌≤◌, ◌↔◌, ◌⊎◌, ℕ, List, [], ◌∷◌, ◌++◌, Option, IsErrOf, IsSomeAnd, IfOk, OnOk, MatchResult, None, Some, length, take, ◌^◌};
+ghost use Rattle.std.specs.Io.KnownBytes.{Consumes, IsAtEnd};
+ghost use Rattle.nx_fec.specs.air_files.AirFile.{IsLine, Line};
+ghost use Rattle.nx_fec.specs.Transfers.{FailsOnce};
+ghost use Rattle.nx_watch.specs.Acting.{most_bytes};
+ghost use Rattle.nx_watch.specs.AnyLines.{AreLines};
+ghost use Rattle.nx_watch.specs.LineRun.{AnswersRun, AreCounted, HasTaken, HasTold, MayAct, StandsWith, WithWriter, told_of, with_writer};
+ghost use Rattle.nx_watch.specs.private.Running.{EndsInput, EndsRun, IsRunning, TellsFirst};
+ghost use Rattle.nx_watch.specs.private.Scanning.{IsScanning};
+ghost use Rattle.nx_watch.specs.declared.lines.line_run.WatchEnd.TheVariants.{Read as ReadFailed, Write as WriteEnd};
+
+use crate::lines::any_scanner::{AnyScanner, CHUNK, Ended};
+use crate::lines::line_effects::{Effect, LineEffects};
+use crate::lines::telling::{tell_first, tell_number};
+use nx_fec::{Counting, Piece, Scanner, next_piece};
+use std::io::{Read, Write};
+use thiserror::Error;
+
+/// A write failed.
+#[derive(Clone, Copy, Debug, Drop, PartialEq, Eq, Error)]
+#[error("a write failed")]
+pub struct WriteFailed;
+
+/// Takes the lines of an air file that act on a watch, one after the other, and may give bytes to a
+/// writer for them.
+pub trait ActingTaker: Drop {
+    /// The moment in force at first.
+    ghost first_moment: { Self → ℕ };
+
+    /// What stood so at first stands so now, after these lines, for which these bytes were given.
+    ghost stands: { Self → Self → List Line → List ℕ → Type 0 };
+
+    /// Takes the line that the scanner's last byte ended, and gives the writer its bytes. It takes
+    /// the whole line also where a write fails, after which it doesn't call the writer.
+    fn take<W: Write>(
+        &mut self,
+        scanner: &Scanner,
+        writer: &mut Counting<W>,
+    ) -> Result<(), WriteFailed>
+        requires line { IsSomeAnd scanner.now.latest IsLine }
+        requires none { writer.old.failures ≡ 0 }
+        ensures taken { (start : WithWriter Self W) (lines : List Line) (line : Line)
+            → scanner.now.latest ≡ Some line → MayAct (first_moment start.taker) lines line
+            → StandsWith stands W.contents start (with_writer self.old writer.old) lines
+            → StandsWith stands W.contents start (with_writer self.new writer.new)
+            (lines ++ line ∷ []) }
+        ensures counts { FailsOnce writer.new result };
+}
+
+/// What a run over lines read.
+#[derive(Clone, Copy, Debug, PartialEq, Eq)]
+pub struct LinesWatched {
+    /// How many lines there were, a cut last one too.
+    pub lines: u64,
+    /// How many of them had no effect.
+    pub without_effect: u64,
+    /// The first of these, where lines count from 1.
+    pub first_without_effect: Option<u64>,
+}
+
+/// Why a run over lines ended before its input.
+#[derive(Clone, Copy, Debug, PartialEq, Eq)]
+pub enum WatchEnd {
+    /// A read failed.
+    Read,
+    /// The moment of the line goes back by 66 hours or more, and so did the one before it.
+    Back { line: u64, last: u64, given: u64 },
+    /// A write of what a line gave failed.
+    Write,
+}
+
+/// Reads any bytes to their end, or up to `limit` of them, as lines, and gives each line that acts
+/// to the taker, all that it holds before each further read. `first` is the moment in force at
+/// first. Tells of the first line without effect before the next read, and of their number at the
+/// end. A failed write of what it tells is passed over. It takes no memory.
+///
+/// `Back` behind the line that ends the watch: its moment goes back by 66 hours or more, as the
+/// moment in range before it did. `Read` after a failed read. Every list of bytes has an answer.
+pub fn watch_lines<R: Read, W: Write, F: Write, T: ActingTaker>(
+    reader: &mut Counting<R>,
+    writer: &mut Counting<W>,
+    faults: &mut Counting<F>,
+    taker: &mut T,
+    first: u64,
+    limit: u64,
+) -> Result<LinesWatched, WatchEnd>
+    requires reader { reader.old.failures ≡ 0 }
+    requires writer { writer.old.failures ≡ 0 }
+    requires faults { faults.old.failures ≡ 0 }
+    requires limit { limit ≤ most_bytes }
+    ensures watched { (start : T) → T.first_moment start ≡ first → T.stands start taker.old [] []
+        → (bytes : List ℕ)
+        × Consumes (R.remaining reader.old.inner) (R.remaining reader.new.inner) bytes
+        × (length bytes ≤ limit)
+        × AnswersRun (StandsWith T.stands W.contents) (with_writer start writer.old)
+        (with_writer taker.new writer.new) first
+        (IsAtEnd (R.remaining reader.new.inner) ⊎ (length bytes ≡ limit))
+        (λ lines. HasTold (F.contents faults.old.inner) (F.contents faults.new.inner)
+        faults.new.failures (told_of first lines)) result bytes }
+    ensures unread { IsErrOf result ReadFailed ↔ (reader.new.failures ≡ 1) }
+    ensures once { reader.new.failures ≤ 1 }
+    ensures unwritten { IsErrOf result WriteEnd ↔ (writer.new.failures ≡ 1) }
+    ensures written_once { writer.new.failures ≤ 1 }
+{
+    let mut run = LineRun {
+        scanner: AnyScanner::new(),
+        effects: LineEffects::new(first),
+    };
+    match run.read_lines(reader, writer, faults, taker, limit) {
+        Ok(()) => Ok(run.end(faults)),
+        Err(end) => {
+            run.count(faults);
+            Err(end)
+        }
+    }
+}
+
+/// What a run holds of the bytes so far.
+#[derive(Drop)]
+struct LineRun {
+    scanner: AnyScanner,
+    effects: LineEffects,
+}
+
+impl LineRun {
+    /// Reads the input to its end or its limit, or until the run is over.
+    fn read_lines<R: Read, W: Write, F: Write, T: ActingTaker>(
+        &mut self,
+        reader: &mut Counting<R>,
+        writer: &mut Counting<W>,
+        faults: &mut Counting<F>,
+        taker: &mut T,
+        limit: u64,
+    ) -> Result<(), WatchEnd>
+        requires reader { reader.old.failures ≡ 0 }
+        requires writer { writer.old.failures ≡ 0 }
+        requires limit { limit ≤ most_bytes }
+        requires room { self.old.scanner.scanner.room ≡ most_bytes }
+        requires lines { self.old.effects.lines ≡ 0 }
+        requires fewer { self.old.effects.without_effect ≡ 0 }
+        ensures read { (start : WithWriter T W) (first : ℕ) (old : Option (List ℕ))
+            → T.first_moment start.taker ≡ first
+            → IsRunning (StandsWith T.stands W.contents) start (with_writer taker.old writer.old)
+            first self.old old
+            (F.contents faults.old.inner) faults.old.failures []
+            → (bytes : List ℕ)
+            × Consumes (R.remaining reader.old.inner) (R.remaining reader.new.inner) bytes
+            × (length bytes ≤ limit)
+            × MatchResult result
+            (λ _. (IsAtEnd (R.remaining reader.new.inner) ⊎ (length bytes ≡ limit))
+            × IsRunning (StandsWith T.stands W.contents) start (with_writer taker.new writer.new)
+            first self.new old
+            (F.contents faults.new.inner) faults.new.failures bytes)
+            (λ end. EndsRun (StandsWith T.stands W.contents) start
+            (with_writer taker.new writer.new) first self.new.effects old
+            (F.contents faults.new.inner) faults.new.failures end bytes) }
+        ensures few { OnOk result (self.new.effects.lines < 2 ^ 63) }
+        ensures fewer { OnOk result (self.new.effects.without_effect ≤ self.new.effects.lines) }
+        ensures unread { IsErrOf result ReadFailed ↔ (reader.new.failures ≡ 1) }
+        ensures once { reader.new.failures ≤ 1 }
+        ensures unwritten { IsErrOf result WriteEnd ↔ (writer.new.failures ≡ 1) }
+        ensures written_once { writer.new.failures ≤ 1 }
+    {
+        let mut buffer = [0; CHUNK];
+        let mut room = limit;
+        while room > 0 {
+            let most = (CHUNK as u64).min(room) as usize;
+            let count = match next_piece(reader, &mut buffer[..most]) {
+                Piece::Bytes(count) => count,
+                Piece::End => return Ok(()),
+                Piece::Failed => return Err(WatchEnd::Read),
+            };
+            if let Err(end) = self.take_piece(&buffer[..count], writer, faults, taker) {
+                return Err(end);
+            }
+            room -= count as u64;
+        }
+        Ok(())
+    }
+
+    /// Takes the lines that a piece ends.
+    fn take_piece<W: Write, F: Write, T: ActingTaker>(
+        &mut self,
+        piece: &[u8],
+        writer: &mut Counting<W>,
+        faults: &mut Counting<F>,
+        taker: &mut T,
+    ) -> Result<(), WatchEnd>
+        requires short { length piece.now ≤ CHUNK }
+        requires writer { writer.old.failures ≡ 0 }
+        requires room { length piece.now ≤ self.old.scanner.scanner.room }
+        requires within { self.old.scanner.scanner.room ≤ most_bytes }
+        requires few { self.old.effects.lines + length piece.now ≤ most_bytes }
+        requires fewer { self.old.effects.without_effect ≤ self.old.effects.lines }
+        ensures taken { (start : WithWriter T W) (first : ℕ) (old : Option (List ℕ))
+            (bytes : List ℕ)
+            → T.first_moment start.taker ≡ first
+            → IsRunning (StandsWith T.stands W.contents) start (with_writer taker.old writer.old)
+            first self.old old
+            (F.contents faults.old.inner) faults.old.failures bytes
+            → MatchResult result
+            (λ _. IsRunning (StandsWith T.stands W.contents) start
+            (with_writer taker.new writer.new) first self.new old
+            (F.contents faults.new.inner) faults.new.failures (bytes ++ piece.now))
+            (λ end. (more : List ℕ) → EndsRun (StandsWith T.stands W.contents) start
+            (with_writer taker.new writer.new) first
+            self.new.effects old (F.contents faults.new.inner) faults.new.failures end
+            ((bytes ++ piece.now) ++ more)) }
+        ensures room { OnOk result
+            (self.old.scanner.scanner.room ≤ self.new.scanner.scanner.room + length piece.now) }
+        ensures within { OnOk result (self.new.scanner.scanner.room ≤ most_bytes) }
+        ensures few { OnOk result
+            (self.new.effects.lines ≤ self.old.effects.lines + length piece.now) }
+        ensures fewer { OnOk result (self.new.effects.without_effect ≤ self.new.effects.lines) }
+        ensures unread { IsErrOf result ReadFailed → ⊥ }
+        ensures open { OnOk result (writer.new.failures ≡ 0) }
+        ensures unwritten { IsErrOf result WriteEnd ↔ (writer.new.failures ≡ 1) }
+        ensures written_once { writer.new.failures ≤ 1 }
+    {
+        let mut at = 0;
+        while at < piece.len() {
+            match self.take_line(&piece[at..], writer, faults, taker) {
+                Ok(count) => at += count,
+                Err(end) => return Err(end),
+            }
+        }
+        Ok(())
+    }
+
+    /// Takes the bytes of a piece up to and with its first line feed, and the line that it ends.
+    /// Answers how many bytes there were.
+    fn take_line<W: Write, F: Write, T: ActingTaker>(
+        &mut self,
+        piece: &[u8],
+        writer: &mut Counting<W>,
+        faults: &mut Counting<F>,
+        taker: &mut T,
+    ) -> Result<usize, WatchEnd>
+        requires some { 0 < length piece.now }
+        requires short { length piece.now ≤ CHUNK }
+        requires writer { writer.old.failures ≡ 0 }
+        requires room { length piece.now ≤ self.old.scanner.scanner.room }
+        requires within { self.old.scanner.scanner.room ≤ most_bytes }
+        requires few { self.old.effects.lines + length piece.now ≤ most_bytes }
+        requires fewer { self.old.effects.without_effect ≤ self.old.effects.lines }
+        ensures taken { (start : WithWriter T W) (first : ℕ) (old : Option (List ℕ))
+            (bytes : List ℕ)
+            → T.first_moment start.taker ≡ first
+            → IsRunning (StandsWith T.stands W.contents) start (with_writer taker.old writer.old)
+            first self.old old
+            (F.contents faults.old.inner) faults.old.failures bytes
+            → MatchResult result
+            (λ count. IsRunning (StandsWith T.stands W.contents) start
+            (with_writer taker.new writer.new) first self.new old
+            (F.contents faults.new.inner) faults.new.failures (bytes ++ take count piece.now))
+            (λ end. (more : List ℕ) → EndsRun (StandsWith T.stands W.contents) start
+            (with_writer taker.new writer.new) first
+            self.new.effects old (F.contents faults.new.inner) faults.new.failures end
+            ((bytes ++ piece.now) ++ more)) }
+        ensures some { IfOk result (λ count. 0 < count) }
+        ensures all { IfOk result (λ count. count ≤ length piece.now) }
+        ensures room { IfOk result (λ count.
+            self.old.scanner.scanner.room ≤ self.new.scanner.scanner.room + count) }
+        ensures within { OnOk result (self.new.scanner.scanner.room ≤ most_bytes) }
+        ensures few { IfOk result (λ count.
+            self.new.effects.lines ≤ self.old.effects.lines + count) }
+        ensures fewer { OnOk result (self.new.effects.without_effect ≤ self.new.effects.lines) }
+        ensures unread { IsErrOf result ReadFailed → ⊥ }
+        ensures open { OnOk result (writer.new.failures ≡ 0) }
+        ensures unwritten { IsErrOf result WriteEnd ↔ (writer.new.failures ≡ 1) }
+        ensures written_once { writer.new.failures ≤ 1 }
+    {
+        let (count, ended) = self.scanner.take(piece);
+        match ended {
+            Ended::Nothing => Ok(count),
+            Ended::Unknown => {
+                self.pass_line(faults);
+                Ok(count)
+            }
+            Ended::Line => match self.take_known(writer, faults, taker) {
+                Ok(()) => Ok(count),
+                Err(end) => Err(end),
+            },
+        }
+    }
+
+    /// Ends the input: keeps that it cuts a line, where it does, and tells how many lines had no
+    /// effect.
+    fn end<F: Write>(&mut self, faults: &mut Counting<F>) -> LinesWatched
+        requires few { self.old.effects.lines < 2 ^ 63 }
+        requires fewer { self.old.effects.without_effect ≤ self.old.effects.lines }
+        ensures { (first : ℕ) (old : Option (List ℕ)) (bytes : List ℕ) (lines : List (Option Line))
+            → IsScanning self.old.scanner bytes lines
+            → TellsFirst first self.old.effects old (F.contents faults.old.inner)
+            faults.old.failures lines
+            → EndsInput first bytes lines old (F.contents faults.new.inner) faults.new.failures
+            result }
+    {
+        if self.scanner.is_open() {
+            self.pass_line(faults);
+            return self.count(faults);
+        }
+        self.count(faults)
+    }
+
+    /// Tells how many lines had no effect, and answers the counts.
+    fn count<F: Write>(&self, faults: &mut Counting<F>) -> LinesWatched
+        ensures counted { (first : ℕ) (old : Option (List ℕ)) (lines : List (Option Line))
+            → TellsFirst first self.now.effects old (F.contents faults.old.inner)
+            faults.old.failures lines
+            → AreCounted first lines result }
+        ensures told { (first : ℕ) (old : Option (List ℕ)) (lines : List (Option Line))
+            → TellsFirst first self.now.effects old (F.contents faults.old.inner)
+            faults.old.failures lines
+            → HasTold old (F.contents faults.new.inner) faults.new.failures (told_of first lines) }
+    {
+        tell_number(self.effects.without_effect(), faults);
+        self.effects.counts()
+    }
+
+    /// Keeps that a line isn't understood, and tells of it where it is the first without effect.
+    #[inline(never)]
+    fn pass_line<F: Write>(&mut self, faults: &mut Counting<F>)
+        requires few { self.old.effects.lines < 2 ^ 63 }
+        requires fewer { self.old.effects.without_effect ≤ self.old.effects.lines }
+        ensures tells { (first : ℕ) (old : Option (List ℕ)) (lines : List (Option Line))
+            → TellsFirst first self.old.effects old (F.contents faults.old.inner)
+            faults.old.failures lines
+            → TellsFirst first self.new.effects old (F.contents faults.new.inner)
+            faults.new.failures (lines ++ None ∷ []) }
+        ensures scanner { self.new.scanner ≡ self.old.scanner }
+        ensures lines { self.new.effects.lines ≡ self.old.effects.lines + 1 }
+        ensures fewer { self.new.effects.without_effect ≤ self.new.effects.lines }
+    {
+        let before = self.effects.first_without();
+        self.effects.not_understood();
+        tell_first(before, self.effects.first_without(), faults);
+    }
+
+    /// Takes the line of an air file that the last byte ended.
+    #[inline(always)]
+    fn take_known<W: Write, F: Write, T: ActingTaker>(
+        &mut self,
+        writer: &mut Counting<W>,
+        faults: &mut Counting<F>,
+        taker: &mut T,
+    ) -> Result<(), WatchEnd>
+        requires line { IsSomeAnd self.old.scanner.scanner.latest IsLine }
+        requires writer { writer.old.failures ≡ 0 }
+        requires few { self.old.effects.lines < 2 ^ 63 }
+        requires fewer { self.old.effects.without_effect ≤ self.old.effects.lines }
+        ensures taken { (start : WithWriter T W) (first : ℕ) (old : Option (List ℕ))
+            (lines : List (Option Line)) (line : Line)
+            → T.first_moment start.taker ≡ first → self.old.scanner.scanner.latest ≡ Some line
+            → HasTaken (StandsWith T.stands W.contents) start (with_writer taker.old writer.old)
+            first lines
+            → TellsFirst first self.old.effects old (F.contents faults.old.inner)
+            faults.old.failures lines
+            → MatchResult result
+            (λ _. HasTaken (StandsWith T.stands W.contents) start (with_writer taker.new writer.new)
+            first (lines ++ Some line ∷ [])
+            × TellsFirst first self.new.effects old (F.contents faults.new.inner)
+            faults.new.failures (lines ++ Some line ∷ []))
+            (λ end. (front bytes : List ℕ) → AreLines front (lines ++ Some line ∷ []) []
+            → (more : List ℕ) → bytes ≡ front ++ more
+            → EndsRun (StandsWith T.stands W.contents) start (with_writer taker.new writer.new)
+            first self.new.effects old
+            (F.contents faults.new.inner) faults.new.failures end bytes) }
+        ensures scanner { self.new.scanner ≡ self.old.scanner }
+        ensures lines { self.new.effects.lines ≡ self.old.effects.lines + 1 }
+        ensures fewer { self.new.effects.without_effect ≤ self.new.effects.lines }
+        ensures unread { IsErrOf result ReadFailed → ⊥ }
+        ensures open { OnOk result (writer.new.failures ≡ 0) }
+        ensures unwritten { IsErrOf result WriteEnd ↔ (writer.new.failures ≡ 1) }
+        ensures written_once { writer.new.failures ≤ 1 }
+    {
+        let Some(kind) = self.scanner.scanner.latest() else {
+            unreachable!()
+        };
+        let before = self.effects.first_without();
+        match self.effects.line(kind) {
+            Effect::Acts => match taker.take(&self.scanner.scanner, writer) {
+                Ok(()) => Ok(()),
+                Err(WriteFailed) => Err(WatchEnd::Write),
+            },
+            Effect::Nothing => {
+                tell_first(before, self.effects.first_without(), faults);
+                Ok(())
+            }
+            Effect::Ends { last, given } => {
+                tell_first(before, self.effects.first_without(), faults);
+                Err(WatchEnd::Back {
+                    line: self.effects.lines(),
+                    last,
+                    given,
+                })
+            }
+        }
+    }
+}

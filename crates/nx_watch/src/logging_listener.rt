@@ -1,0 +1,272 @@
+//! The receivers of a watch, and the log in which it keeps what they print.
+
+ghost use Rattle.std.specs.Prelude.{◌≡◌, ◌+◌, ◌<◌, ◌≤◌, ℕ, Bool, List, [], ◌∷◌, ◌++◌, length, take, drop, true, false};
+ghost use Rattle.std.specs.List.{All, AllZip};
+ghost use Rattle.nx_envelope.specs.Moment.{last_moment};
+ghost use Rattle.nx_fec.specs.air_files.AirFile.{Line, elements};
+ghost use Rattle.nx_fec.specs.Transfers.{CountedDevice, FailsOnce};
+ghost use Rattle.nx_log.specs.Logged.{IsLoggedAs};
+ghost use Rattle.nx_memory.specs.Selection.{is_vital};
+ghost use Rattle.nx_receiver.specs.Events as events;
+ghost use Rattle.nx_receiver.specs.copies.InTurn.{PrintAllToEnd};
+ghost use Rattle.nx_receiver.specs.air_file_runs.Listen.{given_by};
+ghost use Rattle.nx_receiver.specs.Listener.{HearsGiven, last_copies, moment_in_force, starts_of, then_command, then_elements, then_moment};
+ghost use Rattle.nx_receiver.specs.copies.Shares.{Given, MarkedCopy, Starts};
+ghost use Rattle.nx_watch.specs.Watch.{watch_devices};
+ghost use Rattle.nx_watch.specs.LineRun.{StandsWith, WithWriter, with_writer};
+ghost use Rattle.nx_watch.specs.declared.kept_log.keeper.Keeper.{Keeper as TheKeeper};
+ghost use Rattle.nx_watch.specs.declared.logging_listener.LoggingListener.{LoggingListener as TheLoggingListener};
+ghost use Rattle.nx_watch.specs.LineRun.{TellsOfLines};
+ghost use Rattle.nx_watch.specs.private.Keeping.{HasKept, KeepsWith, disk_of};
+ghost use Rattle.nx_watch.specs.private.LoggingListener.{HasClosed, HasRun, IsCopyInRange, IsLineInRange, KeepsHeard, KeepsLines};
+
+use crate::kept_log::keeper::Keeper;
+use crate::lines::any_scanner::MOST_BYTES;
+use crate::lines::line_run::{ActingTaker, WatchEnd, WriteFailed, watch_lines};
+use crate::watch_fault::WatchFault;
+use crate::watch_report::WatchReport;
+use arrayvec::ArrayVec;
+use nx_envelope::Letter;
+use nx_fec::{Channel, Counting, LineKind, PackedElements, Scanner};
+use nx_kept::DiskFile;
+use nx_receiver::{LastEntries, Listener, MAX_ENTRY, entry_bytes};
+use std::io::{Read, Write};
+
+/// The receivers of a watch, and who keeps the entries that they print.
+#[derive(Drop)]
+pub(crate) struct LoggingListener<D> {
+    pub(crate) listener: Listener,
+    pub(crate) keeper: Keeper<D>,
+    /// The bytes of the latest entry.
+    pub(crate) entry: ArrayVec<u8, MAX_ENTRY>,
+}
+
+impl<D: DiskFile + Drop> LoggingListener<D> {
+    /// Sets the moment of all channels. One that is out of range, or goes back, doesn't act.
+    fn set_moment(&mut self, moment: u64)
+        ensures heard { (starts : Starts) (given : List Given) (copies : List MarkedCopy)
+            → moment_in_force starts.moment given ≤ moment → moment ≤ last_moment
+            → HearsGiven starts self.old.listener given copies
+            → HearsGiven starts self.new.listener (then_moment given moment) copies }
+        ensures keeper { self.new.keeper ≡ self.old.keeper }
+    {
+        let _ = self.listener.set_moment(moment);
+    }
+
+    /// Refuses the subject on a channel. The refusal of a vital one doesn't act.
+    fn refuse_subject(&mut self, channel: Channel, subject: Letter)
+        ensures heard { (starts : Starts) (given : List Given) (copies : List MarkedCopy)
+            → is_vital subject.byte ≡ false → HearsGiven starts self.old.listener given copies
+            → HearsGiven starts self.new.listener
+            (then_command given channel (events.refuse_subject subject.byte)) copies }
+        ensures keeper { self.new.keeper ≡ self.old.keeper }
+    {
+        let _ = self.listener.refuse_subject(channel, subject);
+    }
+
+    /// Hears elements of a channel up to and with the one that ends the first copy that is printed,
+    /// and keeps its entry. Answers how many it heard.
+    #[inline(always)]
+    fn hear_next<W: Write>(
+        &mut self,
+        channel: Channel,
+        packed: &PackedElements,
+        from: usize,
+        writer: &mut Counting<W>,
+    ) -> usize
+        requires some { from < length packed.now }
+        requires once { writer.old.failures ≤ 1 }
+        ensures heard { (start : TheLoggingListener D) (first : CountedDevice W) (lines : List Line)
+            (part : List Bool) → (starts_of start.listener).moment ≤ last_moment
+            → All IsLineInRange lines
+            → KeepsHeard (disk_of D.explains D.seen D.may_leave D.moment D.left_since D.faults
+            D.has_failed_to_write) W.contents start self.old first writer.old
+            (then_elements (given_by lines) channel part)
+            → KeepsHeard (disk_of D.explains D.seen D.may_leave D.moment D.left_since D.faults
+            D.has_failed_to_write) W.contents start self.new first writer.new
+            (then_elements (given_by lines) channel (part ++ take result (drop from packed.now))) }
+        ensures some { 0 < result }
+        ensures within { from + result ≤ length packed.now }
+        ensures once { writer.new.failures ≤ 1 }
+    {
+        let (count, is_spelled) = self
+            .listener
+            .hear_spelled(channel, packed, from, &mut self.entry);
+        if !is_spelled {
+            return count;
+        }
+        self.keeper.keep(&self.entry, writer);
+        count
+    }
+
+    /// Hears the elements of a line, and keeps the entries of the copies that they end.
+    fn hear<W: Write>(
+        &mut self,
+        mark: Option<Channel>,
+        packed: &PackedElements,
+        writer: &mut Counting<W>,
+    ) -> Result<(), WriteFailed>
+        requires { writer.old.failures ≡ 0 }
+        ensures taken { (start : WithWriter (TheLoggingListener D) W) (lines : List Line)
+            → StandsWith (KeepsLines (disk_of D.explains D.seen D.may_leave D.moment
+            D.left_since D.faults D.has_failed_to_write)) W.contents start
+            (with_writer self.old writer.old) lines
+            → StandsWith (KeepsLines (disk_of D.explains D.seen D.may_leave D.moment
+            D.left_since D.faults D.has_failed_to_write)) W.contents start
+            (with_writer self.new writer.new) (lines ++ elements mark packed.now ∷ []) }
+        ensures counts { FailsOnce writer.new result }
+    {
+        let channel = Channel::of(mark);
+        let mut at = 0;
+        while at < packed.len() {
+            at += self.hear_next(channel, packed, at, writer);
+        }
+        if writer.failures() > 0 {
+            Err(WriteFailed)
+        } else {
+            Ok(())
+        }
+    }
+
+    /// Closes the channels 0, 1 and 2, and keeps the entries of the copies that stood open.
+    pub(crate) fn close<W: Write>(self, writer: &mut Counting<W>) -> Keeper<D>
+        requires { writer.old.failures ≤ 1 }
+        ensures closed { (start : WithWriter (TheLoggingListener D) W) (lines : List Line)
+            → StandsWith (KeepsLines (disk_of D.explains D.seen D.may_leave D.moment
+            D.left_since D.faults D.has_failed_to_write)) W.contents start
+            (with_writer self writer.old) lines
+            → HasClosed (disk_of D.explains D.seen D.may_leave D.moment D.left_since D.faults
+            D.has_failed_to_write) W.contents (starts_of start.taker.listener)
+            start.taker.keeper result start.writer writer.new lines }
+        ensures once { writer.new.failures ≤ 1 }
+    {
+        let LoggingListener {
+            listener,
+            keeper,
+            entry: _,
+        } = self;
+        keep_last(keeper, listener.close(), writer)
+    }
+
+    /// Who keeps its entries.
+    fn into_keeper(self) -> Keeper<D>
+        ensures { result ≡ self.keeper }
+    {
+        let LoggingListener {
+            listener: _,
+            keeper,
+            entry: _,
+        } = self;
+        keeper
+    }
+
+    /// Watches the lines of an input, and answers how that ended; and the file. `first` is the
+    /// moment in force at first.
+    pub(crate) fn run<R: Read, W: Write, F: Write>(
+        mut self,
+        first: u64,
+        reader: &mut Counting<R>,
+        writer: &mut Counting<W>,
+        faults: &mut Counting<F>,
+    ) -> (Result<WatchReport, WatchFault>, D)
+        requires reader { reader.old.failures ≡ 0 }
+        requires writer { writer.old.failures ≡ 0 }
+        requires faults { faults.old.failures ≡ 0 }
+        ensures runs { first ≡ (starts_of self.listener).moment
+            → (starts_of self.listener).moment ≤ last_moment
+            → HearsGiven (starts_of self.listener) self.listener [] []
+            → HasKept (disk_of D.explains D.seen D.may_leave D.moment D.left_since D.faults
+            D.has_failed_to_write) self.keeper self.keeper [] []
+            → HasRun (disk_of D.explains D.seen D.may_leave D.moment D.left_since D.faults
+            D.has_failed_to_write) D.has_failed_to_read self
+            (λ content. watch_devices (D.seen content) (D.may_leave content) D.moment
+            (D.left_since content) self.keeper.log.device result.1 R.remaining reader.old reader.new
+            W.contents writer.old writer.new F.contents faults.old faults.new) result.0 result.1 }
+        ensures told { first ≡ (starts_of self.listener).moment
+            → (starts_of self.listener).moment ≤ last_moment
+            → HearsGiven (starts_of self.listener) self.listener [] []
+            → HasKept (disk_of D.explains D.seen D.may_leave D.moment D.left_since D.faults
+            D.has_failed_to_write) self.keeper self.keeper [] []
+            → TellsOfLines (F.contents faults.old.inner) (F.contents faults.new.inner)
+            faults.new.failures }
+    {
+        match watch_lines(reader, writer, faults, &mut self, first, MOST_BYTES) {
+            Ok(counts) => self.close(writer).answer(Ok(counts)),
+            Err(end) => match end {
+                WatchEnd::Back { line, last, given } => self
+                    .close(writer)
+                    .answer(Err(WatchFault::Back { line, last, given })),
+                WatchEnd::Read => self.into_keeper().answer(Err(WatchFault::Read)),
+                WatchEnd::Write => self.into_keeper().answer(Err(WatchFault::Disk)),
+            },
+        }
+    }
+}
+
+/// Keeps the entries that the end prints.
+fn keep_last<D: DiskFile + Drop, W: Write>(
+    mut keeper: Keeper<D>,
+    mut last: LastEntries,
+    writer: &mut Counting<W>,
+) -> Keeper<D>
+    requires once { writer.old.failures ≤ 1 }
+    requires range { All IsCopyInRange (last_copies last) }
+    ensures closed { (starts : Starts) (start : TheKeeper D) (first : CountedDevice W)
+        (lines : List Line) (copies : List MarkedCopy) (texts : List (List ℕ))
+        → starts.moment ≤ last_moment → All IsLineInRange lines
+        → PrintAllToEnd starts (given_by lines) (copies ++ last_copies last)
+        → AllZip IsLoggedAs copies texts
+        → KeepsWith (disk_of D.explains D.seen D.may_leave D.moment D.left_since D.faults
+        D.has_failed_to_write) W.contents start keeper first writer.old texts
+        → HasClosed (disk_of D.explains D.seen D.may_leave D.moment D.left_since D.faults
+        D.has_failed_to_write) W.contents starts start result first writer.new lines }
+    ensures once { writer.new.failures ≤ 1 }
+{
+    'entries: loop {
+        let Some((channel, entry)) = last.take_next() else {
+            return keeper;
+        };
+        keeper.keep(&entry_bytes(&entry, channel), writer);
+    }
+}
+
+impl<D: DiskFile + Drop> ActingTaker for LoggingListener<D> {
+    ghost use Rattle.nx_receiver.specs.Listener.{starts_of};
+    ghost use Rattle.nx_watch.specs.private.Keeping.{disk_of};
+    ghost use Rattle.nx_watch.specs.private.LoggingListener.{KeepsLines};
+
+    ghost first_moment = { λ logging. (starts_of logging.listener).moment };
+
+    ghost stands = { KeepsLines (disk_of D.explains D.seen D.may_leave D.moment D.left_since
+        D.faults D.has_failed_to_write) };
+
+    fn take<W: Write>(
+        &mut self,
+        scanner: &Scanner,
+        writer: &mut Counting<W>,
+    ) -> Result<(), WriteFailed> {
+        let Some(kind) = scanner.latest() else {
+            unreachable!()
+        };
+        match kind {
+            LineKind::Elements(mark) => return self.hear(mark, scanner.elements(), writer),
+            LineKind::Moment(moment) => self.set_moment(moment),
+            LineKind::RefuseStation(mark, byte) => {
+                self.listener
+                    .refuse_station(Channel::of(mark), Letter::of_capital(byte));
+            }
+            LineKind::AcceptStation(mark, byte) => {
+                self.listener
+                    .accept_station(Channel::of(mark), Letter::of_capital(byte));
+            }
+            LineKind::RefuseSubject(mark, byte) => {
+                self.refuse_subject(Channel::of(mark), Letter::of_capital(byte));
+            }
+            LineKind::AcceptSubject(mark, byte) => {
+                self.listener
+                    .accept_subject(Channel::of(mark), Letter::of_capital(byte));
+            }
+        }
+        Ok(())
+    }
+}
