@@ -5,7 +5,7 @@ use Rattle.std.specs.Prelude.{◌≡◌, ℕ, ◌+◌, ◌-◌, ◌*◌, Bool, L
 use Rattle.std.specs.Prelude.{slice_index_or}
 use Rattle.nx_envelope.specs.Moment.{IsShownAs}
 use Rattle.nx_sync.specs.Locks.{Lock, Now, hunting, locked, IsNow}
-use Rattle.nx_sync.specs.Words.{whole_words}
+use Rattle.nx_sync.specs.Words.{last_bit, whole_words}
 use Rattle.nx_sync.specs.declared.step.Change.{Change}
 use Rattle.nx_sync.specs.declared.step.Change.TheVariants.{Locked}
 use Rattle.nx_receiver.specs.copies.Log.{missing_newline}
@@ -52,7 +52,7 @@ pub record IsShown (bits : List Bool) (moments : List ℕ) (t n : ℕ) (how : Ch
 abbrev pub IsPastShown : List Bool → List ℕ → Lock → List ℕ → Type 0
 IsPastShown bits moments lock bytes =
     IsShown bits moments lock.at (lock.last + 1) lock.how
-    (moment_at moments (lock.at + 7 * lock.last + 6)) bytes
+    (moment_at moments (last_bit lock.at lock.last)) bytes
 
 -- The bytes show the locks that were released, which stand newest first, in the order in which they
 -- came.

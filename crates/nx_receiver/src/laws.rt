@@ -9,7 +9,7 @@ ghost use Rattle.nx_fec.specs.declared.air_files.channel.Channel.TheVariants.{Ze
 ghost use Rattle.nx_envelope.specs.declared.identity.Identity.{Identity};
 ghost use Rattle.nx_memory.specs.declared.memories.entry.MemoryEntry.{MemoryEntry};
 ghost use Rattle.nx_station.specs.reception.PathExample.{ea01};
-ghost use Rattle.nx_sync.specs.Words.{word_of_lock, first_role, lock_words};
+ghost use Rattle.nx_sync.specs.Words.{word_begin, word_of_lock, first_role, lock_words};
 ghost use Rattle.nx_sync.specs.Locks.{Lock, Now, IsLocked, IsNow, Past};
 ghost use Rattle.nx_receiver.specs.Events.{Event, Start};
 ghost use Rattle.nx_receiver.specs.examples.Repeats.{example_copies, first_copy, repeated_copy};
@@ -52,11 +52,11 @@ pub fn locks_share_nothing()
         → 7 ≤ t → own_bits bits t n ≡ own_bits others t n
         → lock_text bits t n ≡ lock_text others t n }
     ensures within { (bits : List Bool) (t n : ℕ) →
-        All (λ (b : PlacedByte). (t ≤ b.place) × (b.place < t + 7 * n)) (lock_text bits t n) }
+        All (λ (b : PlacedByte). (t ≤ b.place) × (b.place < word_begin t n)) (lock_text bits t n) }
     ensures apart { (bits : List Bool) (newer older : Lock) (locks : List Lock) (p : ℕ) →
-        Past bits (newer ∷ older ∷ locks) p → older.at + 7 * (older.last + 1) < newer.at }
+        Past bits (newer ∷ older ∷ locks) p → word_begin older.at (older.last + 1) < newer.at }
     ensures apart_now { (bits : List Bool) (lock : Lock) (locks : List Lock) (p t : ℕ) →
-        IsLocked bits (lock ∷ locks) p t → lock.at + 7 * (lock.last + 1) < t }
+        IsLocked bits (lock ∷ locks) p t → word_begin lock.at (lock.last + 1) < t }
 {}
 
 /// What the end of the bits adds to the copies that have ended is the copy that stands open, cut

@@ -3,7 +3,7 @@ use Rattle.std.specs.Prelude.{◌≡◌, ℕ, zero, suc, ◌+◌, ◌*◌, ◌�
 use Rattle.nx_sync.specs.declared.step.Role.TheVariants.{Dx}
 use Rattle.nx_sync.specs.declared.step.Change.{Change}
 use Rattle.nx_code.specs.Table.{elements_of_phasing_1, elements_of_phasing_2}
-use Rattle.nx_sync.specs.Words.{first_role, role_of}
+use Rattle.nx_sync.specs.Words.{first_role, role_of, word_begin}
 use Rattle.nx_sync.specs.Locks.{IsReleased, Lock, Now, hunting, locked, IsLocked, IsNow}
 
 -- what stands after these bits, together
@@ -61,18 +61,18 @@ phasing (suc n) = elements_of_phasing_2 ++ elements_of_phasing_1 ++ phasing n
 pub record IsOnPhasing (bits : List Bool) (n t : ℕ) : Type 0 where
   pub g : ℕ
   pub a : ℕ
-  pub place : t + 7 * g ≡ n + 14 * a
+  pub place : word_begin t g ≡ n + 14 * a
   pub dx : role_of (first_role bits t) g ≡ Dx
 
 -- the lock at t is on other limits than those of a phasing that begins after n bits
 pub record IsBetweenLimits (n t : ℕ) : Type 0 where
-  pub apart : (k j : ℕ) → t + 7 * k ≡ n + 7 * j → ⊥
+  pub apart : (k j : ℕ) → word_begin t k ≡ word_begin n j → ⊥
 
 -- the lock at t is released by a word that is over after m bits at the latest
 pub record IsReleasedBy (bits : List Bool) (t m : ℕ) : Type 0 where
   pub word : ℕ
   pub how : Change
-  pub by : t + 7 * (word + 1) ≤ m
+  pub by : word_begin t (word + 1) ≤ m
   pub released : IsReleased bits t word how
 
 -- A lock stands after these bits, they end with a word of the lock, and the next one is a DX word.
@@ -82,5 +82,5 @@ pub record LockedBeforeDx (bits : List Bool) : Type 0 where
   pub t : ℕ
   pub stands : IsLocked bits locks p t
   pub whole : ℕ
-  pub limit : length bits ≡ t + 7 * whole
+  pub limit : length bits ≡ word_begin t whole
   pub dx : role_of (first_role bits t) whole ≡ Dx

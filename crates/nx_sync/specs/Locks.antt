@@ -10,7 +10,7 @@ use Rattle.nx_sync.specs.declared.step.Change.TheVariants.{Ended, LostLock}
 use Rattle.nx_code.specs.Table.{phasing_1, phasing_2}
 use Rattle.nx_code.specs.Word.{elements}
 use Rattle.nx_sync.specs.Words.{losing_count, word_of_lock, first_role, role_of, wrong_until}
-use Rattle.nx_sync.specs.Words.{lock_words}
+use Rattle.nx_sync.specs.Words.{lock_words, word_begin}
 
 -- How many elements the patterns have that give a lock: four words (this profile).
 abbrev pub pattern_elements : ℕ
@@ -72,7 +72,7 @@ pub data IsEarlier (first : Role) (words : ℕ → ℕ) (w : ℕ) : Change → T
 
 -- The lock at t is released after word w, the earlier of the two; all its bits were heard.
 pub record IsReleased (bits : List Bool) (t w : ℕ) (how : Change) : Type 0 where
-  pub heard : t + 7 * (w + 1) ≤ length bits
+  pub heard : word_begin t (w + 1) ≤ length bits
   pub earlier : IsEarlier (first_role bits t) (word_of_lock bits t) w how
 
 -- a lock that was released: from where it was searched, the bit count where it began, its last
@@ -92,7 +92,7 @@ words_of_past bits lock = lock_words bits lock.at (lock.last + 1)
 pub record IsPast (bits : List Bool) (lock : Lock) (p : ℕ) : Type 0 where
   pub found : Finds bits lock.from lock.at
   pub released : IsReleased bits lock.at lock.last lock.how
-  pub next : p ≡ lock.at + 7 * (lock.last + 1)
+  pub next : p ≡ word_begin lock.at (lock.last + 1)
 
 -- The locks that were released, the newest first, and the bit count p from which is searched after
 -- them. The first search is from 0, each other one from the bit count after the word that released

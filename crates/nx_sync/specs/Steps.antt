@@ -3,12 +3,12 @@ use Rattle.std.specs.Prelude.{◌≡◌, ℕ, ◌+◌, ◌*◌, ◌<◌, ◌≤�
 use Rattle.std.specs.Prelude.{slice_index, Option, Some, None}
 use Rattle.std.specs.List.{flat_map}
 use Rattle.std.specs.Option.{option_to_list}
-use Rattle.nx_code.specs.Word.{elements}
+use Rattle.nx_code.specs.Word.{elements, word_elements}
 use Rattle.nx_sync.specs.declared.step.Role.{Role}
 use Rattle.nx_sync.specs.declared.step.Change.{Change}
 use Rattle.nx_sync.specs.declared.step.Change.TheVariants.{Locked}
 use Rattle.nx_sync.specs.declared.step.Step.{Step}
-use Rattle.nx_sync.specs.Words.{role_of, heard_word}
+use Rattle.nx_sync.specs.Words.{role_of, heard_word, word_begin}
 use Rattle.nx_sync.specs.Locks.{Lock, Now, hunting, locked, IsLocked, IsNow}
 
 -- a lock stands after these bits
@@ -25,7 +25,7 @@ pub record LimitStands (bits : List Bool) : Type 0 where
   pub t : ℕ
   pub stands : IsLocked bits locks p t
   pub whole : ℕ
-  pub limit : length bits ≡ t + 7 * whole
+  pub limit : length bits ≡ word_begin t whole
 
 abbrev pub step : Option (ℕ × Role) → Option Change → Step
 step word change = record { word = word; change = change }
@@ -36,10 +36,10 @@ step word change = record { word = word; change = change }
 pub data Brings (bits : List Bool) (s : Step) : List Lock → Now → Type 0 where
   found : {locks : List Lock} {p t : ℕ} → length bits ≡ t → s ≡ step None (Some Locked)
       → Brings bits s locks (locked p t)
-  word : {locks : List Lock} {p t : ℕ} (k : ℕ) → length bits ≡ t + 7 * (k + 1)
+  word : {locks : List Lock} {p t : ℕ} (k : ℕ) → length bits ≡ word_begin t (k + 1)
       → s ≡ step (Some (heard_word bits t k)) None → Brings bits s locks (locked p t)
-  inside : {locks : List Lock} {p t : ℕ} (k r : ℕ) → length bits ≡ t + 7 * k + r → 0 < r → r < 7
-      → s ≡ step None None → Brings bits s locks (locked p t)
+  inside : {locks : List Lock} {p t : ℕ} (k r : ℕ) → length bits ≡ word_begin t k + r → 0 < r
+      → r < word_elements → s ≡ step None None → Brings bits s locks (locked p t)
   over : {lock : Lock} {older : List Lock} {p : ℕ} → length bits ≡ p
       → s ≡ step (Some (heard_word bits lock.at lock.last)) (Some lock.how)
       → Brings bits s (lock ∷ older) (hunting p)

@@ -7,7 +7,7 @@ use Rattle.circular_buffer.specs.Buffer.{keep_last}
 use Rattle.nx_sync.specs.declared.step.Role.{Role}
 use Rattle.nx_sync.specs.declared.track.Track.{Track}
 use Rattle.nx_code.specs.Table.{phasing_1}
-use Rattle.nx_code.specs.Word.{number_of, is_wrong}
+use Rattle.nx_code.specs.Word.{number_of, is_wrong, word_elements}
 use Rattle.nx_sync.specs.Words.{marked_words, losing_count, word_of_lock, first_role, role_of}
 use Rattle.nx_sync.specs.Words.{is_dx}
 use Rattle.nx_sync.specs.Locks.{pattern_elements, Lock, Now, hunting, locked, IsNow}
@@ -74,8 +74,8 @@ p1_marks first words n =
 -- were heard
 pub record Follows (bits : List Bool) (t : ℕ) (wrong : List Bool) (track : Track) : Type 0 where
   pub whole : ℕ
-  pub place : length bits ≡ t + (7 * whole + track.filled)
-  pub short : track.filled < 7
+  pub place : length bits ≡ t + (word_elements * whole + track.filled)
+  pub short : track.filled < word_elements
   pub role : track.role ≡ role_of (first_role bits t) whole
   pub phasing : track.was_p1
       ≡ number_of (p1_marks (first_role bits t) (word_of_lock bits t) whole)

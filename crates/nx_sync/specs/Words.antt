@@ -3,7 +3,7 @@
 use Rattle.std.specs.Prelude.{ℕ, zero, suc, ◌+◌, ◌-◌, ◌*◌, ◌/◌, ◌==◌, Bool, true, false, List, []}
 use Rattle.std.specs.Prelude.{◌∷◌, ◌++◌, length, if◌then◌else◌}
 use Rattle.nx_code.specs.Table.{phasing_1}
-use Rattle.nx_code.specs.Word.{word_from, wrong_in}
+use Rattle.nx_code.specs.Word.{last_element, word_elements, word_from, wrong_in}
 use Rattle.nx_sync.specs.declared.step.Role.{Role}
 use Rattle.nx_sync.specs.declared.step.Role.TheVariants.{Dx, Rx}
 
@@ -15,15 +15,22 @@ marked_words = 64
 abbrev pub losing_count : ℕ
 losing_count = 40
 
--- the number of word k of the lock at t, the bits t + 7k to t + 7k + 6 (seven elements a word:
--- M.476, M.625)
+-- where word k of the lock at t begins (seven elements a word: M.476, M.625)
+abbrev pub word_begin : ℕ → ℕ → ℕ
+word_begin t k = t + word_elements * k
+
+-- the index, among all bits, of the last bit of word k of the lock at t
+abbrev pub last_bit : ℕ → ℕ → ℕ
+last_bit t k = word_begin t k + last_element
+
+-- the number of word k of the lock at t: its bits are those from where it begins
 unfoldable pub word_of_lock : List Bool → ℕ → ℕ → ℕ
-word_of_lock bits t k = word_from bits (t + 7 * k)
+word_of_lock bits t k = word_from bits (word_begin t k)
 
 -- the role of word 0 of the lock at t: DX where the pattern ended with phasing signal 1, else RX.
 -- In M.625's mode B phasing signal 2 is sent as DX and phasing signal 1 as RX.
 unfoldable pub first_role : List Bool → ℕ → Role
-first_role bits t = if word_from bits (t - 7) == phasing_1 then Dx else Rx
+first_role bits t = if word_from bits (t - word_elements) == phasing_1 then Dx else Rx
 
 abbrev pub other_role : Role → Role
 other_role Dx = Rx
@@ -62,7 +69,7 @@ lock_words bits t (suc n) = lock_words bits t n ++ heard_word bits t n ∷ []
 
 -- how many words of the lock at t were heard whole
 abbrev pub whole_words : List Bool → ℕ → ℕ
-whole_words bits t = (length bits - t) / 7
+whole_words bits t = (length bits - t) / word_elements
 
 -- the words of the lock at t that were heard whole
 abbrev pub words_heard : List Bool → ℕ → List (ℕ × Role)

@@ -8,7 +8,7 @@ ghost use Rattle.nx_sync.specs.declared.step.Role.{Role as RoleOf};
 ghost use Rattle.nx_sync.specs.declared.step.Step.{Step};
 ghost use Rattle.nx_code.specs.Word.{number_of, is_wrong, wrong_in};
 ghost use Rattle.nx_code.specs.Table.{phasing_1};
-ghost use Rattle.nx_sync.specs.Words.{lock_words, words_heard, heard_word, marked_words, losing_count, word_of_lock, first_role, role_of, wrong_until};
+ghost use Rattle.nx_sync.specs.Words.{word_begin, lock_words, words_heard, heard_word, marked_words, losing_count, word_of_lock, first_role, role_of, wrong_until};
 ghost use Rattle.nx_sync.specs.Locks.{pattern_elements, before_dx, before_rx, hunting, locked, IsHunting, words_of_past, IsPattern, Finds, IsSecondPhasing1, EndedAt, LostAt, IsReleased, Lock, Past, Now, IsLocked, IsNow};
 ghost use Rattle.nx_sync.specs.Steps.{Brings, IsStep, word_of_step};
 ghost use Rattle.nx_sync.specs.Laws.{IsOnPhasing, IsBetweenLimits, IsReleasedBy, WhatStands, GoesOn, Stood, OneMore, phasing, LockedBeforeDx, Holds};
@@ -38,15 +38,15 @@ pub fn more_bits_keep_the_past()
     ensures found { (bits more : List Bool) (p t : ℕ) → Finds bits p t → Finds (bits ++ more) p t }
     ensures released { (bits more : List Bool) (t w : ℕ) (how : How) → IsPattern bits t
         → IsReleased bits t w how → IsReleased (bits ++ more) t w how }
-    ensures words { (bits more : List Bool) (t k : ℕ) → t + 7 * (k + 1) ≤ length bits
+    ensures words { (bits more : List Bool) (t k : ℕ) → word_begin t (k + 1) ≤ length bits
         → word_of_lock (bits ++ more) t k ≡ word_of_lock bits t k }
     ensures roles { (bits more : List Bool) (t : ℕ) → IsPattern bits t
         → first_role (bits ++ more) t ≡ first_role bits t }
     ensures seconds { (bits more : List Bool) (t k : ℕ) → IsPattern bits t
-        → t + 7 * (k + 1) ≤ length bits
+        → word_begin t (k + 1) ≤ length bits
         → (IsSecondPhasing1 (first_role (bits ++ more) t) (word_of_lock (bits ++ more) t) k
         ↔ IsSecondPhasing1 (first_role bits t) (word_of_lock bits t) k) }
-    ensures wrong { (bits more : List Bool) (t k : ℕ) → t + 7 * (k + 1) ≤ length bits
+    ensures wrong { (bits more : List Bool) (t k : ℕ) → word_begin t (k + 1) ≤ length bits
         → wrong_until (word_of_lock (bits ++ more) t) k ≡ wrong_until (word_of_lock bits t) k }
 {}
 
@@ -70,8 +70,8 @@ pub fn a_word_is_appended()
         → words_of_past (bits ++ bit ∷ []) lock ≡ words_heard bits lock.at ++ word_of_step s }
     ensures next { (bits : List Bool) (t k : ℕ)
         → lock_words bits t (k + 1) ≡ lock_words bits t k ++ heard_word bits t k ∷ [] }
-    ensures more { (bits more : List Bool) (t n : ℕ) → IsPattern bits t → t + 7 * n ≤ length bits
-        → lock_words (bits ++ more) t n ≡ lock_words bits t n }
+    ensures more { (bits more : List Bool) (t n : ℕ) → IsPattern bits t
+        → word_begin t n ≤ length bits → lock_words (bits ++ more) t n ≡ lock_words bits t n }
 {}
 
 /// What stands after more bits comes from what stood: hunting goes on, finds a lock, or led to the
@@ -94,9 +94,11 @@ pub fn one_bit_more()
 /// than lose it and is not the third word after a second phasing signal 1.
 pub fn a_lock_stands_on()
     ensures { (bits more : List Bool) (locks : List Lock) (p t : ℕ) → IsLocked bits locks p t
-        → ((k : ℕ) → length bits < t + 7 * (k + 1) → t + 7 * (k + 1) ≤ length (bits ++ more)
+        → ((k : ℕ) → length bits < word_begin t (k + 1)
+        → word_begin t (k + 1) ≤ length (bits ++ more)
         → wrong_until (word_of_lock (bits ++ more) t) k < losing_count)
-        → ((k : ℕ) → length bits < t + 7 * (k + 4) → t + 7 * (k + 4) ≤ length (bits ++ more)
+        → ((k : ℕ) → length bits < word_begin t (k + 4)
+        → word_begin t (k + 4) ≤ length (bits ++ more)
         → IsSecondPhasing1 (first_role (bits ++ more) t) (word_of_lock (bits ++ more) t) k → ⊥)
         → IsLocked (bits ++ more) locks p t }
 {}
@@ -109,7 +111,7 @@ pub fn the_earlier_releases()
     ensures how { (bits : List Bool) (t v w : ℕ) (how other : How) → IsReleased bits t v how
         → IsReleased bits t w other → how ≡ other }
     ensures holds { (bits : List Bool) (t : ℕ) → (Holds bits t
-        ↔ ((w : ℕ) → t + 7 * (w + 1) ≤ length bits
+        ↔ ((w : ℕ) → word_begin t (w + 1) ≤ length bits
         → (EndedAt (first_role bits t) (word_of_lock bits t) w → ⊥)
         × (LostAt (word_of_lock bits t) w → ⊥))) }
 {}
@@ -118,9 +120,9 @@ pub fn the_earlier_releases()
 /// ones than lose it, and no two DX words in a row are phasing signal 1.
 pub fn a_good_lock_is_kept()
     ensures { (bits : List Bool) (locks : List Lock) (p t : ℕ) → Past bits locks p → Finds bits p t
-        → ((i n : ℕ) → n ≤ marked_words → t + 7 * (i + n) ≤ length bits
+        → ((i n : ℕ) → n ≤ marked_words → word_begin t (i + n) ≤ length bits
         → wrong_in (word_of_lock bits t) i n < losing_count)
-        → ((k : ℕ) → t + 7 * (k + 3) ≤ length bits → role_of (first_role bits t) k ≡ RoleOf.Dx
+        → ((k : ℕ) → word_begin t (k + 3) ≤ length bits → role_of (first_role bits t) k ≡ RoleOf.Dx
         → word_of_lock bits t k ≡ phasing_1 → word_of_lock bits t (k + 2) ≡ phasing_1 → ⊥)
         → IsLocked bits locks p t }
 {}
@@ -141,7 +143,7 @@ pub fn a_hunt_locks_in_phasing()
 pub fn a_lock_between_limits_is_lost()
     ensures wrong { (earlier : List Bool) (t : ℕ) → IsPattern (earlier ++ phasing 24) t
         → IsBetweenLimits (length earlier) t
-        → (k : ℕ) → length earlier ≤ t + 7 * k → t + 7 * (k + 1) ≤ length earlier + 336
+        → (k : ℕ) → length earlier ≤ word_begin t k → word_begin t (k + 1) ≤ length earlier + 336
         → is_wrong (word_of_lock (earlier ++ phasing 24) t k) ≡ true }
     ensures released { (earlier : List Bool) (t : ℕ) → IsPattern (earlier ++ phasing 24) t
         → IsBetweenLimits (length earlier) t
@@ -151,11 +153,11 @@ pub fn a_lock_between_limits_is_lost()
 /// A lock on the word limits of 48 phasing words as sent, but with swapped roles, has phasing
 /// signal 1 in its DX words, so that it is released by the seventh of them at the latest.
 pub fn a_lock_with_swapped_roles_ends()
-    ensures second { (earlier : List Bool) (t k : ℕ) → t + 7 * k ≡ length earlier
+    ensures second { (earlier : List Bool) (t k : ℕ) → word_begin t k ≡ length earlier
         → role_of (first_role (earlier ++ phasing 24) t) k ≡ RoleOf.Rx
         → IsSecondPhasing1 (first_role (earlier ++ phasing 24) t)
         (word_of_lock (earlier ++ phasing 24) t) (k + 3) }
-    ensures released { (earlier : List Bool) (t k : ℕ) → t + 7 * k ≡ length earlier
+    ensures released { (earlier : List Bool) (t k : ℕ) → word_begin t k ≡ length earlier
         → role_of (first_role (earlier ++ phasing 24) t) k ≡ RoleOf.Rx
         → IsReleasedBy (earlier ++ phasing 24) t (length earlier + 49) }
 {}

@@ -7,7 +7,7 @@ use Rattle.std.specs.Prelude.{◌++◌, length, map, slice_index}
 use Rattle.nx_code.specs.Reading.{Reception, shift_after_all, text}
 use Rattle.nx_code.specs.declared.shifts.Shift.TheVariants.{Letters}
 use Rattle.nx_fec.specs.emissions.Pairing.{Counted, five_before, counts_as, pairing}
-use Rattle.nx_sync.specs.Words.{word_of_lock, first_role, role_of, is_dx}
+use Rattle.nx_sync.specs.Words.{word_of_lock, first_role, role_of, is_dx, last_bit}
 use Rattle.nx_sync.specs.declared.step.Role.{Role}
 use Rattle.nx_sync.specs.declared.step.Role.TheVariants.{Dx}
 
@@ -48,7 +48,7 @@ pub record PlacedByte : Type 0 where
 -- letters; with its place: the index of the last bit of the word
 unfoldable pub printed_by : Role → (ℕ → ℕ) → ℕ → ℕ → List PlacedByte
 printed_by first words t k =
-    map (λ b. record { byte = b; place = t + 7 * k + 6 })
+    map (λ b. record { byte = b; place = last_bit t k })
     (text (taken_at first words k) (shift_after_all (positions first words k) Letters))
 
 -- the text that the first n words of the lock at t print, each byte with its place

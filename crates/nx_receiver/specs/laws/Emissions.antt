@@ -5,12 +5,13 @@ use Rattle.std.specs.List.{flat_map}
 use Rattle.nx_fec.specs.emissions.Emission.{bits_of}
 use Rattle.nx_sync.specs.Laws.{phasing}
 use Rattle.nx_sync.specs.Locks.{Lock, IsLocked}
-use Rattle.nx_sync.specs.Words.{first_role, role_of}
+use Rattle.nx_sync.specs.Words.{first_role, role_of, word_begin}
 use Rattle.nx_sync.specs.declared.step.Role.TheVariants.{Dx}
 use Rattle.nx_envelope.specs.Header.{Header}
 use Rattle.nx_envelope.specs.Message.{text_of, MessageView}
 use Rattle.nx_envelope.specs.declared.found.How.TheVariants.{Full}
 use Rattle.nx_station.specs.Broadcast.{printed_text}
+use Rattle.nx_station.specs.reception.Path.{phasing_received}
 use Rattle.nx_station.specs.reception.Sendings.{Sending}
 use Rattle.nx_receiver.specs.copies.FoundCopies.{FoundCopy}
 
@@ -22,12 +23,12 @@ phasing_elements = 336
 -- sent. They leave a lock whose word `whole` is that of slot 144, a DX word; and it stands after
 -- each further bit, to the last.
 pub record HoldsThrough (earlier : List Bool) (heard : List ℕ) : Type 0 where
-  pub begins : take phasing_elements (bits_of heard) ≡ phasing 24
+  pub begins : take phasing_elements (bits_of heard) ≡ phasing phasing_received
   pub locks : List Lock
   pub p : ℕ
   pub t : ℕ
   pub whole : ℕ
-  pub limit : length earlier + phasing_elements ≡ t + 7 * whole
+  pub limit : length earlier + phasing_elements ≡ word_begin t whole
   pub dx : role_of (first_role (earlier ++ bits_of heard) t) whole ≡ Dx
   pub stands : (n : ℕ) → phasing_elements ≤ n → n ≤ length (bits_of heard)
       → IsLocked (earlier ++ take n (bits_of heard)) locks p t

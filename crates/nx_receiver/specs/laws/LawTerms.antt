@@ -1,6 +1,7 @@
 -- What the laws of printing speak of.
 use Rattle.std.specs.Prelude.{◌≡◌, ℕ, ◌+◌, ◌-◌, ◌*◌, ◌<◌, Bool, List, [], ◌∷◌, map}
 use Rattle.std.specs.Prelude.{take, drop, IsTrue, All, Contains, Option, None}
+use Rattle.nx_code.specs.Word.{word_elements}
 use Rattle.nx_envelope.specs.declared.identity.Identity.{Identity}
 use Rattle.nx_fec.specs.air_files.AirFile.{Line, moment, elements, refuse_station, accept_station}
 use Rattle.nx_fec.specs.air_files.AirFile.{refuse_subject, accept_subject}
@@ -16,7 +17,7 @@ use Rattle.nx_receiver.specs.laws.Once.{FewBetween, IsUnknownAtFirst}
 -- The bits of the lock at t with n words: those of the words, and of the word before them, which
 -- says the role of the first.
 abbrev pub own_bits : List Bool → ℕ → ℕ → List Bool
-own_bits bits t n = take (7 * n + 7) (drop (t - 7) bits)
+own_bits bits t n = take (word_elements * n + word_elements) (drop (t - word_elements) bits)
 
 -- Of these copies, `first` and then `repeats` bear the identity, which is not numbered 00. All of
 -- them are good and selected. They lie within 66 hours of each other. After these first entries, no
