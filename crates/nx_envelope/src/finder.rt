@@ -135,7 +135,7 @@ impl Finder {
         ensures same { result ≡ false → self.new ≡ self.old }
     {
         let HeldCopy::Open(identity, fresh) = self.copy else {
-            return self.pass_plain(bytes, count) || self.pass_one_by_one(bytes, count);
+            return self.pass_plain(bytes, count);
         };
         let eight = eight_of(self.recent, bytes);
         if ends_marker(eight) | (self.text.len() >= MAX_FOUND - MARKER_LEN) {
@@ -152,33 +152,10 @@ impl Finder {
         true
     }
 
-    /// Takes in bytes as `hear_plain` does, where no copy is open or can be taken and no header has
-    /// begun.
+    /// Takes in bytes as `hear_plain` does, where no copy is open and none of them completes a
+    /// header.
     #[inline(always)]
     fn pass_plain(&mut self, bytes: [u8; MARKER_LEN], count: usize) -> bool
-        requires { count ≤ 4 }
-        ensures stands { IsTrue result → (text : List ℕ) → StandsAfter self.old text
-            → StandsAfter self.new (text ++ take count bytes) }
-        ensures brings { IsTrue result → (text : List ℕ) → StandsAfter self.old text
-            → BringNothing text (take count bytes) }
-        ensures ready { IsTrue result → is_ready self.new ≡ false }
-        ensures same { result ≡ false → self.new ≡ self.old }
-    {
-        let (HeldCopy::Nothing, Stage::Nowhere) = (self.copy, self.stage) else {
-            return false;
-        };
-        let eight = eight_of(self.recent, bytes);
-        if (self.recent == START_MARKER) | ends_marker(eight) {
-            return false;
-        }
-        self.recent = four_behind(eight, count).to_le_bytes();
-        true
-    }
-
-    /// Takes in bytes as `hear_plain` does, where no copy is open and none of them completes a
-    /// header. It looks at one after the other, for which a header may have begun.
-    #[inline(always)]
-    fn pass_one_by_one(&mut self, bytes: [u8; MARKER_LEN], count: usize) -> bool
         requires few { count ≤ 4 }
         requires none { (identity : Identity) (fresh : Bool) → self.old.copy ≢ Open identity fresh }
         ensures stands { IsTrue result → (text : List ℕ) → StandsAfter self.old text

@@ -1,5 +1,5 @@
--- Bytes that an open copy takes in one after the other, where none of them ends it, and bytes
--- behind which no header begins where no copy is open.
+-- Bytes that an open copy takes in one after the other, where none of them ends it, and bytes that
+-- complete no header where no copy is open.
 use Rattle.std.proofs.Common.{◌≡◌, ℕ, ◌+◌, ◌<◌, ◌≤◌, zero, suc, ◌&&◌, ◌||◌, nat_le, Bool, true, false, None}
 use Rattle.std.proofs.Common.{List, [], ◌∷◌, ◌++◌, length, take, reverse, refl, sym, ap, ◌∙◌, subst}
 use Rattle.std.proofs.Common.{arith, below_more, length-append, append_assoc}
@@ -19,8 +19,7 @@ use Rattle.nx_envelope.proofs.lemmas.copies.Beginnings.{reverse-push}
 use Rattle.nx_envelope.proofs.lemmas.finder.EightBytes.{all_four}
 use Rattle.nx_envelope.proofs.lemmas.finder.Hearing.{goes_on, held}
 use Rattle.nx_envelope.proofs.lemmas.copies.OneMoreByte.{still_none}
-use Rattle.nx_envelope.proofs.lemmas.copies.RawTexts.{no_start}
-use Rattle.nx_envelope.proofs.lemmas.headers.Stages.{Stands, no_header, quiet_more}
+use Rattle.nx_envelope.proofs.lemmas.headers.Stages.{quiet_more}
 
 -- no marker ends with one of these bytes behind that text
 abbrev pub NoMarkers : List ℕ → List ℕ → Type 0
@@ -56,34 +55,6 @@ plain_heard fresh kept text (b ∷ bytes) identity h begins none short =
     record {
       holds = rw (← append_assoc kept (b ∷ []) bytes, ← append_assoc text (b ∷ []) bytes) p.holds;
       brings = first_more text bytes b g.keeps p.brings;
-    }
-
--- they go by where no copy is open
-pub record PlainPassed (text bytes : List ℕ) : Type 0 where
-  pub none : open_headers (text ++ bytes) ≡ []
-  pub stage : IsStageOf Nowhere (reverse (text ++ bytes))
-  pub brings : BringNothing text bytes
-
-pub plain_passed : (text bytes : List ℕ) → open_headers text ≡ []
-    → Stands Nowhere false (reverse text) → NoMarkers (reverse text) bytes → PlainPassed text bytes
-plain_passed text [] shut quiet none = record {
-  none = rw (append-nil text) shut;
-  stage = rw (append-nil text) quiet.is;
-  brings = λ k lt. absurd (omega arith);
-}
-plain_passed text (b ∷ bytes) shut quiet none =
-    let keeps = still_none text b shut (no_header b (reverse text) quiet.is) in
-    let back = reverse-push text b in
-    let stands : Stands Nowhere false (b ∷ reverse text) = record {
-      is = quiet_more b (reverse text) quiet;
-      flag = sym (no_start (b ∷ reverse text) none.0);
-    } in
-    let p = plain_passed (text ++ b ∷ []) bytes (keeps.still_open ∙ shut) (rw back stands)
-    (rw back none.1) in
-    record {
-      none = rw (← append_assoc text (b ∷ []) bytes) p.none;
-      stage = rw (← append_assoc text (b ∷ []) bytes) p.stage;
-      brings = first_more text bytes b keeps p.brings;
     }
 
 no_markers : (a b c d : ℕ) (back : List ℕ) → marker_back (a ∷ back) ≡ None
@@ -187,13 +158,6 @@ plain_four eight count fresh kept text bytes identity h begins w m few short =
     plain_heard fresh kept text (take count bytes) identity h begins
     (four_unmarked eight count (reverse text) bytes w m few)
     (omega (arith, length-take count bytes))
-
-pub four_passed : (eight count : ℕ) (text bytes : List ℕ) → open_headers text ≡ []
-    → Stands Nowhere false (reverse text) → IsEight eight (reverse text) bytes → AllUnmarked eight
-    → count ≤ 4 → PlainPassed text (take count bytes)
-four_passed eight count text bytes shut quiet w m few =
-    plain_passed text (take count bytes) shut quiet
-    (four_unmarked eight count (reverse text) bytes w m few)
 
 -- where a copy stands open, before and after, no header has come anywhere
 pub stage_stays : (stage : Stage) (back more : List ℕ) → IsStageOf stage back
