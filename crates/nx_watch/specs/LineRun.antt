@@ -110,26 +110,37 @@ pub record StopsBehind (first : ℕ) (bytes : List ℕ) (lines : List (Option Li
   pub are : AreLines front (lines ++ Some last ∷ []) []
   pub on : goes_on first lines ≡ true
 
--- What a run answers of these bytes, where the moment `first` was in force at first, and `tells`
--- holds of the lines that it tells of. At the end of the input, or at the limit, all lines were
+-- A run over lines: how its taker stands, at first and now; the moment in force at first; what
+-- holds where the input ended, or the limit was reached; and what holds of the lines that it tells
+-- of.
+pub record RunOverLines (T : Type 0) : Type 1 where
+  pub stands : Standing T
+  pub start : T
+  pub now : T
+  pub first : ℕ
+  pub AtEnd : Type 0
+  pub tells : List (Option Line) → Type 0
+
+-- What a run answers of these bytes. At the end of the input, or at the limit, all lines were
 -- taken, a cut one too. After a failed read all lines with their ends were taken, and behind the
 -- line that ends the watch, those before it. After a failed write the lines up to the one that gave
 -- the bytes were taken.
-abbrev pub AnswersRun : {T : Type 0} → Standing T → T → T → ℕ → Type 0
-    → (List (Option Line) → Type 0) → Result LinesWatched WatchEnd → List ℕ → Type 0
-AnswersRun stands start now first AtEnd tells (Ok counts) bytes =
-    AtEnd × (lines : List (Option Line)) × (rest : List ℕ) × AreLines bytes lines rest
-    × HasTaken stands start now first lines × AreCounted first (lines ++ cut_line rest) counts
-    × tells (lines ++ cut_line rest)
-AnswersRun stands start now first AtEnd tells (Err Read) bytes =
+abbrev pub AnswersRun : {T : Type 0} → RunOverLines T → Result LinesWatched WatchEnd → List ℕ
+    → Type 0
+AnswersRun r (Ok counts) bytes =
+    r.AtEnd × (lines : List (Option Line)) × (rest : List ℕ) × AreLines bytes lines rest
+    × HasTaken r.stands r.start r.now r.first lines
+    × AreCounted r.first (lines ++ cut_line rest) counts × r.tells (lines ++ cut_line rest)
+AnswersRun r (Err Read) bytes =
     (lines : List (Option Line)) × (rest : List ℕ) × AreLines bytes lines rest
-    × HasTaken stands start now first lines × tells lines
-AnswersRun stands start now first AtEnd tells (Err (Back line last given)) bytes =
-    (lines : List (Option Line)) × StopsBehind first bytes lines (moment given)
-    × (ends_watch first (moments_said lines) (Some (moment given)) ≡ true)
-    × (line ≡ length lines + 1) × (last ≡ in_force first (moments_said lines))
-    × stands start now (acting_lines first lines) × tells (lines ++ Some (moment given) ∷ [])
-AnswersRun stands start now first AtEnd tells (Err Write) bytes =
-    (lines : List (Option Line)) × (line : Line) × StopsBehind first bytes lines line
-    × HasTaken stands start now first (lines ++ Some line ∷ [])
-    × tells (lines ++ Some line ∷ [])
+    × HasTaken r.stands r.start r.now r.first lines × r.tells lines
+AnswersRun r (Err (Back line last given)) bytes =
+    (lines : List (Option Line)) × StopsBehind r.first bytes lines (moment given)
+    × (ends_watch r.first (moments_said lines) (Some (moment given)) ≡ true)
+    × (line ≡ length lines + 1) × (last ≡ in_force r.first (moments_said lines))
+    × r.stands r.start r.now (acting_lines r.first lines)
+    × r.tells (lines ++ Some (moment given) ∷ [])
+AnswersRun r (Err Write) bytes =
+    (lines : List (Option Line)) × (line : Line) × StopsBehind r.first bytes lines line
+    × HasTaken r.stands r.start r.now r.first (lines ++ Some line ∷ [])
+    × r.tells (lines ++ Some line ∷ [])

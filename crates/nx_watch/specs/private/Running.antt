@@ -30,8 +30,14 @@ pub record IsRunning {T : Type 0} (stands : Standing T) (start now : T) (first :
 abbrev pub EndsRun : {T : Type 0} → Standing T → T → T → ℕ → LineEffects
     → Option (List ℕ) → Option (List ℕ) → ℕ → WatchEnd → List ℕ → Type 0
 EndsRun stands start now first kept old new failures end bytes =
-    AnswersRun stands start now first ⊥ (TellsFirst first kept old new failures) (Err end)
-    bytes
+    AnswersRun (record {
+      stands = stands;
+      start = start;
+      now = now;
+      first = first;
+      AtEnd = ⊥;
+      tells = TellsFirst first kept old new failures;
+    }) (Err end) bytes
 
 -- the input ended: these are the counts of the lines, a cut one too, and all was told
 pub record EndsInput (first : ℕ) (bytes : List ℕ) (lines : List (Option Line))

@@ -95,11 +95,15 @@ pub fn watch_lines<R: Read, W: Write, F: Write, T: ActingTaker>(
         → (bytes : List ℕ)
         × Consumes (R.remaining reader.old.inner) (R.remaining reader.new.inner) bytes
         × (length bytes ≤ limit)
-        × AnswersRun (StandsWith T.stands W.contents) (with_writer start writer.old)
-        (with_writer taker.new writer.new) first
-        (IsAtEnd (R.remaining reader.new.inner) ⊎ (length bytes ≡ limit))
-        (λ lines. HasTold (F.contents faults.old.inner) (F.contents faults.new.inner)
-        faults.new.failures (told_of first lines)) result bytes }
+        × AnswersRun (record {
+          stands = StandsWith T.stands W.contents;
+          start = with_writer start writer.old;
+          now = with_writer taker.new writer.new;
+          first = first;
+          AtEnd = IsAtEnd (R.remaining reader.new.inner) ⊎ (length bytes ≡ limit);
+          tells = λ lines. HasTold (F.contents faults.old.inner) (F.contents faults.new.inner)
+              faults.new.failures (told_of first lines);
+        }) result bytes }
     ensures unread { IsErrOf result ReadFailed ↔ (reader.new.failures ≡ 1) }
     ensures once { reader.new.failures ≤ 1 }
     ensures unwritten { IsErrOf result WriteEnd ↔ (writer.new.failures ≡ 1) }

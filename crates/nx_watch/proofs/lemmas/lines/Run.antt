@@ -18,7 +18,7 @@ use Rattle.nx_memory.specs.Selection.{is_vital}
 use Rattle.nx_watch.specs.Acting.{acting_behind, acting_lines, acts, ends_watch, goes_on}
 use Rattle.nx_watch.specs.Acting.{goes_on_behind, in_force, is_far_back, moment_said, moments_said, went_far_back}
 use Rattle.nx_watch.specs.AnyLines.{AreLines, cut_line}
-use Rattle.nx_watch.specs.LineRun.{AnswersRun, AreCounted, HasTaken, HasTold, MayAct}
+use Rattle.nx_watch.specs.LineRun.{AnswersRun, AreCounted, HasTaken, HasTold, MayAct, RunOverLines}
 use Rattle.nx_watch.specs.LineRun.{Giving, Standing, StandsWith, first_told, told_of}
 use Rattle.nx_watch.specs.LineRun.{with_writer}
 use Rattle.nx_fec.specs.Transfers.{CountedDevice}
@@ -233,30 +233,24 @@ ends-input first bytes lines more old new failures counts rest are cut counted t
 }
 
 -- what is told at an end before that of the input
-pub answers-told : {T : Type 0} (stands : Standing T) (start now : T)
-    (first : ℕ) (AtEnd : Type 0) (before after : List (Option Line) → Type 0) (end : WatchEnd)
-    (bytes : List ℕ) → ((lines : List (Option Line)) → before lines → after lines)
-    → AnswersRun stands start now first ⊥ before (Err end) bytes
-    → AnswersRun stands start now first AtEnd after (Err end) bytes
-answers-told stands start now first AtEnd before after Read bytes step h =
-    (h.0, h.1, h.2, h.3, step h.0 h.4)
-answers-told stands start now first AtEnd before after (Back line last given) bytes step h =
+pub answers-told : {T : Type 0} (before : RunOverLines T) (AtEnd : Type 0)
+    (after : List (Option Line) → Type 0) (end : WatchEnd) (bytes : List ℕ)
+    → ((lines : List (Option Line)) → before.tells lines → after lines)
+    → AnswersRun before (Err end) bytes
+    → AnswersRun (record before { AtEnd = AtEnd; tells = after }) (Err end) bytes
+answers-told before AtEnd after Read bytes step h = (h.0, h.1, h.2, h.3, step h.0 h.4)
+answers-told before AtEnd after (Back line last given) bytes step h =
     (h.0, h.1, h.2, h.3, h.4, h.5, step (h.0 ++ Some (moment given) ∷ []) h.6)
-answers-told stands start now first AtEnd before after Write bytes step h =
+answers-told before AtEnd after Write bytes step h =
     (h.0, h.1, h.2, h.3, step (h.0 ++ Some h.1 ∷ []) h.4)
 
 -- whatever a run answers, some lines were told of
-pub tells-some : {T : Type 0} (stands : Standing T) (start now : T)
-    (first : ℕ) (AtEnd : Type 0) (tells : List (Option Line) → Type 0)
-    (answer : Result LinesWatched WatchEnd) (bytes : List ℕ)
-    → AnswersRun stands start now first AtEnd tells answer bytes
-    → (lines : List (Option Line)) × tells lines
-tells-some stands start now first AtEnd tells (Ok counts) bytes h = (h.1 ++ cut_line h.2, h.6)
-tells-some stands start now first AtEnd tells (Err Read) bytes h = (h.0, h.4)
-tells-some stands start now first AtEnd tells (Err (Back line last given)) bytes h =
-    (h.0 ++ Some (moment given) ∷ [], h.6)
-tells-some stands start now first AtEnd tells (Err Write) bytes h =
-    (h.0 ++ Some h.1 ∷ [], h.4)
+pub tells-some : {T : Type 0} (r : RunOverLines T) (answer : Result LinesWatched WatchEnd)
+    (bytes : List ℕ) → AnswersRun r answer bytes → (lines : List (Option Line)) × r.tells lines
+tells-some r (Ok counts) bytes h = (h.1 ++ cut_line h.2, h.6)
+tells-some r (Err Read) bytes h = (h.0, h.4)
+tells-some r (Err (Back line last given)) bytes h = (h.0 ++ Some (moment given) ∷ [], h.6)
+tells-some r (Err Write) bytes h = (h.0 ++ Some h.1 ∷ [], h.4)
 
 pub nothing : (contents : Option (List ℕ)) → Appends contents contents []
 nothing None = tt

@@ -38,12 +38,16 @@ returns-in-Err-clause-watched g c = λ start force stood.
       r.0,
       r.1,
       r.2,
-      answers-told stands before
-          (with_writer c.read_lines.new.taker c.read_lines.new.writer) c.args.first
-          (IsAtEnd (g.R.Read.remaining c.read_lines.new.reader.inner)
+      answers-told (record {
+        stands = stands;
+        start = before;
+        now = with_writer c.read_lines.new.taker c.read_lines.new.writer;
+        first = c.args.first;
+        AtEnd = ⊥;
+        tells = TellsFirst c.args.first c.read_lines.new.self.effects old
+            (g.F.Write.contents c.read_lines.new.faults.inner) c.read_lines.new.faults.failures;
+      }) (IsAtEnd (g.R.Read.remaining c.read_lines.new.reader.inner)
           ⊎ (length r.0 ≡ c.args.limit))
-          (TellsFirst c.args.first c.read_lines.new.self.effects old
-          (g.F.Write.contents c.read_lines.new.faults.inner) c.read_lines.new.faults.failures)
           (λ lines. HasTold old (g.F.Write.contents c.count.new.faults.inner)
           c.count.new.faults.failures (told_of c.args.first lines)) c.in-Err.end
           r.0 (λ lines tells. c.count.ensures.told c.args.first old lines tells) r.3,

@@ -8,7 +8,7 @@ use Rattle.nx_receiver.specs.Listener.{HearsGiven, count_of, starts_of}
 use Rattle.nx_watch.specs.Acting.{acting_lines, moments_said, most_bytes}
 use Rattle.nx_watch.specs.AnyLines.{cut_line}
 use Rattle.nx_watch.specs.Watch.{AnswersStop, at_end, back, unread, unwritten}
-use Rattle.nx_watch.specs.LineRun.{AnswersRun, HasTold, StandsWith, TellsOfLines, told_of, with_writer}
+use Rattle.nx_watch.specs.LineRun.{AnswersRun, HasTold, RunOverLines, StandsWith, TellsOfLines, told_of, with_writer}
 use Rattle.nx_watch.specs.private.LoggingListener.{KeepsLines}
 use Rattle.nx_watch.specs.declared.lines.line_run.LinesWatched.{LinesWatched}
 use Rattle.nx_watch.specs.declared.lines.line_run.WatchEnd.{WatchEnd}
@@ -84,12 +84,17 @@ returns-in-Back-clause-runs g c = λ is range heard kept.
     let start = with_writer self c.args.writer.now in
     let lines-read = c.watch_lines.new in
     let w = c.in-Err.ensures.watched self (sym is) (stands-first disk self range heard kept) in
-    let ended = subst (λ e. AnswersRun (StandsWith (KeepsLines disk)
-    g.W.Write.contents) start (with_writer lines-read.taker lines-read.writer) c.args.first
-    (IsAtEnd (g.R.Read.remaining lines-read.reader.inner) ⊎ (length w.0 ≡ most_bytes))
-    (λ lines. HasTold (g.F.Write.contents c.args.faults.now.inner)
-    (g.F.Write.contents lines-read.faults.inner) lines-read.faults.failures
-    (told_of c.args.first lines)) (Err e) w.0) c.in-Back.is w.3 in
+    let r : RunOverLines _ = record {
+      stands = StandsWith (KeepsLines disk) g.W.Write.contents;
+      start = start;
+      now = with_writer lines-read.taker lines-read.writer;
+      first = c.args.first;
+      AtEnd = IsAtEnd (g.R.Read.remaining lines-read.reader.inner) ⊎ (length w.0 ≡ most_bytes);
+      tells = λ lines. HasTold (g.F.Write.contents c.args.faults.now.inner)
+          (g.F.Write.contents lines-read.faults.inner) lines-read.faults.failures
+          (told_of c.args.first lines);
+    } in
+    let ended = subst (λ e. AnswersRun r (Err e) w.0) c.in-Back.is w.3 in
     let closed = c.close-in-Back.ensures.closed start (acting_lines c.args.first ended.0) ended.5 in
     let stop = back c.in-Back.line c.in-Back.last c.in-Back.given in
     let lines = ended.0 ++ Some (moment c.in-Back.given) ∷ [] in
@@ -138,12 +143,17 @@ returns-in-Read-clause-runs g c = λ is range heard kept.
     let start = with_writer self c.args.writer.now in
     let lines-read = c.watch_lines.new in
     let w = c.in-Err.ensures.watched self (sym is) (stands-first disk self range heard kept) in
-    let ended = subst (λ e. AnswersRun (StandsWith (KeepsLines disk)
-    g.W.Write.contents) start (with_writer lines-read.taker lines-read.writer) c.args.first
-    (IsAtEnd (g.R.Read.remaining lines-read.reader.inner) ⊎ (length w.0 ≡ most_bytes))
-    (λ lines. HasTold (g.F.Write.contents c.args.faults.now.inner)
-    (g.F.Write.contents lines-read.faults.inner) lines-read.faults.failures
-    (told_of c.args.first lines)) (Err e) w.0) c.in-Read.is w.3 in
+    let r : RunOverLines _ = record {
+      stands = StandsWith (KeepsLines disk) g.W.Write.contents;
+      start = start;
+      now = with_writer lines-read.taker lines-read.writer;
+      first = c.args.first;
+      AtEnd = IsAtEnd (g.R.Read.remaining lines-read.reader.inner) ⊎ (length w.0 ≡ most_bytes);
+      tells = λ lines. HasTold (g.F.Write.contents c.args.faults.now.inner)
+          (g.F.Write.contents lines-read.faults.inner) lines-read.faults.failures
+          (told_of c.args.first lines);
+    } in
+    let ended = subst (λ e. AnswersRun r (Err e) w.0) c.in-Read.is w.3 in
     let stood = ended.3.stood in
     has-run disk self c.args.first g.R.Read.remaining c.args.reader.now lines-read.reader
     g.W.Write.contents c.args.writer.now lines-read.writer g.F.Write.contents c.args.faults.now
@@ -179,12 +189,17 @@ returns-in-Write-clause-runs g c = λ is range heard kept.
     let start = with_writer self c.args.writer.now in
     let lines-read = c.watch_lines.new in
     let w = c.in-Err.ensures.watched self (sym is) (stands-first disk self range heard kept) in
-    let ended = subst (λ e. AnswersRun (StandsWith (KeepsLines disk)
-    g.W.Write.contents) start (with_writer lines-read.taker lines-read.writer) c.args.first
-    (IsAtEnd (g.R.Read.remaining lines-read.reader.inner) ⊎ (length w.0 ≡ most_bytes))
-    (λ lines. HasTold (g.F.Write.contents c.args.faults.now.inner)
-    (g.F.Write.contents lines-read.faults.inner) lines-read.faults.failures
-    (told_of c.args.first lines)) (Err e) w.0) c.in-Write.is w.3 in
+    let r : RunOverLines _ = record {
+      stands = StandsWith (KeepsLines disk) g.W.Write.contents;
+      start = start;
+      now = with_writer lines-read.taker lines-read.writer;
+      first = c.args.first;
+      AtEnd = IsAtEnd (g.R.Read.remaining lines-read.reader.inner) ⊎ (length w.0 ≡ most_bytes);
+      tells = λ lines. HasTold (g.F.Write.contents c.args.faults.now.inner)
+          (g.F.Write.contents lines-read.faults.inner) lines-read.faults.failures
+          (told_of c.args.first lines);
+    } in
+    let ended = subst (λ e. AnswersRun r (Err e) w.0) c.in-Write.is w.3 in
     let stood = ended.3.stood in
     let keeper = c.into_keeper-in-Write.result in
     let unwritten_one = c.watch_lines.ensures.unwritten.0 (c.in-Err.is ∙ ap Err c.in-Write.is) in
@@ -233,12 +248,17 @@ tells g c is range heard kept =
     let lines-read = c.watch_lines.new in
     let w = c.watch_lines.ensures.watched c.args.self (sym is)
     (stands-first disk c.args.self range heard kept) in
-    let told = tells-some (StandsWith (KeepsLines disk) g.W.Write.contents)
-    (with_writer c.args.self c.args.writer.now) (with_writer lines-read.taker lines-read.writer)
-    c.args.first (IsAtEnd (g.R.Read.remaining lines-read.reader.inner) ⊎ (length w.0 ≡ most_bytes))
-    (λ lines. HasTold (g.F.Write.contents c.args.faults.now.inner)
-    (g.F.Write.contents lines-read.faults.inner) lines-read.faults.failures
-    (told_of c.args.first lines)) c.watch_lines.result w.0 w.3 in
+    let r : RunOverLines _ = record {
+      stands = StandsWith (KeepsLines disk) g.W.Write.contents;
+      start = with_writer c.args.self c.args.writer.now;
+      now = with_writer lines-read.taker lines-read.writer;
+      first = c.args.first;
+      AtEnd = IsAtEnd (g.R.Read.remaining lines-read.reader.inner) ⊎ (length w.0 ≡ most_bytes);
+      tells = λ lines. HasTold (g.F.Write.contents c.args.faults.now.inner)
+          (g.F.Write.contents lines-read.faults.inner) lines-read.faults.failures
+          (told_of c.args.first lines);
+    } in
+    let told = tells-some r c.watch_lines.result w.0 w.3 in
     (c.args.first, told.0, told.1)
 
 pub returns-in-Ok-clause-told : goal.returns-in-Ok-clause-told
