@@ -5,7 +5,7 @@ ghost use Rattle.nx_kept.specs.Disk.{OnlyReads};
 ghost use Rattle.nx_kept.specs.Kept.{IsDamaged, IsKeptLog};
 ghost use Rattle.nx_log.specs.Entries.{IsWholeEntry};
 ghost use Rattle.nx_receiver.specs.copies.Shares.{MarkedCopy};
-ghost use Rattle.nx_watch.specs.Watch.{AnswersWatch, HasCause, StandsForEntries, longest_entry, watch_devices};
+ghost use Rattle.nx_watch.specs.Watch.{AnswersWatch, HasCause, StandsForEntries, longest_entry};
 ghost use Rattle.nx_watch.specs.LineRun.{TellsOfLines};
 ghost use Rattle.nx_watch.specs.private.Answering.{fault_answered};
 ghost use Rattle.nx_watch.specs.declared.watch_fault.WatchFault.TheVariants.{Damaged as DamagedAt};
@@ -55,9 +55,23 @@ pub fn watch<D: DiskFile + Drop, R: Read, W: Write, F: Write>(
 
     ensures watched { (start : List ℕ) (entries : List MarkedCopy) → D.explains start result.1
         → StandsForEntries entries (D.seen start device)
-        → AnswersWatch (watch_devices (D.seen start) (D.may_leave start) D.moment
-        (D.left_since start) device result.1 R.remaining reader.old reader.new W.contents
-        writer.old writer.new F.contents faults.old faults.new) moment entries result.0 }
+        → AnswersWatch (record {
+          seen = D.seen start;
+          may_leave = D.may_leave start;
+          clock = D.moment;
+          left_since = D.left_since start;
+          disk = device;
+          disk_after = result.1;
+          remaining = R.remaining;
+          reader = reader.old;
+          reader_after = reader.new;
+          contents = W.contents;
+          writer = writer.old;
+          writer_after = writer.new;
+          told = F.contents;
+          faults = faults.old;
+          faults_after = faults.new;
+        }) moment entries result.0 }
 
     // A file that is no kept log is refused at the line of the damage. It is only read, and nothing
     // is read of the input.
