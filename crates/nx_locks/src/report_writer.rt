@@ -7,10 +7,10 @@ ghost use Rattle.nx_fec.specs.air_files.Channels.{channel_of, same_channel};
 ghost use Rattle.nx_fec.specs.declared.air_files.channel.Channel.{Channel};
 ghost use Rattle.nx_fec.specs.declared.air_files.channel.Channel.TheVariants.{Zero};
 ghost use Rattle.nx_fec.specs.Transfers.{HasWritten};
-ghost use Rattle.nx_fec.specs.air_files.LineRuns.{ExplainsTaking, HasGiven, HasTaken};
+ghost use Rattle.nx_fec.specs.air_files.LineRuns.{ExplainsTaking, HasGiven, HasTaken, line_run};
 ghost use Rattle.nx_fec.specs.Transfers.{Writes};
 ghost use Rattle.nx_memory.specs.Selection.{is_vital};
-ghost use Rattle.nx_locks.specs.private.ReportWriter.{BeginsFrom, HasClosed, HasClosedSome, IsShowing, RefusesFrom, RefusesLine, Showing, StandsFrom};
+ghost use Rattle.nx_locks.specs.private.ReportWriter.{HasClosed, HasClosedSome, IsShowing, RefusesLine, Showing, StandsFrom, report_taker};
 
 use crate::lock_report::LocksReport;
 use crate::watch::LockWatch;
@@ -100,8 +100,8 @@ impl ReportWriter {
             (HasGiven old (W.contents writer.old.inner) batch.old) → MatchResult result
             (λ _. HasTaken StandsFrom first self.new (lines ++ line.elements mark elements.now ∷ [])
             (HasGiven old (W.contents writer.new.inner) batch.new))
-            (λ fault. ExplainsTaking StandsFrom BeginsFrom RefusesFrom first self.new old
-            (W.contents writer.new.inner) batch.new lines (line.elements mark elements.now) fault) }
+            (λ fault. ExplainsTaking (line_run report_taker first self.new old
+            (W.contents writer.new.inner)) batch.new lines (line.elements mark elements.now) fault) }
         ensures writes { Writes writer.new TakeFault.Write result }
     {
         if !self.has_moment {

@@ -3,9 +3,9 @@
 use Rattle.std.specs.Prelude.{◌≡◌, ℕ, ◌≤◌, List, [], ◌∷◌, ◌++◌, length, Option, Result, Ok, Err, ⊤}
 use Rattle.std.specs.Io.KnownBytes.{Appends, IsAtEnd}
 use Rattle.nx_fec.specs.air_files.AirFile.{Line}
-use Rattle.nx_fec.specs.air_files.Lines.{IsAirFile, IsCause, IsLineRefused, file_of, StopsAt}
+use Rattle.nx_fec.specs.air_files.Lines.{IsAirFile, IsCause, IsLineRefused, StopsAt, air_limit, file_of}
 use Rattle.nx_fec.specs.Transfers.{CountedDevice, Devices, Extent, HasWritten, Reads, Transfers}
-use Rattle.nx_fec.specs.Transfers.{WroteSome, as_read, on_the_way, whole_input}
+use Rattle.nx_fec.specs.Transfers.{WroteSome, as_read, on_the_way, read_to, whole_input}
 use Rattle.nx_fec.specs.declared.fault.LineFault.{LineFault}
 use Rattle.nx_fec.specs.declared.fault.LineFault.TheVariants.{TooLong, LineLong, LineCut, BadLine}
 use Rattle.nx_fec.specs.declared.air_files.line_hearing.HearFault.{HearFault}
@@ -23,48 +23,46 @@ IsPlaced AtEnd (LineLong line) = ⊤
 IsPlaced AtEnd (LineCut line) = AtEnd
 IsPlaced AtEnd (BadLine line) = ⊤
 
--- What a fault of the lines says of the bytes that were read. The whole lines before it were taken,
--- and `taken` holds of them: after a failed read no byte is left of which `IsLeft` doesn't hold; a
--- fault of the air file is its first; or a line was refused.
+-- What a fault of the lines says of bytes of this extent. The whole lines before it were taken, and
+-- `taken` holds of them: a failed read leaves what follows; a fault of the air file is its first;
+-- or a line was refused.
 abbrev pub StopsLines : {F : Type 0} → (List Line → Line → F → Type 0) → (List Line → Type 0)
-    → Type 0 → (List ℕ → Type 0) → ℕ → List ℕ → HearFault F → Type 0
-StopsLines refuses taken AtEnd IsLeft limit bytes hear.Read =
-    StopsAt bytes (λ lines rest more. (length (file_of lines ++ rest) ≤ limit) × IsLeft more
+    → Extent → List ℕ → HearFault F → Type 0
+StopsLines refuses taken extent bytes hear.Read =
+    StopsAt bytes (λ lines rest more. (length (file_of lines ++ rest) ≤ air_limit)
+    × extent.is_left more × taken lines)
+StopsLines refuses taken extent bytes (hear.Line why) =
+    IsPlaced extent.at_end why × StopsAt bytes
+    (λ lines rest more. IsCause air_limit (length (file_of lines ++ rest)) lines rest more why
     × taken lines)
-StopsLines refuses taken AtEnd IsLeft limit bytes (hear.Line why) =
-    IsPlaced AtEnd why × StopsAt bytes
-    (λ lines rest more. IsCause limit (length (file_of lines ++ rest)) lines rest more why
-    × taken lines)
-StopsLines refuses taken AtEnd IsLeft limit bytes (hear.Refused line why) =
+StopsLines refuses taken extent bytes (hear.Refused line why) =
     StopsAt bytes (λ lines rest more.
-    IsLineRefused (λ before next. refuses before next why) limit lines rest more line
+    IsLineRefused (λ before next. refuses before next why) air_limit lines rest more line
     × taken lines)
 
 -- a file was read to its end, and all its lines were taken
-pub record HasHeardAll (taken : List Line → Type 0) (limit : ℕ) (bytes : List ℕ)
-    (count : ℕ) : Type 0 where
+pub record HasHeardAll (taken : List Line → Type 0) (bytes : List ℕ) (count : ℕ) : Type 0 where
   pub lines : List Line
-  pub file : IsAirFile limit bytes lines
+  pub file : IsAirFile air_limit bytes lines
   pub here : taken lines
   pub counted : count ≡ length lines
 
--- what a run over lines that writes nothing answers of these bytes
+-- what a run over lines that writes nothing answers to bytes of this extent
 abbrev pub AnswersHearing : {F : Type 0} → (List Line → Line → F → Type 0) → (List Line → Type 0)
-    → Type 0 → (List ℕ → Type 0) → ℕ → Result ℕ (HearFault F) → List ℕ → Type 0
-AnswersHearing refuses taken AtEnd IsLeft limit (Ok count) bytes =
-    AtEnd × HasHeardAll taken limit bytes count
-AnswersHearing refuses taken AtEnd IsLeft limit (Err fault) bytes =
-    StopsLines refuses taken AtEnd IsLeft limit bytes fault
+    → Extent → Result ℕ (HearFault F) → List ℕ → Type 0
+AnswersHearing refuses taken extent (Ok count) bytes =
+    extent.at_end × HasHeardAll taken bytes count
+AnswersHearing refuses taken extent (Err fault) bytes =
+    StopsLines refuses taken extent bytes fault
 
 -- A run over lines that writes nothing, and has no writer: it answers so to the bytes that it read,
 -- and to the whole file, however it came.
-abbrev pub HearsLines : {R F : Type 0} → (List Line → Line → F → Type 0) → (List Line → Type 0) → ℕ
+abbrev pub HearsLines : {R F : Type 0} → (List Line → Line → F → Type 0) → (List Line → Type 0)
     → (R → Option (List ℕ)) → CountedDevice R → CountedDevice R → Result ℕ (HearFault F) → Type 0
-HearsLines refuses taken limit remaining old new outcome =
+HearsLines refuses taken remaining old new outcome =
     Reads remaining old new hear.Read (λ _. ⊥) outcome (λ _. ⊤)
-    (λ bytes. AnswersHearing refuses taken (IsAtEnd (remaining new.inner)) (λ more. more ≡ []) limit
-    outcome bytes)
-    (λ bytes. AnswersHearing refuses taken (Unit {0}) (λ more. Unit {0}) limit outcome bytes)
+    (λ bytes. AnswersHearing refuses taken (read_to (IsAtEnd (remaining new.inner))) outcome bytes)
+    (λ bytes. AnswersHearing refuses taken whole_input outcome bytes)
 
 -- bytes that wait to be written, and how many were written before them
 pub record Waiting : Type 0 where
@@ -96,37 +94,54 @@ pub record HasTaken {T : Type 0} (stands : Standing T) (first now : T) (lines : 
   pub stood : stands first now lines given
   pub here : holds given
 
--- a beginning of what a taker gives for these lines was written in part
-pub record HasTakenSome {T : Type 0} (begins : Beginning T) (first : T) (old new : Option (List ℕ))
-    (lines : List Line) (written : ℕ) : Type 0 where
-  pub given : List ℕ
-  pub begun : begins first lines given
-  pub some : WroteSome old new given written
-
--- what a fault of taking the next line says: it is refused, and nothing changed; or a write failed
-abbrev pub ExplainsTaking : {T F : Type 0} → Standing T → Beginning T → Refusing T F → T → T
-    → Option (List ℕ) → Option (List ℕ) → Waiting
-    → List Line → Line → TakeFault F → Type 0
-ExplainsTaking stands begins refuses first now old new batch lines line (take.Refused why) =
-    refuses first lines line why × HasTaken stands first now lines (HasGiven old new batch)
-ExplainsTaking stands begins refuses first now old new batch lines line (take.Write written) =
-    HasTakenSome begins first old new (lines ++ line ∷ []) written
-
--- A run over lines, as far as it came: what its taker says of itself, how it stood at first and
--- stands now, the most bytes of the file, and what the writer held at first and holds now.
-pub record LineRun (T F : Type 0) : Type 1 where
+-- what a taker of lines says of itself
+pub record Taker (T F : Type 0) : Type 1 where
   pub stands : Standing T
   pub begins : Beginning T
   pub refuses : Refusing T F
+
+abbrev pub taker_of : {T F : Type 0} → Standing T → Beginning T → Refusing T F → Taker T F
+taker_of stands begins refuses =
+    record { stands = stands; begins = begins; refuses = refuses }
+
+-- A run over lines, as far as it came: what its taker says of itself, how it stood at first and
+-- stands now, and what the writer held at first and holds now.
+pub record LineRun (T F : Type 0) : Type 1 where
+  pub taker : Taker T F
   pub first : T
   pub now : T
-  pub limit : ℕ
   pub writer_first : Option (List ℕ)
   pub writer_now : Option (List ℕ)
 
+abbrev pub line_run : {T F : Type 0} → Taker T F → T → T → Option (List ℕ) → Option (List ℕ)
+    → LineRun T F
+line_run taker first now old new = record {
+  taker = taker;
+  first = first;
+  now = now;
+  writer_first = old;
+  writer_now = new;
+}
+
 -- in such a run these lines were taken, and this holds of the bytes that they gave
 abbrev pub HasRunOver : {T F : Type 0} → LineRun T F → (List ℕ → Type 0) → List Line → Type 0
-HasRunOver r wrote lines = HasTaken r.stands r.first r.now lines wrote
+HasRunOver r wrote lines = HasTaken r.taker.stands r.first r.now lines wrote
+
+-- in such a run a beginning of what these lines give was written in part
+pub record HasTakenSome {T F : Type 0} (r : LineRun T F) (lines : List Line)
+    (written : ℕ) : Type 0 where
+  pub given : List ℕ
+  pub begun : r.taker.begins r.first lines given
+  pub some : WroteSome r.writer_first r.writer_now given written
+
+-- What a fault of taking the next line says: it is refused, and nothing changed, so that what the
+-- lines before it gave is written, or waits; or a write failed.
+abbrev pub ExplainsTaking : {T F : Type 0} → LineRun T F → Waiting → List Line → Line → TakeFault F
+    → Type 0
+ExplainsTaking r batch lines line (take.Refused why) =
+    r.taker.refuses r.first lines line why
+    × HasRunOver r (HasGiven r.writer_first r.writer_now batch) lines
+ExplainsTaking r batch lines line (take.Write written) = HasTakenSome r (lines ++ line ∷ []) written
 
 -- What a fault of a run over lines that writes says of bytes of this extent. It is one of the
 -- lines, and `wrote` holds of what the whole lines before it gave; or a write failed, with a
@@ -134,52 +149,40 @@ HasRunOver r wrote lines = HasTaken r.stands r.first r.now lines wrote
 abbrev pub ExplainsLines : {T F : Type 0} → LineRun T F → Extent → (List ℕ → Type 0) → List ℕ
     → LinesFault F → Type 0
 ExplainsLines r extent wrote bytes run.Read =
-    StopsLines (r.refuses r.first) (HasRunOver r wrote) extent.at_end extent.is_left r.limit bytes
-    hear.Read
+    StopsLines (r.taker.refuses r.first) (HasRunOver r wrote) extent bytes hear.Read
 ExplainsLines r extent wrote bytes (run.Line why) =
-    StopsLines (r.refuses r.first) (HasRunOver r wrote) extent.at_end extent.is_left r.limit bytes
-    (hear.Line why)
+    StopsLines (r.taker.refuses r.first) (HasRunOver r wrote) extent bytes (hear.Line why)
 ExplainsLines r extent wrote bytes (run.Refused line why) =
-    StopsLines (r.refuses r.first) (HasRunOver r wrote) extent.at_end extent.is_left r.limit bytes
-    (hear.Refused line why)
-ExplainsLines r extent wrote bytes (run.Write written) = StopsAt bytes (λ lines rest more.
-    HasTakenSome r.begins r.first r.writer_first r.writer_now lines written)
+    StopsLines (r.taker.refuses r.first) (HasRunOver r wrote) extent bytes (hear.Refused line why)
+ExplainsLines r extent wrote bytes (run.Write written) =
+    StopsAt bytes (λ lines rest more. HasTakenSome r lines written)
 
 -- a file was read to its end: all its lines were taken, and what they gave was written
-pub record HasTakenAll {T : Type 0} (stands : Standing T) (first now : T)
-    (old new : Option (List ℕ)) (limit : ℕ) (bytes : List ℕ) (read : LinesRead) : Type 0 where
+pub record HasTakenAll {T F : Type 0} (r : LineRun T F) (bytes : List ℕ)
+    (read : LinesRead) : Type 0 where
   pub lines : List Line
-  pub file : IsAirFile limit bytes lines
-  pub taken : HasTaken stands first now lines (λ given. HasWritten old new given read.written)
+  pub file : IsAirFile air_limit bytes lines
+  pub taken :
+      HasRunOver r (λ given. HasWritten r.writer_first r.writer_now given read.written) lines
   pub counted : read.lines ≡ length lines
 
 -- what a run over lines that writes answers to bytes of this extent
 abbrev pub AnswersLines : {T F : Type 0} → LineRun T F → Extent → Result LinesRead (LinesFault F)
     → List ℕ → Type 0
-AnswersLines r extent (Ok read) bytes = extent.at_end
-    × HasTakenAll r.stands r.first r.now r.writer_first r.writer_now r.limit bytes read
+AnswersLines r extent (Ok read) bytes = extent.at_end × HasTakenAll r bytes read
 AnswersLines r extent (Err fault) bytes =
     ExplainsLines r extent (Appends r.writer_first r.writer_now) bytes fault
 
--- the run of a taker from these devices
-abbrev pub line_run : {R W T F : Type 0} → Standing T → Beginning T → Refusing T F → ℕ → T → T
-    → Devices R W → LineRun T F
-line_run stands begins refuses limit first now d = record {
-  stands = stands;
-  begins = begins;
-  refuses = refuses;
-  first = first;
-  now = now;
-  limit = limit;
-  writer_first = d.contents d.writer.inner;
-  writer_now = d.contents d.writer_after.inner;
-}
+-- the run of a taker that stood so at first and stands so now, to the writer of these devices
+abbrev pub line_run_to : {R W T F : Type 0} → Devices R W → Taker T F → T → T → LineRun T F
+line_run_to d taker first now =
+    line_run taker first now (d.contents d.writer.inner) (d.contents d.writer_after.inner)
 
 -- A run over lines that writes: it answers so to the bytes that it read, and to the whole file,
 -- however it came; and it writes what the lines give before each further read.
-abbrev pub RunsLines : {R W T F : Type 0} → Standing T → Beginning T → Refusing T F → ℕ → T → T
-    → Devices R W → Result LinesRead (LinesFault F) → Type 0
-RunsLines stands begins refuses limit first now d outcome =
+abbrev pub RunsLines : {R W T F : Type 0} → Taker T F → T → T → Devices R W
+    → Result LinesRead (LinesFault F) → Type 0
+RunsLines taker first now d outcome =
     Transfers run.Read (λ _. ⊥) (λ written. run.Write written) on_the_way d outcome (λ _. ⊤)
-    (AnswersLines (line_run stands begins refuses limit first now d) (as_read d) outcome)
-    (AnswersLines (line_run stands begins refuses limit first now d) whole_input outcome)
+    (AnswersLines (line_run_to d taker first now) (as_read d) outcome)
+    (AnswersLines (line_run_to d taker first now) whole_input outcome)

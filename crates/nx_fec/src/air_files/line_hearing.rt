@@ -2,8 +2,8 @@
 ghost use Rattle.std.specs.Prelude.{◌≡◌, ◌+◌, ◌<◌, ◌≤◌, ℕ, List, [], ◌∷◌, ◌++◌, Some, length, take, MatchResult, IsSomeAnd, OnOk, IfOk};
 ghost use Rattle.nx_fec.specs.air_files.AirFile.{IsLine, Line};
 ghost use Rattle.nx_fec.specs.air_files.LineRuns.{HearsLines, StopsLines};
-ghost use Rattle.nx_fec.specs.air_files.Lines.{air_limit};
 ghost use Rattle.nx_fec.specs.private.LineTaking.{IsHearing};
+ghost use Rattle.nx_fec.specs.Transfers.{inside};
 
 use crate::air_files::line_taking::AIR_LIMIT;
 use crate::air_files::scanner::Scanner;
@@ -64,7 +64,7 @@ pub fn hear_lines<R: Read, T: LineHearer>(
 ) -> Result<u64, HearFault<T::Refusal>>
     requires { reader.old.failures ≡ 0 }
     ensures { (first : T) → T.stands first taker.old []
-        → HearsLines (T.refuses first) (T.stands first taker.new) air_limit
+        → HearsLines (T.refuses first) (T.stands first taker.new)
         R.remaining reader.old reader.new result }
 {
     let mut buffer = [0; CHUNK];
@@ -86,12 +86,12 @@ fn hear_piece<T: LineHearer>(
     scanner: &mut Scanner,
     taker: &mut T,
 ) -> Result<(), HearFault<T::Refusal>>
-    ensures heard { (first : T) (limit : ℕ) (bytes : List ℕ)
-        → IsHearing (T.stands first taker.old) limit scanner.old bytes
+    ensures heard { (first : T) (bytes : List ℕ)
+        → IsHearing (T.stands first taker.old) scanner.old bytes
         → MatchResult result
-        (λ _. IsHearing (T.stands first taker.new) limit scanner.new (bytes ++ piece.now))
+        (λ _. IsHearing (T.stands first taker.new) scanner.new (bytes ++ piece.now))
         (λ fault. (more : List ℕ)
-        → StopsLines (T.refuses first) (T.stands first taker.new) ⊥ (λ _. ⊥) limit
+        → StopsLines (T.refuses first) (T.stands first taker.new) inside
         ((bytes ++ piece.now) ++ more) fault) }
     ensures room { OnOk result (scanner.new.room + length piece.now ≡ scanner.old.room) }
 {
@@ -110,13 +110,13 @@ fn hear_line<T: LineHearer>(
     taker: &mut T,
 ) -> Result<usize, HearFault<T::Refusal>>
     requires { 0 < length piece.now }
-    ensures heard { (first : T) (limit : ℕ) (bytes : List ℕ)
-        → IsHearing (T.stands first taker.old) limit scanner.old bytes
+    ensures heard { (first : T) (bytes : List ℕ)
+        → IsHearing (T.stands first taker.old) scanner.old bytes
         → MatchResult result
-        (λ count. IsHearing (T.stands first taker.new) limit scanner.new
+        (λ count. IsHearing (T.stands first taker.new) scanner.new
         (bytes ++ take count piece.now))
         (λ fault. (more : List ℕ)
-        → StopsLines (T.refuses first) (T.stands first taker.new) ⊥ (λ _. ⊥) limit
+        → StopsLines (T.refuses first) (T.stands first taker.new) inside
         ((bytes ++ piece.now) ++ more) fault) }
     ensures some { IfOk result (λ count. (0 < count) × (count ≤ length piece.now)
         × (scanner.new.room + count ≡ scanner.old.room)) }

@@ -3,7 +3,7 @@ ghost use Rattle.std.specs.Prelude.{◌≡◌, ◌+◌, ◌<◌, ◌≤◌, ℕ,
 ghost use Rattle.std.specs.Io.KnownBytes.{Appends};
 ghost use Rattle.nx_fec.specs.air_files.AirFile.{IsLine, Line};
 ghost use Rattle.nx_fec.specs.air_files.LineRuns.{ExplainsLines, ExplainsTaking, HasGiven, HasTaken, RunsLines};
-ghost use Rattle.nx_fec.specs.air_files.Lines.{air_limit};
+ghost use Rattle.nx_fec.specs.air_files.LineRuns.{line_run, taker_of};
 ghost use Rattle.nx_fec.specs.private.LineTaking.{IsTaking};
 ghost use Rattle.nx_fec.specs.Transfers.{Writes, devices, inside};
 
@@ -48,9 +48,8 @@ pub trait LineTaker: Drop {
             → MatchResult result
             (λ _. HasTaken stands first self.new (lines ++ line ∷ [])
             (HasGiven old (W.contents writer.new.inner) batch.new))
-            (λ fault. ExplainsTaking stands begins refuses first self.new old
-            (W.contents writer.new.inner) batch.new
-            lines line fault) }
+            (λ fault. ExplainsTaking (line_run (taker_of stands begins refuses) first self.new old
+            (W.contents writer.new.inner)) batch.new lines line fault) }
         ensures writes { Writes writer.new TakeFault.Write result };
 
     /// What was given is a beginning of itself.
@@ -115,7 +114,7 @@ pub fn run_lines<R: Read, W: Write, T: LineTaker>(
     requires reader { reader.old.failures ≡ 0 }
     requires writer { writer.old.failures ≡ 0 }
     ensures { (first : T) → T.stands first taker.old [] []
-        → RunsLines T.stands T.begins T.refuses air_limit first taker.new
+        → RunsLines (taker_of T.stands T.begins T.refuses) first taker.new
         (devices R.remaining W.contents reader.old reader.new writer.old writer.new) result }
 {
     let mut buffer = [0; CHUNK];
@@ -152,24 +151,16 @@ fn take_piece<W: Write, T: LineTaker>(
     batch: &mut Batch,
 ) -> Result<(), LinesFault<T::Refusal>>
     requires { writer.old.failures ≡ 0 }
-    ensures taken { (first : T) (old : Option (List ℕ)) (limit : ℕ) (bytes : List ℕ)
-        → IsTaking T.stands first taker.old limit scanner.old old
+    ensures taken { (first : T) (old : Option (List ℕ)) (bytes : List ℕ)
+        → IsTaking T.stands first taker.old scanner.old old
         (W.contents writer.old.inner) batch.old bytes
         → MatchResult result
-        (λ _. IsTaking T.stands first taker.new limit scanner.new old
+        (λ _. IsTaking T.stands first taker.new scanner.new old
         (W.contents writer.new.inner) batch.new
         (bytes ++ piece.now))
         (λ fault. (more : List ℕ)
-        → ExplainsLines (record {
-          stands = T.stands;
-          begins = T.begins;
-          refuses = T.refuses;
-          first = first;
-          now = taker.new;
-          limit = limit;
-          writer_first = old;
-          writer_now = W.contents writer.new.inner;
-        }) inside (HasGiven old (W.contents writer.new.inner) batch.new)
+        → ExplainsLines (line_run (taker_of T.stands T.begins T.refuses) first taker.new old
+        (W.contents writer.new.inner)) inside (HasGiven old (W.contents writer.new.inner) batch.new)
         ((bytes ++ piece.now) ++ more) fault) }
     ensures room { OnOk result (scanner.new.room + length piece.now ≡ scanner.old.room) }
     ensures writes { Writes writer.new LinesFault.Write result }
@@ -195,24 +186,16 @@ fn take_line<W: Write, T: LineTaker>(
 ) -> Result<usize, LinesFault<T::Refusal>>
     requires some { 0 < length piece.now }
     requires writer { writer.old.failures ≡ 0 }
-    ensures taken { (first : T) (old : Option (List ℕ)) (limit : ℕ) (bytes : List ℕ)
-        → IsTaking T.stands first taker.old limit scanner.old old
+    ensures taken { (first : T) (old : Option (List ℕ)) (bytes : List ℕ)
+        → IsTaking T.stands first taker.old scanner.old old
         (W.contents writer.old.inner) batch.old bytes
         → MatchResult result
-        (λ count. IsTaking T.stands first taker.new limit scanner.new old
+        (λ count. IsTaking T.stands first taker.new scanner.new old
         (W.contents writer.new.inner) batch.new
         (bytes ++ take count piece.now))
         (λ fault. (more : List ℕ)
-        → ExplainsLines (record {
-          stands = T.stands;
-          begins = T.begins;
-          refuses = T.refuses;
-          first = first;
-          now = taker.new;
-          limit = limit;
-          writer_first = old;
-          writer_now = W.contents writer.new.inner;
-        }) inside (HasGiven old (W.contents writer.new.inner) batch.new)
+        → ExplainsLines (line_run (taker_of T.stands T.begins T.refuses) first taker.new old
+        (W.contents writer.new.inner)) inside (HasGiven old (W.contents writer.new.inner) batch.new)
         ((bytes ++ piece.now) ++ more) fault) }
     ensures some { IfOk result (λ count. (0 < count) × (count ≤ length piece.now)
         × (scanner.new.room + count ≡ scanner.old.room)) }
@@ -243,28 +226,12 @@ fn settle<W: Write, T: LineTaker>(
     batch: &mut Batch,
 ) -> LinesFault<T::Refusal>
     requires { Writes {N = Unit {0}} writer.old LinesFault.Write (Err fault) }
-    ensures settled { (first now : T) (old : Option (List ℕ)) (limit : ℕ) (bytes : List ℕ)
-        → ExplainsLines (record {
-          stands = T.stands;
-          begins = T.begins;
-          refuses = T.refuses;
-          first = first;
-          now = now;
-          limit = limit;
-          writer_first = old;
-          writer_now = W.contents writer.old.inner;
-        }) inside
+    ensures settled { (first now : T) (old : Option (List ℕ)) (bytes : List ℕ)
+        → ExplainsLines (line_run (taker_of T.stands T.begins T.refuses) first now old
+        (W.contents writer.old.inner)) inside
         (HasGiven old (W.contents writer.old.inner) batch.old) bytes fault
-        → ExplainsLines (record {
-          stands = T.stands;
-          begins = T.begins;
-          refuses = T.refuses;
-          first = first;
-          now = now;
-          limit = limit;
-          writer_first = old;
-          writer_now = W.contents writer.new.inner;
-        }) inside
+        → ExplainsLines (line_run (taker_of T.stands T.begins T.refuses) first now old
+        (W.contents writer.new.inner)) inside
         (Appends old (W.contents writer.new.inner)) bytes result }
     ensures writes { Writes {N = Unit {0}} writer.new LinesFault.Write (Err result) }
 {

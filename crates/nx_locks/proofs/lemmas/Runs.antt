@@ -13,7 +13,7 @@ use Rattle.nx_fec.specs.air_files.Channels.{channel_of}
 use Rattle.nx_fec.specs.declared.air_files.channel.Channel.{Channel}
 use Rattle.nx_fec.specs.declared.air_files.channel.Channel.TheVariants.{Zero, One, Two}
 use Rattle.nx_fec.specs.Transfers.{CountedDevice, HasWritten}
-use Rattle.nx_fec.specs.air_files.LineRuns.{ExplainsLines, HasTaken, HasTakenAll, RunsLines}
+use Rattle.nx_fec.specs.air_files.LineRuns.{ExplainsLines, HasTaken, HasTakenAll, RunsLines, line_run}
 use Rattle.nx_fec.specs.air_files.Lines.{IsLineRefused, air_limit}
 use Rattle.nx_fec.specs.air_files.Lines.{file_of, line_bytes}
 use Rattle.nx_fec.specs.Transfers.{Devices, Extent, as_read, devices, whole_input}
@@ -28,9 +28,9 @@ use Rattle.nx_receiver.specs.air_file_runs.Listen.{HasLoggedSome, events_on, giv
 use Rattle.nx_receiver.specs.copies.Shares.{all_at_zero, events_for, to_one}
 use Rattle.nx_locks.specs.Run.{ExplainsShowing, HasShown, HasShownAll, IsReportOf, ShowsLocks}
 use Rattle.nx_locks.specs.private.ReportWriterBegins.{begins-report}
-use Rattle.nx_locks.specs.private.ReportWriter.{BeginsFrom, HasClosed, HasClosedSome, HasTooMany}
-use Rattle.nx_locks.specs.private.ReportWriter.{IsShowing, RefusesFrom, RefusesLine, Showing, StandsFrom}
-use Rattle.nx_locks.specs.private.ReportWriter.{as_lines_fault}
+use Rattle.nx_locks.specs.private.ReportWriter.{HasClosed, HasClosedSome, HasTooMany}
+use Rattle.nx_locks.specs.private.ReportWriter.{IsShowing, RefusesLine, Showing, StandsFrom}
+use Rattle.nx_locks.specs.private.ReportWriter.{as_lines_fault, report_taker}
 use Rattle.nx_receiver.specs.declared.air_file_runs.listen_fault.ListenFault.{ListenFault}
 use Rattle.nx_receiver.specs.declared.air_file_runs.listen_fault.ListenFault.TheVariants.{Memory, Read, Write}
 use Rattle.nx_receiver.specs.declared.air_file_runs.listen_fault.LineRefusal.TheVariants as reason
@@ -143,16 +143,7 @@ not-too_many lines rest more number h =
 -- what a fault of the lines explains
 explains : (extent : Extent) (first now : Showing)
     (old new : Option (List ℕ)) (bytes : List ℕ) (fault : LinesFault ReportRefusal)
-    → ExplainsLines (record {
-      stands = StandsFrom;
-      begins = BeginsFrom;
-      refuses = RefusesFrom;
-      first = first;
-      now = now;
-      limit = air_limit;
-      writer_first = old;
-      writer_now = new;
-    }) extent (Appends old new) bytes fault
+    → ExplainsLines (line_run report_taker first now old new) extent (Appends old new) bytes fault
     → ExplainsShowing extent old new bytes (lines_fault (as_lines_fault fault))
 explains extent first now old new bytes run.Read h =
     StopsAt-map bytes _ _ (λ lines rest more p. (p.0, p.1, shown first now old new lines p.2)) h
@@ -207,7 +198,7 @@ answer fault = lines_fault (as_lines_fault fault)
 -- a run over lines that ended early is a run that shows locks that did
 pub shows-fault : {R W : Type 0} (first now : Showing) (d : Devices R W)
     (fault : LinesFault ReportRefusal)
-    → RunsLines StandsFrom BeginsFrom RefusesFrom air_limit first now d (Err fault)
+    → RunsLines report_taker first now d (Err fault)
     → ShowsLocks d (Err (lines_fault (as_lines_fault fault)))
 shows-fault first now d fault h = record {
   reads = Reads-on d.remaining d.reader d.reader_after run.Read Read (Err fault)
@@ -234,7 +225,7 @@ shows-fault first now d fault h = record {
 -- the whole file was read, and its end printed
 shown_all : (first now : Showing) (old mid new : Option (List ℕ)) (bytes : List ℕ)
     (read : LinesRead) (report : LocksReport)
-    → HasTakenAll StandsFrom first now old mid air_limit bytes read
+    → HasTakenAll (line_run report_taker first now old mid) bytes read
     → ((lines : List Line) (given : List ℕ) → IsShowing now lines given
     → HasWritten old mid given read.written → HasClosed old new lines report)
     → report.lines ≡ read.lines → HasShownAll old new bytes report
@@ -257,7 +248,7 @@ shown_all first now old mid new bytes read report h closed counted =
 pub shows-ok : {R W : Type 0} (remaining : R → Option (List ℕ)) (contents : W → Option (List ℕ))
     (first now : Showing) (reader reader_after : CountedDevice R) (writer mid new : CountedDevice W)
     (read : LinesRead) (report : LocksReport)
-    → RunsLines StandsFrom BeginsFrom RefusesFrom air_limit first now
+    → RunsLines report_taker first now
     (devices remaining contents reader reader_after writer mid) (Ok read)
     → ((lines : List Line) (given : List ℕ) → IsShowing now lines given
     → HasWritten (contents writer.inner) (contents mid.inner) given read.written
@@ -277,7 +268,8 @@ shows-ok remaining contents first now reader reader_after writer mid new read re
 
 -- the whole file was read, and a write of what its end prints failed
 part-shown : (first now : Showing) (old mid new : Option (List ℕ)) (bytes : List ℕ)
-    (read : LinesRead) (written : ℕ) → HasTakenAll StandsFrom first now old mid air_limit bytes read
+    (read : LinesRead) (written : ℕ)
+    → HasTakenAll (line_run report_taker first now old mid) bytes read
     → ((lines : List Line) (given : List ℕ) → IsShowing now lines given
     → HasWritten old mid given read.written → HasClosedSome old new lines written)
     → HasLoggedSome (IsReportOf bytes) old new written
@@ -289,7 +281,7 @@ part-shown first now old mid new bytes read written h closed =
 pub shows-part : {R W : Type 0} (remaining : R → Option (List ℕ)) (contents : W → Option (List ℕ))
     (first now : Showing) (reader reader_after : CountedDevice R) (writer mid new : CountedDevice W)
     (read : LinesRead) (written : ℕ)
-    → RunsLines StandsFrom BeginsFrom RefusesFrom air_limit first now
+    → RunsLines report_taker first now
     (devices remaining contents reader reader_after writer mid) (Ok read)
     → ((lines : List Line) (given : List ℕ) → IsShowing now lines given
     → HasWritten (contents writer.inner) (contents mid.inner) given read.written

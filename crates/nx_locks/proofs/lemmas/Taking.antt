@@ -8,7 +8,7 @@ use Rattle.nx_envelope.specs.Moment.{last_moment}
 use Rattle.nx_fec.specs.air_files.AirFile.{Line, moment, elements, refuse_station, accept_station}
 use Rattle.nx_fec.specs.air_files.AirFile.{refuse_subject, accept_subject}
 use Rattle.nx_fec.specs.air_files.Channels.{channel_of, same_channel}
-use Rattle.nx_fec.specs.air_files.LineRuns.{ExplainsTaking, HasGiven, HasTaken, Waiting}
+use Rattle.nx_fec.specs.air_files.LineRuns.{ExplainsTaking, HasGiven, HasTaken, Waiting, line_run}
 use Rattle.nx_fec.specs.declared.air_files.channel.Channel.{Channel}
 use Rattle.nx_fec.specs.declared.air_files.channel.Channel.TheVariants.{Zero, One, Two}
 use Rattle.nx_fec.specs.declared.air_files.line_taking.TakeFault.{TakeFault}
@@ -27,8 +27,7 @@ use Rattle.nx_receiver.proofs.lemmas.listening.Listener.{given_by-one, moment-on
 use Rattle.nx_receiver.proofs.lemmas.listening.Listener.{taken-one}
 use Rattle.nx_receiver.proofs.lemmas.receiver.Logged.{bits_of-append, settings-append}
 use Rattle.nx_locks.specs.Run.{elements_on_0, ending_of, moments_on_0}
-use Rattle.nx_locks.specs.private.ReportWriter.{BeginsFrom, IsShowing, RefusesFrom, RefusesLine, Showing}
-use Rattle.nx_locks.specs.private.ReportWriter.{StandsFrom}
+use Rattle.nx_locks.specs.private.ReportWriter.{IsShowing, RefusesLine, Showing, StandsFrom, report_taker}
 use Rattle.nx_locks.specs.declared.report_writer.ReportRefusal.{ReportRefusal}
 use Rattle.nx_locks.specs.declared.report_writer.ReportRefusal.TheVariants as refusal
 use Rattle.nx_receiver.specs.declared.air_file_runs.listen_fault.LineRefusal.{LineRefusal}
@@ -241,13 +240,13 @@ pub taken-line : (first before after : Showing) (old new : Option (List ℕ)) (b
     → OnErr taken (after ≡ before)
     → MatchResult result (λ _. HasTaken StandsFrom first after (lines ++ line ∷ [])
     (HasGiven old new batch))
-    (λ fault. ExplainsTaking StandsFrom BeginsFrom RefusesFrom first after old new batch lines line
+    (λ fault. ExplainsTaking (line_run report_taker first after old new) batch lines line
     fault)
 taken-line first before after old new batch lines line is (Ok x) result same h answer takes
     unchanged =
     subst (λ r. MatchResult r
     (λ _. HasTaken StandsFrom first after (lines ++ line ∷ []) (HasGiven old new batch))
-    (λ fault. ExplainsTaking StandsFrom BeginsFrom RefusesFrom first after old new batch lines line
+    (λ fault. ExplainsTaking (line_run report_taker first after old new) batch lines line
     fault)) (sym answer) (record {
       given = h.given;
       stood = subst (λ l. IsShowing after (lines ++ l ∷ []) h.given) (sym same)
@@ -258,7 +257,7 @@ taken-line first before after old new batch lines line is (Err why) result same 
     unchanged =
     subst (λ r. MatchResult r
     (λ _. HasTaken StandsFrom first after (lines ++ line ∷ []) (HasGiven old new batch))
-    (λ fault. ExplainsTaking StandsFrom BeginsFrom RefusesFrom first after old new batch lines line
+    (λ fault. ExplainsTaking (line_run report_taker first after old new) batch lines line
     fault)) (sym answer) (
       subst (λ l. RefusesLine lines l (refusal.Line why)) (sym same) (takes h.given h.stood),
       record {

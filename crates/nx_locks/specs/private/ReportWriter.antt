@@ -2,6 +2,7 @@
 use Rattle.std.specs.Prelude.{◌≡◌, ℕ, ◌+◌, ◌^◌, ◌≤◌, Bool, List, length, Option}
 use Rattle.std.specs.Io.KnownBytes.{Appends}
 use Rattle.nx_fec.specs.air_files.AirFile.{Line, elements}
+use Rattle.nx_fec.specs.air_files.LineRuns.{Taker, taker_of}
 use Rattle.nx_fec.specs.Transfers.{WroteSome}
 use Rattle.nx_fec.specs.declared.fault.LineFault.TheVariants as file
 use Rattle.nx_fec.specs.declared.air_files.line_taking.LinesFault.{LinesFault}
@@ -49,6 +50,9 @@ BeginsFrom first lines given = IsReportOfLines lines given
 
 abbrev pub RefusesFrom : Showing → List Line → Line → ReportRefusal → Type 0
 RefusesFrom first lines line why = RefusesLine lines line why
+
+abbrev pub report_taker : Taker Showing ReportRefusal
+report_taker = taker_of StandsFrom BeginsFrom RefusesFrom
 
 -- the report of the elements of these lines was ended and written, and the answer counts
 pub record HasClosed (old new : Option (List ℕ)) (lines : List Line) (answer : LocksReport)

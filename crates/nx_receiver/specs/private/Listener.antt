@@ -3,6 +3,7 @@ use Rattle.std.specs.Prelude.{◌≡◌, ℕ, ◌+◌, ◌-◌, ◌^◌, ◌≤�
 use Rattle.std.specs.Prelude.{map, take, Option, Some, IsTrue}
 use Rattle.std.specs.Io.KnownBytes.{Appends}
 use Rattle.nx_envelope.specs.declared.letter.Letter.{Letter}
+use Rattle.nx_fec.specs.air_files.LineRuns.{Taker, taker_of}
 use Rattle.nx_fec.specs.air_files.AirFile.{Line, moment, elements, refuse_subject}
 use Rattle.nx_fec.specs.air_files.Channels.{same_channel}
 use Rattle.nx_fec.specs.Transfers.{WroteSome}
@@ -125,6 +126,9 @@ BeginsFrom first lines bytes = BeginsListening (starts_of first) lines bytes
 
 abbrev pub RefusesFrom : Listening → List Line → Line → LineRefusal → Type 0
 RefusesFrom first lines line why = RefusesLine (starts_of first) lines line why
+
+abbrev pub listener_taker : Taker Listening LineRefusal
+listener_taker = taker_of StandsFrom BeginsFrom RefusesFrom
 
 -- The file ended after it was given this: the log of all copies was written, with those that the
 -- end closes, and the report counts the elements and the copies.

@@ -7,7 +7,7 @@ ghost use Rattle.nx_fec.specs.air_files.AirFile.{IsLine, Line};
 ghost use Rattle.nx_fec.specs.air_files.AirFile as line;
 ghost use Rattle.nx_fec.specs.air_files.Scanner.{kind_of, line_with};
 ghost use Rattle.nx_fec.specs.Transfers.{FailsOnce, HasWritten, WroteSome, Writes, devices};
-ghost use Rattle.nx_fec.specs.air_files.LineRuns.{ExplainsTaking, HasGiven, HasTaken};
+ghost use Rattle.nx_fec.specs.air_files.LineRuns.{ExplainsTaking, HasGiven, HasTaken, line_run};
 ghost use Rattle.nx_memory.specs.Selection.{is_vital};
 ghost use Rattle.nx_receiver.specs.Events.{command};
 ghost use Rattle.nx_receiver.specs.Events as events;
@@ -18,7 +18,7 @@ ghost use Rattle.nx_receiver.specs.Receiver.{TakesEvent, entry_list};
 ghost use Rattle.nx_receiver.specs.copies.Shares.{Given, Starts, all_at_zero, marked, starts_from};
 ghost use Rattle.nx_receiver.specs.private.Awaiting.{HandsOut};
 ghost use Rattle.nx_receiver.specs.Listener.{Listening, content, count_of, receiver_on, starts_of, then_elements, with_receiver};
-ghost use Rattle.nx_receiver.specs.private.Listener.{BeginsFrom, HasClosed, HasClosedSome, HeardSome, HearsLog, IsHearing, IsListening, RefusesFrom, RefusesLine, StandsFrom};
+ghost use Rattle.nx_receiver.specs.private.Listener.{HasClosed, HasClosedSome, HeardSome, HearsLog, IsHearing, IsListening, RefusesLine, StandsFrom, listener_taker};
 ghost use Rattle.nx_receiver.specs.declared.air_file_runs.listen_fault.ListenFault.TheVariants.{Memory};
 
 mod unlogged;
@@ -271,8 +271,8 @@ impl Listener {
             (HasGiven old (W.contents writer.old.inner) batch.old) → MatchResult result
             (λ _. HasTaken StandsFrom first self.new (lines ++ line.elements mark packed.now ∷ [])
             (HasGiven old (W.contents writer.new.inner) batch.new))
-            (λ fault. ExplainsTaking StandsFrom BeginsFrom RefusesFrom first self.new old
-            (W.contents writer.new.inner) batch.new lines (line.elements mark packed.now) fault) }
+            (λ fault. ExplainsTaking (line_run listener_taker first self.new old
+            (W.contents writer.new.inner)) batch.new lines (line.elements mark packed.now) fault) }
         ensures writes { Writes writer.new TakeFault.Write result }
     {
         if !self.has_moment {

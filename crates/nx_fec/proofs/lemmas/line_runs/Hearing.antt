@@ -4,7 +4,7 @@ use Rattle.std.proofs.Common.{Result, Ok, Err, IsErrOf, sym, ap, ◌∙◌, subs
 use Rattle.std.specs.Io.KnownBytes.{Consumes, IsAtEnd}
 use Rattle.nx_fec.specs.air_files.AirFile.{Line}
 use Rattle.nx_fec.specs.air_files.LineRuns.{AnswersHearing, HasHeardAll, HearsLines}
-use Rattle.nx_fec.specs.Transfers.{CountedDevice}
+use Rattle.nx_fec.specs.Transfers.{CountedDevice, read_to, whole_input}
 use Rattle.nx_fec.specs.declared.fault.LineFault.{LineFault}
 use Rattle.nx_fec.specs.declared.air_files.line_hearing.HearFault.{HearFault}
 use Rattle.nx_fec.specs.declared.air_files.line_hearing.HearFault.TheVariants as hear
@@ -13,41 +13,41 @@ use Rattle.nx_fec.proofs.lemmas.lines.ReadingLaws.{IfErr-always}
 
 module _ {F : Type 0} (refuses : List Line → Line → F → Type 0) (holds : List Line → Type 0) where
   -- what is said of the bytes that were read holds of the whole file
-  AnswersHearing-whole : (limit : ℕ) (bytes ys : List ℕ) (outcome : Result ℕ (HearFault F))
-      → AnswersHearing refuses holds (ys ≡ []) (λ more. more ≡ []) limit outcome bytes
-      → AnswersHearing refuses holds (Unit {0}) (λ more. Unit {0}) limit outcome (bytes ++ ys)
-  AnswersHearing-whole limit bytes ys (Ok count) h = (
+  AnswersHearing-whole : (bytes ys : List ℕ) (outcome : Result ℕ (HearFault F))
+      → AnswersHearing refuses holds (read_to (ys ≡ [])) outcome bytes
+      → AnswersHearing refuses holds whole_input outcome (bytes ++ ys)
+  AnswersHearing-whole bytes ys (Ok count) h = (
     tt,
-    subst (λ l. HasHeardAll holds limit l count)
+    subst (λ l. HasHeardAll holds l count)
         (sym (ap (λ l. bytes ++ l) h.0 ∙ append-nil bytes)) h.1,
   )
-  AnswersHearing-whole limit bytes ys (Err fault) h =
-      StopsLines-whole refuses holds limit bytes ys fault h
+  AnswersHearing-whole bytes ys (Err fault) h =
+      StopsLines-whole refuses holds bytes ys fault h
 
   -- where the reader's bytes may be unknown
-  AnswersHearing-file : (before after : Option (List ℕ)) (limit : ℕ) (bytes : List ℕ)
+  AnswersHearing-file : (before after : Option (List ℕ)) (bytes : List ℕ)
       (outcome : Result ℕ (HearFault F)) → Consumes before after bytes
-      → AnswersHearing refuses holds (IsAtEnd after) (λ more. more ≡ []) limit outcome bytes
-      → IfSome before (AnswersHearing refuses holds (Unit {0}) (λ more. Unit {0}) limit outcome)
-  AnswersHearing-file None after limit bytes outcome consumed h = tt
-  AnswersHearing-file (Some xs) None limit bytes outcome consumed h = absurd consumed
-  AnswersHearing-file (Some xs) (Some ys) limit bytes outcome consumed h =
-      subst (AnswersHearing refuses holds (Unit {0}) (λ more. Unit {0}) limit outcome)
-      (sym consumed) (AnswersHearing-whole limit bytes ys outcome h)
+      → AnswersHearing refuses holds (read_to (IsAtEnd after)) outcome bytes
+      → IfSome before (AnswersHearing refuses holds whole_input outcome)
+  AnswersHearing-file None after bytes outcome consumed h = tt
+  AnswersHearing-file (Some xs) None bytes outcome consumed h = absurd consumed
+  AnswersHearing-file (Some xs) (Some ys) bytes outcome consumed h =
+      subst (AnswersHearing refuses holds whole_input outcome)
+      (sym consumed) (AnswersHearing-whole bytes ys outcome h)
 
   -- what a run says, of its parts
-  pub HearsLines-of : {R : Type 0} (limit : ℕ) (remaining : R → Option (List ℕ))
+  pub HearsLines-of : {R : Type 0} (remaining : R → Option (List ℕ))
       (old new : CountedDevice R) (outcome : Result ℕ (HearFault F)) (bytes : List ℕ)
       → Consumes (remaining old.inner) (remaining new.inner) bytes
-      → AnswersHearing refuses holds (IsAtEnd (remaining new.inner)) (λ more. more ≡ []) limit
+      → AnswersHearing refuses holds (read_to (IsAtEnd (remaining new.inner)))
       outcome bytes
       → IsErrOf outcome hear.Read ↔ (new.failures ≡ 1) → new.failures ≤ 1
-      → HearsLines refuses holds limit remaining old new outcome
-  HearsLines-of limit remaining old new outcome bytes consumed answer failed once = record {
+      → HearsLines refuses holds remaining old new outcome
+  HearsLines-of remaining old new outcome bytes consumed answer failed once = record {
     bytes = bytes;
     consumed = consumed;
     answer = answer;
-    file = AnswersHearing-file (remaining old.inner) (remaining new.inner) limit bytes outcome
+    file = AnswersHearing-file (remaining old.inner) (remaining new.inner) bytes outcome
         consumed answer;
     before = IfErr-always outcome _ (λ fault e. tt);
     failed = failed;

@@ -12,11 +12,11 @@ use Rattle.nx_fec.specs.air_files.AirFile.{Line, IsLine, spelling}
 use Rattle.nx_fec.specs.Transfers.{Devices, Extent, HasWritten, WroteSome, Writes, as_read}
 use Rattle.nx_fec.specs.Transfers.{inside, read_to, whole_input}
 use Rattle.nx_fec.specs.air_files.Lines.{IsAtByte, IsCause, IsLineRefused, Scanning, Scans, StopsIn, file_of}
-use Rattle.nx_fec.specs.air_files.Lines.{line_bytes, StopsAt}
+use Rattle.nx_fec.specs.air_files.Lines.{StopsAt, air_limit, line_bytes}
 use Rattle.nx_fec.specs.air_files.LineRuns.{AnswersLines, Beginning, ExplainsLines, HasGiven, HasTaken}
 use Rattle.nx_fec.specs.air_files.LineRuns.{HasTakenAll, HasTakenSome, IsPlaced, LineRun, Refusing}
-use Rattle.nx_fec.specs.air_files.LineRuns.{RunsLines}
-use Rattle.nx_fec.specs.air_files.LineRuns.{Standing, StopsLines, Waiting}
+use Rattle.nx_fec.specs.air_files.LineRuns.{RunsLines, Standing, StopsLines, Waiting}
+use Rattle.nx_fec.specs.air_files.LineRuns.{line_run, taker_of}
 use Rattle.nx_fec.specs.private.LineTaking.{IsHearing, IsTaking}
 use Rattle.nx_fec.specs.air_files.Scanner.{kind_kept}
 use Rattle.nx_fec.specs.declared.air_files.lines.LineKind.{LineKind}
@@ -137,12 +137,12 @@ HasGiven-written old new batch given count empty is h =
     (record { counted = is ∙ h.written.counted; appended = h.written.appended })
 
 -- the bytes that wait were written
-pub IsTaking-sent : {T : Type 0} (stands : Standing T) (first now : T) (limit : ℕ) (s : Scanning)
+pub IsTaking-sent : {T : Type 0} (stands : Standing T) (first now : T) (s : Scanning)
     (old mid new : Option (List ℕ)) (batch batch' : Waiting) (bytes : List ℕ)
     → ((given : List ℕ) → HasGiven old mid batch given → HasGiven old new batch' given)
-    → IsTaking stands first now limit s old mid batch bytes
-    → IsTaking stands first now limit s old new batch' bytes
-IsTaking-sent stands first now limit s old mid new batch batch' bytes f h =
+    → IsTaking stands first now s old mid batch bytes
+    → IsTaking stands first now s old new batch' bytes
+IsTaking-sent stands first now s old mid new batch batch' bytes f h =
     record {
       lines = h.lines;
       scans = h.scans;
@@ -239,23 +239,23 @@ cause-longer limit front lines rest more ys why (inr none) h =
 
 module _ {F : Type 0} (refuses : List Line → Line → F → Type 0) (holds : List Line → Type 0) where
   -- a line was refused
-  pub StopsLines-refused : (limit : ℕ) (s : Scanning) (bytes piece : List ℕ) (count number : ℕ)
+  pub StopsLines-refused : (s : Scanning) (bytes piece : List ℕ) (count number : ℕ)
       (why : F) (lines : List Line) (latest : Option Line)
       → (kind_kept latest ≡ None → ⊥) → IfSome latest IsLine → number ≡ s.lines
-      → Scans limit s (bytes ++ take count piece) (lines ++ option_to_list latest)
+      → Scans air_limit s (bytes ++ take count piece) (lines ++ option_to_list latest)
       → ((line : Line) → latest ≡ Some line → refuses lines line why × holds lines)
-      → (more : List ℕ) → StopsLines refuses holds ⊥ (λ _. ⊥) limit ((bytes ++ piece) ++ more)
+      → (more : List ℕ) → StopsLines refuses holds inside ((bytes ++ piece) ++ more)
       (hear.Refused number why)
-  StopsLines-refused limit s bytes piece count number why lines None some good is scans h more =
+  StopsLines-refused s bytes piece count number why lines None some good is scans h more =
       absurd (some refl)
-  StopsLines-refused limit s bytes piece count number why lines (Some line) some good is scans h
+  StopsLines-refused s bytes piece count number why lines (Some line) some good is scans h
       more =
       let k = h line refl in
       record {
         lines = lines;
         rest = spelling line;
         more = 10 ∷ (s.part ++ (drop count piece ++ more));
-        whole = refused-whole limit s bytes piece more count lines line scans;
+        whole = refused-whole air_limit s bytes piece more count lines line scans;
         each = All-front lines (line ∷ []) scans.splits.each;
         part = spelling-IsBeginning line good;
         here = (
@@ -265,7 +265,7 @@ module _ {F : Type 0} (refuses : List Line → Line → F → Type 0) (holds : L
             good = good;
             spelled = refl;
             ended = refl;
-            within = last-within limit s (bytes ++ take count piece) lines line scans;
+            within = last-within air_limit s (bytes ++ take count piece) lines line scans;
             counted = is ∙ scans.count ∙ length-append lines (line ∷ []);
             refused = k.0;
           },
@@ -288,278 +288,268 @@ module _ {F : Type 0} (refuses : List Line → Line → F → Type 0) (holds : L
   }
 
   -- what is said of the bytes that were read holds of the whole file
-  pub StopsLines-whole : (limit : ℕ) (bytes ys : List ℕ) (fault : HearFault F)
-      → StopsLines refuses holds (ys ≡ []) (λ more. more ≡ []) limit bytes fault
-      → StopsLines refuses holds (Unit {0}) (λ more. Unit {0}) limit (bytes ++ ys) fault
-  StopsLines-whole limit bytes ys hear.Read h =
+  pub StopsLines-whole : (bytes ys : List ℕ) (fault : HearFault F)
+      → StopsLines refuses holds (read_to (ys ≡ [])) bytes fault
+      → StopsLines refuses holds whole_input (bytes ++ ys) fault
+  StopsLines-whole bytes ys hear.Read h =
       StopsAt-more ys _ _ bytes (λ lines rest more k. (k.0, tt, k.2)) h
-  StopsLines-whole limit bytes ys (hear.Line why) h = (
+  StopsLines-whole bytes ys (hear.Line why) h = (
     IsPlaced-any why,
     StopsAt-more ys _ _ bytes
         (λ lines rest more k. (
-          cause-longer limit _ lines rest more ys why (IsPlaced-left ys why h.0) k.0,
+          cause-longer air_limit _ lines rest more ys why (IsPlaced-left ys why h.0) k.0,
           k.1,
         )) h.1,
   )
-  StopsLines-whole limit bytes ys (hear.Refused line why) h =
+  StopsLines-whole bytes ys (hear.Refused line why) h =
       StopsAt-more ys _ _ bytes
-      (λ lines rest more k. (refused-longer limit lines rest more ys line why k.0, k.1)) h
+      (λ lines rest more k. (refused-longer air_limit lines rest more ys line why k.0, k.1)) h
 
   -- a fault before the end, over the bytes that were read
-  pub StopsLines-piece : (AtEnd : Type 0) (IsLeft : List ℕ → Type 0) (limit : ℕ) (bytes : List ℕ)
-      (fault : HearFault F) → StopsLines refuses holds ⊥ (λ _. ⊥) limit bytes fault
-      → StopsLines refuses holds AtEnd IsLeft limit bytes fault
-  StopsLines-piece AtEnd IsLeft limit bytes hear.Read h = absurd h.here.1
-  StopsLines-piece AtEnd IsLeft limit bytes (hear.Line why) h = (IsPlaced-never AtEnd why h.0, h.1)
-  StopsLines-piece AtEnd IsLeft limit bytes (hear.Refused line why) h = h
+  pub StopsLines-piece : (extent : Extent) (bytes : List ℕ)
+      (fault : HearFault F) → StopsLines refuses holds inside bytes fault
+      → StopsLines refuses holds extent bytes fault
+  StopsLines-piece extent bytes hear.Read h = absurd h.here.1
+  StopsLines-piece extent bytes (hear.Line why) h = (IsPlaced-never extent.at_end why h.0, h.1)
+  StopsLines-piece extent bytes (hear.Refused line why) h = h
 
   -- no read failed before the end of a piece
-  pub StopsLines-not_read : {N : Type 0} (limit : ℕ) (bytes : List ℕ) (fault : HearFault F)
-      → StopsLines refuses holds ⊥ (λ _. ⊥) limit bytes fault
+  pub StopsLines-not_read : {N : Type 0} (bytes : List ℕ) (fault : HearFault F)
+      → StopsLines refuses holds inside bytes fault
       → ◌≡◌ {A = Result N (HearFault F)} (Err fault) (Err hear.Read) → ⊥
-  StopsLines-not_read limit bytes hear.Read h e = h.here.1
-  StopsLines-not_read limit bytes (hear.Line why) h e = cc
-  StopsLines-not_read limit bytes (hear.Refused line why) h e = cc
+  StopsLines-not_read bytes hear.Read h e = h.here.1
+  StopsLines-not_read bytes (hear.Line why) h e = cc
+  StopsLines-not_read bytes (hear.Refused line why) h e = cc
 
 -- what holds of the lines before a fault says more
 pub StopsLines-map : {F : Type 0} (refuses : List Line → Line → F → Type 0)
-    (P Q : List Line → Type 0) (AtEnd : Type 0) (IsLeft : List ℕ → Type 0) (limit : ℕ)
+    (P Q : List Line → Type 0) (extent : Extent)
     (bytes : List ℕ) (fault : HearFault F) → ((lines : List Line) → P lines → Q lines)
-    → StopsLines refuses P AtEnd IsLeft limit bytes fault
-    → StopsLines refuses Q AtEnd IsLeft limit bytes fault
-StopsLines-map refuses P Q AtEnd IsLeft limit bytes hear.Read f h =
+    → StopsLines refuses P extent bytes fault
+    → StopsLines refuses Q extent bytes fault
+StopsLines-map refuses P Q extent bytes hear.Read f h =
     StopsAt-map bytes _ _ (λ lines rest more k. (k.0, k.1, f lines k.2)) h
-StopsLines-map refuses P Q AtEnd IsLeft limit bytes (hear.Line why) f h =
+StopsLines-map refuses P Q extent bytes (hear.Line why) f h =
     (h.0, StopsAt-map bytes _ _ (λ lines rest more k. (k.0, f lines k.1)) h.1)
-StopsLines-map refuses P Q AtEnd IsLeft limit bytes (hear.Refused line why) f h =
+StopsLines-map refuses P Q extent bytes (hear.Refused line why) f h =
     StopsAt-map bytes _ _ (λ lines rest more k. (k.0, f lines k.1)) h
 
 -- a run at a piece that ended no line
-pub hearing-open : (holds : List Line → Type 0) (limit : ℕ) (s : Scanning) (bytes : List ℕ)
+pub hearing-open : (holds : List Line → Type 0) (s : Scanning) (bytes : List ℕ)
     (lines : List Line) (latest : Option Line) → latest ≡ None
-    → Scans limit s bytes (lines ++ option_to_list latest) → holds lines
-    → IsHearing holds limit s bytes
-hearing-open holds limit s bytes lines None none scans h =
+    → Scans air_limit s bytes (lines ++ option_to_list latest) → holds lines
+    → IsHearing holds s bytes
+hearing-open holds s bytes lines None none scans h =
     record {
       lines = lines;
-      scans = subst (Scans limit s bytes) (append-nil lines) scans;
+      scans = subst (Scans air_limit s bytes) (append-nil lines) scans;
       taken = h;
     }
-hearing-open holds limit s bytes lines (Some line) none scans h = cc
+hearing-open holds s bytes lines (Some line) none scans h = cc
 
 -- and at one whose line was taken
-pub hearing-ended : (holds : List Line → Type 0) (limit : ℕ) (s : Scanning) (bytes : List ℕ)
+pub hearing-ended : (holds : List Line → Type 0) (s : Scanning) (bytes : List ℕ)
     (lines : List Line) (latest : Option Line) → (kind_kept latest ≡ None → ⊥)
-    → Scans limit s bytes (lines ++ option_to_list latest)
+    → Scans air_limit s bytes (lines ++ option_to_list latest)
     → ((line : Line) → latest ≡ Some line → holds (lines ++ line ∷ []))
-    → IsHearing holds limit s bytes
-hearing-ended holds limit s bytes lines None some scans h = absurd (some refl)
-hearing-ended holds limit s bytes lines (Some line) some scans h =
+    → IsHearing holds s bytes
+hearing-ended holds s bytes lines None some scans h = absurd (some refl)
+hearing-ended holds s bytes lines (Some line) some scans h =
     record { lines = lines ++ line ∷ []; scans = scans; taken = h line refl }
 
 module _ {T F : Type 0} (stands : Standing T) (begins : Beginning T) (refuses : Refusing T F) where
   -- a run of this taker
-  abbrev run_of : T → T → ℕ → Option (List ℕ) → Option (List ℕ) → LineRun T F
-  run_of first now limit old new = record {
-    stands = stands;
-    begins = begins;
-    refuses = refuses;
-    first = first;
-    now = now;
-    limit = limit;
-    writer_first = old;
-    writer_now = new;
-  }
+  abbrev run_of : T → T → Option (List ℕ) → Option (List ℕ) → LineRun T F
+  run_of first now old new = line_run (taker_of stands begins refuses) first now old new
 
   -- a run at a piece that ended no line
-  pub taking-open : (first now : T) (limit : ℕ) (s : Scanning) (old new : Option (List ℕ))
+  pub taking-open : (first now : T) (s : Scanning) (old new : Option (List ℕ))
       (batch : Waiting) (bytes : List ℕ) (lines : List Line) (latest : Option Line)
-      → latest ≡ None → Scans limit s bytes (lines ++ option_to_list latest)
+      → latest ≡ None → Scans air_limit s bytes (lines ++ option_to_list latest)
       → HasTaken stands first now lines (HasGiven old new batch)
-      → IsTaking stands first now limit s old new batch bytes
-  taking-open first now limit s old new batch bytes lines latest none scans h =
-      hearing-open _ limit s bytes lines latest none scans h
+      → IsTaking stands first now s old new batch bytes
+  taking-open first now s old new batch bytes lines latest none scans h =
+      hearing-open _ s bytes lines latest none scans h
 
   -- and at one whose line was taken
-  pub taking-ended : (first now : T) (limit : ℕ) (s : Scanning) (old new : Option (List ℕ))
+  pub taking-ended : (first now : T) (s : Scanning) (old new : Option (List ℕ))
       (batch : Waiting) (bytes : List ℕ) (lines : List Line) (latest : Option Line)
-      → (kind_kept latest ≡ None → ⊥) → Scans limit s bytes (lines ++ option_to_list latest)
+      → (kind_kept latest ≡ None → ⊥) → Scans air_limit s bytes (lines ++ option_to_list latest)
       → ((line : Line) → latest ≡ Some line
       → HasTaken stands first now (lines ++ line ∷ []) (HasGiven old new batch))
-      → IsTaking stands first now limit s old new batch bytes
-  taking-ended first now limit s old new batch bytes lines latest some scans h =
-      hearing-ended (λ lines. HasTaken stands first now lines (HasGiven old new batch)) limit s
-      bytes
+      → IsTaking stands first now s old new batch bytes
+  taking-ended first now s old new batch bytes lines latest some scans h =
+      hearing-ended (λ lines. HasTaken stands first now lines (HasGiven old new batch)) s bytes
       lines latest some scans h
 
   -- a write failed while a line was taken
-  pub explains-write : (first now : T) (limit : ℕ) (s : Scanning) (old new : Option (List ℕ))
+  pub explains-write : (first now : T) (s : Scanning) (old new : Option (List ℕ))
       (G : List ℕ → Type 0) (bytes piece : List ℕ) (count written : ℕ) (lines : List Line)
       (latest : Option Line)
       → (kind_kept latest ≡ None → ⊥)
-      → Scans limit s (bytes ++ take count piece) (lines ++ option_to_list latest)
+      → Scans air_limit s (bytes ++ take count piece) (lines ++ option_to_list latest)
       → ((line : Line) → latest ≡ Some line
-      → HasTakenSome begins first old new (lines ++ line ∷ []) written)
-      → (more : List ℕ) → ExplainsLines (run_of first now limit old new) inside G
+      → HasTakenSome (run_of first now old new) (lines ++ line ∷ []) written)
+      → (more : List ℕ) → ExplainsLines (run_of first now old new) inside G
       ((bytes ++ piece) ++ more) (run.Write written)
-  explains-write first now limit s old new G bytes piece count written lines None some scans h
+  explains-write first now s old new G bytes piece count written lines None some scans h
       more = absurd (some refl)
-  explains-write first now limit s old new G bytes piece count written lines (Some line) some scans
+  explains-write first now s old new G bytes piece count written lines (Some line) some scans
       h more = record {
         lines = lines ++ line ∷ [];
         rest = s.part;
         more = drop count piece ++ more;
-        whole = whole-after limit s bytes piece more count (lines ++ line ∷ []) scans;
+        whole = whole-after air_limit s bytes piece more count (lines ++ line ∷ []) scans;
         each = scans.splits.each;
         part = scans.splits.part;
         here = h line refl;
       }
 
   -- a line was refused
-  pub explains-refused : (first now : T) (limit : ℕ) (s : Scanning) (old new : Option (List ℕ))
+  pub explains-refused : (first now : T) (s : Scanning) (old new : Option (List ℕ))
       (batch : Waiting) (bytes piece : List ℕ) (count number : ℕ) (why : F) (lines : List Line)
       (latest : Option Line)
       → (kind_kept latest ≡ None → ⊥) → IfSome latest IsLine → number ≡ s.lines
-      → Scans limit s (bytes ++ take count piece) (lines ++ option_to_list latest)
+      → Scans air_limit s (bytes ++ take count piece) (lines ++ option_to_list latest)
       → ((line : Line) → latest ≡ Some line
       → refuses first lines line why × HasTaken stands first now lines (HasGiven old new batch))
-      → (more : List ℕ) → ExplainsLines (run_of first now limit old new) inside
+      → (more : List ℕ) → ExplainsLines (run_of first now old new) inside
       (HasGiven old new batch) ((bytes ++ piece) ++ more) (run.Refused number why)
-  explains-refused first now limit s old new batch bytes piece count number why lines latest some
+  explains-refused first now s old new batch bytes piece count number why lines latest some
       good is scans h more =
       StopsLines-refused (refuses first)
-      (λ lines. HasTaken stands first now lines (HasGiven old new batch)) limit s bytes piece count
+      (λ lines. HasTaken stands first now lines (HasGiven old new batch)) s bytes piece count
       number why lines latest some good is scans h more
 
   pub taken-some : (first now : T) (old new : Option (List ℕ)) (G : List ℕ → Type 0)
       (lines : List Line) (lost : ℕ)
       → ((lines : List Line) (given : List ℕ) → stands first now lines given
       → begins first lines given) → ((given : List ℕ) → G given → WroteSome old new given lost)
-      → HasTaken stands first now lines G → HasTakenSome begins first old new lines lost
+      → HasTaken stands first now lines G → HasTakenSome (run_of first now old new) lines lost
   taken-some first now old new G lines lost law f h =
       record { given = h.given; begun = law lines h.given h.stood; some = f h.given h.here }
 
   -- what a run says before it settles is what it says after, where what was given is written
-  pub settled : (first now : T) (limit : ℕ) (old mid new : Option (List ℕ)) (G A : List ℕ → Type 0)
+  pub settled : (first now : T) (old mid new : Option (List ℕ)) (G A : List ℕ → Type 0)
       (bytes : List ℕ) (fault : LinesFault F)
       → ((written : ℕ) → fault ≡ run.Write written → ⊥) → ((given : List ℕ) → G given → A given)
-      → ExplainsLines (run_of first now limit old mid) inside G bytes fault
-      → ExplainsLines (run_of first now limit old new) inside A bytes fault
-  settled first now limit old mid new G A bytes run.Read other f h = absurd h.here.1
-  settled first now limit old mid new G A bytes (run.Line why) other f h = (
+      → ExplainsLines (run_of first now old mid) inside G bytes fault
+      → ExplainsLines (run_of first now old new) inside A bytes fault
+  settled first now old mid new G A bytes run.Read other f h = absurd h.here.1
+  settled first now old mid new G A bytes (run.Line why) other f h = (
     h.0,
     StopsAt-map _ _ _ (λ lines rest more k.
         (k.0, HasTaken-map stands first now lines G A f k.1)) h.1,
   )
-  settled first now limit old mid new G A bytes (run.Refused line why) other f h =
+  settled first now old mid new G A bytes (run.Refused line why) other f h =
       StopsAt-map _ _ _ (λ lines rest more k. (k.0, HasTaken-map stands first now lines G A f k.1))
       h
-  settled first now limit old mid new G A bytes (run.Write written) other f h =
+  settled first now old mid new G A bytes (run.Write written) other f h =
       absurd (other written refl)
 
   -- or it fails to be
-  pub settled-lost : (first now : T) (limit : ℕ) (old mid new : Option (List ℕ))
+  pub settled-lost : (first now : T) (old mid new : Option (List ℕ))
       (G A : List ℕ → Type 0) (bytes : List ℕ) (fault : LinesFault F) (lost : ℕ)
       → ((lines : List Line) (given : List ℕ) → stands first now lines given
       → begins first lines given)
       → ((written : ℕ) → fault ≡ run.Write written → ⊥)
       → ((given : List ℕ) → G given → WroteSome old new given lost)
-      → ExplainsLines (run_of first now limit old mid) inside G bytes fault
-      → ExplainsLines (run_of first now limit old new) inside A bytes
+      → ExplainsLines (run_of first now old mid) inside G bytes fault
+      → ExplainsLines (run_of first now old new) inside A bytes
       (run.Write lost)
-  settled-lost first now limit old mid new G A bytes run.Read lost law other f h = absurd h.here.1
-  settled-lost first now limit old mid new G A bytes (run.Line why) lost law other f h =
+  settled-lost first now old mid new G A bytes run.Read lost law other f h = absurd h.here.1
+  settled-lost first now old mid new G A bytes (run.Line why) lost law other f h =
       StopsAt-map _ _ _ (λ lines rest more k. taken-some first now old new G lines lost law f k.1)
       h.1
-  settled-lost first now limit old mid new G A bytes (run.Refused line why) lost law other f h =
+  settled-lost first now old mid new G A bytes (run.Refused line why) lost law other f h =
       StopsAt-map _ _ _ (λ lines rest more k. taken-some first now old new G lines lost law f k.1) h
-  settled-lost first now limit old mid new G A bytes (run.Write written) lost law other f h =
+  settled-lost first now old mid new G A bytes (run.Write written) lost law other f h =
       absurd (other written refl)
 
   -- what is said of the bytes that were read holds of the whole file
-  pub ExplainsLines-whole : (first now : T) (limit : ℕ) (old new : Option (List ℕ))
+  pub ExplainsLines-whole : (first now : T) (old new : Option (List ℕ))
       (A : List ℕ → Type 0) (bytes ys : List ℕ) (fault : LinesFault F)
-      → ExplainsLines (run_of first now limit old new) (read_to (ys ≡ [])) A
+      → ExplainsLines (run_of first now old new) (read_to (ys ≡ [])) A
       bytes fault
-      → ExplainsLines (run_of first now limit old new) whole_input A
+      → ExplainsLines (run_of first now old new) whole_input A
       (bytes ++ ys) fault
-  ExplainsLines-whole first now limit old new A bytes ys run.Read h =
-      StopsLines-whole (refuses first) (λ lines. HasTaken stands first now lines A) limit bytes ys
+  ExplainsLines-whole first now old new A bytes ys run.Read h =
+      StopsLines-whole (refuses first) (λ lines. HasTaken stands first now lines A) bytes ys
       hear.Read h
-  ExplainsLines-whole first now limit old new A bytes ys (run.Line why) h =
-      StopsLines-whole (refuses first) (λ lines. HasTaken stands first now lines A) limit bytes ys
+  ExplainsLines-whole first now old new A bytes ys (run.Line why) h =
+      StopsLines-whole (refuses first) (λ lines. HasTaken stands first now lines A) bytes ys
       (hear.Line why) h
-  ExplainsLines-whole first now limit old new A bytes ys (run.Refused line why) h =
-      StopsLines-whole (refuses first) (λ lines. HasTaken stands first now lines A) limit bytes ys
+  ExplainsLines-whole first now old new A bytes ys (run.Refused line why) h =
+      StopsLines-whole (refuses first) (λ lines. HasTaken stands first now lines A) bytes ys
       (hear.Refused line why) h
-  ExplainsLines-whole first now limit old new A bytes ys (run.Write written) h =
+  ExplainsLines-whole first now old new A bytes ys (run.Write written) h =
       StopsAt-more ys _ _ bytes (λ lines rest more k. k) h
 
-  pub AnswersLines-whole : (first now : T) (limit : ℕ) (old new : Option (List ℕ))
+  pub AnswersLines-whole : (first now : T) (old new : Option (List ℕ))
       (bytes ys : List ℕ) (outcome : Result LinesRead (LinesFault F))
-      → AnswersLines (run_of first now limit old new) (read_to (ys ≡ []))
+      → AnswersLines (run_of first now old new) (read_to (ys ≡ []))
       outcome bytes
-      → AnswersLines (run_of first now limit old new) whole_input
+      → AnswersLines (run_of first now old new) whole_input
       outcome (bytes ++ ys)
-  AnswersLines-whole first now limit old new bytes ys (Ok read) h = (
+  AnswersLines-whole first now old new bytes ys (Ok read) h = (
     tt,
-    subst (λ l. HasTakenAll stands first now old new limit l read)
+    subst (λ l. HasTakenAll (run_of first now old new) l read)
         (sym (ap (λ l. bytes ++ l) h.0 ∙ append-nil bytes)) h.1,
   )
-  AnswersLines-whole first now limit old new bytes ys (Err fault) h =
-      ExplainsLines-whole first now limit old new (Appends old new) bytes ys fault h
+  AnswersLines-whole first now old new bytes ys (Err fault) h =
+      ExplainsLines-whole first now old new (Appends old new) bytes ys fault h
 
   -- where the reader's bytes may be unknown
-  pub AnswersLines-file : (before after : Option (List ℕ)) (first now : T) (limit : ℕ)
+  pub AnswersLines-file : (before after : Option (List ℕ)) (first now : T)
       (old new : Option (List ℕ)) (bytes : List ℕ) (outcome : Result LinesRead (LinesFault F))
       → Consumes before after bytes
-      → AnswersLines (run_of first now limit old new) (read_to (IsAtEnd after)) outcome bytes
-      → IfSome before (AnswersLines (run_of first now limit old new) whole_input outcome)
-  AnswersLines-file None after first now limit old new bytes outcome consumed h = tt
-  AnswersLines-file (Some xs) None first now limit old new bytes outcome consumed h =
+      → AnswersLines (run_of first now old new) (read_to (IsAtEnd after)) outcome bytes
+      → IfSome before (AnswersLines (run_of first now old new) whole_input outcome)
+  AnswersLines-file None after first now old new bytes outcome consumed h = tt
+  AnswersLines-file (Some xs) None first now old new bytes outcome consumed h =
       absurd consumed
-  AnswersLines-file (Some xs) (Some ys) first now limit old new bytes outcome consumed h =
-      subst (AnswersLines (run_of first now limit old new) whole_input outcome) (sym consumed)
-      (AnswersLines-whole first now limit old new bytes ys outcome h)
+  AnswersLines-file (Some xs) (Some ys) first now old new bytes outcome consumed h =
+      subst (AnswersLines (run_of first now old new) whole_input outcome) (sym consumed)
+      (AnswersLines-whole first now old new bytes ys outcome h)
 
   -- a fault before the end, over the bytes that were read
-  pub ExplainsLines-piece : (extent : Extent) (first now : T) (limit : ℕ)
+  pub ExplainsLines-piece : (extent : Extent) (first now : T)
       (old new : Option (List ℕ)) (A : List ℕ → Type 0) (bytes : List ℕ) (fault : LinesFault F)
-      → ExplainsLines (run_of first now limit old new) inside A bytes fault
-      → ExplainsLines (run_of first now limit old new) extent A bytes fault
-  ExplainsLines-piece extent first now limit old new A bytes run.Read h = absurd h.here.1
-  ExplainsLines-piece extent first now limit old new A bytes (run.Line why) h =
+      → ExplainsLines (run_of first now old new) inside A bytes fault
+      → ExplainsLines (run_of first now old new) extent A bytes fault
+  ExplainsLines-piece extent first now old new A bytes run.Read h = absurd h.here.1
+  ExplainsLines-piece extent first now old new A bytes (run.Line why) h =
       (IsPlaced-never extent.at_end why h.0, h.1)
-  ExplainsLines-piece extent first now limit old new A bytes (run.Refused line why) h = h
-  ExplainsLines-piece extent first now limit old new A bytes (run.Write written) h = h
+  ExplainsLines-piece extent first now old new A bytes (run.Refused line why) h = h
+  ExplainsLines-piece extent first now old new A bytes (run.Write written) h = h
 
   -- no read failed before the end of a piece
-  pub ExplainsLines-not_read : {N : Type 0} (first now : T) (limit : ℕ) (old new : Option (List ℕ))
+  pub ExplainsLines-not_read : {N : Type 0} (first now : T) (old new : Option (List ℕ))
       (A : List ℕ → Type 0) (bytes : List ℕ) (fault : LinesFault F)
-      → ExplainsLines (run_of first now limit old new) inside A bytes fault
+      → ExplainsLines (run_of first now old new) inside A bytes fault
       → ◌≡◌ {A = Result N (LinesFault F)} (Err fault) (Err run.Read) → ⊥
-  ExplainsLines-not_read first now limit old new A bytes run.Read h e = h.here.1
-  ExplainsLines-not_read first now limit old new A bytes (run.Line why) h e = cc
-  ExplainsLines-not_read first now limit old new A bytes (run.Refused line why) h e = cc
-  ExplainsLines-not_read first now limit old new A bytes (run.Write written) h e = cc
+  ExplainsLines-not_read first now old new A bytes run.Read h e = h.here.1
+  ExplainsLines-not_read first now old new A bytes (run.Line why) h e = cc
+  ExplainsLines-not_read first now old new A bytes (run.Refused line why) h e = cc
+  ExplainsLines-not_read first now old new A bytes (run.Write written) h e = cc
 
   -- what a run says, of its parts
-  pub RunsLines-of : {R W : Type 0} (first now : T) (limit : ℕ) (d : Devices R W)
+  pub RunsLines-of : {R W : Type 0} (first now : T) (d : Devices R W)
       (outcome : Result LinesRead (LinesFault F)) (bytes : List ℕ)
       → Consumes (d.remaining d.reader.inner) (d.remaining d.reader_after.inner) bytes
       → AnswersLines
-      (run_of first now limit (d.contents d.writer.inner) (d.contents d.writer_after.inner))
+      (run_of first now (d.contents d.writer.inner) (d.contents d.writer_after.inner))
       (as_read d) outcome bytes
       → IsErrOf outcome run.Read ↔ (d.reader_after.failures ≡ 1) → d.reader_after.failures ≤ 1
       → Writes d.writer_after (λ written. run.Write written) outcome
-      → RunsLines stands begins refuses limit first now d outcome
-  RunsLines-of first now limit d outcome bytes consumed answer failed once writes = record {
+      → RunsLines (taker_of stands begins refuses) first now d outcome
+  RunsLines-of first now d outcome bytes consumed answer failed once writes = record {
     reads = record {
       bytes = bytes;
       consumed = consumed;
       answer = answer;
       file = AnswersLines-file (d.remaining d.reader.inner) (d.remaining d.reader_after.inner) first
-          now limit _ _ bytes outcome consumed answer;
+          now _ _ bytes outcome consumed answer;
       before = IfErr-always outcome _ (λ fault e. tt);
       failed = failed;
       once = once;

@@ -7,17 +7,15 @@ use Rattle.nx_fec.specs.Transfers.{CountedDevice, Devices, Extent, HasWritten, R
 use Rattle.nx_fec.specs.Transfers.{devices, whole_input}
 use Rattle.nx_fec.proofs.lemmas.devices.TransferLaws.{Ok-not_err, Reads-on, Writes-none}
 use Rattle.nx_fec.specs.declared.air_files.line_taking.LinesFault.TheVariants as run
-use Rattle.nx_fec.specs.air_files.LineRuns.{HasTakenAll, RunsLines}
-use Rattle.nx_fec.specs.air_files.Lines.{air_limit}
+use Rattle.nx_fec.specs.air_files.LineRuns.{HasTakenAll, RunsLines, line_run}
 use Rattle.nx_fec.specs.declared.air_files.line_taking.LinesRead.{LinesRead}
 use Rattle.nx_memory.specs.Saved.{SavedStates}
 use Rattle.nx_receiver.specs.air_file_runs.Chain.{HasGoneOn}
 use Rattle.nx_receiver.specs.air_file_runs.Listen.{AnswersListening, IsLogOfFile, Listens, given_by}
 use Rattle.nx_receiver.specs.air_file_runs.ListenFrom.{GoesOnBy, reported}
 use Rattle.nx_receiver.specs.Listener.{Listening}
-use Rattle.nx_receiver.specs.private.Listener.{BeginsFrom, HasClosed, IsListening}
+use Rattle.nx_receiver.specs.private.Listener.{HasClosed, IsListening, listener_taker}
 use Rattle.nx_receiver.specs.Listener.{starts_of}
-use Rattle.nx_receiver.specs.private.Listener.{RefusesFrom, StandsFrom}
 use Rattle.nx_receiver.specs.copies.Shares.{Starts, starts_from}
 use Rattle.nx_receiver.specs.declared.air_file_runs.listen_fault.ListenFault.{ListenFault}
 use Rattle.nx_receiver.specs.declared.air_file_runs.listen_fault.ListenFault.TheVariants.{Read, Write}
@@ -35,7 +33,7 @@ err-is (Err made) fault h e = cc
 -- the whole file was read, and its end printed
 pub gone : (saved left : SavedStates) (first now : Listening) (old mid new : Option (List ℕ))
     (bytes : List ℕ) (read : LinesRead) (report : Report) → starts_of first ≡ starts_from saved
-    → HasTakenAll StandsFrom first now old mid air_limit bytes read
+    → HasTakenAll (line_run listener_taker first now old mid) bytes read
     → ((lines : List Line) (given : List ℕ) → IsListening (starts_of first) now lines given
     → HasWritten old mid given read.written
     → HasClosed (starts_of first) old new (given_by lines) report)
@@ -64,7 +62,7 @@ pub goes-on : {R W : Type 0} (remaining : R → Option (List ℕ)) (contents : W
     (saved left : SavedStates) (first now : Listening) (reader reader_after : CountedDevice R)
     (writer mid new : CountedDevice W) (read : LinesRead) (report : Report)
     → starts_of first ≡ starts_from saved
-    → RunsLines StandsFrom BeginsFrom RefusesFrom air_limit first now
+    → RunsLines listener_taker first now
     (devices remaining contents reader reader_after writer mid) (Ok read)
     → ((lines : List Line) (given : List ℕ) → IsListening (starts_of first) now lines given
     → HasWritten (contents writer.inner) (contents mid.inner) given read.written
@@ -81,7 +79,7 @@ goes-on remaining contents saved left first now' reader reader_after writer mid 
     let old = contents writer.inner in
     let now = contents new.inner in
     let heard : (extent : Extent) (bytes : List ℕ) → extent.at_end
-    × HasTakenAll StandsFrom first now' old (contents mid.inner) air_limit bytes read
+    × HasTakenAll (line_run listener_taker first now' old (contents mid.inner)) bytes read
     → AnswersListening (starts_of first) extent old now (Ok report) bytes
     × HasGoneOn saved old now bytes left = λ extent bytes k. (
       (k.0, listened first now' _ _ _ bytes read report k.1 closed counted),

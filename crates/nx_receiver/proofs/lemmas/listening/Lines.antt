@@ -3,7 +3,7 @@ use Rattle.std.proofs.Common.{◌≡◌, ℕ, List, [], ◌∷◌, ◌++◌, Opt
 use Rattle.std.proofs.Common.{Bool, IfOk, MatchResult, OnOk, false, true, refl, sym, ap, ◌∙◌, subst}
 use Rattle.nx_fec.specs.air_files.AirFile.{Line, moment, elements, refuse_station, accept_station}
 use Rattle.nx_fec.specs.air_files.AirFile.{refuse_subject, accept_subject}
-use Rattle.nx_fec.specs.air_files.LineRuns.{ExplainsTaking, HasGiven, HasTaken, Waiting}
+use Rattle.nx_fec.specs.air_files.LineRuns.{ExplainsTaking, HasGiven, HasTaken, Waiting, line_run}
 use Rattle.nx_fec.specs.air_files.Lines.{elements_of}
 use Rattle.nx_fec.specs.air_files.Channels.{channel_of}
 use Rattle.nx_fec.specs.air_files.Scanner.{elements_kept, kind_kept, kind_of, line_with}
@@ -19,7 +19,7 @@ use Rattle.nx_receiver.specs.air_file_runs.Listen.{given_by, given_of}
 use Rattle.nx_receiver.specs.Receiver.{TakesEvent}
 use Rattle.nx_receiver.specs.copies.Shares.{Given, Starts, to_one}
 use Rattle.nx_receiver.specs.Listener.{Listening}
-use Rattle.nx_receiver.specs.private.Listener.{BeginsFrom, IsListening, RefusesFrom}
+use Rattle.nx_receiver.specs.private.Listener.{IsListening, listener_taker}
 use Rattle.nx_receiver.specs.Listener.{content, receiver_on}
 use Rattle.nx_receiver.specs.private.Listener.{RefusesLine, StandsFrom}
 use Rattle.nx_receiver.specs.Listener.{starts_of, then_elements, with_receiver}
@@ -73,19 +73,19 @@ pub taken-line : (first before after : Listening) (old new : Option (List ℕ)) 
     (λ why. RefusesLine (starts_of first) lines line why × (after ≡ before)))
     → MatchResult result (λ _. HasTaken StandsFrom first after (lines ++ line ∷ [])
     (HasGiven old new batch))
-    (λ fault. ExplainsTaking StandsFrom BeginsFrom RefusesFrom first after old new batch lines line
+    (λ fault. ExplainsTaking (line_run listener_taker first after old new) batch lines line
     fault)
 taken-line first before after old new batch lines line (Ok x) result h answer takes =
     subst (λ r. MatchResult r
     (λ _. HasTaken StandsFrom first after (lines ++ line ∷ []) (HasGiven old new batch))
-    (λ fault. ExplainsTaking StandsFrom BeginsFrom RefusesFrom first after old new batch lines line
+    (λ fault. ExplainsTaking (line_run listener_taker first after old new) batch lines line
     fault)) (sym answer)
     (record { given = h.given; stood = takes h.given h.stood; here = h.here })
 taken-line first before after old new batch lines line (Err why) result h answer takes =
     let refused = takes h.given h.stood in
     subst (λ r. MatchResult r
     (λ _. HasTaken StandsFrom first after (lines ++ line ∷ []) (HasGiven old new batch))
-    (λ fault. ExplainsTaking StandsFrom BeginsFrom RefusesFrom first after old new batch lines line
+    (λ fault. ExplainsTaking (line_run listener_taker first after old new) batch lines line
     fault)) (sym answer) (
       refused.0,
       record {

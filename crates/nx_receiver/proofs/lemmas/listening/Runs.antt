@@ -12,7 +12,7 @@ use Rattle.nx_fec.specs.air_files.AirFile.{Line, moment, elements, refuse_statio
 use Rattle.nx_fec.specs.air_files.AirFile.{refuse_subject, accept_subject, element_digit, mark_bytes}
 use Rattle.nx_fec.specs.Transfers.{CountedDevice, Devices, Extent, HasWritten, Reads, Writes}
 use Rattle.nx_fec.specs.Transfers.{as_read, devices, whole_input}
-use Rattle.nx_fec.specs.air_files.LineRuns.{ExplainsLines, HasTaken, HasTakenAll, RunsLines}
+use Rattle.nx_fec.specs.air_files.LineRuns.{ExplainsLines, HasTaken, HasTakenAll, RunsLines, line_run}
 use Rattle.nx_fec.specs.air_files.Lines.{IsLineRefused, air_limit, elements_of, file_of, line_bytes}
 use Rattle.nx_fec.specs.declared.fault.LineFault.TheVariants as file
 use Rattle.nx_fec.specs.declared.air_files.line_taking.LinesFault.{LinesFault}
@@ -25,9 +25,9 @@ use Rattle.nx_receiver.specs.air_file_runs.Listen.{AnswersListening, HasListened
 use Rattle.nx_receiver.specs.air_file_runs.Listen.{IsLogOf, Listens, RefusesAfter, given_by, given_of}
 use Rattle.nx_receiver.specs.air_file_runs.Listen.{lines_fault, refusal_fault}
 use Rattle.nx_receiver.specs.copies.Shares.{Starts}
-use Rattle.nx_receiver.specs.private.Listener.{BeginsFrom, HasClosed, HasClosedSome, IsListening}
+use Rattle.nx_receiver.specs.private.Listener.{HasClosed, HasClosedSome, IsListening}
 use Rattle.nx_receiver.specs.Listener.{Listening}
-use Rattle.nx_receiver.specs.private.Listener.{RefusesFrom, RefusesLine, StandsFrom}
+use Rattle.nx_receiver.specs.private.Listener.{RefusesLine, StandsFrom, listener_taker}
 use Rattle.nx_receiver.specs.Listener.{elements_given, elements_in}
 use Rattle.nx_receiver.specs.Listener.{starts_of}
 use Rattle.nx_receiver.specs.declared.air_file_runs.listen_fault.ListenFault.{ListenFault}
@@ -97,16 +97,7 @@ next-refused starts number lines rest more why h = record {
 -- what a fault of the lines explains
 pub explains : (extent : Extent) (first now : Listening)
     (old new : Option (List ℕ)) (bytes : List ℕ) (fault : LinesFault LineRefusal)
-    → ExplainsLines (record {
-      stands = StandsFrom;
-      begins = BeginsFrom;
-      refuses = RefusesFrom;
-      first = first;
-      now = now;
-      limit = air_limit;
-      writer_first = old;
-      writer_now = new;
-    }) extent (Appends old new) bytes fault
+    → ExplainsLines (line_run listener_taker first now old new) extent (Appends old new) bytes fault
     → AnswersListening (starts_of first) extent old new (Err (lines_fault fault)) bytes
 explains extent first now old new bytes run.Read h =
     StopsAt-map bytes _ _ (λ lines rest more p. (p.0, p.1, logged first now old new lines p.2)) h
@@ -213,7 +204,7 @@ listens-by starts d outcome r w = record {
 -- a run over lines that ended early is a run of `listen` that did
 pub listens-fault : {R W : Type 0} (first now : Listening) (d : Devices R W)
     (fault : LinesFault LineRefusal)
-    → RunsLines StandsFrom BeginsFrom RefusesFrom air_limit first now d (Err fault)
+    → RunsLines listener_taker first now d (Err fault)
     → Listens (starts_of first) d (Err (lines_fault fault))
 listens-fault first now d fault h =
     listens-by (starts_of first) d (Err (lines_fault fault))
@@ -280,7 +271,7 @@ lines-fewer (line ∷ lines) =
 -- the whole file was read, and its end printed
 pub listened : (first now : Listening) (old mid new : Option (List ℕ)) (bytes : List ℕ)
     (read : LinesRead) (report : Report)
-    → HasTakenAll StandsFrom first now old mid air_limit bytes read
+    → HasTakenAll (line_run listener_taker first now old mid) bytes read
     → ((lines : List Line) (given : List ℕ) → IsListening (starts_of first) now lines given
     → HasWritten old mid given read.written
     → HasClosed (starts_of first) old new (given_by lines) report)
@@ -310,7 +301,8 @@ listened first now old mid new bytes read report h closed counted =
 
 -- the whole file was read, and a write of what its end prints failed
 part-listened : (first now : Listening) (old mid new : Option (List ℕ)) (bytes : List ℕ)
-    (read : LinesRead) (written : ℕ) → HasTakenAll StandsFrom first now old mid air_limit bytes read
+    (read : LinesRead) (written : ℕ)
+    → HasTakenAll (line_run listener_taker first now old mid) bytes read
     → ((lines : List Line) (given : List ℕ) → IsListening (starts_of first) now lines given
     → HasWritten old mid given read.written
     → HasClosedSome (starts_of first) old new (given_by lines) written)
@@ -335,7 +327,7 @@ write-not_read written e = cc
 pub listens-part : {R W : Type 0} (remaining : R → Option (List ℕ)) (contents : W → Option (List ℕ))
     (first now : Listening) (reader reader_after : CountedDevice R)
     (writer mid new : CountedDevice W) (read : LinesRead) (written : ℕ)
-    → RunsLines StandsFrom BeginsFrom RefusesFrom air_limit first now
+    → RunsLines listener_taker first now
     (devices remaining contents reader reader_after writer mid) (Ok read)
     → ((lines : List Line) (given : List ℕ) → IsListening (starts_of first) now lines given
     → HasWritten (contents writer.inner) (contents mid.inner) given read.written

@@ -7,10 +7,9 @@ use Rattle.std.specs.declared.alloc.AllocError.{AllocError}
 use Rattle.std.proofs.KnownBytes.{Consumes-nil}
 use Rattle.nx_fec.specs.air_files.AirFile.{Line}
 use Rattle.nx_fec.specs.air_files.LineRuns.{ExplainsLines, HasHeardAll, HasTaken, HasTakenAll, HearsLines}
-use Rattle.nx_fec.specs.air_files.LineRuns.{StopsLines}
+use Rattle.nx_fec.specs.air_files.LineRuns.{StopsLines, line_run}
 use Rattle.nx_fec.specs.declared.air_files.line_hearing.HearFault.{HearFault}
 use Rattle.nx_fec.specs.declared.air_files.line_hearing.HearFault.TheVariants as hear
-use Rattle.nx_fec.specs.air_files.Lines.{air_limit}
 use Rattle.nx_fec.specs.Transfers.{CountedDevice, Extent, read_to, whole_input}
 use Rattle.nx_fec.specs.declared.fault.LineFault.TheVariants as file
 use Rattle.nx_fec.specs.declared.air_files.line_taking.LinesFault.TheVariants as run
@@ -21,8 +20,9 @@ use Rattle.nx_memory.specs.Saved.{SavedStates}
 use Rattle.nx_receiver.specs.air_file_runs.Listen.{AnswersUnlogged, given_by}
 use Rattle.nx_receiver.specs.copies.Shares.{Starts, starts_from}
 use Rattle.nx_receiver.specs.Listener.{Listening, count_of, starts_of}
-use Rattle.nx_receiver.specs.private.Listener.{BeginsFrom, HasClosed, IsListening}
+use Rattle.nx_receiver.specs.private.Listener.{HasClosed, IsListening}
 use Rattle.nx_receiver.specs.private.Listener.{RefusesFrom, RefusesLine, StandsFrom}
+use Rattle.nx_receiver.specs.private.Listener.{listener_taker}
 use Rattle.nx_receiver.specs.air_file_runs.Listen.{lines_fault}
 use Rattle.nx_receiver.specs.private.Unlogged.{AnswersLeaving, HasHeard, ListensUnlogged}
 use Rattle.nx_receiver.specs.private.Unlogged.{StandsUnlogged, as_run_fault}
@@ -56,36 +56,23 @@ told first now lines h = record { given = h.0; stood = h.1; here = tt }
 -- a fault of the lines, as one of a run that writes
 explains-run : (extent : Extent) (first now : Listening) (bytes : List ℕ)
     (fault : HearFault LineRefusal)
-    → StopsLines (RefusesFrom first) (StandsUnlogged first now) extent.at_end extent.is_left
-    air_limit bytes fault
-    → ExplainsLines (record {
-      stands = StandsFrom;
-      begins = BeginsFrom;
-      refuses = RefusesFrom;
-      first = first;
-      now = now;
-      limit = air_limit;
-      writer_first = None;
-      writer_now = None;
-    }) extent (Appends None None) bytes (as_run_fault fault)
+    → StopsLines (RefusesFrom first) (StandsUnlogged first now) extent bytes fault
+    → ExplainsLines (line_run listener_taker first now None None) extent (Appends None None) bytes
+    (as_run_fault fault)
 explains-run extent first now bytes hear.Read h =
-    StopsLines-map (RefusesFrom first) (StandsUnlogged first now) _ extent.at_end extent.is_left
-    air_limit bytes
+    StopsLines-map (RefusesFrom first) (StandsUnlogged first now) _ extent bytes
     hear.Read (told first now) h
 explains-run extent first now bytes (hear.Line why) h =
-    StopsLines-map (RefusesFrom first) (StandsUnlogged first now) _ extent.at_end extent.is_left
-    air_limit bytes
+    StopsLines-map (RefusesFrom first) (StandsUnlogged first now) _ extent bytes
     (hear.Line why) (told first now) h
 explains-run extent first now bytes (hear.Refused line why) h =
-    StopsLines-map (RefusesFrom first) (StandsUnlogged first now) _ extent.at_end extent.is_left
-    air_limit bytes
+    StopsLines-map (RefusesFrom first) (StandsUnlogged first now) _ extent bytes
     (hear.Refused line why) (told first now) h
 
 -- what a fault of the lines explains
 explains-unlogged : (extent : Extent) (first now : Listening)
     (bytes : List ℕ) (fault : HearFault LineRefusal)
-    → StopsLines (RefusesFrom first) (StandsUnlogged first now) extent.at_end extent.is_left
-    air_limit bytes fault
+    → StopsLines (RefusesFrom first) (StandsUnlogged first now) extent bytes fault
     → AnswersUnlogged (starts_of first) extent
     (Err (lines_fault (as_run_fault fault))) bytes
 explains-unlogged extent first now bytes hear.Read h =
@@ -127,13 +114,12 @@ hear-err-of a b e = cc
 pub unlogged-fault : {R : Type 0} (saved : SavedStates) (first now : Listening)
     (remaining : R → Option (List ℕ)) (old new : CountedDevice R) (fault : HearFault LineRefusal)
     → starts_of first ≡ starts_from saved
-    → HearsLines (RefusesFrom first) (StandsUnlogged first now) air_limit remaining old new
+    → HearsLines (RefusesFrom first) (StandsUnlogged first now) remaining old new
     (Err fault)
     → ListensUnlogged saved remaining old new (Err (lines_fault (as_run_fault fault)))
 unlogged-fault saved first now remaining old new fault begun h =
     let said : (extent : Extent) (bytes : List ℕ)
-    → StopsLines (RefusesFrom first) (StandsUnlogged first now) extent.at_end extent.is_left
-    air_limit bytes fault
+    → StopsLines (RefusesFrom first) (StandsUnlogged first now) extent bytes fault
     → AnswersLeaving saved extent (Err (lines_fault (as_run_fault fault))) bytes =
     λ extent bytes k. (
       subst (λ (starts : Starts). AnswersUnlogged starts extent
@@ -150,8 +136,8 @@ unlogged-fault saved first now remaining old new fault begun h =
 
 -- all lines were taken, and there is a log of them
 told-all : (first now : Listening) (bytes : List ℕ) (count : ℕ)
-    → (h : HasHeardAll (StandsUnlogged first now) air_limit bytes count)
-    → HasTakenAll StandsFrom first now None None air_limit bytes
+    → (h : HasHeardAll (StandsUnlogged first now) bytes count)
+    → HasTakenAll (line_run listener_taker first now None None) bytes
     (record { lines = count; written = count_of (length h.here.0) })
 told-all first now bytes count h = record {
   lines = h.lines;
@@ -168,7 +154,7 @@ told-all first now bytes count h = record {
 pub unlogged-ok : {R : Type 0} (saved left : SavedStates) (first now : Listening)
     (remaining : R → Option (List ℕ)) (old new : CountedDevice R) (count : ℕ) (report : Report)
     → starts_of first ≡ starts_from saved
-    → HearsLines (RefusesFrom first) (StandsUnlogged first now) air_limit remaining old new
+    → HearsLines (RefusesFrom first) (StandsUnlogged first now) remaining old new
     (Ok count)
     → ((lines : List Line) (given : List ℕ) → IsListening (starts_of first) now lines given
     → HasClosed (starts_of first) None None (given_by lines) report)
@@ -177,7 +163,7 @@ pub unlogged-ok : {R : Type 0} (saved left : SavedStates) (first now : Listening
     → report.lines ≡ count → ListensUnlogged saved remaining old new (Ok (report, left))
 unlogged-ok saved left first now remaining old new count report begun h closed leaves counted =
     let said : (extent : Extent) (bytes : List ℕ)
-    → extent.at_end × HasHeardAll (StandsUnlogged first now) air_limit bytes count
+    → extent.at_end × HasHeardAll (StandsUnlogged first now) bytes count
     → AnswersLeaving saved extent (Ok (report, left)) bytes =
     λ extent bytes k.
     let all : LinesRead = record { lines = count; written = count_of (length k.1.here.0) } in
@@ -192,8 +178,8 @@ unlogged-ok saved left first now remaining old new count report begun h closed l
     ) in
     Reads-on remaining old new hear.Read Read (Ok count) (Ok (report, left))
     (λ bytes. IsAtEnd (remaining new.inner)
-    × HasHeardAll (StandsUnlogged first now) air_limit bytes count)
-    (λ bytes. Unit {0} × HasHeardAll (StandsUnlogged first now) air_limit bytes count)
+    × HasHeardAll (StandsUnlogged first now) bytes count)
+    (λ bytes. Unit {0} × HasHeardAll (StandsUnlogged first now) bytes count)
     (AnswersLeaving saved (read_to (IsAtEnd (remaining new.inner))) (Ok (report, left)))
     (AnswersLeaving saved whole_input (Ok (report, left)))
     h (λ bytes k. said (read_to (IsAtEnd (remaining new.inner))) bytes k)

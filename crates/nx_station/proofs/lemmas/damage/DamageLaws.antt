@@ -15,7 +15,7 @@ use Rattle.nx_fec.specs.air_files.AirFile.{spelling}
 use Rattle.nx_fec.specs.air_files.Channels.{channel_of, same_channel}
 use Rattle.nx_fec.specs.Transfers.{WroteSome, Devices, Extent, as_read, whole_input}
 use Rattle.nx_fec.specs.air_files.LineRuns.{Beginning, HasTaken, HasTakenAll, HasTakenSome, IsPlaced}
-use Rattle.nx_fec.specs.air_files.LineRuns.{Refusing, RunsLines, Standing}
+use Rattle.nx_fec.specs.air_files.LineRuns.{Refusing, RunsLines, Standing, line_run, taker_of}
 use Rattle.nx_fec.specs.air_files.Lines.{StopsAt, IsCause, elements_on, file_of, line_bytes}
 use Rattle.nx_fec.specs.air_files.Scanner.{kind_kept, kind_of}
 use Rattle.nx_fec.specs.declared.air_files.lines.LineKind.TheVariants.{Elements}
@@ -314,16 +314,17 @@ taken-appends : (first now : Damager) (lines : List Line) (old new : Option (Lis
     → Appends old new (damaged_file (damage_of first) lines)
 taken-appends first now lines old new h = subst (Appends old new) h.stood.whole h.here
 
-some-damaged : (first : Damager) (lines : List Line) (old new : Option (List ℕ)) (written : ℕ)
-    → HasTakenSome begins first old new lines written
+some-damaged : (first now : Damager) (lines : List Line) (old new : Option (List ℕ)) (written : ℕ)
+    → HasTakenSome (line_run (taker_of stands begins refuses) first now old new) lines written
     → WroteSome old new (damaged_file (damage_of first) lines) written
-some-damaged first lines old new written h = subst (λ l. WroteSome old new l written) h.begun h.some
+some-damaged first now lines old new written h =
+    subst (λ l. WroteSome old new l written) h.begun h.some
 
 -- ---- the outcomes
 
 abbrev pub Ran : {R W : Type 0} → Damager → Damager → Devices R W
     → Result LinesRead (LinesFault (Unit {0})) → Type 0
-Ran first now d outcome = RunsLines stands begins refuses 268435456 first now d outcome
+Ran first now d outcome = RunsLines (taker_of stands begins refuses) first now d outcome
 
 pub refused-none : {R W : Type 0} (d : Devices R W) (first now : Damager) (line : ℕ)
     (why : Unit {0}) (fault : LinesFault (Unit {0})) → fault ≡ run.Refused line why
@@ -370,7 +371,8 @@ write-read : (written : ℕ) → ◌≡◌ {A = Result ℕ DamageFault} (Err (Wr
 write-read written e = cc
 
 whole-damaged : (first now : Damager) (old new : Option (List ℕ)) (bytes : List ℕ)
-    (read : LinesRead) → HasTakenAll stands first now old new 268435456 bytes read
+    (read : LinesRead)
+    → HasTakenAll (line_run (taker_of stands begins refuses) first now old new) bytes read
     → (text : List ℕ) × IsDamaged (damage_of first) 268435456 bytes text now.inverted
     × Appends old new text
 whole-damaged first now old new bytes read h =
@@ -438,10 +440,10 @@ damaged-write : {R W : Type 0} (d : Devices R W) (first now : Damager) (written 
 damaged-write d first now written h = record {
   reads = Reads-on _ _ _ _ _ _ _ _ _ _ _ h.reads
       (λ bytes k. StopsAt-map bytes _ _
-      (λ lines rest more p. some-damaged first lines _ _ written p)
+      (λ lines rest more p. some-damaged first now lines _ _ written p)
       k)
       (λ bytes k. StopsAt-map bytes _ _
-      (λ lines rest more p. some-damaged first lines _ _ written p)
+      (λ lines rest more p. some-damaged first now lines _ _ written p)
       k) (λ bytes k h outside. tt) (λ e. absurd (write-read written e))
       (λ e. absurd (run-write-read written e));
   writes = record {

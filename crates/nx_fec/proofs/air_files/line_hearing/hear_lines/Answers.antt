@@ -3,6 +3,7 @@ use Rattle.std.proofs.lemmas.Result.{err_from_is_err_and}
 use Rattle.std.proofs.KnownBytes.{Consumes-trans, Consumes-kept}
 use Rattle.nx_fec.specs.air_files.Lines.{IsCause}
 use Rattle.nx_fec.specs.air_files.LineRuns.{StopsLines}
+use Rattle.nx_fec.specs.Transfers.{inside}
 use Rattle.nx_fec.proofs.lemmas.line_runs.Hearing.{HearsLines-of, Line-unread}
 use Rattle.nx_fec.proofs.lemmas.line_runs.LineRun.{IsPlaced-end, StopsAt-end, StopsLines-not_read}
 use Rattle.nx_fec.proofs.lemmas.line_runs.LineRun.{StopsLines-piece, scanned-within}
@@ -17,7 +18,7 @@ loop-count-preserved g c = record {
       let r = c.loop-count.invariant.taken first s in (
         r.0 ++ take c.in-Bytes.count c.next_piece.new.buffer,
         Consumes-trans _ _ _ _ _ r.1 c.in-Bytes.ensures.2,
-        c.in_ok-hear_piece-in-Bytes.ensures.heard first 268435456 r.0 r.2,
+        c.in_ok-hear_piece-in-Bytes.ensures.heard first r.0 r.2,
       );
 }
 
@@ -27,15 +28,15 @@ returns-in_err-hear_piece-in-Bytes g c = λ first s.
     let r = c.loop-count.invariant.taken first s in
     let piece = take c.in-Bytes.count c.next_piece.new.buffer in
     let p = err_from_is_err_and c.from_residual.result c.from_residual.ensures.1 in
-    let stops = subst (λ l. StopsLines (t.refuses first) (t.stands first c.hear_piece.new.taker) ⊥
-    (λ _. ⊥) 268435456 l c.in_err-hear_piece-in-Bytes.field-0.0) (append-nil (r.0 ++ piece))
-    (c.in_err-hear_piece-in-Bytes.ensures.heard first 268435456 r.0 r.2 []) in
+    let stops = subst (λ l. StopsLines (t.refuses first) (t.stands first c.hear_piece.new.taker)
+    inside l c.in_err-hear_piece-in-Bytes.field-0.0) (append-nil (r.0 ++ piece))
+    (c.in_err-hear_piece-in-Bytes.ensures.heard first r.0 r.2 []) in
     rw p.1 (rw p.2 (HearsLines-of (t.refuses first) (t.stands first c.hear_piece.new.taker)
-    268435456 _ _ _ _ (r.0 ++ piece) (Consumes-trans _ _ _ _ _ r.1 c.in-Bytes.ensures.2)
-    (StopsLines-piece (t.refuses first) (t.stands first c.hear_piece.new.taker) _ _ 268435456
+    _ _ _ _ (r.0 ++ piece) (Consumes-trans _ _ _ _ _ r.1 c.in-Bytes.ensures.2)
+    (StopsLines-piece (t.refuses first) (t.stands first c.hear_piece.new.taker) _
     (r.0 ++ piece) c.in_err-hear_piece-in-Bytes.field-0.0 stops)
     (read_failed-none _ _ _ (StopsLines-not_read (t.refuses first)
-    (t.stands first c.hear_piece.new.taker) 268435456 (r.0 ++ piece)
+    (t.stands first c.hear_piece.new.taker) (r.0 ++ piece)
     c.in_err-hear_piece-in-Bytes.field-0.0 stops) c.in-Bytes.ensures.3)
     (omega (arith, c.in-Bytes.ensures.3))))
 
@@ -43,7 +44,7 @@ pub returns-in-Failed : goal.returns-in-Failed
 returns-in-Failed g c = λ first s.
     let t = g.T.LineHearer in
     let r = c.loop-count.invariant.taken first s in
-    HearsLines-of (t.refuses first) (t.stands first c.loop-count.taker) 268435456 _ _ _ _ r.0
+    HearsLines-of (t.refuses first) (t.stands first c.loop-count.taker) _ _ _ _ r.0
     (Consumes-kept _ _ _ r.0 r.1 c.in-Failed.ensures.0)
     (StopsAt-end 268435456 c.loop-count.scanner r.0 r.2.lines _ r.2.scans (
       scanned-within 268435456 c.loop-count.scanner r.0 r.2.lines r.2.scans,
@@ -58,8 +59,8 @@ returns-in_err-end g c = λ first s.
     let r = c.loop-count.invariant.taken first s in
     let p = err_from_is_err_and c.from_residual-in_err-end.result
     c.from_residual-in_err-end.ensures.1 in
-    rw p.1 (rw p.2 (HearsLines-of (t.refuses first) (t.stands first c.loop-count.taker) 268435456 _
-    _ _ _ r.0 (Consumes-kept _ _ _ r.0 r.1 c.in-End.ensures.0) (
+    rw p.1 (rw p.2 (HearsLines-of (t.refuses first) (t.stands first c.loop-count.taker) _ _
+    _ _ r.0 (Consumes-kept _ _ _ r.0 r.1 c.in-End.ensures.0) (
       IsPlaced-end _ c.in_err-end.field-0.0 c.in-End.ensures.1,
       StopsAt-end 268435456 c.loop-count.scanner r.0 r.2.lines _ r.2.scans (
         subst (λ l. IsCause 268435456 (length l) r.2.lines c.loop-count.scanner.part []
@@ -75,7 +76,7 @@ pub returns : goal.returns
 returns g c = λ first s.
     let t = g.T.LineHearer in
     let r = c.loop-count.invariant.taken first s in
-    HearsLines-of (t.refuses first) (t.stands first c.loop-count.taker) 268435456 _ _ _ _ r.0
+    HearsLines-of (t.refuses first) (t.stands first c.loop-count.taker) _ _ _ _ r.0
     (Consumes-kept _ _ _ r.0 r.1 c.in-End.ensures.0) (
       c.in-End.ensures.1,
       record {

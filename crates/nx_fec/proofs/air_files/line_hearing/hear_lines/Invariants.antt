@@ -10,7 +10,7 @@ invariant-loop-count g l = record {
   chunk : 0 < length l.buffer;
   taken : (first : g.row.T.Denot) → g.T.LineHearer.stands first l.fn.taker [] → (bytes : List ℕ)
       × Consumes (g.R.Read.remaining l.fn.reader.inner) (g.R.Read.remaining l.reader.inner) bytes
-      × IsHearing (g.T.LineHearer.stands first l.taker) 268435456 l.scanner bytes;
+      × IsHearing (g.T.LineHearer.stands first l.taker) l.scanner bytes;
 }
 
 abbrev pub decreases-loop-count : goal.decreases-loop-count

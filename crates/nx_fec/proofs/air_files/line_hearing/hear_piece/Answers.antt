@@ -1,18 +1,19 @@
 use Rattle.std.proofs.Common.{◌++◌, take, subst, arith}
 use Rattle.std.proofs.lemmas.Result.{err_from_is_err_and}
 use Rattle.nx_fec.specs.air_files.LineRuns.{StopsLines}
+use Rattle.nx_fec.specs.Transfers.{inside}
 use Rattle.nx_fec.specs.private.LineTaking.{IsHearing}
 use Rattle.nx_fec.proofs.lemmas.devices.Piece.{piece-next, piece-rest}
 use Rattle.nx_fec.proofs.air_files.line_hearing.hear_piece.Goals as goal
 
 pub returns-in_err-at-clause-heard : goal.returns-in_err-at-clause-heard
-returns-in_err-at-clause-heard g c = λ first limit bytes h.
+returns-in_err-at-clause-heard g c = λ first bytes h.
     let p = err_from_is_err_and c.from_residual.result c.from_residual.ensures.1 in
     rw p.1 (rw p.2 (λ more. subst (λ l. StopsLines (g.T.LineHearer.refuses first)
-    (g.T.LineHearer.stands first c.hear_line.new.taker) ⊥ (λ _. ⊥) limit l c.in_err-at.field-0.0)
+    (g.T.LineHearer.stands first c.hear_line.new.taker) inside l c.in_err-at.field-0.0)
     (piece-rest bytes c.args.piece.now more c.loop-at.at)
-    (c.in_err-at.ensures.heard first limit (bytes ++ take c.loop-at.at c.args.piece.now)
-    (c.loop-at.invariant.heard first limit bytes h) more)))
+    (c.in_err-at.ensures.heard first (bytes ++ take c.loop-at.at c.args.piece.now)
+    (c.loop-at.invariant.heard first bytes h) more)))
 
 pub loop-at-preserved : goal.loop-at-preserved
 loop-at-preserved g c =
@@ -20,10 +21,10 @@ loop-at-preserved g c =
     record {
       within = omega (arith, some.1);
       room = omega (arith, some.2, c.loop-at.invariant.room);
-      heard = λ first limit bytes h.
-          subst (IsHearing (g.T.LineHearer.stands first c.hear_line.new.taker) limit
+      heard = λ first bytes h.
+          subst (IsHearing (g.T.LineHearer.stands first c.hear_line.new.taker)
           c.hear_line.new.scanner)
           (piece-next bytes c.args.piece.now c.loop-at.at c.in_ok-at.field-0)
-          (c.in_ok-at.ensures.heard first limit (bytes ++ take c.loop-at.at c.args.piece.now)
-          (c.loop-at.invariant.heard first limit bytes h));
+          (c.in_ok-at.ensures.heard first (bytes ++ take c.loop-at.at c.args.piece.now)
+          (c.loop-at.invariant.heard first bytes h));
     }

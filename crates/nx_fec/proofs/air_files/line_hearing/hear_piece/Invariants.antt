@@ -7,9 +7,9 @@ abbrev pub invariant-loop-at : goal.invariant-loop-at
 invariant-loop-at g l = record {
   within : l.at ≤ length l.piece;
   room : l.scanner.room + l.at ≡ l.fn.scanner.room;
-  heard : (first : g.row.T.Denot) (limit : ℕ) (bytes : List ℕ)
-      → IsHearing (g.T.LineHearer.stands first l.fn.taker) limit l.fn.scanner bytes
-      → IsHearing (g.T.LineHearer.stands first l.taker) limit l.scanner
+  heard : (first : g.row.T.Denot) (bytes : List ℕ)
+      → IsHearing (g.T.LineHearer.stands first l.fn.taker) l.fn.scanner bytes
+      → IsHearing (g.T.LineHearer.stands first l.taker) l.scanner
       (bytes ++ take l.at l.piece);
 }
 

@@ -3,6 +3,7 @@ use Rattle.std.specs.Io.KnownBytes.{Appends}
 use Rattle.std.proofs.KnownBytes.{Consumes-trans, Consumes-kept}
 use Rattle.nx_fec.specs.air_files.Lines.{IsCause}
 use Rattle.nx_fec.specs.air_files.LineRuns.{ExplainsLines, HasGiven, HasTakenSome}
+use Rattle.nx_fec.specs.air_files.LineRuns.{line_run, taker_of}
 use Rattle.nx_fec.specs.Transfers.{inside}
 use Rattle.nx_fec.proofs.lemmas.line_runs.LineRun.{ExplainsLines-not_read, ExplainsLines-piece, HasGiven-empty}
 use Rattle.nx_fec.proofs.lemmas.line_runs.LineRun.{HasGiven-written, HasTaken-map, IsPlaced-end, IsTaking-sent}
@@ -18,9 +19,10 @@ returns-in-Err g c = λ first s.
     let r = c.loop-fault.invariant.taken first s in
     let old = g.W.Write.contents c.args.writer.now.inner in
     let new = g.W.Write.contents c.send.new.writer.inner in
-    RunsLines-of t.stands t.begins t.refuses first c.loop-fault.taker 268435456 _ _ r.0 r.1
+    RunsLines-of t.stands t.begins t.refuses first c.loop-fault.taker _ _ r.0 r.1
     (StopsAt-end 268435456 c.loop-fault.scanner r.0 r.2.lines
-    (λ lines rest more. HasTakenSome t.begins first old new lines c.in-Err.fault.written)
+    (λ lines rest more. HasTakenSome (line_run (taker_of t.stands t.begins t.refuses) first
+    c.loop-fault.taker old new) lines c.in-Err.fault.written)
     r.2.scans
     (taken-some t.stands t.begins t.refuses first c.loop-fault.taker old new
     (HasGiven old (g.W.Write.contents c.loop-fault.writer.inner) c.loop-fault.batch) r.2.lines
@@ -44,7 +46,7 @@ returns-in-Failed g c = λ first s.
     let r = c.loop-fault.invariant.taken first s in
     let old = g.W.Write.contents c.args.writer.now.inner in
     let new = g.W.Write.contents c.send.new.writer.inner in
-    RunsLines-of t.stands t.begins t.refuses first _ 268435456 _ _ r.0
+    RunsLines-of t.stands t.begins t.refuses first _ _ _ r.0
     (Consumes-kept _ _ _ r.0 r.1 c.in-Failed.ensures.0)
     (StopsAt-end 268435456 c.loop-fault.scanner r.0 r.2.lines _ r.2.scans (
       scanned-within 268435456 c.loop-fault.scanner r.0 r.2.lines r.2.scans,
@@ -64,29 +66,21 @@ returns-in-Err-take_piece g c = λ first s.
     let r = c.loop-fault.invariant.taken first s in
     let old = g.W.Write.contents c.args.writer.now.inner in
     let piece = take c.in-Bytes.count c.next_piece.new.buffer in
-    let sent = IsTaking-sent t.stands first c.loop-fault.taker 268435456 c.loop-fault.scanner old _
+    let sent = IsTaking-sent t.stands first c.loop-fault.taker c.loop-fault.scanner old _
     (g.W.Write.contents c.send.new.writer.inner) c.loop-fault.batch c.send.new.self r.0
     (λ given k. c.in_default.ensures.bytes old given k) r.2 in
-    let explained = subst (λ l. ExplainsLines (record {
-      stands = t.stands;
-      begins = t.begins;
-      refuses = t.refuses;
-      first = first;
-      now = c.take_piece.new.taker;
-      limit = 268435456;
-      writer_first = old;
-      writer_now = g.W.Write.contents c.take_piece.new.writer.inner;
-    }) inside
+    let explained = subst (λ l. ExplainsLines (line_run (taker_of t.stands t.begins t.refuses)
+    first c.take_piece.new.taker old (g.W.Write.contents c.take_piece.new.writer.inner)) inside
     (HasGiven old (g.W.Write.contents c.take_piece.new.writer.inner) c.take_piece.new.batch) l
     c.in-Err-take_piece.fault) (append-nil (r.0 ++ piece))
-    (c.in-Err-take_piece.ensures.taken first old 268435456 r.0 sent []) in
-    let settled = c.settle.ensures.settled first c.take_piece.new.taker old 268435456 (r.0 ++ piece)
+    (c.in-Err-take_piece.ensures.taken first old r.0 sent []) in
+    let settled = c.settle.ensures.settled first c.take_piece.new.taker old (r.0 ++ piece)
     explained in
-    RunsLines-of t.stands t.begins t.refuses first _ 268435456 _ _ (r.0 ++ piece)
+    RunsLines-of t.stands t.begins t.refuses first _ _ _ (r.0 ++ piece)
     (Consumes-trans _ _ _ _ _ r.1 c.in-Bytes.ensures.2)
-    (ExplainsLines-piece t.stands t.begins t.refuses _ first _ 268435456 old _ _ (r.0 ++ piece)
+    (ExplainsLines-piece t.stands t.begins t.refuses _ first _ old _ _ (r.0 ++ piece)
     c.settle.result settled)
-    (read_failed-none _ _ _ (ExplainsLines-not_read t.stands t.begins t.refuses first _ 268435456
+    (read_failed-none _ _ _ (ExplainsLines-not_read t.stands t.begins t.refuses first _
     old _ _ (r.0 ++ piece) c.settle.result settled) c.in-Bytes.ensures.3)
     (omega (arith, c.in-Bytes.ensures.3)) (Writes-fault _ _ _ c.settle.ensures.writes)
 
@@ -99,12 +93,12 @@ loop-fault-preserved g c = record {
       let t = g.T.LineTaker in
       let r = c.loop-fault.invariant.taken first s in
       let old = g.W.Write.contents c.args.writer.now.inner in
-      let sent = IsTaking-sent t.stands first c.loop-fault.taker 268435456 c.loop-fault.scanner old
+      let sent = IsTaking-sent t.stands first c.loop-fault.taker c.loop-fault.scanner old
       _ (g.W.Write.contents c.send.new.writer.inner) c.loop-fault.batch c.send.new.self r.0
       (λ given k. c.in_default.ensures.bytes old given k) r.2 in (
         r.0 ++ take c.in-Bytes.count c.next_piece.new.buffer,
         Consumes-trans _ _ _ _ _ r.1 c.in-Bytes.ensures.2,
-        c.in_default-take_piece.ensures.taken first old 268435456 r.0 sent,
+        c.in_default-take_piece.ensures.taken first old r.0 sent,
       );
 }
 
@@ -114,7 +108,7 @@ returns-in-Err-end g c = λ first s.
     let r = c.loop-fault.invariant.taken first s in
     let old = g.W.Write.contents c.args.writer.now.inner in
     let new = g.W.Write.contents c.send.new.writer.inner in
-    RunsLines-of t.stands t.begins t.refuses first _ 268435456 _ _ r.0
+    RunsLines-of t.stands t.begins t.refuses first _ _ _ r.0
     (Consumes-kept _ _ _ r.0 r.1 c.in-End.ensures.0) (
       IsPlaced-end _ c.in-Err-end.fault c.in-End.ensures.1,
       StopsAt-end 268435456 c.loop-fault.scanner r.0 r.2.lines _ r.2.scans (
@@ -137,7 +131,7 @@ returns g c = λ first s.
     let r = c.loop-fault.invariant.taken first s in
     let old = g.W.Write.contents c.args.writer.now.inner in
     let new = g.W.Write.contents c.send.new.writer.inner in
-    RunsLines-of t.stands t.begins t.refuses first _ 268435456 _ _ r.0
+    RunsLines-of t.stands t.begins t.refuses first _ _ _ r.0
     (Consumes-kept _ _ _ r.0 r.1 c.in-End.ensures.0) (
       c.in-End.ensures.1,
       record {

@@ -11,7 +11,7 @@ invariant-loop-fault g l = record {
   chunk : 0 < length l.buffer;
   taken : (first : g.row.T.Denot) → g.T.LineTaker.stands first l.fn.taker [] [] → (bytes : List ℕ)
       × Consumes (g.R.Read.remaining l.fn.reader.inner) (g.R.Read.remaining l.reader.inner) bytes
-      × IsTaking g.T.LineTaker.stands first l.taker 268435456 l.scanner
+      × IsTaking g.T.LineTaker.stands first l.taker l.scanner
       (g.W.Write.contents l.fn.writer.inner) (g.W.Write.contents l.writer.inner) l.batch bytes;
 }
 

@@ -9,8 +9,8 @@ pub returns-in-Ok : goal.returns-in-Ok
 returns-in-Ok g c =
     let contents = g.W.Write.contents in
     record {
-      settled = λ first now old limit bytes h.
-          settled g.T.LineTaker.stands g.T.LineTaker.begins g.T.LineTaker.refuses first now limit
+      settled = λ first now old bytes h.
+          settled g.T.LineTaker.stands g.T.LineTaker.begins g.T.LineTaker.refuses first now
           old _ _
           (HasGiven old (contents c.args.writer.now.inner) c.args.batch.now)
           (Appends old (contents c.send.new.writer.inner)) bytes c.args.fault
@@ -25,9 +25,9 @@ pub returns-in-Err : goal.returns-in-Err
 returns-in-Err g c =
     let contents = g.W.Write.contents in
     record {
-      settled = λ first now old limit bytes h.
+      settled = λ first now old bytes h.
           settled-lost g.T.LineTaker.stands g.T.LineTaker.begins g.T.LineTaker.refuses first now
-          limit old _ _
+          old _ _
           (HasGiven old (contents c.args.writer.now.inner) c.args.batch.now)
           (Appends old (contents c.send.new.writer.inner)) bytes c.args.fault
           c.in-Err.lost.written

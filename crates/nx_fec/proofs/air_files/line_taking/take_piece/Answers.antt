@@ -1,5 +1,6 @@
 use Rattle.std.proofs.Common.{◌++◌, take, subst, arith}
 use Rattle.nx_fec.specs.air_files.LineRuns.{ExplainsLines, HasGiven}
+use Rattle.nx_fec.specs.air_files.LineRuns.{line_run, taker_of}
 use Rattle.nx_fec.specs.Transfers.{inside}
 use Rattle.nx_fec.specs.private.LineTaking.{IsTaking}
 use Rattle.nx_fec.proofs.lemmas.devices.Piece.{piece-next, piece-rest}
@@ -7,22 +8,15 @@ use Rattle.nx_fec.proofs.lemmas.devices.TransferLaws.{Ok-not_err, Writes-sound}
 use Rattle.nx_fec.proofs.air_files.line_taking.take_piece.Goals as goal
 
 pub returns-in-Err-clause-taken : goal.returns-in-Err-clause-taken
-returns-in-Err-clause-taken g c = λ first old limit bytes h more.
-    subst (λ l. ExplainsLines (record {
-      stands = g.T.LineTaker.stands;
-      begins = g.T.LineTaker.begins;
-      refuses = g.T.LineTaker.refuses;
-      first = first;
-      now = c.take_line.new.taker;
-      limit = limit;
-      writer_first = old;
-      writer_now = g.W.Write.contents c.take_line.new.writer.inner;
-    }) inside
+returns-in-Err-clause-taken g c = λ first old bytes h more.
+    subst (λ l. ExplainsLines (line_run
+    (taker_of g.T.LineTaker.stands g.T.LineTaker.begins g.T.LineTaker.refuses) first
+    c.take_line.new.taker old (g.W.Write.contents c.take_line.new.writer.inner)) inside
     (HasGiven old (g.W.Write.contents c.take_line.new.writer.inner) c.take_line.new.batch) l
     c.in-Err.fault)
     (piece-rest bytes c.args.piece.now more c.loop-at.at)
-    (c.in-Err.ensures.taken first old limit (bytes ++ take c.loop-at.at c.args.piece.now)
-    (c.loop-at.invariant.taken first old limit bytes h) more)
+    (c.in-Err.ensures.taken first old (bytes ++ take c.loop-at.at c.args.piece.now)
+    (c.loop-at.invariant.taken first old bytes h) more)
 
 pub loop-at-preserved : goal.loop-at-preserved
 loop-at-preserved g c =
@@ -31,11 +25,11 @@ loop-at-preserved g c =
       none = Writes-sound _ _ _ (λ written. Ok-not_err _ _) c.in-Ok.ensures.writes;
       within = omega (arith, some.1);
       room = omega (arith, some.2, c.loop-at.invariant.room);
-      taken = λ first old limit bytes h.
-          subst (IsTaking g.T.LineTaker.stands first c.take_line.new.taker limit
+      taken = λ first old bytes h.
+          subst (IsTaking g.T.LineTaker.stands first c.take_line.new.taker
           c.take_line.new.scanner old (g.W.Write.contents c.take_line.new.writer.inner)
           c.take_line.new.batch)
           (piece-next bytes c.args.piece.now c.loop-at.at c.in-Ok.count)
-          (c.in-Ok.ensures.taken first old limit (bytes ++ take c.loop-at.at c.args.piece.now)
-          (c.loop-at.invariant.taken first old limit bytes h));
+          (c.in-Ok.ensures.taken first old (bytes ++ take c.loop-at.at c.args.piece.now)
+          (c.loop-at.invariant.taken first old bytes h));
     }

@@ -8,10 +8,10 @@ invariant-loop-at g l = record {
   none : l.writer.failures ≡ 0;
   within : l.at ≤ length l.piece;
   room : l.scanner.room + l.at ≡ l.fn.scanner.room;
-  taken : (first : g.row.T.Denot) (old : Option (List ℕ)) (limit : ℕ) (bytes : List ℕ)
-      → IsTaking g.T.LineTaker.stands first l.fn.taker limit l.fn.scanner old
+  taken : (first : g.row.T.Denot) (old : Option (List ℕ)) (bytes : List ℕ)
+      → IsTaking g.T.LineTaker.stands first l.fn.taker l.fn.scanner old
       (g.W.Write.contents l.fn.writer.inner) l.fn.batch bytes
-      → IsTaking g.T.LineTaker.stands first l.taker limit l.scanner old
+      → IsTaking g.T.LineTaker.stands first l.taker l.scanner old
       (g.W.Write.contents l.writer.inner) l.batch (bytes ++ take l.at l.piece);
 }
 
