@@ -5,7 +5,7 @@ use Rattle.std.specs.Prelude.{Result, Ok, Err, IfErr}
 use Rattle.std.specs.declared.alloc.AllocError.{AllocError}
 use Rattle.nx_c.specs.Faults.{resume_told}
 use Rattle.nx_c.specs.Told.{Answer, IsPut, IsTold, Room, answer, ended_told}
-use Rattle.nx_fec.specs.Transfers.{whole_input}
+use Rattle.nx_fec.specs.Transfers.{Contents, whole_input}
 use Rattle.nx_fec.specs.Runs.{AnswersEncoding, AnswersWordRun, IsDecoded, file_limit}
 use Rattle.nx_fec.specs.declared.fault.RunFault.{RunFault}
 use Rattle.nx_fec.specs.declared.fault.RunFault.TheVariants as run
@@ -91,28 +91,31 @@ pub record TellsResuming (state air : List ℕ) (log new_state : Room) (a : Answ
 
 -- ---- runs that write at their end
 
+-- a writer that held nothing, and holds these bytes
+abbrev pub written_anew : List ℕ → Contents
+written_anew bytes = record { before = Some []; after = Some bytes }
+
 -- a run that decodes these bytes writes this text, and none before a fault that isn't one of
 -- writing
 pub record DecodesTo (air text : List ℕ) (outcome : Result ℕ RunFault) : Type 0 where
   pub answers : AnswersWordRun
       (λ text count. IsDecoded file_limit air text × (count ≡ length text))
-      (Unit {0}) file_limit air (Some []) (Some text) outcome
+      whole_input air (written_anew text) outcome
   pub unwritten : IfErr outcome (λ why. ((written : ℕ) → why ≢ run.Write written) → text ≡ [])
 
 -- a run that encodes this text writes these bytes, or none
 pub record EncodesTo (text air : List ℕ) (outcome : Result ℕ RunFault) : Type 0 where
-  pub answers : AnswersEncoding (Unit {0}) file_limit text (Some []) (Some air) outcome
+  pub answers : AnswersEncoding whole_input text (written_anew air) outcome
   pub unwritten : IfErr outcome (λ why. ((written : ℕ) → why ≢ run.Write written) → air ≡ [])
 
 -- a run that sends this message file of a station, from a moment on, writes these bytes, or none
 pub record SendsTo (station moment : ℕ) (file air : List ℕ) (outcome : Result Sent SendRunFault)
     : Type 0 where
-  pub answers : AnswersSending whole_input file_limit station moment file (Some []) (Some air)
-      outcome
+  pub answers : AnswersSending station moment whole_input file (written_anew air) outcome
   pub unwritten : IfErr outcome (λ why. ((written : ℕ) → why ≢ sending.Write written) → air ≡ [])
 
 -- a run that checks these bytes writes this text, or none
 pub record ChecksTo (air text : List ℕ) (outcome : Result ℕ CheckFault) : Type 0 where
-  pub answers : AnswersChecking whole_input file_limit air (Some []) (Some text) outcome
+  pub answers : AnswersChecking whole_input air (written_anew text) outcome
   pub unwritten : IfErr outcome (λ why.
       ((written : ℕ) → why ≢ Run (run.Write written)) → text ≡ [])

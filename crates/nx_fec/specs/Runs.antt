@@ -1,11 +1,12 @@
 -- What a run over an air file answers (this profile).
-use Rattle.std.specs.Prelude.{◌≡◌, ◌≢◌, ℕ, ◌%◌, ◌<◌, ◌≤◌, Bool, not, List, length, position, Option, Some, Result, Ok, Err, MatchResult, ⊤}
+use Rattle.std.specs.Prelude.{◌≡◌, ◌≢◌, ℕ, ◌%◌, ◌<◌, ◌≤◌, Bool, not, List, length, position, Option, Some, Result, Ok, Err, ⊤}
 use Rattle.std.specs.Global.{Vec}
-use Rattle.std.specs.Io.KnownBytes.{Appends, IsAtEnd}
+use Rattle.std.specs.Io.KnownBytes.{Appends}
 use Rattle.nx_fec.specs.air_files.Lines.{HasFault, IsBitFile, IsFaultless, file_of}
 use Rattle.nx_fec.specs.emissions.Aligned.{aligned_text, words_of}
 use Rattle.nx_fec.specs.texts.WordLines.{word_lines}
-use Rattle.nx_fec.specs.Transfers.{CountedDevice, WroteSome, Devices, IsReadOut, Reads, ReadsToEnd, Transfers, at_the_end}
+use Rattle.nx_fec.specs.Transfers.{AnswersToEnd, Contents, CountedDevice, Devices, Extent, Manner}
+use Rattle.nx_fec.specs.Transfers.{Reads, Transfers, WroteSome, at_the_end, contents_of, input}
 use Rattle.nx_fec.specs.declared.fault.LineFault.{LineFault}
 use Rattle.nx_fec.specs.declared.fault.LineFault.TheVariants as file
 use Rattle.nx_fec.specs.air_files.BitLines.{bit_lines}
@@ -49,17 +50,18 @@ abbrev pub spell_fault : SpellFault → RunFault
 spell_fault (spelling.NoSuchCharacter at) = NoSuchCharacter at
 spell_fault (spelling.Memory error) = Memory error
 
--- What a fault of reading elements says of the bytes that were read: a fault of the file is theirs,
--- and at the end of the file `AtEnd` holds. Of a failed read and a want of memory `Reads` says what
--- stands before them, and here they say nothing. There are no other faults.
-abbrev pub ExplainsReading : Type 0 → ℕ → List ℕ → RunFault → Type 0
-ExplainsReading AtEnd limit bytes Read = ⊤
-ExplainsReading AtEnd limit bytes (Memory error) = ⊤
-ExplainsReading AtEnd limit bytes FileTooLong = HasFault limit bytes file.TooLong
-ExplainsReading AtEnd limit bytes (LineLong line) = HasFault limit bytes (file.LineLong line)
-ExplainsReading AtEnd limit bytes (LineCut line) = AtEnd × HasFault limit bytes (file.LineCut line)
-ExplainsReading AtEnd limit bytes (BadLine line) = HasFault limit bytes (file.BadLine line)
-ExplainsReading AtEnd limit bytes _ = ⊥
+-- What a fault of reading elements says of bytes of this extent: a fault of the file is theirs. Of
+-- a failed read and a want of memory `Reads` says what stands before them, and here they say
+-- nothing. There are no other faults.
+abbrev pub ExplainsReading : Extent → ℕ → List ℕ → RunFault → Type 0
+ExplainsReading extent limit bytes Read = ⊤
+ExplainsReading extent limit bytes (Memory error) = ⊤
+ExplainsReading extent limit bytes FileTooLong = HasFault limit bytes file.TooLong
+ExplainsReading extent limit bytes (LineLong line) = HasFault limit bytes (file.LineLong line)
+ExplainsReading extent limit bytes (LineCut line) =
+    extent.at_end × HasFault limit bytes (file.LineCut line)
+ExplainsReading extent limit bytes (BadLine line) = HasFault limit bytes (file.BadLine line)
+ExplainsReading extent limit bytes _ = ⊥
 
 -- the fault is of the reader or of memory
 abbrev pub IsOutside : RunFault → Type 0
@@ -73,9 +75,10 @@ IsOutside _ = ⊥
 abbrev pub ReadsElements : {R : Type 0} → (R → Option (List ℕ)) → CountedDevice R → CountedDevice R
     → Result (Vec Bool) RunFault → Type 0
 ReadsElements remaining old new outcome =
-    ReadsToEnd remaining old new Read IsOutside outcome (IsFaultless file_limit)
-    (λ bits bytes. IsBitFile file_limit bytes bits.items)
-    (λ AtEnd bytes fault. ExplainsReading AtEnd file_limit bytes fault)
+    Reads (input remaining old new) Read
+    (λ fault bytes. IsOutside fault → IsFaultless file_limit bytes) outcome
+    (AnswersToEnd (λ bits bytes. IsBitFile file_limit bytes bits.items)
+    (λ extent bytes fault. ExplainsReading extent file_limit bytes fault) outcome)
 
 -- the text of a file of elements, whose first word is that of slot 0
 pub record IsDecoded (limit : ℕ) (bytes text : List ℕ) : Type 0 where
@@ -87,37 +90,42 @@ pub record IsDecoded (limit : ℕ) (bytes text : List ℕ) : Type 0 where
 -- What a fault of a run over the words of a file says: its elements are no whole words, or their
 -- text was written in part. `IsText` holds of that text and of what the run counts. Each other
 -- fault is one of reading elements.
-abbrev pub ExplainsWordRun : (List ℕ → ℕ → Type 0) → Type 0 → ℕ → List ℕ → Option (List ℕ)
-    → Option (List ℕ)
-    → RunFault → Type 0
-ExplainsWordRun IsText AtEnd limit bytes old new (Ragged given) =
-    AtEnd × (bits : List Bool) × IsBitFile limit bytes bits × (given ≡ length bits)
+abbrev pub ExplainsWordRun : (List ℕ → ℕ → Type 0) → Extent → List ℕ → Contents → RunFault → Type 0
+ExplainsWordRun IsText extent bytes contents (Ragged given) =
+    extent.at_end × (bits : List Bool) × IsBitFile file_limit bytes bits × (given ≡ length bits)
     × (length bits % 7 ≢ 0)
-ExplainsWordRun IsText AtEnd limit bytes old new (Write written) =
-    AtEnd × (text : List ℕ) × (count : ℕ) × IsText text count × WroteSome old new text written
-ExplainsWordRun IsText AtEnd limit bytes old new fault = ExplainsReading AtEnd limit bytes fault
+ExplainsWordRun IsText extent bytes contents (Write written) =
+    extent.at_end × (text : List ℕ) × (count : ℕ) × IsText text count
+    × WroteSome contents.before contents.after text written
+ExplainsWordRun IsText extent bytes contents fault =
+    ExplainsReading extent file_limit bytes fault
 
--- what a run over the words of a file answers of these bytes: its count, with the text written, or
--- a fault
-abbrev pub AnswersWordRun : (List ℕ → ℕ → Type 0) → Type 0 → ℕ → List ℕ → Option (List ℕ)
-    → Option (List ℕ)
-    → Result ℕ RunFault → Type 0
-AnswersWordRun IsText AtEnd limit bytes old new (Ok count) =
-    AtEnd × (text : List ℕ) × IsText text count × Appends old new text
-AnswersWordRun IsText AtEnd limit bytes old new (Err fault) =
-    ExplainsWordRun IsText AtEnd limit bytes old new fault
+-- what a run over the words of a file answers to bytes of this extent: its count, with the text
+-- written, or a fault
+abbrev pub AnswersWordRun : (List ℕ → ℕ → Type 0) → Extent → List ℕ → Contents → Result ℕ RunFault
+    → Type 0
+AnswersWordRun IsText extent bytes contents (Ok count) =
+    extent.at_end × (text : List ℕ) × IsText text count
+    × Appends contents.before contents.after text
+AnswersWordRun IsText extent bytes contents (Err fault) =
+    ExplainsWordRun IsText extent bytes contents fault
+
+-- The manner of a run that reads its file to the end, and writes nothing before all else succeeded.
+-- The reader or memory fails only behind bytes of which `faultless` holds.
+abbrev pub reads_then_writes : (List ℕ → Type 0) → Manner RunFault
+reads_then_writes faultless = record {
+  read = Read;
+  write = λ written. Write written;
+  behind = λ fault bytes. IsOutside fault → faultless bytes;
+  writing = at_the_end;
+}
 
 -- A run over the words of a file: it answers so to the bytes that it read, and to the whole file,
 -- however it came; and it writes nothing before all else succeeded.
 abbrev pub IsWordRun : {R W : Type 0} → (List ℕ → List ℕ → ℕ → Type 0) → Devices R W
     → Result ℕ RunFault → Type 0
-IsWordRun IsText d outcome =
-    Transfers Read IsOutside (λ written. Write written) at_the_end d outcome
-    (IsFaultless file_limit)
-    (λ bytes. AnswersWordRun (IsText bytes) (IsReadOut d) file_limit bytes
-    (d.contents d.writer.inner) (d.contents d.writer_after.inner) outcome)
-    (λ bytes. AnswersWordRun (IsText bytes) (Unit {0}) file_limit bytes
-    (d.contents d.writer.inner) (d.contents d.writer_after.inner) outcome)
+IsWordRun IsText d outcome = Transfers (reads_then_writes (IsFaultless file_limit)) d outcome
+    (λ extent bytes. AnswersWordRun (IsText bytes) extent bytes (contents_of d) outcome)
 
 -- a run that decodes: it writes the text of the words, and counts its bytes
 abbrev pub Decodes : {R W : Type 0} → Devices R W → Result ℕ RunFault → Type 0
@@ -159,13 +167,10 @@ IsOutsideWhole (read.Memory error) = ⊤
 abbrev pub ReadsWhole : {R : Type 0} → (R → Option (List ℕ)) → CountedDevice R → CountedDevice R
     → Result (Vec ℕ) ReadFault → Type 0
 ReadsWhole remaining old new outcome =
-    Reads remaining old new read.Read IsOutsideWhole outcome (IsWithin file_limit)
-    (λ bytes. MatchResult outcome
-    (λ text. IsAtEnd (remaining new.inner) × (length bytes ≤ file_limit) × (text.items ≡ bytes))
-    (λ fault. ExplainsWhole file_limit bytes fault))
-    (λ bytes. MatchResult outcome
-    (λ text. (length bytes ≤ file_limit) × (text.items ≡ bytes))
-    (λ fault. ExplainsWhole file_limit bytes fault))
+    Reads (input remaining old new) read.Read
+    (λ fault bytes. IsOutsideWhole fault → IsWithin file_limit bytes) outcome
+    (AnswersToEnd (λ text bytes. IsWithin file_limit bytes × (text.items ≡ bytes))
+    (λ extent bytes fault. ExplainsWhole file_limit bytes fault) outcome)
 
 -- The file that a text is encoded as, and how many positions it has: the text is spelled from
 -- letters, with four positions of phasing before it and three of the end after it, and the bits of
@@ -178,33 +183,29 @@ pub record IsEncoded (text file : List ℕ) (positions : ℕ) : Type 0 where
 
 -- What a fault of encoding says: the text is too long, or it has a character that isn't in the
 -- code, the first at this index, or its file was written in part; or the reader or memory failed.
-abbrev pub ExplainsEncoding : Type 0 → ℕ → List ℕ → Option (List ℕ) → Option (List ℕ) → RunFault
-    → Type 0
-ExplainsEncoding AtEnd limit bytes old new Read = ⊤
-ExplainsEncoding AtEnd limit bytes old new (Memory error) = ⊤
-ExplainsEncoding AtEnd limit bytes old new FileTooLong = limit < length bytes
-ExplainsEncoding AtEnd limit bytes old new (NoSuchCharacter at) =
-    AtEnd × (length bytes ≤ limit) × (position (λ byte. not (is_in_code byte)) bytes ≡ Some at)
-ExplainsEncoding AtEnd limit bytes old new (Write written) =
-    AtEnd × (length bytes ≤ limit) × (file : List ℕ) × (positions : ℕ)
-    × IsEncoded bytes file positions × WroteSome old new file written
-ExplainsEncoding AtEnd limit bytes old new _ = ⊥
+abbrev pub ExplainsEncoding : Extent → List ℕ → Contents → RunFault → Type 0
+ExplainsEncoding extent bytes contents Read = ⊤
+ExplainsEncoding extent bytes contents (Memory error) = ⊤
+ExplainsEncoding extent bytes contents FileTooLong = file_limit < length bytes
+ExplainsEncoding extent bytes contents (NoSuchCharacter at) =
+    extent.at_end × IsWithin file_limit bytes
+    × (position (λ byte. not (is_in_code byte)) bytes ≡ Some at)
+ExplainsEncoding extent bytes contents (Write written) =
+    extent.at_end × IsWithin file_limit bytes × (file : List ℕ) × (positions : ℕ)
+    × IsEncoded bytes file positions × WroteSome contents.before contents.after file written
+ExplainsEncoding extent bytes contents _ = ⊥
 
--- what encoding answers to a text: the count of its positions, whose file was written, or a fault
-abbrev pub AnswersEncoding : Type 0 → ℕ → List ℕ → Option (List ℕ) → Option (List ℕ)
-    → Result ℕ RunFault → Type 0
-AnswersEncoding AtEnd limit bytes old new (Ok positions) =
-    AtEnd × (length bytes ≤ limit) × (file : List ℕ) × IsEncoded bytes file positions
-    × Appends old new file
-AnswersEncoding AtEnd limit bytes old new (Err fault) =
-    ExplainsEncoding AtEnd limit bytes old new fault
+-- what encoding answers to bytes of this extent of a text: the count of its positions, whose file
+-- was written, or a fault
+abbrev pub AnswersEncoding : Extent → List ℕ → Contents → Result ℕ RunFault → Type 0
+AnswersEncoding extent bytes contents (Ok positions) =
+    extent.at_end × IsWithin file_limit bytes × (file : List ℕ) × IsEncoded bytes file positions
+    × Appends contents.before contents.after file
+AnswersEncoding extent bytes contents (Err fault) =
+    ExplainsEncoding extent bytes contents fault
 
 -- A run that encodes: it answers so to the bytes that it read, and to the whole text, however it
 -- came; and it writes nothing before all else succeeded.
 abbrev pub Encodes : {R W : Type 0} → Devices R W → Result ℕ RunFault → Type 0
-Encodes d outcome =
-    Transfers Read IsOutside (λ written. Write written) at_the_end d outcome (IsWithin file_limit)
-    (λ bytes. AnswersEncoding (IsReadOut d) file_limit bytes (d.contents d.writer.inner)
-    (d.contents d.writer_after.inner) outcome)
-    (λ bytes. AnswersEncoding (Unit {0}) file_limit bytes (d.contents d.writer.inner)
-    (d.contents d.writer_after.inner) outcome)
+Encodes d outcome = Transfers (reads_then_writes (IsWithin file_limit)) d outcome
+    (λ extent bytes. AnswersEncoding extent bytes (contents_of d) outcome)

@@ -50,37 +50,6 @@ IsNextPiece remaining old new buffer (Bytes count) =
     (0 < count) × (count ≤ length buffer)
     × Consumes (remaining old.inner) (remaining new.inner) (take count buffer) × (new.failures ≡ 0)
 
--- What a run says of its reader. It read these bytes, and `known` holds of them, whatever the
--- reader tells of its bytes. Where they are known, `whole` holds of all that was left, however it
--- came. The outcome is a fault of the reader or of memory, one that is `outside`, only where no
--- fault stands in the bytes that were read: `faultless` holds of them. It is the fault `read`
--- exactly where the count of failures rose, by one.
-pub record Reads {R N F : Type 0} (remaining : R → Option (List ℕ)) (old new : CountedDevice R)
-    (read : F) (outside : F → Type 0) (outcome : Result N F)
-    (faultless known whole : List ℕ → Type 0) : Type 0 where
-  pub bytes : List ℕ
-  pub consumed : Consumes (remaining old.inner) (remaining new.inner) bytes
-  pub answer : known bytes
-  pub file : IfSome (remaining old.inner) whole
-  pub before : IfErr outcome (λ fault. outside fault → faultless bytes)
-  pub failed : IsErrOf outcome read ↔ (new.failures ≡ 1)
-  pub once : new.failures ≤ 1
-
--- What a run says of its reader that reads a file to its end: its answer is good for the bytes that
--- it read, which are then all, or its fault explains itself by them, at the end of the file or
--- before it, and the reader or memory failed only behind bytes without a fault. And so it is for
--- the whole file.
-abbrev pub ReadsToEnd : {R N F : Type 0} → (R → Option (List ℕ)) → CountedDevice R → CountedDevice R
-    → F → (F → Type 0) → Result N F → (List ℕ → Type 0)
-    → (N → List ℕ → Type 0) → (Type 0 → List ℕ → F → Type 0) → Type 0
-ReadsToEnd remaining old new read outside outcome faultless good explains =
-    Reads remaining old new read outside outcome faultless
-    (λ bytes. MatchResult outcome
-    (λ answer. IsAtEnd (remaining new.inner) × good answer bytes)
-    (λ fault. explains (IsAtEnd (remaining new.inner)) bytes fault))
-    (λ bytes. MatchResult outcome (λ answer. good answer bytes)
-    (λ fault. explains (Unit {0}) bytes fault))
-
 -- What a run says of its writer: the count of failures rose, by one, exactly where the outcome is a
 -- fault `write`.
 pub record Writes {W N F : Type 0} (new : CountedDevice W) (write : ℕ → F)
@@ -109,6 +78,31 @@ devices remaining contents reader reader_after writer writer_after = record {
   writer_after = writer_after;
 }
 
+-- what a writer held before a run, and holds after it, where that is known
+pub record Contents : Type 0 where
+  pub before : Option (List ℕ)
+  pub after : Option (List ℕ)
+
+abbrev pub contents_of : {R W : Type 0} → Devices R W → Contents
+contents_of d = record {
+  before = d.contents d.writer.inner;
+  after = d.contents d.writer_after.inner;
+}
+
+-- the reader alone: as it stands before a run and after it, and what it tells of its bytes
+pub record Input (R : Type 0) : Type 0 where
+  pub remaining : R → Option (List ℕ)
+  pub reader : CountedDevice R
+  pub reader_after : CountedDevice R
+
+abbrev pub input : {R : Type 0} → (R → Option (List ℕ)) → CountedDevice R → CountedDevice R
+    → Input R
+input remaining reader reader_after =
+    record { remaining = remaining; reader = reader; reader_after = reader_after }
+
+abbrev pub input_of : {R W : Type 0} → Devices R W → Input R
+input_of d = input d.remaining d.reader d.reader_after
+
 -- no input is left
 abbrev pub IsReadOut : {R W : Type 0} → Devices R W → Type 0
 IsReadOut d = IsAtEnd (d.remaining d.reader_after.inner)
@@ -127,6 +121,10 @@ inside = record { at_end = ⊥; is_left = λ more. ⊥ }
 abbrev pub read_to : Type 0 → Extent
 read_to AtEnd = record { at_end = AtEnd; is_left = λ more. more ≡ [] }
 
+-- the bytes that were read from this input
+abbrev pub read_from : {R : Type 0} → Input R → Extent
+read_from i = read_to (IsAtEnd (i.remaining i.reader_after.inner))
+
 -- the bytes that were read from these devices
 abbrev pub as_read : {R W : Type 0} → Devices R W → Extent
 as_read d = read_to (IsReadOut d)
@@ -134,6 +132,27 @@ as_read d = read_to (IsReadOut d)
 -- the whole input, of which bytes may be left after a failed read
 abbrev pub whole_input : Extent
 whole_input = record { at_end = Unit {0}; is_left = λ more. Unit {0} }
+
+-- What a run says of its reader. It read these bytes, and answers so to them, whatever the reader
+-- tells of its bytes. Where those are known, it answers so to all that was left, however it came.
+-- A fault comes only where `behind` holds of it and of the bytes that were read. It is the fault
+-- `read` exactly where the count of failures rose, by one.
+pub record Reads {R N F : Type 0} (i : Input R) (read : F) (behind : F → List ℕ → Type 0)
+    (outcome : Result N F) (answers : Extent → List ℕ → Type 0) : Type 0 where
+  pub bytes : List ℕ
+  pub consumed : Consumes (i.remaining i.reader.inner) (i.remaining i.reader_after.inner) bytes
+  pub answer : answers (read_from i) bytes
+  pub file : IfSome (i.remaining i.reader.inner) (answers whole_input)
+  pub before : IfErr outcome (λ fault. behind fault bytes)
+  pub failed : IsErrOf outcome read ↔ (i.reader_after.failures ≡ 1)
+  pub once : i.reader_after.failures ≤ 1
+
+-- What reading a file to its end answers to bytes of this extent: an answer that is good for them,
+-- which are then all, or a fault that explains itself by them.
+abbrev pub AnswersToEnd : {N F : Type 0} → (N → List ℕ → Type 0)
+    → (Extent → List ℕ → F → Type 0) → Result N F → Extent → List ℕ → Type 0
+AnswersToEnd good explains outcome extent bytes =
+    MatchResult outcome (λ answer. extent.at_end × good answer bytes) (explains extent bytes)
 
 -- when a run writes: only after all else succeeded, or while it reads
 pub data Writing : Type 0 where
@@ -146,13 +165,23 @@ IsUnwritten at_the_end write d outcome =
     IfErr outcome (λ why. ((written : ℕ) → why ≢ write written) → d.writer_after ≡ d.writer)
 IsUnwritten on_the_way write d outcome = ⊤
 
--- What a run from a reader to a writer says of both. Its faults for a failed read and a failed
--- write are `read` and `write`, and those of the reader or of memory are `outside`; `known` holds
--- of the bytes that it read, `faultless` of those behind which the reader or memory failed, and
--- `whole` of all the input, where that is known.
-pub record Transfers {R W N F : Type 0} (read : F) (outside : F → Type 0) (write : ℕ → F)
-    (writing : Writing) (d : Devices R W) (outcome : Result N F)
-    (faultless known whole : List ℕ → Type 0) : Type 0 where
-  pub reads : Reads d.remaining d.reader d.reader_after read outside outcome faultless known whole
-  pub writes : Writes d.writer_after write outcome
-  pub unwritten : IsUnwritten writing write d outcome
+-- The manner of a run from a reader to a writer: its faults for a failed read and a failed write,
+-- what holds of the bytes behind which a fault comes, and when it writes.
+pub record Manner (F : Type 0) : Type 1 where
+  pub read : F
+  pub write : ℕ → F
+  pub behind : F → List ℕ → Type 0
+  pub writing : Writing
+
+-- that of a run whose faults come behind any bytes, and that writes while it reads
+abbrev pub line_by_line : {F : Type 0} → F → (ℕ → F) → Manner F
+line_by_line read write =
+    record { read = read; write = write; behind = λ fault bytes. ⊤; writing = on_the_way }
+
+-- what a run from a reader to a writer says of both: it answers so to the bytes that it read, and
+-- to the whole input, however it came
+pub record Transfers {R W N F : Type 0} (manner : Manner F) (d : Devices R W)
+    (outcome : Result N F) (answers : Extent → List ℕ → Type 0) : Type 0 where
+  pub reads : Reads (input_of d) manner.read manner.behind outcome answers
+  pub writes : Writes d.writer_after manner.write outcome
+  pub unwritten : IsUnwritten manner.writing manner.write d outcome

@@ -8,7 +8,7 @@ use Rattle.nx_fec.specs.air_files.AirFile.{Line}
 use Rattle.nx_fec.specs.air_files.Lines.{StopsAt, air_limit}
 use Rattle.nx_fec.specs.air_files.Lines.{IsAirFile, file_of}
 use Rattle.nx_fec.specs.declared.air_files.channel.Channel.TheVariants.{Zero}
-use Rattle.nx_fec.specs.Transfers.{Devices, Extent, Transfers, as_read, on_the_way, whole_input}
+use Rattle.nx_fec.specs.Transfers.{Devices, Extent, Transfers, line_by_line}
 use Rattle.nx_receiver.specs.Events.{elements_among, first_setting, settings}
 use Rattle.nx_receiver.specs.air_file_runs.Listen.{AreTaken, HasListenFault, HasLoggedSome, events_on}
 use Rattle.nx_receiver.specs.air_file_runs.Listen.{moment_after}
@@ -100,9 +100,6 @@ AnswersShowing extent old new (Err fault) bytes =
 -- A run that shows locks: it answers so to the bytes that it read, and to the whole file, however
 -- it came. It writes what the lines that it read give before each further read.
 abbrev pub ShowsLocks : {R W : Type 0} → Devices R W → Result LocksReport ListenFault → Type 0
-ShowsLocks d outcome =
-    Transfers Read (λ _. ⊥) (λ written. Write written) on_the_way d outcome (λ _. ⊤)
-    (AnswersShowing (as_read d) (d.contents d.writer.inner) (d.contents d.writer_after.inner)
-    outcome)
-    (AnswersShowing whole_input (d.contents d.writer.inner) (d.contents d.writer_after.inner)
+ShowsLocks d outcome = Transfers (line_by_line Read (λ written. Write written)) d outcome
+    (λ extent. AnswersShowing extent (d.contents d.writer.inner) (d.contents d.writer_after.inner)
     outcome)

@@ -1,9 +1,10 @@
 -- What checking an air file answers (this profile).
-use Rattle.std.specs.Prelude.{◌≡◌, ℕ, Bool, List, [], ◌∷◌, ◌++◌, codes, length, map, Option, Result, Ok, Err}
+use Rattle.std.specs.Prelude.{◌≡◌, ℕ, Bool, List, [], ◌∷◌, ◌++◌, codes, length, map, Result, Ok, Err}
 use Rattle.std.specs.Io.KnownBytes.{Appends}
 use Rattle.nx_code.specs.Reading.{newline}
 use Rattle.nx_envelope.specs.Message.{MessageView}
-use Rattle.nx_fec.specs.Transfers.{WroteSome, Devices, Extent, Transfers, as_read, at_the_end, whole_input}
+use Rattle.nx_fec.specs.Transfers.{Contents, Devices, Extent, Manner, Transfers, WroteSome}
+use Rattle.nx_fec.specs.Transfers.{at_the_end, contents_of}
 use Rattle.nx_fec.specs.air_files.Lines.{IsBitFile, IsFaultless}
 use Rattle.nx_fec.specs.Runs.{ExplainsReading, IsOutside, file_limit}
 use Rattle.nx_fec.specs.declared.fault.RunFault.TheVariants as run
@@ -35,15 +36,14 @@ pub record IsChecked (limit : ℕ) (air written : List ℕ) (count : ℕ) : Type
 
 -- What a fault of checking says of bytes of this extent of an air file: a fault of reading its
 -- elements, or of writing, or of its elements.
-abbrev pub ExplainsChecking : Extent → ℕ → List ℕ → Option (List ℕ) → Option (List ℕ)
-    → CheckFault → Type 0
-ExplainsChecking extent limit air old new (Run (run.Write written)) =
-    extent.at_end × (text : List ℕ) × (count : ℕ) × IsChecked limit air text count
-    × WroteSome old new text written
-ExplainsChecking extent limit air old new (Run fault) =
-    ExplainsReading extent.at_end limit air fault
-ExplainsChecking extent limit air old new (Emission fault) =
-    extent.at_end × (bits : List Bool) × IsBitFile limit air bits × ExplainsEmission bits fault
+abbrev pub ExplainsChecking : Extent → List ℕ → Contents → CheckFault → Type 0
+ExplainsChecking extent air contents (Run (run.Write written)) =
+    extent.at_end × (text : List ℕ) × (count : ℕ) × IsChecked file_limit air text count
+    × WroteSome contents.before contents.after text written
+ExplainsChecking extent air contents (Run fault) = ExplainsReading extent file_limit air fault
+ExplainsChecking extent air contents (Emission fault) =
+    extent.at_end × (bits : List Bool) × IsBitFile file_limit air bits
+    × ExplainsEmission bits fault
 
 -- the fault is of the reader or of memory, while the elements are read or their report is made
 abbrev pub IsOutsideChecking : CheckFault → Type 0
@@ -52,20 +52,23 @@ IsOutsideChecking (Emission fault) = ⊥
 
 -- what checking answers to bytes of this extent of an air file: the count of its messages, whose
 -- report was written, or a fault
-abbrev pub AnswersChecking : Extent → ℕ → List ℕ → Option (List ℕ) → Option (List ℕ)
-    → Result ℕ CheckFault → Type 0
-AnswersChecking extent limit air old new (Ok count) =
-    extent.at_end × (text : List ℕ) × IsChecked limit air text count × Appends old new text
-AnswersChecking extent limit air old new (Err fault) =
-    ExplainsChecking extent limit air old new fault
+abbrev pub AnswersChecking : Extent → List ℕ → Contents → Result ℕ CheckFault → Type 0
+AnswersChecking extent air contents (Ok count) =
+    extent.at_end × (text : List ℕ) × IsChecked file_limit air text count
+    × Appends contents.before contents.after text
+AnswersChecking extent air contents (Err fault) = ExplainsChecking extent air contents fault
+
+-- the manner of a run that checks: it writes nothing before all else succeeded
+abbrev pub checking_run : Manner CheckFault
+checking_run = record {
+  read = Run run.Read;
+  write = λ written. Run (run.Write written);
+  behind = λ fault bytes. IsOutsideChecking fault → IsFaultless file_limit bytes;
+  writing = at_the_end;
+}
 
 -- A run that checks: it answers so to the bytes that it read, and to the whole file, however it
--- came; and it writes nothing before all else succeeded.
+-- came.
 abbrev pub Checks : {R W : Type 0} → Devices R W → Result ℕ CheckFault → Type 0
-Checks d outcome =
-    Transfers (Run run.Read) IsOutsideChecking (λ written. Run (run.Write written)) at_the_end d
-    outcome (IsFaultless file_limit)
-    (λ bytes. AnswersChecking (as_read d) file_limit bytes
-    (d.contents d.writer.inner) (d.contents d.writer_after.inner) outcome)
-    (λ bytes. AnswersChecking whole_input file_limit bytes
-    (d.contents d.writer.inner) (d.contents d.writer_after.inner) outcome)
+Checks d outcome = Transfers checking_run d outcome
+    (λ extent bytes. AnswersChecking extent bytes (contents_of d) outcome)

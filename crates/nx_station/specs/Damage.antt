@@ -1,11 +1,12 @@
 -- What damaging an air file on purpose does to it (this profile).
-use Rattle.std.specs.Prelude.{◌≡◌, ℕ, ◌+◌, ◌-◌, ◌/◌, ◌%◌, ◌≤◌, ◌==◌, ◌&&◌, not, nat_lt, if◌then◌else◌, Bool, true, List, [], ◌∷◌, ◌++◌, length, Option, Result, Ok, Err, ⊤}
+use Rattle.std.specs.Prelude.{◌≡◌, ℕ, ◌+◌, ◌-◌, ◌/◌, ◌%◌, ◌≤◌, ◌==◌, ◌&&◌, not, nat_lt, if◌then◌else◌, Bool, true, List, [], ◌∷◌, ◌++◌, length, Result, Ok, Err}
 use Rattle.std.specs.List.{flat_map}
 use Rattle.std.specs.Io.KnownBytes.{Appends}
 use Rattle.nx_code.specs.Word.{value_of, word_elements}
 use Rattle.nx_fec.specs.air_files.AirFile.{Line, elements}
 use Rattle.nx_fec.specs.air_files.Channels.{channel_of}
-use Rattle.nx_fec.specs.Transfers.{WroteSome, Devices, Extent, Transfers, as_read, on_the_way, whole_input}
+use Rattle.nx_fec.specs.Transfers.{Contents, Devices, Extent, Transfers, WroteSome, contents_of}
+use Rattle.nx_fec.specs.Transfers.{line_by_line}
 use Rattle.nx_fec.specs.air_files.LineRuns.{IsPlaced}
 use Rattle.nx_fec.specs.air_files.Lines.{StopsAt, air_limit, IsAirFile, IsCause, elements_on, file_of}
 use Rattle.nx_fec.specs.emissions.Emission.{is_dx_slot}
@@ -87,48 +88,43 @@ pub record IsDamaged (damage : Damage) (limit : ℕ) (air written : List ℕ) (c
   pub counted : count ≡ inverted_count damage 0 (flat_map (elements_on Zero) lines)
 
 -- the air file has this fault, its first, and the whole lines before it were written
-abbrev pub StopsFor : Extent → ℕ → Damage → Option (List ℕ) → Option (List ℕ) → List ℕ → LineFault
-    → Type 0
-StopsFor extent limit damage old new air why =
+abbrev pub StopsFor : Extent → Damage → List ℕ → Contents → LineFault → Type 0
+StopsFor extent damage air contents why =
     IsPlaced extent.at_end why
     × StopsAt air (λ lines rest more.
-    IsCause limit (length (file_of lines ++ rest)) lines rest more why
-    × Appends old new (damaged_file damage lines))
+    IsCause air_limit (length (file_of lines ++ rest)) lines rest more why
+    × Appends contents.before contents.after (damaged_file damage lines))
 
 -- What a fault says of bytes of this extent of the air file. A failed read comes behind whole lines
 -- and the beginning of one more, and leaves what follows. The whole lines before it were written,
 -- as before a fault of the file. A write that failed wrote a part.
-abbrev pub ExplainsDamaging : Extent → ℕ → Damage → Option (List ℕ) → Option (List ℕ) → List ℕ
-    → DamageFault → Type 0
-ExplainsDamaging extent limit damage old new air Read =
-    StopsAt air (λ lines rest more. (length (file_of lines ++ rest) ≤ limit) × extent.is_left more
-    × Appends old new (damaged_file damage lines))
-ExplainsDamaging extent limit damage old new air AirTooLong =
-    StopsFor extent limit damage old new air file.TooLong
-ExplainsDamaging extent limit damage old new air (LineLong line) =
-    StopsFor extent limit damage old new air (file.LineLong line)
-ExplainsDamaging extent limit damage old new air (LineCut line) =
-    StopsFor extent limit damage old new air (file.LineCut line)
-ExplainsDamaging extent limit damage old new air (BadLine line) =
-    StopsFor extent limit damage old new air (file.BadLine line)
-ExplainsDamaging extent limit damage old new air (Write written) =
-    StopsAt air (λ lines rest more. WroteSome old new (damaged_file damage lines) written)
+abbrev pub ExplainsDamaging : Extent → Damage → List ℕ → Contents → DamageFault → Type 0
+ExplainsDamaging extent damage air contents Read =
+    StopsAt air (λ lines rest more. (length (file_of lines ++ rest) ≤ air_limit)
+    × extent.is_left more
+    × Appends contents.before contents.after (damaged_file damage lines))
+ExplainsDamaging extent damage air contents AirTooLong =
+    StopsFor extent damage air contents file.TooLong
+ExplainsDamaging extent damage air contents (LineLong line) =
+    StopsFor extent damage air contents (file.LineLong line)
+ExplainsDamaging extent damage air contents (LineCut line) =
+    StopsFor extent damage air contents (file.LineCut line)
+ExplainsDamaging extent damage air contents (BadLine line) =
+    StopsFor extent damage air contents (file.BadLine line)
+ExplainsDamaging extent damage air contents (Write written) = StopsAt air (λ lines rest more.
+    WroteSome contents.before contents.after (damaged_file damage lines) written)
 
 -- what damaging answers to bytes of this extent of an air file: the count of the elements that it
 -- inverted, or a fault
-abbrev pub AnswersDamaging : Extent → ℕ → Damage → Option (List ℕ) → Option (List ℕ)
-    → Result ℕ DamageFault → List ℕ → Type 0
-AnswersDamaging extent limit damage old new (Ok count) air =
-    extent.at_end × (text : List ℕ) × IsDamaged damage limit air text count × Appends old new text
-AnswersDamaging extent limit damage old new (Err fault) air =
-    ExplainsDamaging extent limit damage old new air fault
+abbrev pub AnswersDamaging : Extent → Damage → List ℕ → Contents → Result ℕ DamageFault → Type 0
+AnswersDamaging extent damage air contents (Ok count) =
+    extent.at_end × (text : List ℕ) × IsDamaged damage air_limit air text count
+    × Appends contents.before contents.after text
+AnswersDamaging extent damage air contents (Err fault) =
+    ExplainsDamaging extent damage air contents fault
 
 -- A run that damages: it answers so to the bytes that it read, and to the whole file, however it
 -- came; and it writes the whole lines that it read before each further read.
 abbrev pub Damages : {R W : Type 0} → Damage → Devices R W → Result ℕ DamageFault → Type 0
-Damages damage d outcome =
-    Transfers Read (λ _. ⊥) (λ written. Write written) on_the_way d outcome (λ _. ⊤)
-    (AnswersDamaging (as_read d) air_limit damage (d.contents d.writer.inner)
-    (d.contents d.writer_after.inner) outcome)
-    (AnswersDamaging whole_input air_limit damage (d.contents d.writer.inner)
-    (d.contents d.writer_after.inner) outcome)
+Damages damage d outcome = Transfers (line_by_line Read (λ written. Write written)) d outcome
+    (λ extent air. AnswersDamaging extent damage air (contents_of d) outcome)

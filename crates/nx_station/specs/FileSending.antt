@@ -1,10 +1,11 @@
 -- What sending a message file answers (this profile).
-use Rattle.std.specs.Prelude.{◌≡◌, ℕ, ◌<◌, ◌≤◌, List, [], ◌∷◌, length, map, Option, Result, Ok, Err, ⊤}
+use Rattle.std.specs.Prelude.{◌≡◌, ℕ, ◌<◌, List, [], ◌∷◌, length, map, Result, Ok, Err, ⊤}
 use Rattle.std.specs.Io.KnownBytes.{Appends}
 use Rattle.nx_envelope.specs.Message.{MessageView}
 use Rattle.nx_fec.specs.air_files.AirFile.{moment}
 use Rattle.nx_fec.specs.air_files.BitLines.{bit_lines}
-use Rattle.nx_fec.specs.Transfers.{WroteSome, Devices, Extent, Transfers, as_read, at_the_end, whole_input}
+use Rattle.nx_fec.specs.Transfers.{Contents, Devices, Extent, Manner, Transfers, WroteSome}
+use Rattle.nx_fec.specs.Transfers.{at_the_end, contents_of}
 use Rattle.nx_fec.specs.emissions.Emission.{SentPosition, bits_of, emission}
 use Rattle.nx_fec.specs.air_files.Lines.{file_of}
 use Rattle.nx_fec.specs.Runs.{IsWithin, file_limit}
@@ -69,44 +70,50 @@ ExplainsFile file (Open line) = HasFirstFault file (not_ended line)
 ExplainsFile file (Memory error) = ⊤
 ExplainsFile file _ = ⊥
 
--- What a fault of sending says of bytes of this extent of the file. That it is the first means that
--- it is that of the whole file, so they are all of it: the file was read to its end. A read that
--- failed and a want of memory say nothing of it.
-abbrev pub ExplainsSending : Extent → ℕ → ℕ → ℕ → List ℕ → Option (List ℕ) → Option (List ℕ)
-    → SendRunFault → Type 0
-ExplainsSending extent limit station from file old new Read = ⊤
-ExplainsSending extent limit station from file old new (Memory error) = ⊤
-ExplainsSending extent limit station from file old new FileTooLong = limit < length file
-ExplainsSending extent limit station from file old new (Send refused) =
-    extent.at_end × (length file ≤ limit) × ExplainsRefusal station from file refused
-ExplainsSending extent limit station from file old new (Write written) =
-    extent.at_end × (length file ≤ limit)
-    × (air : List ℕ) × (sent : Sent) × IsTransmission station from file air sent
-    × WroteSome old new air written
-ExplainsSending extent limit station from file old new fault =
-    extent.at_end × (length file ≤ limit) × ExplainsFile file fault
-
 -- the fault is of the reader or of memory
 abbrev pub IsOutside : SendRunFault → Type 0
 IsOutside Read = ⊤
 IsOutside (Memory error) = ⊤
 IsOutside _ = ⊥
 
--- what sending answers to bytes of this extent of a message file, which is written as an air file
-abbrev pub AnswersSending : Extent → ℕ → ℕ → ℕ → List ℕ → Option (List ℕ) → Option (List ℕ)
-    → Result Sent SendRunFault → Type 0
-AnswersSending extent limit station from file old new (Ok sent) =
-    extent.at_end × (length file ≤ limit)
-    × (air : List ℕ) × IsTransmission station from file air sent × Appends old new air
-AnswersSending extent limit station from file old new (Err fault) =
-    ExplainsSending extent limit station from file old new fault
+-- What sending as this station, from this moment on, answers.
+module _ (station from : ℕ) where
+  -- What a fault of sending says of bytes of this extent of the file. That it is the first means
+  -- that it is that of the whole file, so they are all of it: the file was read to its end. A read
+  -- that failed and a want of memory say nothing of it.
+  abbrev pub ExplainsSending : Extent → List ℕ → Contents → SendRunFault → Type 0
+  ExplainsSending extent file contents Read = ⊤
+  ExplainsSending extent file contents (Memory error) = ⊤
+  ExplainsSending extent file contents FileTooLong = file_limit < length file
+  ExplainsSending extent file contents (Send refused) =
+      extent.at_end × IsWithin file_limit file × ExplainsRefusal station from file refused
+  ExplainsSending extent file contents (Write written) =
+      extent.at_end × IsWithin file_limit file
+      × (air : List ℕ) × (sent : Sent) × IsTransmission station from file air sent
+      × WroteSome contents.before contents.after air written
+  ExplainsSending extent file contents fault =
+      extent.at_end × IsWithin file_limit file × ExplainsFile file fault
+
+  -- what it answers to bytes of this extent of a message file, which is written as an air file
+  abbrev pub AnswersSending : Extent → List ℕ → Contents → Result Sent SendRunFault → Type 0
+  AnswersSending extent file contents (Ok sent) =
+      extent.at_end × IsWithin file_limit file
+      × (air : List ℕ) × IsTransmission station from file air sent
+      × Appends contents.before contents.after air
+  AnswersSending extent file contents (Err fault) =
+      ExplainsSending extent file contents fault
+
+-- the manner of a run that sends: it writes nothing before all else succeeded
+abbrev pub sending_run : Manner SendRunFault
+sending_run = record {
+  read = Read;
+  write = λ written. Write written;
+  behind = λ fault bytes. IsOutside fault → IsWithin file_limit bytes;
+  writing = at_the_end;
+}
 
 -- A run that sends: it answers so to the bytes that it read, and to the whole file, however it
--- came; and it writes nothing before all else succeeded.
+-- came.
 abbrev pub Sends : {R W : Type 0} → Devices R W → ℕ → ℕ → Result Sent SendRunFault → Type 0
-Sends d station from outcome =
-    Transfers Read IsOutside (λ written. Write written) at_the_end d outcome (IsWithin file_limit)
-    (λ bytes. AnswersSending (as_read d) file_limit station from bytes
-    (d.contents d.writer.inner) (d.contents d.writer_after.inner) outcome)
-    (λ bytes. AnswersSending whole_input file_limit station from bytes
-    (d.contents d.writer.inner) (d.contents d.writer_after.inner) outcome)
+Sends d station from outcome = Transfers sending_run d outcome
+    (λ extent bytes. AnswersSending station from extent bytes (contents_of d) outcome)

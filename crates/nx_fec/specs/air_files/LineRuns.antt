@@ -1,11 +1,11 @@
 -- A run over the lines of an air file: one that writes nothing, and one that writes while it reads
 -- (this profile).
 use Rattle.std.specs.Prelude.{◌≡◌, ℕ, ◌≤◌, List, [], ◌∷◌, ◌++◌, length, Option, Result, Ok, Err, ⊤}
-use Rattle.std.specs.Io.KnownBytes.{Appends, IsAtEnd}
+use Rattle.std.specs.Io.KnownBytes.{Appends}
 use Rattle.nx_fec.specs.air_files.AirFile.{Line}
 use Rattle.nx_fec.specs.air_files.Lines.{IsAirFile, IsCause, IsLineRefused, StopsAt, air_limit, file_of}
-use Rattle.nx_fec.specs.Transfers.{CountedDevice, Devices, Extent, HasWritten, Reads, Transfers}
-use Rattle.nx_fec.specs.Transfers.{WroteSome, as_read, on_the_way, read_to, whole_input}
+use Rattle.nx_fec.specs.Transfers.{Devices, Extent, HasWritten, Input, Reads, Transfers, WroteSome}
+use Rattle.nx_fec.specs.Transfers.{line_by_line}
 use Rattle.nx_fec.specs.declared.fault.LineFault.{LineFault}
 use Rattle.nx_fec.specs.declared.fault.LineFault.TheVariants.{TooLong, LineLong, LineCut, BadLine}
 use Rattle.nx_fec.specs.declared.air_files.line_hearing.HearFault.{HearFault}
@@ -58,11 +58,10 @@ AnswersHearing refuses taken extent (Err fault) bytes =
 -- A run over lines that writes nothing, and has no writer: it answers so to the bytes that it read,
 -- and to the whole file, however it came.
 abbrev pub HearsLines : {R F : Type 0} → (List Line → Line → F → Type 0) → (List Line → Type 0)
-    → (R → Option (List ℕ)) → CountedDevice R → CountedDevice R → Result ℕ (HearFault F) → Type 0
-HearsLines refuses taken remaining old new outcome =
-    Reads remaining old new hear.Read (λ _. ⊥) outcome (λ _. ⊤)
-    (λ bytes. AnswersHearing refuses taken (read_to (IsAtEnd (remaining new.inner))) outcome bytes)
-    (λ bytes. AnswersHearing refuses taken whole_input outcome bytes)
+    → Input R → Result ℕ (HearFault F) → Type 0
+HearsLines refuses taken i outcome =
+    Reads i hear.Read (λ fault bytes. ⊤) outcome
+    (λ extent bytes. AnswersHearing refuses taken extent outcome bytes)
 
 -- bytes that wait to be written, and how many were written before them
 pub record Waiting : Type 0 where
@@ -183,6 +182,5 @@ line_run_to d taker first now =
 abbrev pub RunsLines : {R W T F : Type 0} → Taker T F → T → T → Devices R W
     → Result LinesRead (LinesFault F) → Type 0
 RunsLines taker first now d outcome =
-    Transfers run.Read (λ _. ⊥) (λ written. run.Write written) on_the_way d outcome (λ _. ⊤)
-    (AnswersLines (line_run_to d taker first now) (as_read d) outcome)
-    (AnswersLines (line_run_to d taker first now) whole_input outcome)
+    Transfers (line_by_line run.Read (λ written. run.Write written)) d outcome
+    (λ extent. AnswersLines (line_run_to d taker first now) extent outcome)

@@ -5,6 +5,7 @@ use Rattle.std.specs.List.{flat_map}
 use Rattle.nx_fec.specs.air_files.AirFile.{Line}
 use Rattle.nx_fec.specs.air_files.Lines.{IsFaultless, Scanning, Scans, elements_on}
 use Rattle.nx_fec.specs.Runs.{ExplainsReading, IsOutside}
+use Rattle.nx_fec.specs.Transfers.{inside}
 use Rattle.nx_fec.specs.declared.air_files.channel.Channel.TheVariants.{Zero}
 use Rattle.nx_fec.specs.declared.fault.RunFault.{RunFault}
 
@@ -23,7 +24,7 @@ pub record TakenBytes : Type 0 where
 abbrev pub ExplainsPiece : ℕ → List ℕ → RunFault → Type 0
 ExplainsPiece limit bytes fault =
     (IsOutside fault → IsFaultless limit bytes)
-    × ((more : List ℕ) → ExplainsReading ⊥ limit (bytes ++ more) fault)
+    × ((more : List ℕ) → ExplainsReading inside limit (bytes ++ more) fault)
 
 -- the scanner stands so after these bytes, and the elements are those on channel 0
 -- of the lines that they ended

@@ -3,7 +3,7 @@ ghost use Rattle.std.specs.Prelude.{◌≡◌, ◌+◌, ◌<◌, ◌≤◌, ℕ,
 ghost use Rattle.nx_fec.specs.air_files.AirFile.{IsLine, Line};
 ghost use Rattle.nx_fec.specs.air_files.LineRuns.{HearsLines, StopsLines};
 ghost use Rattle.nx_fec.specs.private.LineTaking.{IsHearing};
-ghost use Rattle.nx_fec.specs.Transfers.{inside};
+ghost use Rattle.nx_fec.specs.Transfers.{input, inside};
 
 use crate::air_files::line_taking::AIR_LIMIT;
 use crate::air_files::scanner::Scanner;
@@ -65,7 +65,7 @@ pub fn hear_lines<R: Read, T: LineHearer>(
     requires { reader.old.failures ≡ 0 }
     ensures { (first : T) → T.stands first taker.old []
         → HearsLines (T.refuses first) (T.stands first taker.new)
-        R.remaining reader.old reader.new result }
+        (input R.remaining reader.old reader.new) result }
 {
     let mut buffer = [0; CHUNK];
     let mut scanner = Scanner::new(AIR_LIMIT);

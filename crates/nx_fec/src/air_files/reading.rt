@@ -121,6 +121,7 @@ impl PieceTaker for BitFile {
     ghost use Rattle.std.proofs.Common.{arith};
     ghost use Rattle.nx_fec.specs.air_files.Lines.{IsFaultless};
     ghost use Rattle.nx_fec.specs.Runs.{ExplainsReading, IsOutside, file_limit};
+    ghost use Rattle.nx_fec.specs.Transfers.{inside};
     ghost use Rattle.nx_fec.specs.private.Takers.{HasRead};
     ghost use Rattle.nx_fec.specs.declared.fault.RunFault.TheVariants.{Read};
 
@@ -128,7 +129,7 @@ impl PieceTaker for BitFile {
 
     ghost stands = { λ file bytes. HasRead file_limit file.scanner file.bits.items bytes };
 
-    ghost explains = { λ bytes fault. ExplainsReading ⊥ file_limit bytes fault };
+    ghost explains = { λ bytes fault. ExplainsReading inside file_limit bytes fault };
 
     ghost faultless = { λ bytes. IsFaultless file_limit bytes };
 

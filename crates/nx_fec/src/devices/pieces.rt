@@ -1,6 +1,6 @@
 //! Reading by pieces: one read after the other, until the input ends or a read fails.
 ghost use Rattle.std.specs.Prelude.{◌≡◌, ◌+◌, ◌<◌, ℕ, List, [], ◌++◌, length, MatchResult, IsErrOf, OnOk};
-ghost use Rattle.nx_fec.specs.Transfers.{IsNextPiece, ReadsToEnd};
+ghost use Rattle.nx_fec.specs.Transfers.{AnswersToEnd, IsNextPiece, Reads, input};
 
 use crate::devices::counting::Counting;
 use std::io::Read;
@@ -83,9 +83,9 @@ pub fn read_pieces<R: Read, T: PieceTaker>(
 ) -> Result<(), T::Fault>
     requires none { reader.old.failures ≡ 0 }
     requires room { 0 < length buffer.old }
-    ensures { T.stands taker.old [] → ReadsToEnd R.remaining reader.old reader.new T.UNREAD
-        T.outside result
-        T.faultless (λ _. T.stands taker.new) (λ _. T.explains) }
+    ensures { T.stands taker.old [] → Reads (input R.remaining reader.old reader.new) T.UNREAD
+        (λ fault bytes. T.outside fault → T.faultless bytes) result
+        (AnswersToEnd (λ _. T.stands taker.new) (λ _. T.explains) result) }
 {
     loop {
         match next_piece(reader, buffer) {

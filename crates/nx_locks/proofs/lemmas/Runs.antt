@@ -16,7 +16,7 @@ use Rattle.nx_fec.specs.Transfers.{CountedDevice, HasWritten}
 use Rattle.nx_fec.specs.air_files.LineRuns.{ExplainsLines, HasTaken, HasTakenAll, RunsLines, line_run}
 use Rattle.nx_fec.specs.air_files.Lines.{IsLineRefused, air_limit}
 use Rattle.nx_fec.specs.air_files.Lines.{file_of, line_bytes}
-use Rattle.nx_fec.specs.Transfers.{Devices, Extent, as_read, devices, whole_input}
+use Rattle.nx_fec.specs.Transfers.{Devices, Extent, devices, input, input_of}
 use Rattle.nx_fec.specs.declared.fault.LineFault.TheVariants as file
 use Rattle.nx_fec.specs.declared.air_files.line_taking.LinesFault.{LinesFault}
 use Rattle.nx_fec.specs.declared.air_files.line_taking.LinesFault.TheVariants as run
@@ -201,11 +201,9 @@ pub shows-fault : {R W : Type 0} (first now : Showing) (d : Devices R W)
     → RunsLines report_taker first now d (Err fault)
     → ShowsLocks d (Err (lines_fault (as_lines_fault fault)))
 shows-fault first now d fault h = record {
-  reads = Reads-on d.remaining d.reader d.reader_after run.Read Read (Err fault)
-      (Err (answer fault)) _ _ _ _ h.reads
-      (λ bytes k. explains (as_read d) first now _ _ bytes fault k)
-      (λ bytes k. explains whole_input first now _ _ bytes fault k)
-      (λ bytes k h outside. tt) (λ e. as-err _ _ (read-of fault (read-back _ (err-of _ _ e))))
+  reads = Reads-on (input_of d) run.Read Read (Err fault) (Err (answer fault)) _ _ h.reads
+      (λ extent bytes k. explains extent first now _ _ bytes fault k)
+      (λ bytes k h. tt) (λ e. as-err _ _ (read-of fault (read-back _ (err-of _ _ e))))
       (λ e. as-err _ _ (ap answer (run-err-of _ _ e)));
   writes = record {
     failed = (
@@ -257,10 +255,12 @@ pub shows-ok : {R W : Type 0} (remaining : R → Option (List ℕ)) (contents : 
     → ShowsLocks (devices remaining contents reader reader_after writer new) (Ok report)
 shows-ok remaining contents first now reader reader_after writer mid new read report h closed
     counted none = record {
-      reads = Reads-on remaining reader reader_after run.Read Read (Ok read) (Ok report) _ _ _ _
+      reads = Reads-on (input remaining reader reader_after) run.Read Read (Ok read) (Ok report) _ _
           h.reads
-          (λ bytes k. (k.0, shown_all first now _ _ _ bytes read report k.1 closed counted))
-          (λ bytes k. (k.0, shown_all first now _ _ _ bytes read report k.1 closed counted))
+          (λ extent bytes k. (
+            k.0,
+            shown_all first now _ _ _ bytes read report k.1 closed counted,
+          ))
           (λ bytes k h. h) (λ e. absurd (Ok-not_err _ _ e)) (λ e. absurd (Ok-not_err _ _ e));
       writes = Writes-none _ _ _ (λ written. Ok-not_err _ _) none;
       unwritten = tt;
@@ -290,12 +290,11 @@ pub shows-part : {R W : Type 0} (remaining : R → Option (List ℕ)) (contents 
     (Err (Write written))
 shows-part remaining contents first now reader reader_after writer mid new read written h closed
     one = record {
-      reads = Reads-on remaining reader reader_after run.Read Read (Ok read) (Err (Write written)) _
-          _ _
-          _ h.reads
-          (λ bytes k. inr (k.0, part-shown first now _ _ _ bytes read written k.1 closed))
-          (λ bytes k. inr (k.0, part-shown first now _ _ _ bytes read written k.1 closed))
-          (λ bytes k h outside. tt) (λ e. absurd (write-not_read written e))
+      reads = Reads-on (input remaining reader reader_after) run.Read Read (Ok read)
+          (Err (Write written)) _ _ h.reads
+          (λ extent bytes k.
+          inr (k.0, part-shown first now _ _ _ bytes read written k.1 closed))
+          (λ bytes k h. tt) (λ e. absurd (write-not_read written e))
           (λ e. absurd (Ok-not_err _ _ e));
       writes = record { failed = (λ w. one, λ k. (written, refl)); once = omega (arith, one) };
       unwritten = tt;
@@ -312,7 +311,7 @@ shows-memory remaining contents reader writer error read written = record {
     consumed = Consumes-nil (remaining reader.inner);
     answer = tt;
     file = whatever (remaining reader.inner);
-    before = λ e. tt;
+    before = tt;
     failed = read_failed-none _ _ _ (memory-read error) read;
     once = omega (arith, read);
   };

@@ -2,9 +2,8 @@
 use Rattle.std.specs.Prelude.{◌≡◌, ◌≢◌, ◌⊎◌, ℕ, ◌+◌, List, [], ◌∷◌, ◌++◌, length, Option, Result}
 use Rattle.std.specs.Prelude.{Ok, Err, ⊤}
 use Rattle.std.specs.List.{flat_map}
-use Rattle.std.specs.Io.KnownBytes.{IsAtEnd}
 use Rattle.nx_code.specs.Reading.{newline}
-use Rattle.nx_fec.specs.Transfers.{CountedDevice, Extent, Reads, read_to, whole_input}
+use Rattle.nx_fec.specs.Transfers.{CountedDevice, Extent, Reads, input}
 use Rattle.nx_memory.specs.Saved.{SavedStates}
 use Rattle.nx_memory.specs.StateText.{BeginsNoText, BeginsText, IsShortLine, IsStateText, text_2, longest_saved_line}
 use Rattle.nx_receiver.specs.declared.air_file_runs.state_fault.StateFault.{StateFault}
@@ -82,6 +81,5 @@ AnswersState extent input (Err fault) = ExplainsState extent input fault
 abbrev pub ReadsState : {R : Type 0} → (R → Option (List ℕ)) → CountedDevice R → CountedDevice R
     → Result SavedStates StateFault → Type 0
 ReadsState remaining old new outcome =
-    Reads remaining old new Read (λ _. ⊥) outcome (λ _. ⊤)
-    (λ bytes. AnswersState (read_to (IsAtEnd (remaining new.inner))) bytes outcome)
-    (λ input. AnswersState whole_input input outcome)
+    Reads (input remaining old new) Read (λ fault bytes. ⊤) outcome
+    (λ extent bytes. AnswersState extent bytes outcome)

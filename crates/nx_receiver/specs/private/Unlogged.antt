@@ -1,9 +1,8 @@
 -- A run that listens and goes on from what is saved, and writes no log; and how its listener
 -- stands: nothing is said of the log but that there is one (this profile).
 use Rattle.std.specs.Prelude.{ℕ, List, None, Option, Result, IfOk, ⊤}
-use Rattle.std.specs.Io.KnownBytes.{IsAtEnd}
 use Rattle.nx_fec.specs.air_files.AirFile.{Line}
-use Rattle.nx_fec.specs.Transfers.{CountedDevice, Extent, Reads, read_to, whole_input}
+use Rattle.nx_fec.specs.Transfers.{CountedDevice, Extent, Reads, input}
 use Rattle.nx_fec.specs.declared.air_files.line_hearing.HearFault.{HearFault}
 use Rattle.nx_fec.specs.declared.air_files.line_hearing.HearFault.TheVariants as hear
 use Rattle.nx_fec.specs.declared.air_files.line_taking.LinesFault.{LinesFault}
@@ -49,6 +48,5 @@ AnswersLeaving saved extent outcome bytes =
 abbrev pub ListensUnlogged : {R : Type 0} → SavedStates → (R → Option (List ℕ)) → CountedDevice R
     → CountedDevice R → Result (Report × SavedStates) ListenFault → Type 0
 ListensUnlogged saved remaining old new outcome =
-    Reads remaining old new Read (λ _. ⊥) outcome (λ _. ⊤)
-    (AnswersLeaving saved (read_to (IsAtEnd (remaining new.inner))) outcome)
-    (AnswersLeaving saved whole_input outcome)
+    Reads (input remaining old new) Read (λ fault bytes. ⊤) outcome
+    (λ extent. AnswersLeaving saved extent outcome)

@@ -40,9 +40,8 @@ returns-in_err-write_out g c =
     c.deref.ensures.value c.in_ok-text.ensures.whole c.in_ok-text.ensures.text
     c.deref-2.ensures.value file in
     let wrote = c.in_err-write_out.ensures in
-    rw p.1 (rw p.2 (Transfers-cut _ _ _ _ _ _ _ _ _ _ _ _ _ _ c.in_ok-bits.ensures.reads
-    (λ bytes k. (k.0, text, length text, (decoded bytes k.1, refl), wrote.err))
-    (λ bytes k. (tt, text, length text, (decoded bytes k, refl), wrote.err))
+    rw p.1 (rw p.2 (Transfers-cut _ _ _ _ _ _ _ _ _ _ _ _ c.in_ok-bits.ensures.reads
+    (λ extent bytes k. (k.0, text, length text, (decoded bytes k.1, refl), wrote.err))
     c.in_err-write_out.field-0.0.written (wrote.counts.failed.0 refl)))
 
 pub returns : goal.returns
@@ -57,6 +56,5 @@ returns g c =
     c.deref.ensures.value c.in_ok-text.ensures.whole c.in_ok-text.ensures.text
     c.deref-2.ensures.value file in
     let wrote = c.in_ok-write_out.ensures in
-    Transfers-done _ _ _ _ _ _ _ _ _ _ _ _ _ _ c.in_ok-bits.ensures.reads
-    (λ bytes k. (k.0, text, (decoded bytes k.1, count), wrote.ok))
-    (λ bytes k. (tt, text, (decoded bytes k, count), wrote.ok)) _ wrote.counts.none
+    Transfers-done _ _ _ _ _ _ _ _ _ _ _ _ c.in_ok-bits.ensures.reads
+    (λ extent bytes k. (k.0, text, (decoded bytes k.1, count), wrote.ok)) _ wrote.counts.none

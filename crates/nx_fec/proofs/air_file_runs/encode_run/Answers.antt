@@ -23,14 +23,11 @@ returns-in_err-combs g c =
     c.from_residual-in_err-combs.ensures.1 in
     let fault = c.in_err-combs.field-0.0 in
     rw p.1 (rw p.2 (record {
-      reads = Reads-on _ _ _ _ _ _ _ _ _ _ _ c.in_ok-text.ensures
-          (λ bytes k. spelling-explains _ 1048576 bytes _ _ _ fault k.0 k.1
-          (c.deref.ensures.value ∙ k.2)
+      reads = Reads-on _ _ _ _ _ _ _ c.in_ok-text.ensures
+          (λ extent bytes k. spelling-explains extent bytes _ _ fault k.0 k.1.0
+          (c.deref.ensures.value ∙ k.1.1)
           (λ at same. (c.in_err-combs.ensures.no_such_character at).0 (ap Err same)))
-          (λ bytes k. spelling-explains _ 1048576 bytes _ _ _ fault tt k.0
-          (c.deref.ensures.value ∙ k.1)
-          (λ at same. (c.in_err-combs.ensures.no_such_character at).0 (ap Err same)))
-          (λ bytes k h outside. k.1) (λ e. absurd (spell_fault-not_read fault e))
+          (λ bytes k h outside. k.1.0) (λ e. absurd (spell_fault-not_read fault e))
           (λ e. absurd (Ok-not_err _ _ e));
       writes = record {
         failed = (
@@ -65,9 +62,8 @@ returns-in_err-write_emission g c =
     ∙ ap (λ l. framed_positions (map (λ (comb : Comb). comb.number) l)) c.deref-2.ensures.value)
     (ap (λ l. bits_of (emission (map sent_position l))) c.deref-3.ensures.value) in
     let wrote = c.in_err-write_emission.ensures in
-    rw p.1 (rw p.2 (Transfers-cut _ _ _ _ _ _ _ _ _ _ _ _ _ _ c.in_ok-text.ensures
-    (λ bytes k. (k.0, k.1, file, count, encoded bytes k.2, wrote.err))
-    (λ bytes k. (tt, k.0, file, count, encoded bytes k.1, wrote.err))
+    rw p.1 (rw p.2 (Transfers-cut _ _ _ _ _ _ _ _ _ _ _ _ c.in_ok-text.ensures
+    (λ extent bytes k. (k.0, k.1.0, file, count, encoded bytes k.1.1, wrote.err))
     c.in_err-write_emission.field-0.0.written (wrote.counts.failed.0 refl)))
 
 pub returns : goal.returns
@@ -86,6 +82,5 @@ returns g c =
     ∙ ap (λ l. framed_positions (map (λ (comb : Comb). comb.number) l)) c.deref-2.ensures.value)
     (ap (λ l. bits_of (emission (map sent_position l))) c.deref-3.ensures.value)) in
     let wrote = c.in_ok-write_emission.ensures in
-    Transfers-done _ _ _ _ _ _ _ _ _ _ _ _ _ _ c.in_ok-text.ensures
-    (λ bytes k. (k.0, k.1, file, encoded bytes k.2, wrote.ok))
-    (λ bytes k. (tt, k.0, file, encoded bytes k.1, wrote.ok)) _ wrote.counts.none
+    Transfers-done _ _ _ _ _ _ _ _ _ _ _ _ c.in_ok-text.ensures
+    (λ extent bytes k. (k.0, k.1.0, file, encoded bytes k.1.1, wrote.ok)) _ wrote.counts.none

@@ -27,9 +27,8 @@ returns-in_err-write_out g c =
     c.deref.ensures.value c.in_ok-lines.ensures.whole c.in_ok-lines.ensures.text
     c.deref-2.ensures.value refl file in
     let wrote = c.in_err-write_out.ensures in
-    rw p.1 (rw p.2 (Transfers-cut _ _ _ _ _ _ _ _ _ _ _ _ _ _ c.in_ok-bits.ensures.reads
-    (λ bytes k. (k.0, c.deref-2.result.now, length bits / 7, shown bytes k.1, wrote.err))
-    (λ bytes k. (tt, c.deref-2.result.now, length bits / 7, shown bytes k, wrote.err))
+    rw p.1 (rw p.2 (Transfers-cut _ _ _ _ _ _ _ _ _ _ _ _ c.in_ok-bits.ensures.reads
+    (λ extent bytes k. (k.0, c.deref-2.result.now, length bits / 7, shown bytes k.1, wrote.err))
     c.in_err-write_out.field-0.0.written (wrote.counts.failed.0 refl)))
 
 pub returns : goal.returns
@@ -42,6 +41,5 @@ returns g c =
     c.deref.ensures.value c.in_ok-lines.ensures.whole c.in_ok-lines.ensures.text
     c.deref-2.ensures.value count file in
     let wrote = c.in_ok-write_out.ensures in
-    Transfers-done _ _ _ _ _ _ _ _ _ _ _ _ _ _ c.in_ok-bits.ensures.reads
-    (λ bytes k. (k.0, c.deref-2.result.now, shown bytes k.1, wrote.ok))
-    (λ bytes k. (tt, c.deref-2.result.now, shown bytes k, wrote.ok)) _ wrote.counts.none
+    Transfers-done _ _ _ _ _ _ _ _ _ _ _ _ c.in_ok-bits.ensures.reads
+    (λ extent bytes k. (k.0, c.deref-2.result.now, shown bytes k.1, wrote.ok)) _ wrote.counts.none

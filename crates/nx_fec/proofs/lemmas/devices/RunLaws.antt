@@ -5,9 +5,11 @@ use Rattle.std.specs.Global.{Vec}
 use Rattle.std.specs.declared.alloc.AllocError.{AllocError}
 use Rattle.nx_fec.specs.emissions.Aligned.{ExplainsAligned}
 use Rattle.nx_fec.specs.air_files.Lines.{IsBitFile, IsFaultless}
-use Rattle.nx_fec.specs.Runs.{Encodes, ExplainsReading, ExplainsWordRun, IsOutside, IsWordRun}
+use Rattle.nx_fec.specs.Runs.{Encodes, ExplainsReading, ExplainsWordRun, IsWordRun}
 use Rattle.nx_fec.specs.Runs.{ReadsElements, ReadsWhole, aligned_fault, file_limit, reading_fault}
-use Rattle.nx_fec.specs.Transfers.{CountedDevice, Reads, Transfers, at_the_end, devices}
+use Rattle.nx_fec.specs.Runs.{reads_then_writes}
+use Rattle.nx_fec.specs.Transfers.{Contents, CountedDevice, Extent, Reads, Transfers, devices}
+use Rattle.nx_fec.specs.Transfers.{input, read_from}
 use Rattle.nx_fec.specs.declared.emissions.aligned.AlignedFault.{AlignedFault}
 use Rattle.nx_fec.specs.declared.emissions.aligned.AlignedFault.TheVariants as words
 use Rattle.nx_fec.specs.declared.fault.ReadFault.{ReadFault}
@@ -20,23 +22,23 @@ use Rattle.nx_fec.proofs.lemmas.lines.ReadingLaws.{Err-same}
 use Rattle.nx_fec.proofs.lemmas.devices.TransferLaws.{Ok-not_err, Reads-on, Write-not_read, Writes-none}
 
 -- a fault of reading elements is one of the run
-reading-explains : (IsText : List ℕ → ℕ → Type 0) (AtEnd : Type 0) (limit : ℕ) (bytes : List ℕ)
-    (old new : Option (List ℕ)) (fault : RunFault) → ExplainsReading AtEnd limit bytes fault
-    → ExplainsWordRun IsText AtEnd limit bytes old new fault
-reading-explains IsText AtEnd limit bytes old new Read h = h
-reading-explains IsText AtEnd limit bytes old new FileTooLong h = h
-reading-explains IsText AtEnd limit bytes old new (LineLong line) h = h
-reading-explains IsText AtEnd limit bytes old new (LineCut line) h = h
-reading-explains IsText AtEnd limit bytes old new (BadLine line) h = h
-reading-explains IsText AtEnd limit bytes old new (Ragged bits) h = absurd h
-reading-explains IsText AtEnd limit bytes old new (NoSuchCharacter at) h = h
-reading-explains IsText AtEnd limit bytes old new (Write written) h = absurd h
-reading-explains IsText AtEnd limit bytes old new (Memory error) h = h
+reading-explains : (IsText : List ℕ → ℕ → Type 0) (extent : Extent) (bytes : List ℕ)
+    (contents : Contents) (fault : RunFault) → ExplainsReading extent file_limit bytes fault
+    → ExplainsWordRun IsText extent bytes contents fault
+reading-explains IsText extent bytes contents Read h = h
+reading-explains IsText extent bytes contents FileTooLong h = h
+reading-explains IsText extent bytes contents (LineLong line) h = h
+reading-explains IsText extent bytes contents (LineCut line) h = h
+reading-explains IsText extent bytes contents (BadLine line) h = h
+reading-explains IsText extent bytes contents (Ragged bits) h = absurd h
+reading-explains IsText extent bytes contents (NoSuchCharacter at) h = h
+reading-explains IsText extent bytes contents (Write written) h = absurd h
+reading-explains IsText extent bytes contents (Memory error) h = h
 
-reading-not_write : (AtEnd : Type 0) (limit : ℕ) (bytes : List ℕ) (fault : RunFault)
-    → ExplainsReading AtEnd limit bytes fault → (written : ℕ) → fault ≢ Write written
-reading-not_write AtEnd limit bytes fault h written same =
-    subst (ExplainsReading AtEnd limit bytes) same h
+reading-not_write : (extent : Extent) (limit : ℕ) (bytes : List ℕ) (fault : RunFault)
+    → ExplainsReading extent limit bytes fault → (written : ℕ) → fault ≢ Write written
+reading-not_write extent limit bytes fault h written same =
+    subst (ExplainsReading extent limit bytes) same h
 
 -- a run whose reading failed
 pub WordRun-unread : {R W : Type 0} (IsText : List ℕ → List ℕ → ℕ → Type 0)
@@ -46,23 +48,23 @@ pub WordRun-unread : {R W : Type 0} (IsText : List ℕ → List ℕ → ℕ → 
     → ReadsElements remaining reader reader_after (Err fault)
     → IsWordRun IsText (devices remaining contents reader reader_after writer writer) (Err fault)
 WordRun-unread IsText remaining contents reader reader_after writer fault none h = record {
-  reads = Reads-on _ _ _ _ _ _ _ _ _ _ _ h
-      (λ bytes k. reading-explains (IsText bytes) _ file_limit bytes _ _ fault k)
-      (λ bytes k. reading-explains (IsText bytes) _ file_limit bytes _ _ fault k)
+  reads = Reads-on _ _ _ _ _ _ _ h
+      (λ extent bytes k. reading-explains (IsText bytes) extent bytes _ fault k)
       (λ bytes k clean. clean) (Err-same fault Read) (Err-same fault Read);
   writes = Writes-none _ _ _
-      (λ written same. reading-not_write _ file_limit h.bytes fault h.answer written cc) none;
+      (λ written same. reading-not_write (read_from (input remaining reader reader_after))
+      file_limit h.bytes fault h.answer written cc) none;
   unwritten = λ other. refl;
 }
 
 -- elements that are no whole words, or no memory for their text
-aligned-explains : (IsText : List ℕ → ℕ → Type 0) (AtEnd : Type 0) (limit : ℕ) (bytes : List ℕ)
-    (old new : Option (List ℕ)) (bits : List Bool) (fault : AlignedFault) → AtEnd
-    → IsBitFile limit bytes bits → ExplainsAligned bits fault
-    → ExplainsWordRun IsText AtEnd limit bytes old new (aligned_fault fault)
-aligned-explains IsText AtEnd limit bytes old new bits (words.Ragged given) end file h =
+aligned-explains : (IsText : List ℕ → ℕ → Type 0) (extent : Extent) (bytes : List ℕ)
+    (contents : Contents) (bits : List Bool) (fault : AlignedFault) → extent.at_end
+    → IsBitFile file_limit bytes bits → ExplainsAligned bits fault
+    → ExplainsWordRun IsText extent bytes contents (aligned_fault fault)
+aligned-explains IsText extent bytes contents bits (words.Ragged given) end file h =
     (end, bits, file, h.0, h.1)
-aligned-explains IsText AtEnd limit bytes old new bits (words.Memory error) end file h = tt
+aligned-explains IsText extent bytes contents bits (words.Memory error) end file h = tt
 
 aligned-not_read : {T : Type 0} (fault : AlignedFault)
     → ◌≡◌ {A = Result T RunFault} (Err (aligned_fault fault)) (Err Read) → ⊥
@@ -100,11 +102,9 @@ WordRun-refused IsText remaining contents reader reader_after writer bits given 
     refused =
     let why = subst (λ l. ExplainsAligned l fault) is refused in
     record {
-      reads = Reads-on _ _ _ _ _ _ _ _ _ _ _ h
-          (λ bytes k. aligned-explains (IsText bytes) _ file_limit bytes _ _ bits.items fault k.0
+      reads = Reads-on _ _ _ _ _ _ _ h
+          (λ extent bytes k. aligned-explains (IsText bytes) extent bytes _ bits.items fault k.0
           k.1 why)
-          (λ bytes k. aligned-explains (IsText bytes) _ file_limit bytes _ _ bits.items fault tt
-          k why)
           (λ bytes k clean outside. bit_file-faultless file_limit bytes bits.items k.1)
           (λ e. absurd (aligned-not_read fault e)) (λ e. absurd (Ok-not_err _ _ e));
       writes = Writes-none _ _ _ (aligned-not_write fault) none;
@@ -119,19 +119,19 @@ pub Encodes-unread : {R W : Type 0} (remaining : R → Option (List ℕ))
     → Encodes (devices remaining contents reader reader_after writer writer)
     (Err (reading_fault fault))
 Encodes-unread remaining contents reader reader_after writer read.Read none h = record {
-  reads = Reads-on _ _ _ _ _ _ _ _ _ _ _ h (λ bytes k. tt) (λ bytes k. tt)
+  reads = Reads-on _ _ _ _ _ _ _ h (λ extent bytes k. tt)
       (λ bytes k clean. clean) (λ e. refl) (λ e. refl);
   writes = Writes-none _ _ _ (λ written same. cc) none;
   unwritten = λ other. refl;
 }
 Encodes-unread remaining contents reader reader_after writer read.FileTooLong none h = record {
-  reads = Reads-on _ _ _ _ _ _ _ _ _ _ _ h (λ bytes k. k) (λ bytes k. k)
+  reads = Reads-on _ _ _ _ _ _ _ h (λ extent bytes k. k)
       (λ bytes k clean outside. absurd outside) (λ e. cc) (λ e. cc);
   writes = Writes-none _ _ _ (λ written same. cc) none;
   unwritten = λ other. refl;
 }
 Encodes-unread remaining contents reader reader_after writer (read.Memory error) none h = record {
-  reads = Reads-on _ _ _ _ _ _ _ _ _ _ _ h (λ bytes k. tt) (λ bytes k. tt)
+  reads = Reads-on _ _ _ _ _ _ _ h (λ extent bytes k. tt)
       (λ bytes k clean. clean) (λ e. cc) (λ e. cc);
   writes = Writes-none _ _ _ (λ written same. cc) none;
   unwritten = λ other. refl;
@@ -144,39 +144,38 @@ pub Encodes-no_memory : {R W : Type 0} (remaining : R → Option (List ℕ))
     → ReadsWhole remaining reader reader_after (Ok text)
     → Encodes (devices remaining contents reader reader_after writer writer) (Err (Memory error))
 Encodes-no_memory remaining contents reader reader_after writer text error none h = record {
-  reads = Reads-on _ _ _ _ _ _ _ _ _ _ _ h (λ bytes k. tt) (λ bytes k. tt)
-      (λ bytes k clean outside. k.1) (λ e. cc) (λ e. cc);
+  reads = Reads-on _ _ _ _ _ _ _ h (λ extent bytes k. tt)
+      (λ bytes k clean outside. k.1.0) (λ e. cc) (λ e. cc);
   writes = Writes-none _ _ _ (λ written same. cc) none;
   unwritten = λ other. refl;
 }
 
 module _ {R W T F : Type 0} (remaining : R → Option (List ℕ)) (contents : W → Option (List ℕ))
     (reader reader_after : CountedDevice R) (writer writer_after : CountedDevice W) (read : F)
-    (items : T) (outside : F → Type 0)
-    (faultless known whole run_known run_whole : List ℕ → Type 0)
-    (reads : Reads remaining reader reader_after read outside (Ok items) faultless known whole)
-    (knows : (bytes : List ℕ) → known bytes → run_known bytes)
-    (all : (bytes : List ℕ) → whole bytes → run_whole bytes) where
-  -- a run that read all and wrote what that gives
-  pub Transfers-done : (count : ℕ) → writer_after.failures ≡ 0
-      → Transfers Read IsOutside (λ written. Write written) at_the_end
-      (devices remaining contents reader reader_after writer writer_after)
-      (Ok count) faultless run_known run_whole
-  Transfers-done count none = record {
-    reads = Reads-on _ _ _ _ _ _ _ _ _ _ _ reads knows all (λ bytes k h. h)
-        (λ e. absurd (Ok-not_err _ _ e)) (λ e. absurd (Ok-not_err _ _ e));
-    writes = Writes-none _ _ _ (λ written same. Ok-not_err _ _ same) none;
-    unwritten = tt;
-  }
+    (items : T) (behind : F → List ℕ → Type 0) (faultless : List ℕ → Type 0)
+    (answers run_answers : Extent → List ℕ → Type 0)
+    (reads : Reads (input remaining reader reader_after) read behind (Ok items) answers)
+    (knows : (extent : Extent) (bytes : List ℕ) → answers extent bytes → run_answers extent bytes)
+  where
+    -- a run that read all and wrote what that gives
+    pub Transfers-done : (count : ℕ) → writer_after.failures ≡ 0
+        → Transfers (reads_then_writes faultless)
+        (devices remaining contents reader reader_after writer writer_after) (Ok count) run_answers
+    Transfers-done count none = record {
+      reads = Reads-on _ _ _ _ _ _ _ reads knows (λ bytes k h. h)
+          (λ e. absurd (Ok-not_err _ _ e)) (λ e. absurd (Ok-not_err _ _ e));
+      writes = Writes-none _ _ _ (λ written same. Ok-not_err _ _ same) none;
+      unwritten = tt;
+    }
 
-  -- a run that read all, and whose write failed
-  pub Transfers-cut : {N : Type 0} (written : ℕ) → writer_after.failures ≡ 1
-      → Transfers {N = N} Read IsOutside (λ written. Write written) at_the_end
-      (devices remaining contents reader reader_after writer writer_after)
-      (Err (Write written)) faultless run_known run_whole
-  Transfers-cut written one = record {
-    reads = Reads-on _ _ _ _ _ _ _ _ _ _ _ reads knows all (λ bytes k h out. absurd out)
-        (λ e. absurd (Write-not_read _ e)) (λ e. absurd (Ok-not_err _ _ e));
-    writes = record { failed = (λ w. one, λ o. (written, refl)); once = omega (arith, one) };
-    unwritten = λ other. absurd (other written refl);
-  }
+    -- a run that read all, and whose write failed
+    pub Transfers-cut : {N : Type 0} (written : ℕ) → writer_after.failures ≡ 1
+        → Transfers {N = N} (reads_then_writes faultless)
+        (devices remaining contents reader reader_after writer writer_after) (Err (Write written))
+        run_answers
+    Transfers-cut written one = record {
+      reads = Reads-on _ _ _ _ _ _ _ reads knows (λ bytes k h out. absurd out)
+          (λ e. absurd (Write-not_read _ e)) (λ e. absurd (Ok-not_err _ _ e));
+      writes = record { failed = (λ w. one, λ o. (written, refl)); once = omega (arith, one) };
+      unwritten = λ other. absurd (other written refl);
+    }

@@ -5,37 +5,31 @@ use Rattle.std.proofs.Common.{IsErrOf}
 use Rattle.std.specs.Io.KnownBytes.{Consumes, IsAtEnd}
 use Rattle.std.proofs.lemmas.Option.{IfSome_then}
 use Rattle.nx_fec.proofs.lemmas.lines.ReadingLaws.{Err-same, IfSome-always}
-use Rattle.nx_fec.specs.Transfers.{CountedDevice, Reads, ReadsToEnd, Writes}
+use Rattle.nx_fec.specs.Transfers.{AnswersToEnd, CountedDevice, Extent, Input, Reads, Writes}
+use Rattle.nx_fec.specs.Transfers.{read_from, whole_input}
 use Rattle.nx_fec.specs.declared.fault.RunFault.{RunFault}
 use Rattle.nx_fec.specs.declared.fault.RunFault.TheVariants.{Read, Write}
 
--- what holds of the bytes before a fault that is outside
-abbrev pub Before : {N F : Type 0} → (F → Type 0) → Result N F → Type 0 → Type 0
-Before outside outcome clean = IfErr outcome (λ fault. outside fault → clean)
-
 -- the run goes on after it read, and fails to read exactly where its reading did
-pub Reads-on : {R N M F G : Type 0} (remaining : R → Option (List ℕ)) (old new : CountedDevice R)
-    (read : F) (run_read : G) (outcome : Result N F) (run_outcome : Result M G)
-    (known whole run_known run_whole : List ℕ → Type 0) {faultless : List ℕ → Type 0}
-    {outside : F → Type 0} {run_outside : G → Type 0}
-    → Reads remaining old new read outside outcome faultless known whole
-    → ((bytes : List ℕ) → known bytes → run_known bytes)
-    → ((bytes : List ℕ) → whole bytes → run_whole bytes)
-    → ((bytes : List ℕ) → known bytes → Before outside outcome (faultless bytes)
-    → Before run_outside run_outcome (faultless bytes))
+pub Reads-on : {R N M F G : Type 0} (i : Input R) (read : F) (run_read : G) (outcome : Result N F)
+    (run_outcome : Result M G) (answers run_answers : Extent → List ℕ → Type 0)
+    {behind : F → List ℕ → Type 0} {run_behind : G → List ℕ → Type 0}
+    → Reads i read behind outcome answers
+    → ((extent : Extent) (bytes : List ℕ) → answers extent bytes → run_answers extent bytes)
+    → ((bytes : List ℕ) → answers (read_from i) bytes → IfErr outcome (λ fault. behind fault bytes)
+    → IfErr run_outcome (λ fault. run_behind fault bytes))
     → (IsErrOf run_outcome run_read → IsErrOf outcome read)
     → (IsErrOf outcome read → IsErrOf run_outcome run_read)
-    → Reads remaining old new run_read run_outside run_outcome faultless run_known run_whole
-Reads-on remaining old new read run_read outcome run_outcome known whole run_known run_whole h k w
-    early there here = record {
-      bytes = h.bytes;
-      consumed = h.consumed;
-      answer = k h.bytes h.answer;
-      file = IfSome_then (remaining old.inner) h.file w;
-      before = early h.bytes h.answer h.before;
-      failed = (λ e. h.failed.0 (there e), λ one. here (h.failed.1 one));
-      once = h.once;
-    }
+    → Reads i run_read run_behind run_outcome run_answers
+Reads-on i read run_read outcome run_outcome answers run_answers h k early there here = record {
+  bytes = h.bytes;
+  consumed = h.consumed;
+  answer = k (read_from i) h.bytes h.answer;
+  file = IfSome_then (i.remaining i.reader.inner) h.file (k whole_input);
+  before = early h.bytes h.answer h.before;
+  failed = (λ e. h.failed.0 (there e), λ one. here (h.failed.1 one));
+  once = h.once;
+}
 
 -- a success is no error
 pub Ok-not_err : {T E : Type 0} (x : T) (e : E) → ◌≡◌ {A = Result T E} (Ok x) (Err e) → ⊥
@@ -96,50 +90,50 @@ IfSome-end (Some xs) None bytes P consumed end h = absurd consumed
 IfSome-end (Some xs) (Some ys) bytes P consumed end h =
     subst P (sym (consumed ∙ ap (λ l. bytes ++ l) end ∙ append-nil bytes)) h
 
-module _ {R N F : Type 0} (remaining : R → Option (List ℕ)) (old new : CountedDevice R) (unread : F)
-    (outside : F → Type 0) (faultless : List ℕ → Type 0) (good : N → List ℕ → Type 0)
-    (explains : List ℕ → F → Type 0)
-    (bytes : List ℕ) (consumed : Consumes (remaining old.inner) (remaining new.inner) bytes) where
-  -- a file is read to its end
-  pub ReadsToEnd-ended : (answer : N) → IsAtEnd (remaining new.inner) → good answer bytes
-      → new.failures ≡ 0
-      → ReadsToEnd remaining old new unread outside (Ok answer) faultless good (λ _. explains)
-  ReadsToEnd-ended answer end h none = record {
-    bytes = bytes;
-    consumed = consumed;
-    answer = (end, h);
-    file = IfSome-end _ _ bytes (good answer) consumed end h;
-    before = tt;
-    failed = read_failed-none _ _ _ (Ok-not_err _ _) none;
-    once = omega (arith, none);
-  }
+module _ {R N F : Type 0} (i : Input R) (unread : F) (behind : F → List ℕ → Type 0)
+    (good : N → List ℕ → Type 0) (explains : List ℕ → F → Type 0) (bytes : List ℕ)
+    (consumed : Consumes (i.remaining i.reader.inner) (i.remaining i.reader_after.inner) bytes)
+  where
+    -- a file is read to its end
+    pub Reads-ended : (answer : N) → IsAtEnd (i.remaining i.reader_after.inner) → good answer bytes
+        → i.reader_after.failures ≡ 0
+        → Reads i unread behind (Ok answer) (AnswersToEnd good (λ _. explains) (Ok answer))
+    Reads-ended answer end h none = record {
+      bytes = bytes;
+      consumed = consumed;
+      answer = (end, h);
+      file = IfSome-end _ _ bytes (λ xs. Unit {0} × good answer xs) consumed end (tt, h);
+      before = tt;
+      failed = read_failed-none _ _ _ (Ok-not_err _ _) none;
+      once = omega (arith, none);
+    }
 
-  -- or it has a fault
-  pub ReadsToEnd-stopped : (fault : F) → (outside fault → faultless bytes)
-      → ((more : List ℕ) → explains (bytes ++ more) fault)
-      → (◌≡◌ {A = Result N F} (Err fault) (Err unread) → ⊥)
-      → new.failures ≡ 0 → ReadsToEnd remaining old new unread outside (Err fault) faultless good
-      (λ _. explains)
-  ReadsToEnd-stopped fault clean h other none = record {
-    bytes = bytes;
-    consumed = consumed;
-    answer = subst (λ l. explains l fault) (append-nil bytes) (h []);
-    file = IfSome-front _ _ bytes (λ xs. explains xs fault) consumed h;
-    before = clean;
-    failed = read_failed-none _ _ _ other none;
-    once = omega (arith, none);
-  }
+    -- or it has a fault
+    pub Reads-stopped : (fault : F) → behind fault bytes
+        → ((more : List ℕ) → explains (bytes ++ more) fault)
+        → (◌≡◌ {A = Result N F} (Err fault) (Err unread) → ⊥) → i.reader_after.failures ≡ 0
+        → Reads {N = N} i unread behind (Err fault) (AnswersToEnd good (λ _. explains) (Err fault))
+    Reads-stopped fault clean h other none = record {
+      bytes = bytes;
+      consumed = consumed;
+      answer = subst (λ l. explains l fault) (append-nil bytes) (h []);
+      file = IfSome-front _ _ bytes (λ xs. explains xs fault) consumed h;
+      before = clean;
+      failed = read_failed-none _ _ _ other none;
+      once = omega (arith, none);
+    }
 
-  -- or a read fails
-  pub ReadsToEnd-failed : ((xs : List ℕ) → explains xs unread) → faultless bytes → new.failures ≡ 1
-      → ReadsToEnd {N = N} remaining old new unread outside (Err unread) faultless good
-      (λ _. explains)
-  ReadsToEnd-failed h none one = record {
-    bytes = bytes;
-    consumed = consumed;
-    answer = h bytes;
-    file = IfSome-always _ _ h;
-    before = λ e. none;
-    failed = (λ e. one, λ o. refl);
-    once = omega (arith, one);
-  }
+    -- or a read fails
+    pub Reads-failed : ((xs : List ℕ) → explains xs unread) → behind unread bytes
+        → i.reader_after.failures ≡ 1
+        → Reads {N = N} i unread behind (Err unread)
+        (AnswersToEnd good (λ _. explains) (Err unread))
+    Reads-failed h clean one = record {
+      bytes = bytes;
+      consumed = consumed;
+      answer = h bytes;
+      file = IfSome-always _ _ h;
+      before = clean;
+      failed = (λ e. one, λ o. refl);
+      once = omega (arith, one);
+    }

@@ -1,6 +1,6 @@
 -- Lemmas on what encoding answers, and that decoding gives back what was encoded.
 use Rattle.std.proofs.Common.{◌≡◌, ℕ, zero, suc, ◌+◌, ◌*◌, ◌<◌, ◌≤◌, Bool, not, List, [], ◌∷◌, ◌++◌}
-use Rattle.std.proofs.Common.{length, map, take, drop, position, Option, Some, Result, Err, refl}
+use Rattle.std.proofs.Common.{length, map, take, drop, position, Some, Result, Err, refl}
 use Rattle.std.proofs.Common.{sym, ap, ◌∙◌, subst, append-nil, arith, add-one}
 use Rattle.std.specs.List.{flat_map, AllByRecursion}
 use Rattle.std.specs.Int.{div_ceil}
@@ -23,7 +23,8 @@ use Rattle.nx_fec.specs.air_files.BitLines.{bit_line, bit_lines}
 use Rattle.nx_fec.specs.emissions.Aligned.{aligned_text, words_of}
 use Rattle.nx_fec.specs.emissions.Emission.{bits_of, emission, framed_positions, sent_position}
 use Rattle.nx_fec.specs.emissions.Emission.{AreCombinations}
-use Rattle.nx_fec.specs.Runs.{IsEncoded, IsDecoded, ExplainsEncoding, spell_fault}
+use Rattle.nx_fec.specs.Runs.{IsEncoded, IsDecoded, ExplainsEncoding, file_limit, spell_fault}
+use Rattle.nx_fec.specs.Transfers.{Contents, Extent}
 use Rattle.nx_fec.specs.declared.fault.RunFault.{RunFault}
 use Rattle.nx_fec.specs.declared.fault.RunFault.TheVariants.{Read, Write}
 use Rattle.nx_fec.specs.declared.emissions.positions.Position.{Position}
@@ -32,17 +33,17 @@ use Rattle.nx_fec.proofs.lemmas.devices.WritingLaws.{first_lines}
 use Rattle.nx_fec.proofs.lemmas.emissions.RoundTrip.{length-bits_of, aligned_text-framed_positions}
 
 -- a text that isn't spelled
-pub spelling-explains : (AtEnd : Type 0) (limit : ℕ) (bytes text : List ℕ)
-    (old new : Option (List ℕ)) (e : SpellFault) → AtEnd → length bytes ≤ limit → text ≡ bytes
+pub spelling-explains : (extent : Extent) (bytes text : List ℕ) (contents : Contents)
+    (e : SpellFault) → extent.at_end → length bytes ≤ file_limit → text ≡ bytes
     → ((at : ℕ) → e ≡ NoSuchCharacter at → position (λ byte. not (is_in_code byte)) text ≡ Some at)
-    → ExplainsEncoding AtEnd limit bytes old new (spell_fault e)
-spelling-explains AtEnd limit bytes text old new (NoSuchCharacter at) end within same h = (
+    → ExplainsEncoding extent bytes contents (spell_fault e)
+spelling-explains extent bytes text contents (NoSuchCharacter at) end within same h = (
   end,
   within,
   subst (λ l. position (λ byte. not (is_in_code byte)) l ≡ Some at) same
       (h at refl),
 )
-spelling-explains AtEnd limit bytes text old new (Memory error) end within same h = tt
+spelling-explains extent bytes text contents (Memory error) end within same h = tt
 
 pub spell_fault-not_read : {T : Type 0} (e : SpellFault)
     → ◌≡◌ {A = Result T RunFault} (Err (spell_fault e)) (Err Read) → ⊥

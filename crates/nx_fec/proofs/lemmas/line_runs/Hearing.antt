@@ -4,7 +4,7 @@ use Rattle.std.proofs.Common.{Result, Ok, Err, IsErrOf, sym, ap, ◌∙◌, subs
 use Rattle.std.specs.Io.KnownBytes.{Consumes, IsAtEnd}
 use Rattle.nx_fec.specs.air_files.AirFile.{Line}
 use Rattle.nx_fec.specs.air_files.LineRuns.{AnswersHearing, HasHeardAll, HearsLines}
-use Rattle.nx_fec.specs.Transfers.{CountedDevice, read_to, whole_input}
+use Rattle.nx_fec.specs.Transfers.{Input, read_from, read_to, whole_input}
 use Rattle.nx_fec.specs.declared.fault.LineFault.{LineFault}
 use Rattle.nx_fec.specs.declared.air_files.line_hearing.HearFault.{HearFault}
 use Rattle.nx_fec.specs.declared.air_files.line_hearing.HearFault.TheVariants as hear
@@ -36,20 +36,19 @@ module _ {F : Type 0} (refuses : List Line → Line → F → Type 0) (holds : L
       (sym consumed) (AnswersHearing-whole bytes ys outcome h)
 
   -- what a run says, of its parts
-  pub HearsLines-of : {R : Type 0} (remaining : R → Option (List ℕ))
-      (old new : CountedDevice R) (outcome : Result ℕ (HearFault F)) (bytes : List ℕ)
-      → Consumes (remaining old.inner) (remaining new.inner) bytes
-      → AnswersHearing refuses holds (read_to (IsAtEnd (remaining new.inner)))
-      outcome bytes
-      → IsErrOf outcome hear.Read ↔ (new.failures ≡ 1) → new.failures ≤ 1
-      → HearsLines refuses holds remaining old new outcome
-  HearsLines-of remaining old new outcome bytes consumed answer failed once = record {
+  pub HearsLines-of : {R : Type 0} (i : Input R) (outcome : Result ℕ (HearFault F))
+      (bytes : List ℕ)
+      → Consumes (i.remaining i.reader.inner) (i.remaining i.reader_after.inner) bytes
+      → AnswersHearing refuses holds (read_from i) outcome bytes
+      → IsErrOf outcome hear.Read ↔ (i.reader_after.failures ≡ 1) → i.reader_after.failures ≤ 1
+      → HearsLines refuses holds i outcome
+  HearsLines-of i outcome bytes consumed answer failed once = record {
     bytes = bytes;
     consumed = consumed;
     answer = answer;
-    file = AnswersHearing-file (remaining old.inner) (remaining new.inner) bytes outcome
-        consumed answer;
-    before = IfErr-always outcome _ (λ fault e. tt);
+    file = AnswersHearing-file (i.remaining i.reader.inner) (i.remaining i.reader_after.inner) bytes
+        outcome consumed answer;
+    before = IfErr-always outcome _ (λ fault. tt);
     failed = failed;
     once = once;
   }

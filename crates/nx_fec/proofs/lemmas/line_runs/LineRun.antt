@@ -550,7 +550,7 @@ module _ {T F : Type 0} (stands : Standing T) (begins : Beginning T) (refuses : 
       answer = answer;
       file = AnswersLines-file (d.remaining d.reader.inner) (d.remaining d.reader_after.inner) first
           now _ _ bytes outcome consumed answer;
-      before = IfErr-always outcome _ (λ fault e. tt);
+      before = IfErr-always outcome _ (λ fault. tt);
       failed = failed;
       once = once;
     };

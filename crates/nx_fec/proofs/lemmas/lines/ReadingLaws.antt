@@ -8,6 +8,7 @@ use Rattle.nx_fec.specs.air_files.AirFile.{Line}
 use Rattle.nx_fec.specs.air_files.Lines.{HasFault, IsAtByte, IsCause, IsFaultless, Scanning, Scans}
 use Rattle.nx_fec.specs.air_files.Lines.{Splits, StopsIn, elements_on}
 use Rattle.nx_fec.specs.Runs.{run_fault, ExplainsReading, IsOutside}
+use Rattle.nx_fec.specs.Transfers.{Extent, inside}
 use Rattle.nx_fec.specs.private.Takers.{ExplainsPiece, HasRead}
 use Rattle.nx_fec.proofs.lemmas.devices.Piece.{piece-parts}
 use Rattle.nx_fec.specs.declared.air_files.channel.Channel.TheVariants.{Zero}
@@ -56,41 +57,42 @@ HasRead-step limit old new bits more bytes bytes' some h scans joined = record {
 }
 
 -- a fault of the file explains the fault of the run
-explains : (AtEnd : Type 0) (limit : ℕ) (bytes : List ℕ) (why : LineFault) → AtEnd
-    → HasFault limit bytes why → ExplainsReading AtEnd limit bytes (run_fault why)
-explains AtEnd limit bytes file.TooLong end fault = fault
-explains AtEnd limit bytes (file.LineLong line) end fault = fault
-explains AtEnd limit bytes (file.LineCut line) end fault = (end, fault)
-explains AtEnd limit bytes (file.BadLine line) end fault = fault
+explains : (extent : Extent) (limit : ℕ) (bytes : List ℕ) (why : LineFault) → extent.at_end
+    → HasFault limit bytes why → ExplainsReading extent limit bytes (run_fault why)
+explains extent limit bytes file.TooLong end fault = fault
+explains extent limit bytes (file.LineLong line) end fault = fault
+explains extent limit bytes (file.LineCut line) end fault = (end, fault)
+explains extent limit bytes (file.BadLine line) end fault = fault
 
 -- and so does its cause at the end of the bytes
-pub ExplainsReading-fault : (AtEnd : Type 0) (limit : ℕ) (bytes : List ℕ) (why : LineFault)
-    (lines : List Line) (rest : List ℕ) → AtEnd → Splits bytes lines rest
+pub ExplainsReading-fault : (extent : Extent) (limit : ℕ) (bytes : List ℕ) (why : LineFault)
+    (lines : List Line) (rest : List ℕ) → extent.at_end → Splits bytes lines rest
     → IsCause limit (length bytes) lines rest [] why
-    → ExplainsReading AtEnd limit bytes (run_fault why)
-ExplainsReading-fault AtEnd limit bytes why lines rest end splits cause =
-    explains AtEnd limit bytes why end
+    → ExplainsReading extent limit bytes (run_fault why)
+ExplainsReading-fault extent limit bytes why lines rest end splits cause =
+    explains extent limit bytes why end
     (subst (λ l. HasFault limit l why) (append-nil bytes)
     (HasFault-cause limit bytes lines rest [] why splits cause))
 
 pub ExplainsReading-at_byte : (limit : ℕ) (bytes : List ℕ) (why : LineFault) → IsAtByte why
-    → HasFault limit bytes why → ExplainsReading ⊥ limit bytes (run_fault why)
+    → HasFault limit bytes why → ExplainsReading inside limit bytes (run_fault why)
 ExplainsReading-at_byte limit bytes file.TooLong at refused = refused
 ExplainsReading-at_byte limit bytes (file.LineLong line) at refused = refused
 ExplainsReading-at_byte limit bytes (file.LineCut line) at refused = absurd at
 ExplainsReading-at_byte limit bytes (file.BadLine line) at refused = refused
 
-pub ExplainsReading-weaker : (A B : Type 0) (limit : ℕ) (bytes : List ℕ) (fault : RunFault)
-    → (A → B) → ExplainsReading A limit bytes fault → ExplainsReading B limit bytes fault
-ExplainsReading-weaker A B limit bytes Read f h = tt
-ExplainsReading-weaker A B limit bytes FileTooLong f h = h
-ExplainsReading-weaker A B limit bytes (LineLong line) f h = h
-ExplainsReading-weaker A B limit bytes (LineCut line) f h = (f h.0, h.1)
-ExplainsReading-weaker A B limit bytes (BadLine line) f h = h
-ExplainsReading-weaker A B limit bytes (Ragged bits) f h = h
-ExplainsReading-weaker A B limit bytes (NoSuchCharacter at) f h = h
-ExplainsReading-weaker A B limit bytes (Write written) f h = h
-ExplainsReading-weaker A B limit bytes (Memory error) f h = tt
+-- a fault that stands before the end stands in bytes of any extent
+pub ExplainsReading-inside : (extent : Extent) (limit : ℕ) (bytes : List ℕ) (fault : RunFault)
+    → ExplainsReading inside limit bytes fault → ExplainsReading extent limit bytes fault
+ExplainsReading-inside extent limit bytes Read h = tt
+ExplainsReading-inside extent limit bytes FileTooLong h = h
+ExplainsReading-inside extent limit bytes (LineLong line) h = h
+ExplainsReading-inside extent limit bytes (LineCut line) h = absurd h.0
+ExplainsReading-inside extent limit bytes (BadLine line) h = h
+ExplainsReading-inside extent limit bytes (Ragged bits) h = h
+ExplainsReading-inside extent limit bytes (NoSuchCharacter at) h = h
+ExplainsReading-inside extent limit bytes (Write written) h = h
+ExplainsReading-inside extent limit bytes (Memory error) h = tt
 
 -- a fault of the file is none of the reader or of memory
 pub run_fault-inside : (why : LineFault) → IsOutside (run_fault why) → ⊥

@@ -3,8 +3,8 @@ use Rattle.std.proofs.Common.{◌≡◌, ℕ, List, Option, Result, Ok, Err, IsE
 use Rattle.std.specs.Prelude.{⊤}
 use Rattle.std.specs.Io.KnownBytes.{Appends}
 use Rattle.nx_fec.specs.air_files.AirFile.{Line}
-use Rattle.nx_fec.specs.Transfers.{CountedDevice, Devices, Extent, HasWritten, Reads, as_read}
-use Rattle.nx_fec.specs.Transfers.{devices, whole_input}
+use Rattle.nx_fec.specs.Transfers.{CountedDevice, Devices, Extent, HasWritten, Reads}
+use Rattle.nx_fec.specs.Transfers.{devices, input}
 use Rattle.nx_fec.proofs.lemmas.devices.TransferLaws.{Ok-not_err, Reads-on, Writes-none}
 use Rattle.nx_fec.specs.declared.air_files.line_taking.LinesFault.TheVariants as run
 use Rattle.nx_fec.specs.air_files.LineRuns.{HasTakenAll, RunsLines, line_run}
@@ -85,14 +85,11 @@ goes-on remaining contents saved left first now' reader reader_after writer mid 
       (k.0, listened first now' _ _ _ bytes read report k.1 closed counted),
       gone saved left first now' _ _ _ bytes read report begins k.1 closed leaves,
     ) in
-    let r : Reads remaining reader reader_after Read (λ _. ⊥) (Ok report) (λ _. ⊤)
-    (λ bytes. AnswersListening (starts_of first) (as_read d) old now (Ok report) bytes
-    × HasGoneOn saved old now bytes left)
-    (λ bytes. AnswersListening (starts_of first) whole_input old now (Ok report) bytes
+    let r : Reads (input remaining reader reader_after) Read (λ fault bytes. ⊤) (Ok report)
+    (λ extent bytes. AnswersListening (starts_of first) extent old now (Ok report) bytes
     × HasGoneOn saved old now bytes left) =
-    Reads-on remaining reader reader_after run.Read Read (Ok read) (Ok report) _ _ _ _ h.reads
-    (λ bytes k. heard (as_read d) bytes k)
-    (λ bytes k. heard whole_input bytes k)
+    Reads-on (input remaining reader reader_after) run.Read Read (Ok read) (Ok report) _ _ h.reads
+    heard
     (λ bytes k h. h) (λ e. absurd (Ok-not_err _ _ e)) (λ e. absurd (Ok-not_err _ _ e)) in
     let writes = Writes-none new (λ written. Write written) (Ok report)
     (λ written. Ok-not_err _ _) none in

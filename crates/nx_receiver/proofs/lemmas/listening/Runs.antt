@@ -11,7 +11,7 @@ use Rattle.std.proofs.lemmas.List.{length-map}
 use Rattle.nx_fec.specs.air_files.AirFile.{Line, moment, elements, refuse_station, accept_station}
 use Rattle.nx_fec.specs.air_files.AirFile.{refuse_subject, accept_subject, element_digit, mark_bytes}
 use Rattle.nx_fec.specs.Transfers.{CountedDevice, Devices, Extent, HasWritten, Reads, Writes}
-use Rattle.nx_fec.specs.Transfers.{as_read, devices, whole_input}
+use Rattle.nx_fec.specs.Transfers.{devices, input, input_of}
 use Rattle.nx_fec.specs.air_files.LineRuns.{ExplainsLines, HasTaken, HasTakenAll, RunsLines, line_run}
 use Rattle.nx_fec.specs.air_files.Lines.{IsLineRefused, air_limit, elements_of, file_of, line_bytes}
 use Rattle.nx_fec.specs.declared.fault.LineFault.TheVariants as file
@@ -184,10 +184,8 @@ as-err {N} {F} a b e = let out : F → Result N F = λ x. Err x in ap out e
 -- what a run says of both devices is what it says as one that listens
 listens-by : {R W : Type 0} (starts : Starts) (d : Devices R W)
     (outcome : Result Report ListenFault)
-    → Reads d.remaining d.reader d.reader_after Read (λ _. ⊥) outcome (λ _. ⊤)
-    (AnswersListening starts (as_read d) (d.contents d.writer.inner)
-    (d.contents d.writer_after.inner) outcome)
-    (AnswersListening starts whole_input (d.contents d.writer.inner)
+    → Reads (input_of d) Read (λ fault bytes. ⊤) outcome
+    (λ extent. AnswersListening starts extent (d.contents d.writer.inner)
     (d.contents d.writer_after.inner) outcome)
     → Writes d.writer_after (λ written. Write written) outcome → Listens starts d outcome
 listens-by starts d outcome r w = record {
@@ -208,11 +206,9 @@ pub listens-fault : {R W : Type 0} (first now : Listening) (d : Devices R W)
     → Listens (starts_of first) d (Err (lines_fault fault))
 listens-fault first now d fault h =
     listens-by (starts_of first) d (Err (lines_fault fault))
-    (Reads-on d.remaining d.reader d.reader_after run.Read Read (Err fault)
-    (Err (lines_fault fault)) _ _ _ _ h.reads
-    (λ bytes k. explains (as_read d) first now _ _ bytes fault k)
-    (λ bytes k. explains whole_input first now _ _ bytes fault k)
-    (λ bytes k h outside. tt) (λ e. as-err _ _ (read-back fault (err-of _ _ e)))
+    (Reads-on (input_of d) run.Read Read (Err fault) (Err (lines_fault fault)) _ _ h.reads
+    (λ extent bytes k. explains extent first now _ _ bytes fault k)
+    (λ bytes k h. tt) (λ e. as-err _ _ (read-back fault (err-of _ _ e)))
     (λ e. as-err _ _ (ap lines_fault (run-err-of _ _ e))))
     (record {
       failed = (
@@ -339,13 +335,11 @@ listens-part remaining contents first now reader reader_after writer mid new rea
     one =
     listens-by (starts_of first) (devices remaining contents reader reader_after writer new)
     (Err (Write written))
-    (Reads-on remaining reader reader_after run.Read Read (Ok read) (Err (Write written)) _ _ _ _
-    h.reads
-    (λ bytes k. let p = part-listened first now _ _ _ bytes read written k.1 closed in
+    (Reads-on (input remaining reader reader_after) run.Read Read (Ok read) (Err (Write written)) _
+    _ h.reads
+    (λ extent bytes k. let p = part-listened first now _ _ _ bytes read written k.1 closed in
     (p.0, p.2, inr (k.0, p.1.0, p.1.1, p.1.2)))
-    (λ bytes k. let p = part-listened first now _ _ _ bytes read written k.1 closed in
-    (p.0, p.2, inr (k.0, p.1.0, p.1.1, p.1.2)))
-    (λ bytes k h outside. tt) (λ e. absurd (write-not_read written e))
+    (λ bytes k h. tt) (λ e. absurd (write-not_read written e))
     (λ e. absurd (Ok-not_err _ _ e)))
     (record { failed = (λ w. one, λ k. (written, refl)); once = omega (arith, one) })
 

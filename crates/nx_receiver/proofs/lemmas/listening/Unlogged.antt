@@ -2,7 +2,7 @@
 use Rattle.std.proofs.Common.{◌≡◌, ℕ, List, [], Option, None, Result, Ok, Err, refl, ap, sym, subst}
 use Rattle.std.proofs.Common.{◌∷◌, ◌++◌, IfSome, MatchResult, Some, length, arith}
 use Rattle.std.specs.Prelude.{⊤}
-use Rattle.std.specs.Io.KnownBytes.{Appends, IsAtEnd}
+use Rattle.std.specs.Io.KnownBytes.{Appends}
 use Rattle.std.specs.declared.alloc.AllocError.{AllocError}
 use Rattle.std.proofs.KnownBytes.{Consumes-nil}
 use Rattle.nx_fec.specs.air_files.AirFile.{Line}
@@ -10,7 +10,7 @@ use Rattle.nx_fec.specs.air_files.LineRuns.{ExplainsLines, HasHeardAll, HasTaken
 use Rattle.nx_fec.specs.air_files.LineRuns.{StopsLines, line_run}
 use Rattle.nx_fec.specs.declared.air_files.line_hearing.HearFault.{HearFault}
 use Rattle.nx_fec.specs.declared.air_files.line_hearing.HearFault.TheVariants as hear
-use Rattle.nx_fec.specs.Transfers.{CountedDevice, Extent, read_to, whole_input}
+use Rattle.nx_fec.specs.Transfers.{CountedDevice, Extent, input}
 use Rattle.nx_fec.specs.declared.fault.LineFault.TheVariants as file
 use Rattle.nx_fec.specs.declared.air_files.line_taking.LinesFault.TheVariants as run
 use Rattle.nx_fec.specs.declared.air_files.line_taking.LinesRead.{LinesRead}
@@ -114,7 +114,7 @@ hear-err-of a b e = cc
 pub unlogged-fault : {R : Type 0} (saved : SavedStates) (first now : Listening)
     (remaining : R → Option (List ℕ)) (old new : CountedDevice R) (fault : HearFault LineRefusal)
     → starts_of first ≡ starts_from saved
-    → HearsLines (RefusesFrom first) (StandsUnlogged first now) remaining old new
+    → HearsLines (RefusesFrom first) (StandsUnlogged first now) (input remaining old new)
     (Err fault)
     → ListensUnlogged saved remaining old new (Err (lines_fault (as_run_fault fault)))
 unlogged-fault saved first now remaining old new fault begun h =
@@ -127,10 +127,8 @@ unlogged-fault saved first now remaining old new fault begun h =
           (explains-unlogged extent first now bytes fault k),
       tt,
     ) in
-    Reads-on remaining old new hear.Read Read (Err fault) (Err (lines_fault (as_run_fault fault)))
-    _ _ _ _ h (λ bytes k. said (read_to (IsAtEnd (remaining new.inner))) bytes k)
-    (λ bytes k. said whole_input bytes k)
-    (λ bytes k h outside. tt)
+    Reads-on (input remaining old new) hear.Read Read (Err fault)
+    (Err (lines_fault (as_run_fault fault))) _ _ h said (λ bytes k h. tt)
     (λ e. as-err _ _ (unread-back fault (read-back (as_run_fault fault) (err-of _ _ e))))
     (λ e. as-err _ _ (ap (λ f. lines_fault (as_run_fault f)) (hear-err-of _ _ e)))
 
@@ -154,7 +152,7 @@ told-all first now bytes count h = record {
 pub unlogged-ok : {R : Type 0} (saved left : SavedStates) (first now : Listening)
     (remaining : R → Option (List ℕ)) (old new : CountedDevice R) (count : ℕ) (report : Report)
     → starts_of first ≡ starts_from saved
-    → HearsLines (RefusesFrom first) (StandsUnlogged first now) remaining old new
+    → HearsLines (RefusesFrom first) (StandsUnlogged first now) (input remaining old new)
     (Ok count)
     → ((lines : List Line) (given : List ℕ) → IsListening (starts_of first) now lines given
     → HasClosed (starts_of first) None None (given_by lines) report)
@@ -176,14 +174,9 @@ unlogged-ok saved left first now remaining old new count report begun h closed l
       gone saved left first now None None None bytes all report begun told
           (λ lines given s w. closed lines given s) leaves,
     ) in
-    Reads-on remaining old new hear.Read Read (Ok count) (Ok (report, left))
-    (λ bytes. IsAtEnd (remaining new.inner)
-    × HasHeardAll (StandsUnlogged first now) bytes count)
-    (λ bytes. Unit {0} × HasHeardAll (StandsUnlogged first now) bytes count)
-    (AnswersLeaving saved (read_to (IsAtEnd (remaining new.inner))) (Ok (report, left)))
-    (AnswersLeaving saved whole_input (Ok (report, left)))
-    h (λ bytes k. said (read_to (IsAtEnd (remaining new.inner))) bytes k)
-    (λ bytes k. said whole_input bytes k)
+    Reads-on (input remaining old new) hear.Read Read (Ok count) (Ok (report, left))
+    (λ extent bytes. extent.at_end × HasHeardAll (StandsUnlogged first now) bytes count)
+    (λ extent. AnswersLeaving saved extent (Ok (report, left))) h said
     (λ bytes k h. h) (λ e. absurd (Ok-not_err _ _ e)) (λ e. absurd (Ok-not_err _ _ e))
 
 whatever-twice : (o : Option (List ℕ)) → IfSome o (λ _. ⊤ × ⊤)
@@ -199,7 +192,7 @@ unlogged-memory saved remaining reader error none = record {
   consumed = Consumes-nil (remaining reader.inner);
   answer = (tt, tt);
   file = whatever-twice (remaining reader.inner);
-  before = λ outside. tt;
+  before = tt;
   failed = read_failed-none _ _ _ (memory-read error) none;
   once = omega (arith, none);
 }

@@ -109,7 +109,7 @@ module _ {R : Type 0} (remaining : R → Option (List ℕ)) (old mid new : Count
             (Err (StateLine number))) all
             (λ more. stops lines line (newline ∷ []) more _ begins part
             (count, (tt, inl (refl, bad))));
-        before = λ e. tt;
+        before = tt;
         failed = read_failed-none _ _ _ (Line-not_read number) none;
         once = omega (arith, none);
       }
@@ -130,7 +130,7 @@ module _ {R : Type 0} (remaining : R → Option (List ℕ)) (old mid new : Count
             (Err (StateLine number))) all
             (λ more. stops lines h.line (byte ∷ []) more _ begins h.part
             (count, (tt, inr (h.here.2, h.here.3))));
-        before = λ e. tt;
+        before = tt;
         failed = read_failed-none _ _ _ (Line-not_read number) h.here.4;
         once = omega (arith, h.here.4);
       }
@@ -148,7 +148,7 @@ module _ {R : Type 0} (remaining : R → Option (List ℕ)) (old mid new : Count
         file = IfSome-end _ _ _ (λ input. AnswersState whole_input input
             (Err (StateCut number))) all h.here.1
             (tt, stops-here lines h.line [] _ begins h.part (count, refl));
-        before = λ e. tt;
+        before = tt;
         failed = read_failed-none _ _ _ (Cut-not_read number) h.here.2;
         once = omega (arith, h.here.2);
       }
@@ -165,7 +165,7 @@ module _ {R : Type 0} (remaining : R → Option (List ℕ)) (old mid new : Count
         answer = stops-here lines h.line [] _ begins h.part refl;
         file = IfSome-front _ _ _ (λ input. AnswersState whole_input input
             (Err Read)) all (λ more. stops lines h.line [] more _ begins h.part tt);
-        before = λ e. tt;
+        before = tt;
         failed = (λ e. h.here.1, λ e. refl);
         once = omega (arith, h.here.1);
       }

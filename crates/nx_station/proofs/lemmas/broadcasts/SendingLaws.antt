@@ -1,13 +1,14 @@
 -- What sending answers follows from what its steps said.
 use Rattle.std.proofs.Common.{◌≡◌, ℕ, ◌≤◌, ◌==◌, Bool, List, [], ◌∷◌, ◌++◌, length, map, not}
-use Rattle.std.proofs.Common.{get_or, Option, Some, Result, Ok, Err, refl, sym, ap, ◌∙◌, subst}
+use Rattle.std.proofs.Common.{get_or, Some, Result, Ok, Err, refl, sym, ap, ◌∙◌, subst}
 use Rattle.std.proofs.Common.{arith}
 use Rattle.std.proofs.lemmas.Bool.{false≢true, eq-eqb, not-true}
 use Rattle.std.proofs.lemmas.List.Elements.{All-from_recursion}
 use Rattle.std.proofs.lemmas.List.Quantifiers.{position-Some}
 use Rattle.std.specs.Io.KnownBytes.{Appends}
 use Rattle.nx_envelope.specs.Message.{MessageView}
-use Rattle.nx_fec.specs.Transfers.{WroteSome, Devices, Extent, IsReadOut, Reads, as_read, whole_input}
+use Rattle.nx_fec.specs.Transfers.{AnswersToEnd, Contents, Devices, Extent, Reads, WroteSome}
+use Rattle.nx_fec.specs.Transfers.{contents_of, input_of}
 use Rattle.nx_fec.specs.emissions.Emission.{SentPosition, bits_of, emission}
 use Rattle.nx_fec.specs.air_files.BitLines.{bit_lines}
 use Rattle.nx_fec.specs.air_files.Lines.{file_of, line_bytes}
@@ -51,12 +52,12 @@ write-read written e = cc
 
 -- ---- the file isn't read whole
 
-whole-explains : (extent : Extent) (station from : ℕ) (bytes : List ℕ) (old new : Option (List ℕ))
+whole-explains : (extent : Extent) (station from : ℕ) (bytes : List ℕ) (contents : Contents)
     (why : ReadFault) → ExplainsWhole file_limit bytes why
-    → ExplainsSending extent file_limit station from bytes old new (read_fault why)
-whole-explains extent station from bytes old new read.Read h = tt
-whole-explains extent station from bytes old new read.FileTooLong h = h
-whole-explains extent station from bytes old new (read.Memory error) h = tt
+    → ExplainsSending station from extent bytes contents (read_fault why)
+whole-explains extent station from bytes contents read.Read h = tt
+whole-explains extent station from bytes contents read.FileTooLong h = h
+whole-explains extent station from bytes contents (read.Memory error) h = tt
 
 whole-read : {N : Type 0} (why : ReadFault)
     → ◌≡◌ {A = Result Sent SendRunFault} (Err (read_fault why)) (Err Read)
@@ -80,16 +81,19 @@ whole-write read.Read written e = cc
 whole-write read.FileTooLong written e = cc
 whole-write (read.Memory error) written e = cc
 
-pub unread : {R W N : Type 0} (d : Devices R W) (station from : ℕ) (why : ReadFault)
-    → Reads d.remaining d.reader d.reader_after read.Read IsOutsideWhole (reading {N = N} (Err why))
-    (IsWithin file_limit) (λ bytes. ExplainsWhole file_limit bytes why)
-    (λ bytes. ExplainsWhole file_limit bytes why)
-    → d.writer_after ≡ d.writer → d.writer.failures ≡ 0
-    → Sends d station from (Err (read_fault why))
-unread d station from why reads same none = record {
-  reads = Reads-on _ _ _ _ _ _ _ _ _ _ _ reads
-      (λ bytes k. whole-explains (as_read d) station from bytes _ _ why k)
-      (λ bytes k. whole-explains whole_input station from bytes _ _ why k)
+-- what reading the file whole said
+abbrev pub WasRead : {R W N : Type 0} → Devices R W → (N → List ℕ) → Result N ReadFault → Type 0
+WasRead d items outcome = Reads (input_of d) read.Read
+    (λ fault bytes. IsOutsideWhole fault → IsWithin file_limit bytes) outcome
+    (AnswersToEnd (λ text bytes. IsWithin file_limit bytes × (items text ≡ bytes))
+    (λ extent bytes fault. ExplainsWhole file_limit bytes fault) outcome)
+
+pub unread : {R W N : Type 0} (d : Devices R W) (station from : ℕ) (items : N → List ℕ)
+    (why : ReadFault) → WasRead d items (Err why) → d.writer_after ≡ d.writer
+    → d.writer.failures ≡ 0 → Sends d station from (Err (read_fault why))
+unread {N = N} d station from items why reads same none = record {
+  reads = Reads-on _ _ _ _ _ _ _ reads
+      (λ extent bytes k. whole-explains extent station from bytes _ why k)
       (λ bytes k h outside. h (whole-outside why outside)) (whole-read why) (read-whole why);
   writes = record {
     failed = (
@@ -108,23 +112,16 @@ unread d station from why reads same none = record {
 -- the fault comes before anything is written
 pub unsent : {R W N : Type 0} (d : Devices R W) (station from : ℕ) (text : N) (items : List ℕ)
     (fault : SendRunFault)
-    → Reads d.remaining d.reader d.reader_after read.Read IsOutsideWhole (reading {N = N} (Ok text))
-    (IsWithin file_limit) (λ bytes. IsReadOut d × (length bytes ≤ file_limit) × (items ≡ bytes))
-    (λ bytes. (length bytes ≤ file_limit) × (items ≡ bytes))
+    → WasRead d (λ _. items) (reading {N = N} (Ok text))
     → d.writer_after ≡ d.writer → d.writer.failures ≡ 0 → IsInside fault
     → ((extent : Extent) → extent.at_end → length items ≤ file_limit
-    → ExplainsSending extent file_limit station from items (d.contents d.writer.inner)
-    (d.contents d.writer_after.inner) fault)
+    → ExplainsSending station from extent items (contents_of d) fault)
     → Sends d station from (Err fault)
 unsent d station from text items fault reads same none inside explains = record {
-  reads = Reads-on _ _ _ _ _ _ _ _ _ _ _ reads
-      (λ bytes k. subst (λ l. ExplainsSending (as_read d) file_limit station from l
-      (d.contents d.writer.inner) (d.contents d.writer_after.inner) fault) k.2
-      (explains (as_read d) k.0 (subst (λ l. length l ≤ file_limit) (sym k.2) k.1)))
-      (λ bytes k. subst (λ l. ExplainsSending whole_input file_limit station from l
-      (d.contents d.writer.inner) (d.contents d.writer_after.inner) fault) k.1
-      (explains whole_input tt (subst (λ l. length l ≤ file_limit) (sym k.1) k.0)))
-      (λ bytes k h outside. k.1) (λ e. absurd (inside-read fault inside e))
+  reads = Reads-on _ _ _ _ _ _ _ reads
+      (λ extent bytes k. subst (λ l. ExplainsSending station from extent l (contents_of d) fault)
+      k.1.1 (explains extent k.0 (subst (λ l. length l ≤ file_limit) (sym k.1.1) k.1.0)))
+      (λ bytes k h outside. k.1.0) (λ e. absurd (inside-read fault inside e))
       (λ e. absurd (Ok-not_err text read.Read e));
   writes = record {
     failed = (
@@ -141,31 +138,21 @@ unsent d station from text items fault reads same none inside explains = record 
 -- the file is written, or a part of it
 pub unwritten : {R W N : Type 0} (d : Devices R W) (station from : ℕ) (text : N)
     (items air : List ℕ) (sent : Sent) (written : ℕ)
-    → Reads d.remaining d.reader d.reader_after read.Read IsOutsideWhole (reading {N = N} (Ok text))
-    (IsWithin file_limit) (λ bytes. IsReadOut d × (length bytes ≤ file_limit) × (items ≡ bytes))
-    (λ bytes. (length bytes ≤ file_limit) × (items ≡ bytes))
+    → WasRead d (λ _. items) (reading {N = N} (Ok text))
     → d.writer_after.failures ≡ 1 → IsTransmission station from items air sent
     → WroteSome (d.contents d.writer.inner) (d.contents d.writer_after.inner) air written
     → Sends d station from (Err (Write written))
 unwritten d station from text items air sent written reads one is wrote = record {
-  reads = Reads-on _ _ _ _ _ _ _ _ _ _ _ reads
-      (λ bytes k. (
+  reads = Reads-on _ _ _ _ _ _ _ reads
+      (λ extent bytes k. (
         k.0,
-        k.1,
+        k.1.0,
         air,
         sent,
-        subst (λ l. IsTransmission station from l air sent) k.2 is,
+        subst (λ l. IsTransmission station from l air sent) k.1.1 is,
         wrote,
       ))
-      (λ bytes k. (
-        tt,
-        k.0,
-        air,
-        sent,
-        subst (λ l. IsTransmission station from l air sent) k.1 is,
-        wrote,
-      ))
-      (λ bytes k h outside. k.1) (λ e. absurd (write-read written e))
+      (λ bytes k h outside. k.1.0) (λ e. absurd (write-read written e))
       (λ e. absurd (Ok-not_err text read.Read e));
   writes = record { failed = (λ w. one, λ h. (written, refl)); once = omega (arith, one) };
   unwritten = λ other. absurd (other written refl);
@@ -173,22 +160,19 @@ unwritten d station from text items air sent written reads one is wrote = record
 
 pub sent-all : {R W N : Type 0} (d : Devices R W) (station from : ℕ) (text : N) (items air : List ℕ)
     (sent : Sent)
-    → Reads d.remaining d.reader d.reader_after read.Read IsOutsideWhole (reading {N = N} (Ok text))
-    (IsWithin file_limit) (λ bytes. IsReadOut d × (length bytes ≤ file_limit) × (items ≡ bytes))
-    (λ bytes. (length bytes ≤ file_limit) × (items ≡ bytes))
+    → WasRead d (λ _. items) (reading {N = N} (Ok text))
     → d.writer_after.failures ≡ 0 → IsTransmission station from items air sent
     → Appends (d.contents d.writer.inner) (d.contents d.writer_after.inner) air
     → Sends d station from (Ok sent)
 sent-all d station from text items air sent reads none is wrote = record {
-  reads = Reads-on _ _ _ _ _ _ _ _ _ _ _ reads
-      (λ bytes k. (
+  reads = Reads-on _ _ _ _ _ _ _ reads
+      (λ extent bytes k. (
         k.0,
-        k.1,
+        k.1.0,
         air,
-        subst (λ l. IsTransmission station from l air sent) k.2 is,
+        subst (λ l. IsTransmission station from l air sent) k.1.1 is,
         wrote,
       ))
-      (λ bytes k. (tt, k.0, air, subst (λ l. IsTransmission station from l air sent) k.1 is, wrote))
       (λ bytes k h. h) (λ e. absurd (Ok-not_err sent Read e))
       (λ e. absurd (Ok-not_err text read.Read e));
   writes = record {
@@ -220,19 +204,19 @@ same-station one other [] h k = absurd (h.some refl)
 same-station one other (m ∷ ms) h k = sym h.each.0 ∙ k.each.0
 
 pub refusal-explains : (extent : Extent) (station from slot : ℕ) (file : List ℕ)
-    (messages : List MessageView) (old new : Option (List ℕ)) (why : SendFault) → extent.at_end
+    (messages : List MessageView) (contents : Contents) (why : SendFault) → extent.at_end
     → length file ≤ file_limit
     → IsMessageFile file (map file_message_of messages) → AreOf station messages
     → IsNextSlot station from slot → IsRefusal messages why
-    → ExplainsSending extent file_limit station from file old new (send_fault why)
-refusal-explains extent station from slot file messages old new refusal.NoMessages end few is of
+    → ExplainsSending station from extent file contents (send_fault why)
+refusal-explains extent station from slot file messages contents refusal.NoMessages end few is of
     next h = absurd (of.some h)
-refusal-explains extent station from slot file messages old new (refusal.MixedStations at) end few
+refusal-explains extent station from slot file messages contents (refusal.MixedStations at) end few
     is of next h = absurd (of_one-None station messages at of h)
-refusal-explains extent station from slot file messages old new refusal.NoSlot end few is of next
+refusal-explains extent station from slot file messages contents refusal.NoSlot end few is of next
     h =
     absurd (h.2 (subst HasSlots (same-station station h.0 messages of h.1) next.is_slot.has_slots))
-refusal-explains extent station from slot file messages old new (refusal.SlotFull count) end few is
+refusal-explains extent station from slot file messages contents (refusal.SlotFull count) end few is
     of next h = (
       end,
       few,
@@ -247,8 +231,8 @@ refusal-explains extent station from slot file messages old new (refusal.SlotFul
         too_many = h.too_many;
       },
     )
-refusal-explains extent station from slot file messages old new (refusal.Memory error) end few is of
-    next h = tt
+refusal-explains extent station from slot file messages contents (refusal.Memory error) end few is
+    of next h = tt
 
 pub refusal-inside : (why : SendFault) → IsInside (send_fault why)
 refusal-inside refusal.NoMessages = tt

@@ -13,7 +13,7 @@ use Rattle.nx_fec.specs.air_files.AirFile.{Line, IsLine, element_digit, mark_byt
 use Rattle.nx_fec.specs.air_files.AirFile.{refuse_station, accept_station, refuse_subject, accept_subject}
 use Rattle.nx_fec.specs.air_files.AirFile.{spelling}
 use Rattle.nx_fec.specs.air_files.Channels.{channel_of, same_channel}
-use Rattle.nx_fec.specs.Transfers.{WroteSome, Devices, Extent, as_read, whole_input}
+use Rattle.nx_fec.specs.Transfers.{Contents, Devices, Extent, WroteSome, contents_of}
 use Rattle.nx_fec.specs.air_files.LineRuns.{Beginning, HasTaken, HasTakenAll, HasTakenSome, IsPlaced}
 use Rattle.nx_fec.specs.air_files.LineRuns.{Refusing, RunsLines, Standing, line_run, taker_of}
 use Rattle.nx_fec.specs.air_files.Lines.{StopsAt, IsCause, elements_on, file_of, line_bytes}
@@ -399,9 +399,9 @@ whole-damaged first now old new bytes read h =
 damaged-ok : {R W : Type 0} (d : Devices R W) (first now : Damager) (read : LinesRead)
     → Ran first now d (Ok read) → Damages (damage_of first) d (Ok now.inverted)
 damaged-ok d first now read h = record {
-  reads = Reads-on _ _ _ _ _ _ _ _ _ _ _ h.reads
-      (λ bytes k. let w = whole-damaged first now _ _ bytes read k.1 in (k.0, w.0, w.1, w.2))
-      (λ bytes k. let w = whole-damaged first now _ _ bytes read k.1 in (tt, w.0, w.1, w.2))
+  reads = Reads-on _ _ _ _ _ _ _ h.reads
+      (λ extent bytes k. let w = whole-damaged first now _ _ bytes read k.1 in
+      (k.0, w.0, w.1, w.2))
       (λ bytes k h. h) (λ e. absurd (Ok-not_err now.inverted Read e))
       (λ e. absurd (Ok-not_err read run.Read e));
   writes = record {
@@ -418,12 +418,10 @@ damaged-ok d first now read h = record {
 damaged-read : {R W : Type 0} (d : Devices R W) (first now : Damager)
     → Ran first now d (Err run.Read) → Damages (damage_of first) d (Err Read)
 damaged-read d first now h = record {
-  reads = Reads-on _ _ _ _ _ _ _ _ _ _ _ h.reads
-      (λ bytes k. StopsAt-map bytes _ _
+  reads = Reads-on _ _ _ _ _ _ _ h.reads
+      (λ extent bytes k. StopsAt-map bytes _ _
       (λ lines rest more p. (p.0, p.1, taken-appends first now lines _ _ p.2)) k)
-      (λ bytes k. StopsAt-map bytes _ _
-      (λ lines rest more p. (p.0, p.1, taken-appends first now lines _ _ p.2)) k)
-      (λ bytes k h outside. tt) (λ e. refl) (λ e. refl);
+      (λ bytes k h. tt) (λ e. refl) (λ e. refl);
   writes = record {
     failed = (
       λ w. absurd (read-write w.0 w.1),
@@ -438,13 +436,10 @@ damaged-read d first now h = record {
 damaged-write : {R W : Type 0} (d : Devices R W) (first now : Damager) (written : ℕ)
     → Ran first now d (Err (run.Write written)) → Damages (damage_of first) d (Err (Write written))
 damaged-write d first now written h = record {
-  reads = Reads-on _ _ _ _ _ _ _ _ _ _ _ h.reads
-      (λ bytes k. StopsAt-map bytes _ _
-      (λ lines rest more p. some-damaged first now lines _ _ written p)
-      k)
-      (λ bytes k. StopsAt-map bytes _ _
-      (λ lines rest more p. some-damaged first now lines _ _ written p)
-      k) (λ bytes k h outside. tt) (λ e. absurd (write-read written e))
+  reads = Reads-on _ _ _ _ _ _ _ h.reads
+      (λ extent bytes k. StopsAt-map bytes _ _
+      (λ lines rest more p. some-damaged first now lines _ _ written p) k)
+      (λ bytes k h. tt) (λ e. absurd (write-read written e))
       (λ e. absurd (run-write-read written e));
   writes = record {
     failed =
@@ -454,40 +449,39 @@ damaged-write d first now written h = record {
   unwritten = tt;
 }
 
-stopped : (extent : Extent) (first now : Damager) (old new : Option (List ℕ)) (bytes : List ℕ)
+stopped : (extent : Extent) (first now : Damager) (contents : Contents) (bytes : List ℕ)
     (why : LineFault)
     → IsPlaced extent.at_end why × StopsAt bytes
     (λ lines rest more. IsCause 268435456 (length (file_of lines ++ rest)) lines rest more why
-    × HasTaken stands first now lines (Appends old new))
-    → ExplainsDamaging extent 268435456 (damage_of first) old new bytes (line_fault why)
-stopped extent first now old new bytes file.TooLong k = (
+    × HasTaken stands first now lines (Appends contents.before contents.after))
+    → ExplainsDamaging extent (damage_of first) bytes contents (line_fault why)
+stopped extent first now contents bytes file.TooLong k = (
   k.0,
   StopsAt-map bytes _ _
-      (λ lines rest more p. (p.0, taken-appends first now lines old new p.1)) k.1,
+      (λ lines rest more p. (p.0, taken-appends first now lines _ _ p.1)) k.1,
 )
-stopped extent first now old new bytes (file.LineLong line) k = (
+stopped extent first now contents bytes (file.LineLong line) k = (
   k.0,
   StopsAt-map bytes _ _
-      (λ lines rest more p. (p.0, taken-appends first now lines old new p.1)) k.1,
+      (λ lines rest more p. (p.0, taken-appends first now lines _ _ p.1)) k.1,
 )
-stopped extent first now old new bytes (file.LineCut line) k = (
+stopped extent first now contents bytes (file.LineCut line) k = (
   k.0,
   StopsAt-map bytes _ _
-      (λ lines rest more p. (p.0, taken-appends first now lines old new p.1)) k.1,
+      (λ lines rest more p. (p.0, taken-appends first now lines _ _ p.1)) k.1,
 )
-stopped extent first now old new bytes (file.BadLine line) k = (
+stopped extent first now contents bytes (file.BadLine line) k = (
   k.0,
   StopsAt-map bytes _ _
-      (λ lines rest more p. (p.0, taken-appends first now lines old new p.1)) k.1,
+      (λ lines rest more p. (p.0, taken-appends first now lines _ _ p.1)) k.1,
 )
 
 damaged-line : {R W : Type 0} (d : Devices R W) (first now : Damager) (why : LineFault)
     → Ran first now d (Err (run.Line why)) → Damages (damage_of first) d (Err (line_fault why))
 damaged-line d first now why h = record {
-  reads = Reads-on _ _ _ _ _ _ _ _ _ _ _ h.reads
-      (λ bytes k. stopped (as_read d) first now _ _ bytes why k)
-      (λ bytes k. stopped whole_input first now _ _ bytes why k)
-      (λ bytes k h outside. tt) (λ e. absurd (line-read why e)) (λ e. absurd (run-line-read why e));
+  reads = Reads-on _ _ _ _ _ _ _ h.reads
+      (λ extent bytes k. stopped extent first now (contents_of d) bytes why k)
+      (λ bytes k h. tt) (λ e. absurd (line-read why e)) (λ e. absurd (run-line-read why e));
   writes = record {
     failed = (
       λ w. absurd (line-write why w.0 w.1),

@@ -5,11 +5,11 @@ use Rattle.nx_envelope.specs.Message.{MessageView}
 use Rattle.std.specs.List.{flat_map}
 use Rattle.nx_fec.specs.air_files.AirFile.{Line, moment}
 use Rattle.nx_fec.specs.air_files.BitLines.{bit_lines}
-use Rattle.nx_fec.specs.Transfers.{WroteSome, Devices, IsReadOut, Reads}
+use Rattle.nx_fec.specs.Transfers.{AnswersToEnd, Devices, Reads, WroteSome, input_of}
 use Rattle.nx_fec.specs.emissions.Emission.{bits_of, emission}
 use Rattle.nx_fec.specs.air_files.Lines.{IsAirFile, IsBitFile, IsFaultless, elements_on, line_bytes}
 use Rattle.nx_fec.specs.air_files.Lines.{file_of as air_file_of}
-use Rattle.nx_fec.specs.Runs.{IsOutside, file_limit}
+use Rattle.nx_fec.specs.Runs.{ExplainsReading, IsOutside, file_limit}
 use Rattle.nx_fec.specs.declared.air_files.channel.Channel.TheVariants.{Zero}
 use Rattle.nx_fec.specs.declared.fault.RunFault.{RunFault}
 use Rattle.nx_fec.specs.declared.fault.RunFault.TheVariants as run
@@ -39,18 +39,23 @@ write-read : (written : ℕ)
     → ◌≡◌ {A = Result ℕ CheckFault} (Err (Run (run.Write written))) (Err (Run run.Read)) → ⊥
 write-read written e = cc
 
+-- what reading the elements said
+abbrev pub WasRead : {R W N : Type 0} → Devices R W → (N → List Bool) → Result N RunFault → Type 0
+WasRead d items outcome = Reads (input_of d) run.Read
+    (λ fault bytes. IsOutside fault → IsFaultless file_limit bytes) outcome
+    (AnswersToEnd (λ bits bytes. IsBitFile file_limit bytes (items bits))
+    (λ extent bytes fault. ExplainsReading extent file_limit bytes fault) outcome)
+
 -- the elements have a fault
 pub unread : {R W N : Type 0} (d : Devices R W) (bits : N) (items given : List Bool)
     (fault : EmissionFault)
-    → Reads d.remaining d.reader d.reader_after run.Read IsOutside (as_read {N = N} (Ok bits))
-    (IsFaultless file_limit) (λ bytes. IsReadOut d × IsBitFile file_limit bytes items)
-    (λ bytes. IsBitFile file_limit bytes items)
+    → WasRead d (λ _. items) (as_read {N = N} (Ok bits))
     → d.writer_after ≡ d.writer → d.writer.failures ≡ 0 → given ≡ items
     → ExplainsEmission given fault → Checks d (Err (Emission fault))
 unread d bits items given fault reads same none is explains =
     let h = subst (λ l. ExplainsEmission l fault) is explains in record {
-      reads = Reads-on _ _ _ _ _ _ _ _ _ _ _ reads (λ bytes k. (k.0, items, k.1, h))
-          (λ bytes k. (tt, items, k, h)) (λ bytes k h outside. absurd outside)
+      reads = Reads-on _ _ _ _ _ _ _ reads (λ extent bytes k. (k.0, items, k.1, h))
+          (λ bytes k h outside. absurd outside)
           (λ e. absurd (emission-run fault run.Read e)) (λ e. absurd (Ok-not_err bits run.Read e));
       writes = record {
         failed = (
@@ -90,16 +95,13 @@ checked-of air items text count file h = record {
 -- the report is written in part
 pub unwritten : {R W N : Type 0} (d : Devices R W) (bits : N) (items : List Bool) (text : List ℕ)
     (count written : ℕ)
-    → Reads d.remaining d.reader d.reader_after run.Read IsOutside (as_read {N = N} (Ok bits))
-    (IsFaultless file_limit) (λ bytes. IsReadOut d × IsBitFile file_limit bytes items)
-    (λ bytes. IsBitFile file_limit bytes items)
+    → WasRead d (λ _. items) (as_read {N = N} (Ok bits))
     → d.writer_after.failures ≡ 1 → AreReported items text count
     → WroteSome (d.contents d.writer.inner) (d.contents d.writer_after.inner) text written
     → Checks d (Err (Run (run.Write written)))
 unwritten d bits items text count written reads one is wrote = record {
-  reads = Reads-on _ _ _ _ _ _ _ _ _ _ _ reads
-      (λ bytes k. (k.0, text, count, checked-of bytes items text count k.1 is, wrote))
-      (λ bytes k. (tt, text, count, checked-of bytes items text count k is, wrote))
+  reads = Reads-on _ _ _ _ _ _ _ reads
+      (λ extent bytes k. (k.0, text, count, checked-of bytes items text count k.1 is, wrote))
       (λ bytes k h outside. absurd outside) (λ e. absurd (write-read written e))
       (λ e. absurd (Ok-not_err bits run.Read e));
   writes = record { failed = (λ w. one, λ h. (written, refl)); once = omega (arith, one) };

@@ -60,7 +60,7 @@ returns-in_err-positions g c =
     c.in_ok-file.file c.in_ok-file.file.items (send_fault why) c.in_ok-file.ensures refl
     c.requires.writer (refusal-inside why)
     (λ extent end few. refusal-explains extent c.args.station.byte c.args.moment c.in-Some.slot
-    c.in_ok-file.file.items messages.items _ _ why end few file
+    c.in_ok-file.file.items messages.items _ why end few file
     record { some = some; each = c.in_ok-messages.ensures.station } c.in-Some.ensures.next
     refused)))
 

@@ -32,7 +32,7 @@ returns-in_err-hear_piece-in-Bytes g c = λ first s.
     inside l c.in_err-hear_piece-in-Bytes.field-0.0) (append-nil (r.0 ++ piece))
     (c.in_err-hear_piece-in-Bytes.ensures.heard first r.0 r.2 []) in
     rw p.1 (rw p.2 (HearsLines-of (t.refuses first) (t.stands first c.hear_piece.new.taker)
-    _ _ _ _ (r.0 ++ piece) (Consumes-trans _ _ _ _ _ r.1 c.in-Bytes.ensures.2)
+    _ _ (r.0 ++ piece) (Consumes-trans _ _ _ _ _ r.1 c.in-Bytes.ensures.2)
     (StopsLines-piece (t.refuses first) (t.stands first c.hear_piece.new.taker) _
     (r.0 ++ piece) c.in_err-hear_piece-in-Bytes.field-0.0 stops)
     (read_failed-none _ _ _ (StopsLines-not_read (t.refuses first)
@@ -44,7 +44,7 @@ pub returns-in-Failed : goal.returns-in-Failed
 returns-in-Failed g c = λ first s.
     let t = g.T.LineHearer in
     let r = c.loop-count.invariant.taken first s in
-    HearsLines-of (t.refuses first) (t.stands first c.loop-count.taker) _ _ _ _ r.0
+    HearsLines-of (t.refuses first) (t.stands first c.loop-count.taker) _ _ r.0
     (Consumes-kept _ _ _ r.0 r.1 c.in-Failed.ensures.0)
     (StopsAt-end 268435456 c.loop-count.scanner r.0 r.2.lines _ r.2.scans (
       scanned-within 268435456 c.loop-count.scanner r.0 r.2.lines r.2.scans,
@@ -60,7 +60,7 @@ returns-in_err-end g c = λ first s.
     let p = err_from_is_err_and c.from_residual-in_err-end.result
     c.from_residual-in_err-end.ensures.1 in
     rw p.1 (rw p.2 (HearsLines-of (t.refuses first) (t.stands first c.loop-count.taker) _ _
-    _ _ r.0 (Consumes-kept _ _ _ r.0 r.1 c.in-End.ensures.0) (
+    r.0 (Consumes-kept _ _ _ r.0 r.1 c.in-End.ensures.0) (
       IsPlaced-end _ c.in_err-end.field-0.0 c.in-End.ensures.1,
       StopsAt-end 268435456 c.loop-count.scanner r.0 r.2.lines _ r.2.scans (
         subst (λ l. IsCause 268435456 (length l) r.2.lines c.loop-count.scanner.part []
@@ -76,7 +76,7 @@ pub returns : goal.returns
 returns g c = λ first s.
     let t = g.T.LineHearer in
     let r = c.loop-count.invariant.taken first s in
-    HearsLines-of (t.refuses first) (t.stands first c.loop-count.taker) _ _ _ _ r.0
+    HearsLines-of (t.refuses first) (t.stands first c.loop-count.taker) _ _ r.0
     (Consumes-kept _ _ _ r.0 r.1 c.in-End.ensures.0) (
       c.in-End.ensures.1,
       record {
