@@ -1,6 +1,6 @@
 -- The calls of a file with their answers, and what follows from them, where the file had these
 -- bytes at first.
-use Rattle.std.specs.Prelude.{◌≡◌, ◌⊎◌, ℕ, zero, suc, ◌+◌, ◌≤◌, ◌==◌, Bool, true, false, List, [], ◌∷◌, ◌++◌, length, take, drop, slice_index}
+use Rattle.std.specs.Prelude.{◌≡◌, ◌⊎◌, ℕ, zero, suc, ◌+◌, ◌≤◌, Bool, true, false, List, [], ◌∷◌, ◌++◌, length, take, drop}
 use Rattle.std.proofs.Common.{inl, inr, arith}
 use Rattle.nx_kept.specs.Disk.{Torn, Cut}
 
@@ -8,17 +8,6 @@ use Rattle.nx_kept.specs.Disk.{Torn, Cut}
 -- read, whether it succeeded, and the bytes that were read or written.
 abbrev pub Event : Type 0
 Event = ℕ × ℕ × ℕ × Bool × List ℕ
-
--- as it is noted: the numbers, of which the last is 1 for a success, and the bytes
-abbrev pub event_of : List ℕ → List ℕ → Event
-event_of numbers bytes = (
-  slice_index numbers 0,
-  slice_index numbers 1,
-  slice_index numbers 2,
-  slice_index numbers 3 ==
-      1,
-  bytes,
-)
 
 -- what a read finds after a call
 abbrev pub seen_after : ℕ → ℕ → Bool → List ℕ → List ℕ → List ℕ

@@ -2,7 +2,8 @@
 
 ghost use Rattle.std.specs.Prelude.{◌≡◌, List, [], ◌∷◌};
 ghost use Rattle.std.specs.Borrow.{ftrue};
-ghost use Rattle.nx_disk.specs.Events.{Event, event_of};
+ghost use Rattle.nx_disk.specs.Events.{Event};
+ghost use Rattle.nx_disk.specs.private.Noting.{event_of};
 
 use std::marker::{Model, PhantomData};
 

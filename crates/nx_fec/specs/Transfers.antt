@@ -113,10 +113,6 @@ pub record Extent : Type 1 where
   pub at_end : Type 0
   pub is_left : List ℕ → Type 0
 
--- bytes before the end, where no read failed
-abbrev pub inside : Extent
-inside = record { at_end = ⊥; is_left = λ more. ⊥ }
-
 -- the bytes that were read, which are all where this holds
 abbrev pub read_to : Type 0 → Extent
 read_to AtEnd = record { at_end = AtEnd; is_left = λ more. more ≡ [] }

@@ -1,6 +1,7 @@
 pub mod Entries
 pub mod Json
 pub mod LogReader
+pub mod LogReading
 pub mod LogRun
 pub mod Logged
 pub mod Query

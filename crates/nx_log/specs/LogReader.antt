@@ -1,12 +1,13 @@
 -- A reader of a log that is given in pieces (this profile).
 use Rattle.std.specs.Prelude.{◌≡◌, ℕ, ◌≤◌, ◌-◌, ◌^◌, List, [], ◌∷◌, ◌++◌, length, min, take}
 use Rattle.nx_receiver.specs.copies.Shares.{MarkedCopy}
+use Rattle.nx_log.specs.LogReading.{LogReading}
 use Rattle.nx_log.specs.Logged.{IsLoggedAs}
 use Rattle.nx_log.specs.Reading.{AreReadAs, CanGoOn, StopAtLine, StopAtLineToEnd, line_behind}
 use Rattle.nx_log.specs.declared.entries.reader.BadLine.{BadLine}
 use Rattle.nx_log.specs.declared.entries.reader.Pushed.{Pushed}
 use Rattle.nx_log.specs.declared.entries.reader.Pushed.TheVariants.{All, Bad, Entry}
-use Rattle.nx_log.specs.private.Standing.{LogReading, StandsFor}
+use Rattle.nx_log.specs.private.Standing.{StandsFor}
 
 -- lines are counted up to this one
 abbrev pub most_lines : ℕ

@@ -3,7 +3,7 @@ use Rattle.std.proofs.Common.{◌≡◌, ◌≢◌, inl, inr, ℕ, zero, suc, �
 use Rattle.std.proofs.lemmas.Bool.{cases_lt}
 use Rattle.std.proofs.lemmas.List.{get_or_append_left, get_or-append_right, get_or-drop, get_or-take, get_or-replicate}
 use Rattle.nx_kept.specs.Record.{IsUnfinished}
-use Rattle.nx_disk.specs.Trial.{FitsAt, IsTrial, Starts}
+use Rattle.nx_disk.specs.private.Trial.{FitsAt, IsTrial, Starts}
 
 template : List ℕ
 template = 91 ∷ replicate 41 1

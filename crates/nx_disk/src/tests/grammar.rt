@@ -2,7 +2,7 @@
 
 ghost use Rattle.std.specs.Prelude.{◌↔◌, IsTrue};
 ghost use Rattle.std.proofs.Common.{arith};
-ghost use Rattle.nx_disk.specs.Trial as trial;
+ghost use Rattle.nx_disk.specs.private.Trial as trial;
 
 use nx_kept::{Grammar, RecordStart, RecordTaker};
 

@@ -3,6 +3,11 @@ use Rattle.std.specs.Prelude.{ℕ, List, Option}
 use Rattle.nx_fec.specs.air_files.AirFile.{Line}
 use Rattle.nx_fec.specs.air_files.LineRuns.{HasGiven, HasTaken, Standing, Waiting}
 use Rattle.nx_fec.specs.air_files.Lines.{Scanning, Scans, air_limit}
+use Rattle.nx_fec.specs.Transfers.{Extent}
+
+-- bytes before the end, where no read failed
+abbrev pub inside : Extent
+inside = record { at_end = ⊥; is_left = λ more. ⊥ }
 
 -- the scanner stands so after these bytes, and all lines that they ended were taken: `holds` is
 -- true of them

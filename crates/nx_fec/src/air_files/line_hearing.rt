@@ -1,9 +1,10 @@
 //! A run over the lines of an air file that writes nothing.
 ghost use Rattle.std.specs.Prelude.{◌≡◌, ◌+◌, ◌<◌, ◌≤◌, ℕ, List, [], ◌∷◌, ◌++◌, Some, length, take, MatchResult, IsSomeAnd, OnOk, IfOk};
 ghost use Rattle.nx_fec.specs.air_files.AirFile.{IsLine, Line};
+ghost use Rattle.nx_fec.specs.private.LineTaking.{inside};
 ghost use Rattle.nx_fec.specs.air_files.LineRuns.{HearsLines, StopsLines};
 ghost use Rattle.nx_fec.specs.private.LineTaking.{IsHearing};
-ghost use Rattle.nx_fec.specs.Transfers.{input, inside};
+ghost use Rattle.nx_fec.specs.Transfers.{input};
 
 use crate::air_files::line_taking::AIR_LIMIT;
 use crate::air_files::scanner::Scanner;

@@ -2,10 +2,11 @@
 ghost use Rattle.std.specs.Prelude.{◌≡◌, ◌+◌, ◌<◌, ◌≤◌, ℕ, Option, List, [], ◌∷◌, ◌++◌, length, take, MatchResult, IsSomeAnd, OnOk, IfOk};
 ghost use Rattle.std.specs.Io.KnownBytes.{Appends};
 ghost use Rattle.nx_fec.specs.air_files.AirFile.{IsLine, Line};
+ghost use Rattle.nx_fec.specs.private.LineTaking.{inside};
 ghost use Rattle.nx_fec.specs.air_files.LineRuns.{ExplainsLines, ExplainsTaking, HasGiven, HasTaken, RunsLines};
 ghost use Rattle.nx_fec.specs.air_files.LineRuns.{line_run, taker_of};
 ghost use Rattle.nx_fec.specs.private.LineTaking.{IsTaking};
-ghost use Rattle.nx_fec.specs.Transfers.{Writes, devices, inside};
+ghost use Rattle.nx_fec.specs.Transfers.{Writes, devices};
 
 use crate::air_files::scanner::Scanner;
 use crate::devices::counting::Counting;

@@ -121,7 +121,7 @@ impl PieceTaker for BitFile {
     ghost use Rattle.std.proofs.Common.{arith};
     ghost use Rattle.nx_fec.specs.air_files.Lines.{IsFaultless};
     ghost use Rattle.nx_fec.specs.Runs.{ExplainsReading, IsOutside, file_limit};
-    ghost use Rattle.nx_fec.specs.Transfers.{inside};
+    ghost use Rattle.nx_fec.specs.private.LineTaking.{inside};
     ghost use Rattle.nx_fec.specs.private.Takers.{HasRead};
     ghost use Rattle.nx_fec.specs.declared.fault.RunFault.TheVariants.{Read};
 

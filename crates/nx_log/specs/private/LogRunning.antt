@@ -2,6 +2,7 @@
 use Rattle.std.specs.Prelude.{◌≡◌, ℕ, ◌-◌, ◌^◌, List, length, min, Option}
 use Rattle.nx_fec.specs.air_files.LineRuns.{HasGiven}
 use Rattle.nx_receiver.specs.copies.Shares.{MarkedCopy}
+use Rattle.nx_log.specs.LogReading.{LogReading}
 use Rattle.nx_log.specs.LogReader.{EndEarlyAt, IsAt, StopAt}
 use Rattle.nx_log.specs.LogRun.{BeginWithEntries, IsOutput, WroteOutput, WrotePart}
 use Rattle.nx_log.specs.Query.{admitted}
@@ -11,7 +12,6 @@ use Rattle.nx_log.specs.declared.log_fault.LogFault.{LogFault}
 use Rattle.nx_log.specs.declared.log_fault.LogFault.TheVariants.{Read, Write, BadLog}
 use Rattle.nx_log.specs.declared.writing.output.Output.{Output}
 use Rattle.nx_log.specs.declared.queries.query.Query.{Query}
-use Rattle.nx_log.specs.private.Standing.{LogReading}
 
 -- the reader was given some bytes
 abbrev pub IsReading : LogReading → Type 0

@@ -4,17 +4,12 @@ use Rattle.std.specs.Prelude.{◌≡◌, ◌≢◌, ◌⊎◌, ℕ, ◌+◌, ◌
 use Rattle.std.specs.List.{All}
 use Rattle.nx_log.specs.Entries.{IsUnfinishedEntry}
 use Rattle.nx_log.specs.Reading.{CanGoOn, HasNext, IsBlank}
+use Rattle.nx_log.specs.LogReading.{LogReading}
 use Rattle.nx_log.specs.declared.entries.gap.Stage.{Stage}
 use Rattle.nx_log.specs.declared.entries.gap.Stage.TheVariants.{Start, Blank, Gap, Bracket, Begun, Torn}
 use Rattle.nx_log.specs.private.Stages as stages
 use Rattle.nx_log.specs.private.Stages.{bracket}
 use Rattle.nx_log.specs.private.Rooms.{room_less, room_of, room_over}
-
--- what contracts see of a reader
-pub record LogReading : Type 0 where
-  pub stage : Stage
-  pub held : List ℕ
-  pub line : ℕ
 
 -- newlines and spaces, one or more, and behind them another byte
 pub record BlanksBefore (gap bytes : List ℕ) : Type 0 where

@@ -54,7 +54,7 @@ pub struct LogReader {
 }
 
 impl Model for LogReader {
-    ghost use Rattle.nx_log.specs.private.Standing.{LogReading};
+    ghost use Rattle.nx_log.specs.LogReading.{LogReading};
 
     ghost Value = { LogReading };
 

@@ -9,8 +9,9 @@ use Rattle.std.specs.Io.KnownBytes.{Appends, Consumes, IsAtEnd}
 use Rattle.std.proofs.lemmas.List.{length-append}
 use Rattle.std.proofs.lemmas.List.Concat.{flat_map-append}
 use Rattle.nx_fec.specs.air_files.AirFile.{Line, IsLine, spelling}
+use Rattle.nx_fec.specs.private.LineTaking.{inside}
 use Rattle.nx_fec.specs.Transfers.{Devices, Extent, HasWritten, WroteSome, Writes, as_read}
-use Rattle.nx_fec.specs.Transfers.{inside, read_to, whole_input}
+use Rattle.nx_fec.specs.Transfers.{read_to, whole_input}
 use Rattle.nx_fec.specs.air_files.Lines.{IsAtByte, IsCause, IsLineRefused, Scanning, Scans, StopsIn, file_of}
 use Rattle.nx_fec.specs.air_files.Lines.{StopsAt, air_limit, line_bytes}
 use Rattle.nx_fec.specs.air_files.LineRuns.{AnswersLines, Beginning, ExplainsLines, HasGiven, HasTaken}

@@ -5,10 +5,11 @@ use Rattle.std.proofs.Common.{Ok, Err, IfErr}
 use Rattle.std.specs.List.{flat_map}
 use Rattle.std.proofs.lemmas.List.Concat.{flat_map-append}
 use Rattle.nx_fec.specs.air_files.AirFile.{Line}
+use Rattle.nx_fec.specs.private.LineTaking.{inside}
 use Rattle.nx_fec.specs.air_files.Lines.{HasFault, IsAtByte, IsCause, IsFaultless, Scanning, Scans}
 use Rattle.nx_fec.specs.air_files.Lines.{Splits, StopsIn, elements_on}
 use Rattle.nx_fec.specs.Runs.{run_fault, ExplainsReading, IsOutside}
-use Rattle.nx_fec.specs.Transfers.{Extent, inside}
+use Rattle.nx_fec.specs.Transfers.{Extent}
 use Rattle.nx_fec.specs.private.Takers.{ExplainsPiece, HasRead}
 use Rattle.nx_fec.proofs.lemmas.devices.Piece.{piece-parts}
 use Rattle.nx_fec.specs.declared.air_files.channel.Channel.TheVariants.{Zero}

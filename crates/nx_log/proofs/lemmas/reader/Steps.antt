@@ -2,6 +2,7 @@
 use Rattle.std.proofs.Common.{◌≡◌, ◌≢◌, inl, ℕ, zero, suc, ◌+◌, ◌-◌, ◌≤◌, min, List, [], ◌∷◌, ◌++◌, take, drop, length, Option, None, ap, sym, ◌∙◌, refl, subst, arith, append_assoc, length-append}
 use Rattle.std.proofs.lemmas.List.{length-drop, take-append-drop}
 use Rattle.nx_receiver.specs.copies.Shares.{MarkedCopy}
+use Rattle.nx_log.specs.LogReading.{LogReading}
 use Rattle.nx_log.specs.Logged.{IsLoggedAs}
 use Rattle.nx_log.specs.LogReader.{EndEarlyAt, IsAt, StopAt, Takes, most_lines}
 use Rattle.nx_log.specs.Reading.{AreReadAs, CanGoOn, HasNext, HoldEntriesToEnd, NextIs, StopAtLine, line_behind}
@@ -12,7 +13,7 @@ use Rattle.nx_log.specs.declared.entries.reader.Pushed.TheVariants.{All, Bad, En
 use Rattle.nx_log.specs.Starts.{StartsAs}
 use Rattle.nx_log.specs.declared.entries.start.EntryStart.TheVariants.{Whole, Unfinished, Broken}
 use Rattle.nx_log.specs.private.Rooms.{room_less}
-use Rattle.nx_log.specs.private.Standing.{CanTear, Enters, HasBegun, LogReading, StandsFor, StopsAfter}
+use Rattle.nx_log.specs.private.Standing.{CanTear, Enters, HasBegun, StandsFor, StopsAfter}
 use Rattle.nx_log.specs.private.Steps.{CameBefore, passed_and}
 use Rattle.nx_log.proofs.lemmas.reader.Begun.{breaks}
 use Rattle.nx_log.proofs.lemmas.reader.Stands.{ends_of_log, ends_whole, goes_on_begun, no_end_of_log, stands_goes_on, stands_without_next}

@@ -12,6 +12,7 @@ use Rattle.nx_code.specs.Reading.{newline}
 use Rattle.nx_fec.specs.Transfers.{Devices, WroteSome}
 use Rattle.nx_fec.specs.declared.fault.WriteFault.{WriteFault}
 use Rattle.nx_receiver.specs.copies.Shares.{MarkedCopy}
+use Rattle.nx_log.specs.LogReading.{LogReading}
 use Rattle.nx_log.specs.LogReader.{EndEarlyAt, IsAt, StopAt, Takes, most_lines}
 use Rattle.nx_log.specs.LogRun.{AnswersLogRun, AreAll, BeginWithEntries, IsInForm, IsOutput, WroteOutput, WrotePart, most_read}
 use Rattle.nx_log.specs.Logged.{IsLoggedAs}
@@ -26,7 +27,6 @@ use Rattle.nx_log.specs.declared.writing.output.Output.{Output}
 use Rattle.nx_log.specs.declared.queries.query.Query.{Query}
 use Rattle.nx_log.specs.declared.entries.reader.Pushed.TheVariants.{Entry}
 use Rattle.nx_log.specs.private.LogRunning.{EndsRun, EndsRunAtEnd, HasGivenOutput, HasRunOver, IsRunning}
-use Rattle.nx_log.specs.private.Standing.{LogReading}
 use Rattle.nx_log.proofs.lemmas.reading.Reads.{same_reading}
 use Rattle.nx_log.proofs.lemmas.reading.Entries.{entry_is_some, one_entry}
 

@@ -26,7 +26,6 @@ use denote.Triple.Spec.{Meets, triple_of}
 use denote.Triple.Table.{entered}
 use denote.Triple.Walked.{says, Stays, stay_ref, walk_of, AllGo, Goes-ref, Walks, ends_at, walked, walk_Meets}
 use Rattle.nx_disk.specs.declared.history.History.{History}
-use Rattle.nx_disk.specs.Events.{event_of}
 use Rattle.nx_disk.specs.contracts.history.History as T
 use Rattle.nx_disk.specs.contracts.history.History.note.Key.{name as #it}
 use Rattle.nx_disk.specs.contracts.history.History.note as it
@@ -38,6 +37,7 @@ use denote.Exit.{yes}
 use denote.Slice.{ShrSlice, slice_val, shr_slice_vals, shr_slice_Tells}
 use denote.Triple.Walked.{stay_none_slice, Goes-none_slice}
 use Rattle.std.proofs.Common.{◌<◌, ◌^◌, length}
+use Rattle.nx_disk.specs.private.Noting.{event_of}
 
 abbrev Arg : Type 0
 Arg = MutBor History × (Bor (List ℕ) × (Bor (List ℕ) × Unit {0}))

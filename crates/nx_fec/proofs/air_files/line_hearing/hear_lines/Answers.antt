@@ -2,8 +2,8 @@ use Rattle.std.proofs.Common.{◌++◌, [], length, take, subst, refl, append-ni
 use Rattle.std.proofs.lemmas.Result.{err_from_is_err_and}
 use Rattle.std.proofs.KnownBytes.{Consumes-trans, Consumes-kept}
 use Rattle.nx_fec.specs.air_files.Lines.{IsCause}
+use Rattle.nx_fec.specs.private.LineTaking.{inside}
 use Rattle.nx_fec.specs.air_files.LineRuns.{StopsLines}
-use Rattle.nx_fec.specs.Transfers.{inside}
 use Rattle.nx_fec.proofs.lemmas.line_runs.Hearing.{HearsLines-of, Line-unread}
 use Rattle.nx_fec.proofs.lemmas.line_runs.LineRun.{IsPlaced-end, StopsAt-end, StopsLines-not_read}
 use Rattle.nx_fec.proofs.lemmas.line_runs.LineRun.{StopsLines-piece, scanned-within}

@@ -1,7 +1,7 @@
 use Rattle.std.proofs.Common.{◌++◌, take, subst, arith}
 use Rattle.std.proofs.lemmas.Result.{err_from_is_err_and}
 use Rattle.nx_fec.specs.air_files.LineRuns.{StopsLines}
-use Rattle.nx_fec.specs.Transfers.{inside}
+use Rattle.nx_fec.specs.private.LineTaking.{inside}
 use Rattle.nx_fec.specs.private.LineTaking.{IsHearing}
 use Rattle.nx_fec.proofs.lemmas.devices.Piece.{piece-next, piece-rest}
 use Rattle.nx_fec.proofs.air_files.line_hearing.hear_piece.Goals as goal

@@ -2,9 +2,9 @@ use Rattle.std.proofs.Common.{◌∙◌, ◌++◌, [], length, take, subst, refl
 use Rattle.std.specs.Io.KnownBytes.{Appends}
 use Rattle.std.proofs.KnownBytes.{Consumes-trans, Consumes-kept}
 use Rattle.nx_fec.specs.air_files.Lines.{IsCause}
+use Rattle.nx_fec.specs.private.LineTaking.{inside}
 use Rattle.nx_fec.specs.air_files.LineRuns.{ExplainsLines, HasGiven, HasTakenSome}
 use Rattle.nx_fec.specs.air_files.LineRuns.{line_run, taker_of}
-use Rattle.nx_fec.specs.Transfers.{inside}
 use Rattle.nx_fec.proofs.lemmas.line_runs.LineRun.{ExplainsLines-not_read, ExplainsLines-piece, HasGiven-empty}
 use Rattle.nx_fec.proofs.lemmas.line_runs.LineRun.{HasGiven-written, HasTaken-map, IsPlaced-end, IsTaking-sent}
 use Rattle.nx_fec.proofs.lemmas.line_runs.LineRun.{Line-read, Line-write, Read-other, RunsLines-of}

@@ -1,7 +1,7 @@
 use Rattle.std.proofs.Common.{◌++◌, take, subst, arith}
 use Rattle.nx_fec.specs.air_files.LineRuns.{ExplainsLines, HasGiven}
+use Rattle.nx_fec.specs.private.LineTaking.{inside}
 use Rattle.nx_fec.specs.air_files.LineRuns.{line_run, taker_of}
-use Rattle.nx_fec.specs.Transfers.{inside}
 use Rattle.nx_fec.specs.private.LineTaking.{IsTaking}
 use Rattle.nx_fec.proofs.lemmas.devices.Piece.{piece-next, piece-rest}
 use Rattle.nx_fec.proofs.lemmas.devices.TransferLaws.{Ok-not_err, Writes-sound}

@@ -1,6 +1,6 @@
 use Rattle.std.proofs.Common.{◌≡◌, ◌+◌, ℕ, [], length, get_or, take, arith, subst, sym, length-take}
 use Rattle.std.proofs.lemmas.List.{append-nil}
-use Rattle.nx_disk.specs.Trial.{FitsAt, IsTrial, Starts}
+use Rattle.nx_disk.specs.private.Trial.{FitsAt, IsTrial, Starts}
 use Rattle.nx_disk.proofs.lemmas.Trials.{begins, starts_part, starts_more, whole_trial, bad_byte}
 use Rattle.nx_disk.proofs.tests.grammar.TrialGrammar.record_at.Goals as goal
 

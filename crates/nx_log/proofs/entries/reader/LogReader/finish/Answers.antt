@@ -1,6 +1,6 @@
 use Rattle.std.proofs.Common.{◌∙◌, ap, sym}
 use Rattle.std.proofs.lemmas.Bool.{true≢false}
-use Rattle.nx_log.specs.private.Standing.{LogReading}
+use Rattle.nx_log.specs.LogReading.{LogReading}
 use Rattle.nx_log.proofs.lemmas.reader.Steps.{at_early_end, at_end}
 use Rattle.nx_log.proofs.entries.reader.LogReader.finish.Goals as goal
 

@@ -1,7 +1,8 @@
 use Rattle.std.proofs.Common.{◌++◌, ◌+◌, ◌-◌, ◌∙◌, ap, arith, refl, length, length-append, subst, sym, take}
 use Rattle.std.proofs.lemmas.List.{take_all}
+use Rattle.nx_log.specs.LogReading.{LogReading}
 use Rattle.nx_log.specs.Starts.{StartsAs}
-use Rattle.nx_log.specs.private.Standing.{CanTear, Enters, LogReading}
+use Rattle.nx_log.specs.private.Standing.{CanTear, Enters}
 use Rattle.nx_log.specs.private.Steps.{CameBefore, part_held}
 use Rattle.nx_log.specs.declared.entries.gap.Stage.TheVariants.{Begun}
 use Rattle.nx_log.proofs.lemmas.reader.Steps.{at_begun, at_whole, can_tear}

@@ -1,6 +1,7 @@
 use Rattle.std.proofs.Common.{◌++◌, ◌∙◌, ap, max, subst, sym, take}
+use Rattle.nx_log.specs.LogReading.{LogReading}
 use Rattle.nx_log.specs.Reading.{line_behind}
-use Rattle.nx_log.specs.private.Standing.{LogReading, StopsAfter}
+use Rattle.nx_log.specs.private.Standing.{StopsAfter}
 use Rattle.nx_log.proofs.lemmas.reader.Rooms.{room_size-unwrap}
 use Rattle.nx_log.proofs.lemmas.reader.Steps.{at_more, stops_at}
 use Rattle.nx_log.proofs.entries.reader.LogReader.pass_torn.Goals as goal

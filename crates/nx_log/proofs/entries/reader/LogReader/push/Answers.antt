@@ -1,7 +1,8 @@
 use Rattle.std.proofs.Common.{◌≡◌, ◌++◌, ◌∙◌, ap, drop, min, refl, subst, sym, take}
+use Rattle.nx_log.specs.LogReading.{LogReading}
 use Rattle.nx_log.specs.LogReader.{Takes, most_lines}
 use Rattle.nx_log.specs.Reading.{line_behind}
-use Rattle.nx_log.specs.private.Standing.{LogReading, StandsBefore, StandsFor, begun_bytes}
+use Rattle.nx_log.specs.private.Standing.{StandsBefore, StandsFor, begun_bytes}
 use Rattle.nx_log.specs.private.Steps.{CameBefore}
 use Rattle.nx_log.proofs.lemmas.reader.Steps.{takes_behind}
 use Rattle.nx_log.proofs.entries.reader.LogReader.push.Goals as goal

@@ -1,7 +1,8 @@
 use Rattle.std.proofs.Common.{◌++◌, ◌∙◌, ap, append-nil, inl, inr, min, sym, subst}
+use Rattle.nx_log.specs.LogReading.{LogReading}
 use Rattle.nx_log.specs.LogReader.{most_lines}
 use Rattle.nx_log.specs.Reading.{line_behind}
-use Rattle.nx_log.specs.private.Standing.{LogReading, StandsBefore, StandsFor}
+use Rattle.nx_log.specs.private.Standing.{StandsBefore, StandsFor}
 use Rattle.nx_log.specs.declared.entries.gap.Stage.TheVariants.{Blank, Bracket, Gap, Start}
 use Rattle.nx_log.proofs.lemmas.reader.Gap.{StandPassed, stands_passed}
 use Rattle.nx_log.proofs.lemmas.reader.Steps.{at_more}
