@@ -1,5 +1,6 @@
 -- What the fault of each run tells: its status, and its place (this profile).
 use Rattle.std.specs.Prelude.{ℕ, ◌-◌, ◌^◌, min}
+use Rattle.nx_fec.specs.Transfers.{count_of}
 use Rattle.nx_c.specs.Told.{told, told_at, told_in}
 use Rattle.nx_c.specs.declared.told.Status.TheVariants as status
 use Rattle.nx_c.specs.declared.told.Told.{Told}
@@ -74,7 +75,7 @@ abbrev pub send_told : SendFault → Told
 send_told send.NoMessages = told status.NoMessages
 send_told (send.MixedStations at) = told_at status.MixedStations 0 at
 send_told send.NoSlot = told status.NoSlot
-send_told (send.SlotFull positions) = told_at status.SlotFull 0 (min positions (2 ^ 64 - 1))
+send_told (send.SlotFull positions) = told_at status.SlotFull 0 (count_of positions)
 send_told (send.Memory error) = told status.Memory
 
 -- of a run that sends

@@ -2,13 +2,17 @@
 -- and M.625; the numbers are this project's own).
 use Rattle.std.specs.Prelude.{ℕ, ◌+◌, ◌==◌, nat_lt, if◌then◌else◌, Option, Some, None}
 use Rattle.nx_code.specs.Reading.{Reception, combination, idle, lost}
-use Rattle.nx_code.specs.Table.{place_of}
+use Rattle.nx_code.specs.Table.{place_of, combination_count}
 
--- the class of a place of the table: the number of a combination, or 33 for a service signal; 0
+-- the class of the service signals
+abbrev pub service_class : ℕ
+service_class = 33
+
+-- the class of a place of the table: the number of a combination, or that of the service signals; 0
 -- where a word has no place
 abbrev pub class_at : Option ℕ → ℕ
 class_at None = 0
-class_at (Some place) = if nat_lt place 32 then place + 1 else 33
+class_at (Some place) = if nat_lt place combination_count then place + 1 else service_class
 
 -- the class of a word, by its number
 unfoldable pub class_of : ℕ → ℕ
@@ -22,4 +26,4 @@ paired dx rx =
 -- what is taken of a position of this class
 abbrev pub reception_of_class : ℕ → Reception
 reception_of_class class =
-    if class == 0 then lost else (if class == 33 then idle else combination class)
+    if class == 0 then lost else (if class == service_class then idle else combination class)

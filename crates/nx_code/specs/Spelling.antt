@@ -2,7 +2,7 @@
 -- where it is needed, and carriage return only before a line feed, is this profile's).
 use Rattle.std.specs.Prelude.{◌≡◌, ◌≢◌, ◌≤◌, ◌↔◌, ℕ, List, [], ◌∷◌, None, Some, map, slice_get, IsSome, MatchOption}
 use Rattle.nx_code.specs.declared.shifts.Shift.{Shift}
-use Rattle.nx_code.specs.Table.{line_feed}
+use Rattle.nx_code.specs.Table.{line_feed, combination_count}
 use Rattle.nx_code.specs.Table as combinations
 use Rattle.nx_code.specs.Reading.{combination, character_of, shift_set, shift_after, text}
 use Rattle.nx_code.specs.declared.shifts.Shift.TheVariants.{Figures, Letters}
@@ -28,7 +28,7 @@ pub record IsSilent (shift : Shift) (number : ℕ) : Type 0 where
 -- A combination fits where it stands: this shift is in force before it, and these follow it.
 pub record Fits (shift : Shift) (number : ℕ) (rest : List ℕ) : Type 0 where
   pub from_one : 1 ≤ number
-  pub to_thirty_two : number ≤ 32
+  pub to_thirty_two : number ≤ combination_count
   -- it prints, or sets a shift, or is a carriage return
   pub not_silent : ¬ IsSilent shift number
   -- a carriage return stands directly before each line feed, and nowhere else

@@ -1,8 +1,9 @@
 -- The table of the signals (ITU-R M.476 and M.625; the numbering of the words is this project's
 -- own). Phasing signal 1 is idle signal alpha, and phasing signal 2 is signal repetition: that
 -- their words stand so in the table is the law `phasing_signals_are_in_the_table`.
-use Rattle.std.specs.Prelude.{ℕ, zero, suc, ◌==◌, List, [], ◌∷◌, Option, None, codes, map, position, slice_get, take, Bool, false, true}
+use Rattle.std.specs.Prelude.{ℕ, zero, suc, ◌==◌, ◌≤◌, List, [], ◌∷◌, Option, None, codes, map, position, slice_get, take, Bool, false, true}
 use Rattle.std.specs.Option.{option_map_or}
+use Rattle.nx_code.specs.Word.{word_numbers}
 use Rattle.nx_code.specs.declared.shifts.Shift.{Shift}
 use Rattle.nx_code.specs.declared.shifts.Shift.TheVariants.{Letters, Figures}
 
@@ -70,10 +71,18 @@ words = map (λ row. row.word) table
 unfoldable pub place_of : ℕ → Option ℕ
 place_of word = position (λ row. row.word == word) table
 
+-- how many combinations the code has: the first rows of the table (M.476)
+abbrev pub combination_count : ℕ
+combination_count = 32
+
+-- a number of a combination
+abbrev pub IsCombination : ℕ → Type 0
+IsCombination number = (1 ≤ number) × (number ≤ combination_count)
+
 -- the row of a combination, by its number from 1 to 32; no other number has one
 unfoldable pub row_of : ℕ → Option Row
 row_of zero = None
-row_of (suc place) = slice_get (take 32 table) place
+row_of (suc place) = slice_get (take combination_count table) place
 
 -- the combinations that print what stands in no cell: the carriage return and the line feed, the
 -- two shifts, and the space (M.476)
@@ -92,10 +101,10 @@ figure_shift = 30
 abbrev pub space_combination : ℕ
 space_combination = 31
 
--- the number of the word of a combination, by its number from 1 to 32; for any other number 128,
--- which is no word's
+-- the number of the word of a combination, by its number from 1 to 32; for any other number one
+-- that is no word's
 unfoldable pub traffic_word : ℕ → ℕ
-traffic_word number = option_map_or (λ row. row.word) (row_of number) 128
+traffic_word number = option_map_or (λ row. row.word) (row_of number) word_numbers
 
 -- the numbers of the words of the two phasing signals
 abbrev pub phasing_1 : ℕ

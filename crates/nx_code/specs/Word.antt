@@ -10,6 +10,10 @@ word_elements = 7
 abbrev pub last_element : ℕ
 last_element = 6
 
+-- how many numbers words have: 2 ^ 7
+abbrev pub word_numbers : ℕ
+word_numbers = 128
+
 -- the lowest elements of a number, so many of them, in the order of sending: the least place first,
 -- 1 is B
 unfoldable pub elements_from : ℕ → ℕ → List Bool

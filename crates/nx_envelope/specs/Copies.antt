@@ -39,10 +39,14 @@ pub record Ending : Type 0 where
   pub how : How
   pub text : List ℕ
 
+-- how many characters a marker has: `ZCZC`, `NNNN` (M.540)
+abbrev pub marker_length : ℕ
+marker_length = 4
+
 -- a text that ends with a marker, less the marker
 unfoldable pub ending_by_marker : List ℕ → Option Ending
 ending_by_marker text =
-    option_map (λ how. record { how = how; text = take (length text - 4) text })
+    option_map (λ how. record { how = how; text = take (length text - marker_length) text })
     (marker_at_end text)
 
 -- the most characters of a found text

@@ -1,7 +1,7 @@
 -- Where a copy ends (the markers are those of ITU-R M.540; 4,100 is this profile's), said by
 -- places: the raw text of a copy begins at place 0.
 use Rattle.std.specs.Prelude.{◌≡◌, ℕ, ◌-◌, ◌<◌, ◌≤◌, ◌⊎◌, List, length, take}
-use Rattle.nx_envelope.specs.Copies.{Ending, most_found}
+use Rattle.nx_envelope.specs.Copies.{Ending, most_found, marker_length}
 use Rattle.nx_envelope.specs.Header.{EndsWithMarker}
 use Rattle.nx_envelope.specs.declared.found.How.{How}
 use Rattle.nx_envelope.specs.declared.found.How.TheVariants.{Long}
@@ -18,7 +18,7 @@ pub record EndsAtMarker (raw : List ℕ) (ending : Ending) : Type 0 where
   pub in_reach : place ≤ most_found
   pub marker : MarkerEndsAt raw place ending.how
   pub least : (earlier : ℕ) (how : How) → earlier < place → ¬ MarkerEndsAt raw earlier how
-  pub text : ending.text ≡ take (place - 4) raw
+  pub text : ending.text ≡ take (place - marker_length) raw
 
 -- no marker ends within 4,100 characters
 abbrev pub HasNoMarker : List ℕ → Type 0

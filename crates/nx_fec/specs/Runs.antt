@@ -3,7 +3,7 @@ use Rattle.std.specs.Prelude.{◌≡◌, ◌≢◌, ℕ, ◌%◌, ◌<◌, ◌�
 use Rattle.std.specs.Global.{Vec}
 use Rattle.std.specs.Io.KnownBytes.{Appends}
 use Rattle.nx_fec.specs.air_files.Lines.{HasFault, IsBitFile, IsFaultless, file_of}
-use Rattle.nx_fec.specs.emissions.Aligned.{aligned_text, words_of}
+use Rattle.nx_fec.specs.emissions.Aligned.{aligned_text, words_of, AreWhole}
 use Rattle.nx_fec.specs.texts.WordLines.{word_lines}
 use Rattle.nx_fec.specs.Transfers.{AnswersToEnd, Contents, CountedDevice, Devices, Extent, Manner}
 use Rattle.nx_fec.specs.Transfers.{Reads, Transfers, WroteSome, at_the_end, contents_of, input}
@@ -84,7 +84,7 @@ ReadsElements remaining old new outcome =
 pub record IsDecoded (limit : ℕ) (bytes text : List ℕ) : Type 0 where
   pub bits : List Bool
   pub file : IsBitFile limit bytes bits
-  pub whole : length bits % 7 ≡ 0
+  pub whole : AreWhole bits
   pub read : text ≡ aligned_text (words_of bits)
 
 -- What a fault of a run over the words of a file says: its elements are no whole words, or their
@@ -93,7 +93,7 @@ pub record IsDecoded (limit : ℕ) (bytes text : List ℕ) : Type 0 where
 abbrev pub ExplainsWordRun : (List ℕ → ℕ → Type 0) → Extent → List ℕ → Contents → RunFault → Type 0
 ExplainsWordRun IsText extent bytes contents (Ragged given) =
     extent.at_end × (bits : List Bool) × IsBitFile file_limit bytes bits × (given ≡ length bits)
-    × (length bits % 7 ≢ 0)
+    × ¬ AreWhole bits
 ExplainsWordRun IsText extent bytes contents (Write written) =
     extent.at_end × (text : List ℕ) × (count : ℕ) × IsText text count
     × WroteSome contents.before contents.after text written
@@ -137,7 +137,7 @@ Decodes d outcome =
 pub record IsShown (limit : ℕ) (bytes text : List ℕ) (count : ℕ) : Type 0 where
   pub bits : List Bool
   pub file : IsBitFile limit bytes bits
-  pub whole : length bits % 7 ≡ 0
+  pub whole : AreWhole bits
   pub shown : text ≡ word_lines (words_of bits)
   pub count_is : count ≡ length (words_of bits)
 

@@ -5,6 +5,10 @@ use Rattle.std.specs.Io.KnownBytes.{Consumes, IsAtEnd, Keeps, Appends}
 use Rattle.nx_fec.specs.declared.devices.pieces.Piece.{Piece}
 use Rattle.nx_fec.specs.declared.devices.pieces.Piece.TheVariants.{End, Failed, Bytes}
 
+-- the number that counts so many, at most the greatest of 64 bits
+abbrev pub count_of : ℕ → ℕ
+count_of n = min n (2 ^ 64 - 1)
+
 -- a reader or a writer, and how many calls on it failed
 pub record CountedDevice (T : Type 0) : Type 0 where
   pub inner : T
@@ -14,7 +18,7 @@ pub record CountedDevice (T : Type 0) : Type 0 where
 -- Once the count is above 0, the call fails and isn't passed on.
 pub record Counts {T R E : Type 0} (old new : CountedDevice T) (result : Result R E) : Type 0 where
   pub ok : OnOk result (new.failures ≡ old.failures)
-  pub err : OnErr result (new.failures ≡ min (old.failures + 1) (2 ^ 64 - 1))
+  pub err : OnErr result (new.failures ≡ count_of (old.failures + 1))
   pub stopped : 0 < old.failures → IsErr result × (new.inner ≡ old.inner)
 
 -- A run over a device that counted no failure: it is over at the first one, which it then answers,
@@ -29,12 +33,12 @@ pub record FailsOnce {T N F : Type 0} (new : CountedDevice T) (result : Result N
 pub record WroteSome (old new : Option (List ℕ)) (bytes : List ℕ) (written : ℕ) : Type 0 where
   pub taken : ℕ
   pub fewer : taken < length bytes
-  pub counted : written ≡ min taken (2 ^ 64 - 1)
+  pub counted : written ≡ count_of taken
   pub appended : Appends old new (take taken bytes)
 
 -- These bytes were written, and `count` counts them, at most to the greatest number of 64 bits.
 pub record HasWritten (old new : Option (List ℕ)) (bytes : List ℕ) (count : ℕ) : Type 0 where
-  pub counted : count ≡ min (length bytes) (2 ^ 64 - 1)
+  pub counted : count ≡ count_of (length bytes)
   pub appended : Appends old new bytes
 
 -- What a read gave: the end of the input, a failure, or so many bytes, at least one, at the front

@@ -83,12 +83,16 @@ call_status (call.Damage why) = damage_status why
 call_status (call.Log why) = log_status why
 call_status call.NoSlot = 2
 
+-- the status of a fault in the words
+abbrev pub words_status : ℕ
+words_status = 64
+
 abbrev pub fault_status : Fault → ℕ
-fault_status (fault.Words answer) = 64
-fault_status fault.NoText = 64
-fault_status fault.Station = 64
-fault_status fault.Kind = 64
-fault_status (fault.Value report) = 64
+fault_status (fault.Words answer) = words_status
+fault_status fault.NoText = words_status
+fault_status fault.Station = words_status
+fault_status fault.Kind = words_status
+fault_status (fault.Value report) = words_status
 fault_status (fault.Watch name why) = watch_failure_status why
 fault_status (fault.Call why) = call_status why
 
@@ -98,4 +102,4 @@ status_of (Err why) = fault_status why
 
 -- the statuses: success, a device or memory, a bad file, line or value, the words
 abbrev pub IsStatus : ℕ → Type 0
-IsStatus status = (status ≡ 0) ⊎ ((status ≡ 1) ⊎ ((status ≡ 2) ⊎ (status ≡ 64)))
+IsStatus status = (status ≡ 0) ⊎ ((status ≡ 1) ⊎ ((status ≡ 2) ⊎ (status ≡ words_status)))

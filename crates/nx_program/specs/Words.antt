@@ -8,6 +8,7 @@ use Rattle.clap.specs.Simple.{on_top}
 use Rattle.clap.specs.declared.builder.value_parser.ValueParser.TheVariants as parser
 use Rattle.clap.specs.declared.error.kind.ErrorKind.{ErrorKind}
 use Rattle.clap.specs.declared.error.kind.ErrorKind.TheVariants.{DisplayHelp, DisplayVersion}
+use Rattle.nx_envelope.specs.Moment.{last_moment}
 use Rattle.nx_envelope.specs.declared.letter.Letter.{Letter}
 use Rattle.nx_log.specs.declared.writing.form.Form.{Form}
 use Rattle.nx_log.specs.declared.queries.query.Query.{Query}
@@ -60,20 +61,24 @@ number_rule name most =
 abbrev pub slot_tree : Text → App
 slot_tree word =
     let with_station = with_rule (new_app word) (text_rule (codes "STATION")) in
-    with_rule with_station (number_rule (codes "MOMENT") 32503679999)
+    with_rule with_station (number_rule (codes "MOMENT") last_moment)
 
 -- a command that takes a file and a moment, which is at most the last moment
 abbrev pub file_tree : Text → App
 file_tree word =
     let with_file = with_rule (new_app word) (text_rule (codes "FILE")) in
-    with_rule with_file (number_rule (codes "MOMENT") 32503679999)
+    with_rule with_file (number_rule (codes "MOMENT") last_moment)
+
+-- the greatest number of 32 bits
+abbrev pub greatest_of_32_bits : ℕ
+greatest_of_32_bits = 4294967295
 
 -- a command that takes a kind of damage, the first word and a count of words, each of 32 bits
 abbrev pub damage_tree : Text → App
 damage_tree word =
     let with_kind = with_rule (new_app word) (text_rule (codes "KIND")) in
-    let with_first = with_rule with_kind (number_rule (codes "FROM") 4294967295) in
-    with_rule with_first (number_rule (codes "COUNT") 4294967295)
+    let with_first = with_rule with_kind (number_rule (codes "FROM") greatest_of_32_bits) in
+    with_rule with_first (number_rule (codes "COUNT") greatest_of_32_bits)
 
 -- the program without its commands: one of them must be given, unless the version is asked for, and
 -- there is no command `help`

@@ -3,6 +3,7 @@
 use Rattle.std.specs.Prelude.{◌≡◌, ℕ, ◌-◌, ◌^◌, ◌≤◌, Bool, true, false, List, [], ◌∷◌, ◌++◌, length}
 use Rattle.std.specs.Prelude.{map, min, IfSome}
 use Rattle.std.specs.List.{flat_map}
+use Rattle.nx_fec.specs.Transfers.{count_of}
 use Rattle.nx_envelope.specs.Moment.{last_moment}
 use Rattle.nx_fec.specs.declared.air_files.channel.Channel.{Channel}
 use Rattle.nx_fec.specs.declared.air_files.channel.Channel.TheVariants.{Zero, One, Two}
@@ -17,10 +18,6 @@ use Rattle.nx_receiver.specs.Receiver.{Receiving, Stands, entry_list}
 use Rattle.nx_receiver.specs.copies.Shares.{Given, MarkedCopy, Starts, copies_on, marked, share, start_on}
 use Rattle.nx_receiver.specs.copies.Shares.{to_all, to_one}
 use Rattle.nx_receiver.specs.declared.listener.LastEntries.{LastEntries}
-
--- the number that counts so many, at most the greatest of 64 bits
-abbrev pub count_of : ℕ → ℕ
-count_of n = min n (2 ^ 64 - 1)
 
 -- the memory's entries, as a listener's receivers have them
 abbrev pub content : RingMemory → List MemoryEntry

@@ -13,7 +13,7 @@ use Rattle.nx_code.specs.Reading.{capital_a, newline, space}
 use Rattle.nx_envelope.specs.Identity.{identity_bytes}
 use Rattle.nx_envelope.specs.Message.{text_of, MessageView}
 use Rattle.nx_envelope.specs.declared.identity.Identity.{Identity}
-use Rattle.nx_fec.specs.emissions.Emission.{SentPosition, phasing_position, traffic_position, end_position}
+use Rattle.nx_fec.specs.emissions.Emission.{SentPosition, phasing_position, traffic_position, end_position, end_positions}
 
 -- the combinations whose figures are the digits 0 to 9
 abbrev pub digit_combination : ℕ → ℕ
@@ -66,10 +66,6 @@ first_phasing = 72
 -- how many positions of phasing come before each further message
 abbrev pub further_phasing : ℕ
 further_phasing = 36
-
--- how many positions end an emission
-abbrev pub end_positions : ℕ
-end_positions = 3
 
 -- positions of phasing, so many, and after them a message
 abbrev pub phasing_and_message : ℕ → List ℕ → List SentPosition

@@ -50,12 +50,16 @@ pub record IsSecondPhasing1 (first : Role) (words : ℕ → ℕ) (k : ℕ) : Typ
   pub this : words k ≡ phasing_1
   pub before : words (k - 2) ≡ phasing_1
 
--- Ended at word w: w is word k + 3 for the least k that is a second phasing signal 1 (this
+-- how many words behind a second phasing signal 1 the lock is ended (this profile)
+abbrev pub words_to_end : ℕ
+words_to_end = 3
+
+-- Ended at word w: so many words behind the least word that is a second phasing signal 1 (this
 -- profile).
 pub record EndedAt (first : Role) (words : ℕ → ℕ) (w : ℕ) : Type 0 where
-  pub late : 3 ≤ w
-  pub here : IsSecondPhasing1 first words (w - 3)
-  pub least : (k : ℕ) → k < w - 3 → IsSecondPhasing1 first words k → ⊥
+  pub late : words_to_end ≤ w
+  pub here : IsSecondPhasing1 first words (w - words_to_end)
+  pub least : (k : ℕ) → k < w - words_to_end → IsSecondPhasing1 first words k → ⊥
 
 -- Lost at word w: the least word with as many wrong ones as lose a lock (`losing_count`) among the
 -- last 64 words up to it, or among all of them where they are fewer (this profile).

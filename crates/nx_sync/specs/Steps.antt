@@ -3,7 +3,7 @@ use Rattle.std.specs.Prelude.{◌≡◌, ℕ, ◌+◌, ◌*◌, ◌<◌, ◌≤�
 use Rattle.std.specs.Prelude.{slice_index, Option, Some, None}
 use Rattle.std.specs.List.{flat_map}
 use Rattle.std.specs.Option.{option_to_list}
-use Rattle.nx_code.specs.Word.{elements, word_elements}
+use Rattle.nx_code.specs.Word.{elements, word_elements, last_element}
 use Rattle.nx_sync.specs.declared.step.Role.{Role}
 use Rattle.nx_sync.specs.declared.step.Change.{Change}
 use Rattle.nx_sync.specs.declared.step.Change.TheVariants.{Locked}
@@ -64,7 +64,7 @@ pub record HuntsThrough (before bits : List Bool) (n : ℕ) : Type 0 where
 -- Seven bits, which come after others, complete one word: the pushes of the first six answer
 -- nothing, and that of the last one answers s.
 pub record IsWordStep (before bits : List Bool) (s : Step) : Type 0 where
-  pub inside : (k : ℕ) → k < 6 → IsStep (before ++ take (k + 1) bits) (step None None)
+  pub inside : (k : ℕ) → k < last_element → IsStep (before ++ take (k + 1) bits) (step None None)
   pub last : IsStep (before ++ bits) s
 
 -- Of these bits, which come after others, the last one brings s, and those before it nothing: the

@@ -4,7 +4,7 @@ use Rattle.std.specs.Prelude.{length, take, drop, Option, Some, Result, Ok, Err,
 use Rattle.std.specs.List.{AllZip}
 use Rattle.std.specs.Io.KnownBytes.{Consumes, IsAtEnd}
 use Rattle.nx_fec.specs.air_files.AirFile.{Line, moment}
-use Rattle.nx_fec.specs.Transfers.{CountedDevice}
+use Rattle.nx_fec.specs.Transfers.{CountedDevice, count_of}
 use Rattle.nx_fec.specs.declared.air_files.channel.Channel.{Channel}
 use Rattle.nx_fec.specs.declared.air_files.channel.Channel.TheVariants.{Zero, One, Two}
 use Rattle.nx_kept.specs.Disk.{FailedOnce, LeavesOnly}
@@ -101,7 +101,7 @@ abbrev pub AnswersStop : ℕ → Stop → List (Option Line) → List MarkedCopy
 AnswersStop first at_end lines copies (Ok report) =
     (report.lines ≡ length lines) × (report.without_effect ≡ count_without first lines)
     × (report.first_without_effect ≡ first_without first lines)
-    × (report.put ≡ min (length copies) (2 ^ 64 - 1))
+    × (report.put ≡ count_of (length copies))
 AnswersStop first (back line last given) lines copies (Err (Back number from to)) =
     (number ≡ line) × (from ≡ last) × (to ≡ given)
 AnswersStop first unread lines copies (Err Read) = ⊤

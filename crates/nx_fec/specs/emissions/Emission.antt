@@ -2,8 +2,8 @@
 -- comes five slots after the DX word, so that four words lie between).
 use Rattle.std.specs.Prelude.{◌≡◌, ℕ, ◌+◌, ◌-◌, ◌*◌, ◌/◌, ◌%◌, ◌<◌, ◌≤◌, ◌==◌, nat_lt, if◌then◌else◌, Bool, List, ◌++◌, length, map, replicate, slice_index, slice_index_or, EachIndex}
 use Rattle.std.specs.List.{flat_map, range_with_len}
-use Rattle.nx_code.specs.Word.{elements}
-use Rattle.nx_code.specs.Table.{traffic_word, phasing_1, phasing_2}
+use Rattle.nx_code.specs.Word.{elements, word_numbers}
+use Rattle.nx_code.specs.Table.{traffic_word, phasing_1, phasing_2, IsCombination}
 use Rattle.nx_code.specs.Reading.{Reception, combination, idle}
 use Rattle.nx_fec.specs.declared.emissions.positions.Position.{Position}
 use Rattle.nx_fec.specs.declared.emissions.positions.Position.TheVariants.{Phasing, Traffic, End}
@@ -82,17 +82,17 @@ bits_of sent = flat_map elements sent
 
 -- these are numbers of words
 abbrev pub AreWords : List ℕ → Type 0
-AreWords sent = EachIndex sent (λ slot. slice_index sent slot < 128)
+AreWords sent = EachIndex sent (λ slot. slice_index sent slot < word_numbers)
 
 -- these are numbers of combinations
 abbrev pub AreCombinations : List ℕ → Type 0
 AreCombinations numbers =
-    EachIndex numbers (λ i. (1 ≤ slice_index numbers i) × (slice_index numbers i ≤ 32))
+    EachIndex numbers (λ i. IsCombination (slice_index numbers i))
 
 -- a traffic position has a combination
 abbrev pub IsInCode : SentPosition → Type 0
 IsInCode phasing_position = Unit {0}
-IsInCode (traffic_position number) = (1 ≤ number) × (number ≤ 32)
+IsInCode (traffic_position number) = IsCombination number
 IsInCode end_position = Unit {0}
 
 abbrev pub AreInCode : List SentPosition → Type 0
@@ -104,8 +104,16 @@ reception phasing_position = idle
 reception (traffic_position number) = combination number
 reception end_position = idle
 
--- the positions by which combinations are sent alone: four of phasing, the combinations, three of
--- the end
+-- how many positions of phasing stand before combinations that are sent alone (this profile)
+abbrev pub framing_positions : ℕ
+framing_positions = 4
+
+-- how many positions of the end an emission ends with (this profile)
+abbrev pub end_positions : ℕ
+end_positions = 3
+
+-- the positions by which combinations are sent alone: phasing, the combinations, and the end
 unfoldable pub framed_positions : List ℕ → List SentPosition
 framed_positions numbers =
-    replicate 4 phasing_position ++ map traffic_position numbers ++ replicate 3 end_position
+    replicate framing_positions phasing_position ++ map traffic_position numbers
+    ++ replicate end_positions end_position

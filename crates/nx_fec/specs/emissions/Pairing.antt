@@ -4,7 +4,7 @@ use Rattle.std.specs.Prelude.{◌≡◌, ℕ, ◌+◌, ◌-◌, ◌==◌, nat_lt
 use Rattle.std.specs.Option.{option_map_or}
 use Rattle.nx_code.specs.declared.signals.Signal.TheVariants.{Traffic, Alpha, Beta, Repeat}
 use Rattle.nx_code.specs.Word.{HasWrongWeight}
-use Rattle.nx_code.specs.Table.{place_of}
+use Rattle.nx_code.specs.Table.{place_of, combination_count}
 use Rattle.nx_code.specs.Signal.{number_of_signal}
 use Rattle.nx_code.specs.Reading.{Reception, combination, idle, lost}
 use Rattle.nx_fec.specs.emissions.Emission.{rx_delay}
@@ -22,7 +22,8 @@ pub data Counted : Type 0 where
 -- the others the service signals. A word that isn't in the table has a wrong weight.
 unfoldable pub counts_as : ℕ → Counted
 counts_as word =
-    option_map_or (λ place. if nat_lt place 32 then traffic (place + 1) else idle_signal)
+    option_map_or
+    (λ place. if nat_lt place combination_count then traffic (place + 1) else idle_signal)
     (place_of word) nothing
 
 -- what is taken of a DX and an RX: where they count alike, or only one of them counts, that, and

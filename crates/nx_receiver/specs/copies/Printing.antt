@@ -1,7 +1,7 @@
 -- Good, printed and entered: which copies are printed, and which of them the memory keeps. The
 -- number 00, which is printed each time, and the share of 4 per cent are of ITU-R M.540; all else
 -- is this profile's.
-use Rattle.std.specs.Prelude.{◌*◌, ◌==◌, nat_lt, max, Bool, true, false, not, ◌&&◌, ◌||◌}
+use Rattle.std.specs.Prelude.{ℕ, ◌*◌, ◌==◌, nat_lt, max, Bool, true, false, not, ◌&&◌, ◌||◌}
 use Rattle.std.specs.Prelude.{if◌then◌else◌, List, [], ◌∷◌, ◌++◌, length, filter}
 use Rattle.nx_code.specs.Lists.{last_of}
 use Rattle.nx_envelope.specs.Copies.{errors_of}
@@ -17,12 +17,16 @@ abbrev pub is_full : How → Bool
 is_full Full = true
 is_full _ = false
 
+-- a copy has lost too much where this many times its errors is not less than its characters
+abbrev pub good_share : ℕ
+good_share = 25
+
 -- A copy is good where it is full and fewer than 4 per cent of its characters are errors, the share
 -- that ITU-R M.540 names: 25 times its errors is less than its characters. An empty text counts as
 -- one character.
 abbrev pub is_good : TaggedCopy → Bool
 is_good copy =
-    is_full copy.how && nat_lt (25 * errors_of copy.text) (max 1 (length copy.text))
+    is_full copy.how && nat_lt (good_share * errors_of copy.text) (max 1 (length copy.text))
 
 -- the copy is numbered 00
 abbrev pub is_number_00 : TaggedCopy → Bool

@@ -6,7 +6,7 @@ use Rattle.nx_envelope.specs.declared.letter.Letter.{Letter}
 use Rattle.nx_fec.specs.air_files.LineRuns.{Taker, taker_of}
 use Rattle.nx_fec.specs.air_files.AirFile.{Line, moment, elements, refuse_subject}
 use Rattle.nx_fec.specs.air_files.Channels.{same_channel}
-use Rattle.nx_fec.specs.Transfers.{WroteSome}
+use Rattle.nx_fec.specs.Transfers.{WroteSome, count_of}
 use Rattle.nx_fec.specs.declared.air_files.channel.Channel.{Channel}
 use Rattle.nx_memory.specs.Selection.{is_vital}
 use Rattle.nx_receiver.specs.Events as events
@@ -14,7 +14,7 @@ use Rattle.nx_receiver.specs.Events.{Event, Start, elements_among, Refuses}
 use Rattle.nx_receiver.specs.copies.InTurn.{PrintAllToEnd, PrintsInTurn}
 use Rattle.nx_receiver.specs.air_file_runs.Listen.{AreTaken, given_by, has_moment, moment_after}
 use Rattle.nx_receiver.specs.copies.Log.{IsLog}
-use Rattle.nx_receiver.specs.Listener.{HearsGiven, Listening, content, count_of, elements_given, receiver_on, starts_of}
+use Rattle.nx_receiver.specs.Listener.{HearsGiven, Listening, content, elements_given, receiver_on, starts_of}
 use Rattle.nx_receiver.specs.Receiver.{HandsOutNoneBefore, Stands}
 use Rattle.nx_receiver.specs.copies.Shares.{Given, MarkedCopy, Starts, marked}
 use Rattle.nx_receiver.specs.private.Awaiting.{Awaits}

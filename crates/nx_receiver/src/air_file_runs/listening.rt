@@ -6,7 +6,7 @@ ghost use Rattle.nx_envelope.specs.Moment.{last_moment};
 ghost use Rattle.nx_fec.specs.air_files.AirFile.{IsLine, Line};
 ghost use Rattle.nx_fec.specs.air_files.AirFile as line;
 ghost use Rattle.nx_fec.specs.air_files.Scanner.{kind_of, line_with};
-ghost use Rattle.nx_fec.specs.Transfers.{FailsOnce, HasWritten, WroteSome, Writes, devices};
+ghost use Rattle.nx_fec.specs.Transfers.{FailsOnce, HasWritten, WroteSome, Writes, devices, count_of};
 ghost use Rattle.nx_fec.specs.air_files.LineRuns.{ExplainsTaking, HasGiven, HasTaken, line_run};
 ghost use Rattle.nx_memory.specs.Selection.{is_vital};
 ghost use Rattle.nx_receiver.specs.Events.{command};
@@ -17,7 +17,7 @@ ghost use Rattle.nx_receiver.specs.copies.Log.{IsLog};
 ghost use Rattle.nx_receiver.specs.Receiver.{TakesEvent, entry_list};
 ghost use Rattle.nx_receiver.specs.copies.Shares.{Given, Starts, all_at_zero, marked, starts_from};
 ghost use Rattle.nx_receiver.specs.private.Awaiting.{HandsOut};
-ghost use Rattle.nx_receiver.specs.Listener.{Listening, content, count_of, receiver_on, starts_of, then_elements, with_receiver};
+ghost use Rattle.nx_receiver.specs.Listener.{Listening, content, receiver_on, starts_of, then_elements, with_receiver};
 ghost use Rattle.nx_receiver.specs.private.Listener.{HasClosed, HasClosedSome, HeardSome, HearsLog, IsHearing, IsListening, RefusesLine, StandsFrom, listener_taker};
 ghost use Rattle.nx_receiver.specs.declared.air_file_runs.listen_fault.ListenFault.TheVariants.{Memory};
 

@@ -2,19 +2,20 @@
 -- between them (this profile).
 use Rattle.std.specs.Prelude.{◌≡◌, ℕ, ◌+◌, ◌-◌, ◌*◌, Bool, List, [], ◌∷◌, ◌++◌, ◌≤◌, length, map, take, slice_get, Some}
 use Rattle.std.specs.List.{AllByRecursion, AllZip, flat_map}
+use Rattle.nx_code.specs.Table.{IsCombination}
 use Rattle.nx_code.specs.Reading.{combination, shift_after_all, text}
 use Rattle.nx_code.specs.Word.{last_element, word_elements}
 use Rattle.nx_code.specs.declared.shifts.Shift.TheVariants.{Figures}
-use Rattle.nx_fec.specs.emissions.Emission.{SentPosition, bits_of, rx_slot, traffic_position}
+use Rattle.nx_fec.specs.emissions.Emission.{SentPosition, bits_of, rx_slot, traffic_position, end_positions}
 use Rattle.nx_envelope.specs.Message.{AreLines, MessageView, text_of}
-use Rattle.nx_station.specs.Broadcast.{IsSpelled, end_positions, ending, first_phasing, further_phasing, head, layout}
+use Rattle.nx_station.specs.Broadcast.{IsSpelled, ending, first_phasing, further_phasing, head, layout}
 use Rattle.nx_station.specs.reception.Path.{PassesChannel, first_slot}
 
 -- The combinations tell the message: its head, any that print its text from the figure shift, and
 -- its end (ITU-R M.540).
 pub record Tells (message : MessageView) (numbers : List ℕ) : Type 0 where
   pub body : List ℕ
-  pub each : AllByRecursion (λ number. (1 ≤ number) × (number ≤ 32)) body
+  pub each : AllByRecursion IsCombination body
   pub reads : text (map combination body) Figures ≡ text_of message.lines
   pub whole : numbers ≡ head message.identity
       ++ (body ++ ending (shift_after_all (map combination body) Figures))

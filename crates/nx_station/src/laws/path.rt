@@ -4,9 +4,9 @@ ghost use Rattle.std.specs.Prelude.{◌≡◌, ◌≢◌, ℕ, ◌+◌, ◌-◌,
 ghost use Rattle.nx_code.specs.Table.{phasing_1, traffic_word};
 ghost use Rattle.nx_code.specs.Word.{is_wrong, word_from, wrong_in};
 ghost use Rattle.nx_envelope.specs.Message.{MessageView};
-ghost use Rattle.nx_fec.specs.emissions.Emission.{SentPosition, bits_of, emission, position_at, reception, slots_of, word_sent};
+ghost use Rattle.nx_fec.specs.emissions.Emission.{SentPosition, bits_of, emission, position_at, reception, slots_of, word_sent, end_positions};
 ghost use Rattle.nx_fec.specs.emissions.Pairing.{counts_as, pairing};
-ghost use Rattle.nx_station.specs.Broadcast.{AreSpelled, IsBroadcast, digit_combination, end_positions, layout};
+ghost use Rattle.nx_station.specs.Broadcast.{AreSpelled, IsBroadcast, digit_combination, layout};
 ghost use Rattle.nx_station.specs.reception.Path.{PassesChannel, first_slot, heard_in, message_slot, most_wrong, phasing_received, phasing_words, window};
 ghost use Rattle.nx_station.specs.reception.PathExample.{example_emission, example_numbers, example_parts, example_sending, heard_half, heard_without_75};
 ghost use Rattle.nx_station.specs.Sendable.{IsSendable};

@@ -2,12 +2,11 @@
 use Rattle.std.specs.Prelude.{◌≡◌, ◌⊎◌, ℕ, ◌+◌, ◌<◌, ◌≤◌, Bool, true, false, List, [], ◌++◌, length}
 use Rattle.std.specs.Prelude.{Option, take, drop}
 use Rattle.std.specs.List.{concat}
-use Rattle.nx_fec.specs.Transfers.{CountedDevice}
+use Rattle.nx_fec.specs.Transfers.{CountedDevice, count_of}
 use Rattle.nx_kept.specs.Disk.{FailedOnce, LeavesOnly}
 use Rattle.nx_kept.specs.Kept.{StandsFor}
 use Rattle.nx_kept.specs.Log.{Keeps}
 use Rattle.nx_log.specs.Entries.{IsWholeEntry}
-use Rattle.nx_receiver.specs.Listener.{count_of}
 use Rattle.nx_watch.specs.Watch.{longest_entry}
 use Rattle.nx_watch.specs.LineRun.{WereGiven}
 use Rattle.nx_watch.specs.declared.kept_log.keeper.Keeper.{Keeper}

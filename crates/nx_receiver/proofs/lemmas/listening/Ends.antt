@@ -10,7 +10,7 @@ use Rattle.std.specs.Io.KnownBytes.{Appends}
 use Rattle.std.proofs.lemmas.List.{length-map}
 use Rattle.std.proofs.lemmas.List.Elements.{All-nil, All-cons, All-append}
 use Rattle.nx_envelope.specs.Moment.{last_moment}
-use Rattle.nx_fec.specs.Transfers.{WroteSome}
+use Rattle.nx_fec.specs.Transfers.{WroteSome, count_of}
 use Rattle.nx_fec.specs.declared.air_files.channel.Channel.{Channel}
 use Rattle.nx_fec.specs.declared.air_files.channel.Channel.TheVariants.{Zero, One, Two}
 use Rattle.nx_fec.proofs.lemmas.devices.WritingLaws.{WroteSome-front}
@@ -22,7 +22,7 @@ use Rattle.nx_receiver.specs.Receiver.{Receiving, Stands, entry_list}
 use Rattle.nx_receiver.specs.copies.Shares.{Given, MarkedCopy, Starts, copies_on, marked, share, start_on}
 use Rattle.nx_receiver.specs.Listener.{HearsGiven, last_copies}
 use Rattle.nx_receiver.specs.private.Listener.{HasClosed, HasClosedSome, HearsLog}
-use Rattle.nx_receiver.specs.Listener.{Listening, content, count_of}
+use Rattle.nx_receiver.specs.Listener.{Listening, content}
 use Rattle.nx_receiver.specs.declared.entry.Entry.{Entry}
 use Rattle.nx_receiver.specs.declared.listener.LastEntries.{LastEntries}
 use Rattle.nx_receiver.specs.declared.air_file_runs.listening.Report.{Report}

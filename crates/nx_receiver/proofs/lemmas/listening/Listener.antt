@@ -10,6 +10,7 @@ use Rattle.std.proofs.Math.Path.{fun_ext}
 use Rattle.std.proofs.lemmas.List.{length-map, length-take-le, map-append}
 use Rattle.std.proofs.lemmas.List.Concat.{flat_map-append}
 use Rattle.std.proofs.lemmas.List.Folds.{list_any-append}
+use Rattle.nx_fec.specs.Transfers.{count_of}
 use Rattle.nx_fec.specs.air_files.AirFile.{Line, moment, elements, refuse_station, accept_station}
 use Rattle.nx_fec.specs.air_files.AirFile.{refuse_subject, accept_subject}
 use Rattle.nx_fec.specs.air_files.Channels.{channel_of, same_channel}
@@ -24,7 +25,7 @@ use Rattle.nx_receiver.specs.air_file_runs.Listen.{AreTaken, events_on, given_by
 use Rattle.nx_receiver.specs.air_file_runs.Listen.{is_moment_line, moment_after}
 use Rattle.nx_receiver.specs.private.Taken.{AreTakenAfter, IsTakenAfter}
 use Rattle.nx_receiver.proofs.lemmas.listening.Taken.{are-taken, taken-each}
-use Rattle.nx_receiver.specs.Listener.{HearsGiven, IsSpelled, Listening, content, count_of}
+use Rattle.nx_receiver.specs.Listener.{HearsGiven, IsSpelled, Listening, content}
 use Rattle.nx_receiver.specs.Listener.{elements_given, elements_in, moment_in_force, receiver_on}
 use Rattle.nx_receiver.specs.Listener.{starts_of, then_command, then_elements, then_moment}
 use Rattle.nx_receiver.specs.Listener.{with_receiver}

@@ -10,7 +10,7 @@ use Rattle.nx_fec.specs.air_files.LineRuns.{ExplainsLines, HasHeardAll, HasTaken
 use Rattle.nx_fec.specs.air_files.LineRuns.{StopsLines, line_run}
 use Rattle.nx_fec.specs.declared.air_files.line_hearing.HearFault.{HearFault}
 use Rattle.nx_fec.specs.declared.air_files.line_hearing.HearFault.TheVariants as hear
-use Rattle.nx_fec.specs.Transfers.{CountedDevice, Extent, input}
+use Rattle.nx_fec.specs.Transfers.{CountedDevice, Extent, input, count_of}
 use Rattle.nx_fec.specs.declared.fault.LineFault.TheVariants as file
 use Rattle.nx_fec.specs.declared.air_files.line_taking.LinesFault.TheVariants as run
 use Rattle.nx_fec.specs.declared.air_files.line_taking.LinesRead.{LinesRead}
@@ -19,7 +19,7 @@ use Rattle.nx_fec.proofs.lemmas.devices.TransferLaws.{Ok-not_err, Reads-on, read
 use Rattle.nx_memory.specs.Saved.{SavedStates}
 use Rattle.nx_receiver.specs.air_file_runs.Listen.{AnswersUnlogged, given_by}
 use Rattle.nx_receiver.specs.copies.Shares.{Starts, starts_from}
-use Rattle.nx_receiver.specs.Listener.{Listening, count_of, starts_of}
+use Rattle.nx_receiver.specs.Listener.{Listening, starts_of}
 use Rattle.nx_receiver.specs.private.Listener.{HasClosed, IsListening}
 use Rattle.nx_receiver.specs.private.Listener.{RefusesFrom, RefusesLine, StandsFrom}
 use Rattle.nx_receiver.specs.private.Listener.{listener_taker}

@@ -19,12 +19,11 @@ use Rattle.nx_code.specs.declared.shifts.Shift.{Shift}
 use Rattle.nx_code.specs.declared.shifts.Shift.TheVariants.{Letters, Figures}
 use Rattle.nx_code.proofs.lemmas.OneSpelling.{spelling-exists, spelling-one}
 use Rattle.nx_envelope.specs.Message.{AreLines, IsMessageLine, IsLineByte, text_of, MessageView}
-use Rattle.nx_fec.specs.emissions.Emission.{SentPosition, phasing_position, traffic_position, end_position}
+use Rattle.nx_fec.specs.emissions.Emission.{SentPosition, phasing_position, traffic_position, end_position, end_positions}
 use Rattle.nx_station.specs.Sendable.{HavePositions}
 use Rattle.nx_station.specs.private.MessageParts.{IsExtent}
 use Rattle.nx_station.specs.Broadcast.{IsSpelled, AreSpelled, IsBroadcast, head, ending}
 use Rattle.nx_station.specs.Broadcast.{phasing_and_message, layout, first_phasing, further_phasing}
-use Rattle.nx_station.specs.Broadcast.{end_positions}
 
 -- ---- the text of a message is in the code
 

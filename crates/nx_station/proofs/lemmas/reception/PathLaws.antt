@@ -7,7 +7,7 @@ use Rattle.nx_code.specs.Table.{phasing_1, phasing_2, traffic_word}
 use Rattle.nx_code.specs.Word.{weight, wrong_in}
 use Rattle.nx_code.specs.Reading.{combination, lost}
 use Rattle.nx_code.proofs.lemmas.Table.{traffic_word-is}
-use Rattle.nx_fec.specs.emissions.Emission.{SentPosition, phasing_position, traffic_position, end_position}
+use Rattle.nx_fec.specs.emissions.Emission.{SentPosition, phasing_position, traffic_position, end_position, end_positions}
 use Rattle.nx_fec.specs.emissions.Emission.{dx_word, rx_word, position_at, slots_of, word_sent, reception, IsInCode}
 use Rattle.nx_fec.specs.emissions.Pairing.{Counted, traffic, idle_signal, nothing, counts_as, pairing}
 use Rattle.nx_fec.proofs.lemmas.emissions.Emission.{word_sent-dx, word_sent-rx}
@@ -21,7 +21,7 @@ use Rattle.nx_code.proofs.lemmas.WordCounts.{wrong_in-add, wrong_in-le}
 use Rattle.nx_station.proofs.lemmas.reception.PathPositions.{HasInner, IsInner, inner-no_end, position-end}
 use Rattle.nx_station.proofs.lemmas.reception.PathPositions.{position-inner}
 use Rattle.nx_station.proofs.lemmas.reception.WordWeights.{phasing_1-weight, dx-weight, rx-weight}
-use Rattle.nx_station.specs.Broadcast.{first_phasing, end_positions}
+use Rattle.nx_station.specs.Broadcast.{first_phasing}
 
 -- ---- the words that are sent
 

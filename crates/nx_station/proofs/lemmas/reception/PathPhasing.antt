@@ -8,13 +8,12 @@ use Rattle.std.proofs.lemmas.Bool.{eqb-true, ne_eqb}
 use Rattle.std.proofs.lemmas.List.{ext_get_or, get_or-take, get_or_append_left, length-append}
 use Rattle.std.proofs.lemmas.List.{length-replicate, length-take-le}
 use Rattle.nx_code.specs.Table.{phasing_1, phasing_2}
-use Rattle.nx_fec.specs.emissions.Emission.{SentPosition, phasing_position, traffic_position, end_position}
+use Rattle.nx_fec.specs.emissions.Emission.{SentPosition, phasing_position, traffic_position, end_position, end_positions}
 use Rattle.nx_fec.specs.emissions.Emission.{dx_word, rx_word, position_at, word_sent}
 use Rattle.nx_fec.proofs.lemmas.emissions.Emission.{word_sent-dx, word_sent-rx}
 use Rattle.nx_envelope.specs.Message.{MessageView}
 use Rattle.nx_station.specs.Broadcast.{AreSpelled, IsBroadcast, IsSpelled, ending, head, layout}
 use Rattle.nx_station.specs.Broadcast.{phasing_and_message, first_phasing, further_phasing}
-use Rattle.nx_station.specs.Broadcast.{end_positions}
 use Rattle.nx_code.specs.Reading.{combination, shift_after_all}
 use Rattle.nx_code.specs.declared.shifts.Shift.{Shift}
 use Rattle.nx_code.specs.declared.shifts.Shift.TheVariants.{Letters, Figures}

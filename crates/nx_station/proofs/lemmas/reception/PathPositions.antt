@@ -11,11 +11,10 @@ use Rattle.nx_code.specs.declared.shifts.Shift.{Shift}
 use Rattle.nx_code.specs.declared.shifts.Shift.TheVariants.{Letters, Figures}
 use Rattle.nx_envelope.specs.Message.{MessageView}
 use Rattle.nx_envelope.specs.declared.identity.Identity.{Identity}
-use Rattle.nx_fec.specs.emissions.Emission.{SentPosition, phasing_position, traffic_position, end_position}
+use Rattle.nx_fec.specs.emissions.Emission.{SentPosition, phasing_position, traffic_position, end_position, end_positions}
 use Rattle.nx_fec.specs.emissions.Emission.{position_at}
 use Rattle.nx_station.specs.Broadcast.{IsSpelled, AreSpelled, digit_combination, ending, head}
 use Rattle.nx_station.specs.Broadcast.{layout, phasing_and_message, first_phasing, further_phasing}
-use Rattle.nx_station.specs.Broadcast.{end_positions}
 use Rattle.nx_station.specs.Broadcast.{letter_combination}
 use Rattle.nx_station.specs.reception.Sendings.{Tells}
 use Rattle.nx_station.proofs.lemmas.broadcasts.Head.{digit_combination-range}

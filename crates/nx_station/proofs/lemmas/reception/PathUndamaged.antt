@@ -7,10 +7,10 @@ use Rattle.std.proofs.lemmas.List.{get_or-drop, take-append-drop}
 use Rattle.std.proofs.lemmas.List.Concat.{flat_map-append}
 use Rattle.nx_code.specs.Word.{elements}
 use Rattle.nx_envelope.specs.Message.{MessageView}
-use Rattle.nx_fec.specs.emissions.Emission.{SentPosition, AreInCode, AreWords, IsInCode, bits_of, emission, slots_of}
+use Rattle.nx_fec.specs.emissions.Emission.{SentPosition, AreInCode, AreWords, IsInCode, bits_of, emission, slots_of, end_positions}
 use Rattle.nx_fec.specs.emissions.Emission.{position_at}
 use Rattle.nx_fec.proofs.lemmas.emissions.Emission.{AreWords-emission, get_or-emission, length-emission}
-use Rattle.nx_station.specs.Broadcast.{IsBroadcast, end_positions, layout}
+use Rattle.nx_station.specs.Broadcast.{IsBroadcast, layout}
 use Rattle.nx_station.specs.reception.Path.{PassesChannel, IsAsSent, first_slot}
 use Rattle.nx_station.proofs.lemmas.broadcasts.Broadcast.{spelled-some}
 use Rattle.nx_station.proofs.lemmas.reception.PathLaws.{inner-in_code}

@@ -5,11 +5,10 @@ use Rattle.std.proofs.Common.{append_assoc, ◌%◌, get_or, ◌<◌}
 use Rattle.std.specs.List.{AllByRecursion, flat_map, slice_get}
 use Rattle.std.proofs.lemmas.List.{get_or-append-add, length-append, length-map, length-replicate}
 use Rattle.nx_envelope.specs.Message.{MessageView}
-use Rattle.nx_fec.specs.emissions.Emission.{SentPosition, phasing_position, traffic_position, end_position}
+use Rattle.nx_fec.specs.emissions.Emission.{SentPosition, phasing_position, traffic_position, end_position, end_positions}
 use Rattle.nx_fec.specs.emissions.Emission.{position_at, rx_word, slots_of, word_sent}
 use Rattle.nx_station.specs.Broadcast.{IsSpelled, AreSpelled, digit_combination, head, layout}
 use Rattle.nx_station.specs.Broadcast.{phasing_and_message, first_phasing, further_phasing}
-use Rattle.nx_station.specs.Broadcast.{end_positions}
 use Rattle.nx_station.proofs.lemmas.reception.PathPhasing.{length-spelled}
 use Rattle.nx_code.specs.Table.{traffic_word}
 use Rattle.nx_fec.proofs.lemmas.emissions.Emission.{word_sent-rx}

@@ -13,7 +13,7 @@ use Rattle.nx_code.specs.declared.shifts.Shift.TheVariants.{Letters}
 use Rattle.nx_code.proofs.lemmas.Reading.{text-append}
 use Rattle.nx_envelope.specs.Message.{MessageView}
 use Rattle.nx_fec.specs.emissions.Aligned.{AreWhole, aligned_text, words_of}
-use Rattle.nx_fec.specs.emissions.Emission.{SentPosition, AreInCode, IsInCode, bits_of, emission}
+use Rattle.nx_fec.specs.emissions.Emission.{SentPosition, AreInCode, IsInCode, bits_of, emission, end_positions}
 use Rattle.nx_fec.specs.emissions.Emission.{end_position, phasing_position, position_at, reception}
 use Rattle.nx_fec.specs.emissions.Emission.{traffic_position, word_sent}
 use Rattle.nx_fec.proofs.lemmas.emissions.Emission.{AreWords-emission, IsEmission-emission, get_or-emission}
@@ -21,7 +21,7 @@ use Rattle.nx_fec.proofs.lemmas.emissions.Emission.{length-emission, word_sent-d
 use Rattle.nx_fec.proofs.lemmas.emissions.RoundTrip.{length-bits_of, receptions-IsEmission, words_of-bits_of}
 use Rattle.nx_station.specs.Broadcast.{AreSpelled, IsBroadcast, IsSpelled, layout}
 use Rattle.nx_station.specs.Broadcast.{phasing_and_message, printed_text, first_phasing}
-use Rattle.nx_station.specs.Broadcast.{further_phasing, end_positions}
+use Rattle.nx_station.specs.Broadcast.{further_phasing}
 use Rattle.nx_station.specs.StrictReading.{IsEmissionOf, AreRight, ArePaired, IsPair}
 use Rattle.nx_station.proofs.lemmas.reception.PathPositions.{IsCombination, each-append, spelled-combinations}
 use Rattle.nx_station.proofs.lemmas.strict_reading.PrintedText.{printed-one}

@@ -15,12 +15,11 @@ use Rattle.nx_code.proofs.lemmas.Spelling.{number_of_shift, after_character, aft
 use Rattle.nx_code.proofs.lemmas.Spelling.{printed-shift, printed-return, printed-line_feed}
 use Rattle.nx_envelope.specs.Message.{text_of, MessageView}
 use Rattle.nx_envelope.specs.declared.identity.Identity.{Identity}
-use Rattle.nx_fec.specs.emissions.Emission.{SentPosition, phasing_position, traffic_position, end_position}
+use Rattle.nx_fec.specs.emissions.Emission.{SentPosition, phasing_position, traffic_position, end_position, end_positions}
 use Rattle.nx_fec.specs.emissions.Emission.{reception}
 use Rattle.nx_station.specs.Broadcast.{IsSpelled, AreSpelled, IsBroadcast, head, ending}
 use Rattle.nx_station.specs.Broadcast.{phasing_and_message, layout, header, printed_text}
 use Rattle.nx_station.specs.Broadcast.{digit_combination, first_phasing, further_phasing}
-use Rattle.nx_station.specs.Broadcast.{end_positions}
 use Rattle.nx_station.specs.Broadcast.{letter_combination}
 use Rattle.nx_station.specs.reception.Sendings.{Tells}
 use Rattle.nx_station.proofs.lemmas.reception.PathPositions.{spelled-tells}

@@ -5,12 +5,11 @@ use Rattle.std.proofs.Common.{append_assoc, append-nil, length-append}
 use Rattle.std.specs.List.{concat}
 use Rattle.std.proofs.lemmas.List.Folds.{concat-append}
 use Rattle.std.proofs.lemmas.List.{take_all, take_at, take-append-le, drop_at, drop-append-le}
-use Rattle.nx_fec.specs.Transfers.{CountedDevice}
+use Rattle.nx_fec.specs.Transfers.{CountedDevice, count_of}
 use Rattle.nx_kept.specs.Disk.{FailedOnce, LeavesOnly}
 use Rattle.nx_kept.specs.Kept.{closed_gate, WithOrWithout}
 use Rattle.nx_kept.proofs.lemmas.Stages.{joined, weaker}
 use Rattle.nx_log.specs.Entries.{IsWholeEntry}
-use Rattle.nx_receiver.specs.Listener.{count_of}
 use Rattle.nx_receiver.proofs.lemmas.listening.Listener.{counts-on}
 use Rattle.nx_watch.specs.Watch.{longest_entry}
 use Rattle.nx_watch.specs.LineRun.{HasTold, WereGiven}

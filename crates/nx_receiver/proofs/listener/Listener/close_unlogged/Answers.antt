@@ -1,6 +1,7 @@
 use Rattle.std.proofs.Common.{◌+◌, ◌∙◌, None, ap}
+use Rattle.nx_fec.specs.Transfers.{count_of}
 use Rattle.nx_fec.specs.declared.air_files.channel.Channel.TheVariants.{Zero, One, Two}
-use Rattle.nx_receiver.specs.Listener.{Listening, count_of}
+use Rattle.nx_receiver.specs.Listener.{Listening}
 use Rattle.nx_receiver.proofs.lemmas.listening.Ends.{bool-counted, closed-all, closes-all, log-of}
 use Rattle.nx_receiver.proofs.listener.Listener.close_unlogged.Goals as goal
 

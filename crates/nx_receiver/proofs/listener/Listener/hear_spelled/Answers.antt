@@ -1,5 +1,5 @@
 use Rattle.std.proofs.Common.{◌+◌, ◌∙◌, ap, arith, drop, length-drop}
-use Rattle.nx_receiver.specs.Listener.{count_of}
+use Rattle.nx_fec.specs.Transfers.{count_of}
 use Rattle.nx_receiver.proofs.lemmas.listening.Listener.{heard-to, none-before, spelled-counted}
 use Rattle.nx_receiver.proofs.lemmas.listening.Listener.{spelled-few}
 use Rattle.nx_receiver.proofs.listener.Listener.hear_spelled.Goals as goal

@@ -1,10 +1,11 @@
 use Rattle.std.proofs.Common.{◌≡◌, ◌≤◌, ◌⊎◌, ◌∙◌, ◌++◌, ◌∷◌, [], ℕ, Result, Some, Ok, Err, refl, sym, subst, ap, length, length-append}
 use Rattle.std.specs.Io.KnownBytes.{IsAtEnd}
+use Rattle.nx_fec.specs.Transfers.{count_of}
 use Rattle.nx_envelope.specs.Moment.{last_moment}
 use Rattle.nx_fec.specs.air_files.AirFile.{moment}
 use Rattle.nx_receiver.specs.copies.InTurn.{PrintAllToEnd}
 use Rattle.nx_receiver.specs.air_file_runs.Listen.{given_by}
-use Rattle.nx_receiver.specs.Listener.{HearsGiven, count_of, starts_of}
+use Rattle.nx_receiver.specs.Listener.{HearsGiven, starts_of}
 use Rattle.nx_watch.specs.Acting.{acting_lines, moments_said, most_bytes}
 use Rattle.nx_watch.specs.AnyLines.{cut_line}
 use Rattle.nx_watch.specs.Watch.{AnswersStop, at_end, back, unread, unwritten}
