@@ -6,6 +6,7 @@ use Rattle.nx_receiver.specs.copies.FoundCopies.{copy_of}
 use Rattle.nx_receiver.specs.declared.entry.Entry.{Entry}
 use Rattle.nx_receiver.specs.copies.Log.{IsEntry}
 use Rattle.nx_receiver.specs.copies.Shares.{MarkedCopy, marked}
+use Rattle.nx_c.specs.Hearing.{longest_entry}
 use Rattle.nx_c.specs.Life.{EndsWith, ending, ending_at}
 use Rattle.nx_c.specs.Status.{number_of}
 use Rattle.nx_c.specs.Told.{IsPut, Room}
@@ -18,7 +19,7 @@ use Rattle.nx_c.specs.declared.told.Status.TheVariants as status
 abbrev pub closing_status : Option Kept → ℕ → Status
 closing_status None capacity = status.Closed
 closing_status (Some kept) capacity =
-    if nat_lt capacity 4163 then status.NoRoom else status.Done
+    if nat_lt capacity longest_entry then status.NoRoom else status.Done
 
 -- Of these copies, the entry of the first is handed out, and the others are left; where there is
 -- none, nothing is handed out, and the receiver is closed.

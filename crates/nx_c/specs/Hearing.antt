@@ -26,13 +26,17 @@ element_of byte = byte == 1
 abbrev pub elements_of : List ℕ → List Bool
 elements_of bytes = map element_of bytes
 
--- the status of a request to hear elements of a channel, with room for so
--- many bytes, as many as an entry can need
+-- the most bytes of an entry that is handed out
+abbrev pub longest_entry : ℕ
+longest_entry = 4163
+
+-- the status of a request to hear elements of a channel, with room for so many bytes, as many as an
+-- entry can need
 abbrev pub request_status : ℕ → List ℕ → ℕ → Status
 request_status channel bytes capacity =
     if nat_lt 2 channel then status.NoChannel
     else if not (list_all is_element bytes) then status.NoElement
-    else if nat_lt capacity 4163 then status.NoRoom
+    else if nat_lt capacity longest_entry then status.NoRoom
     else status.Done
 
 -- the same, of a receiver that hears, or doesn't

@@ -39,8 +39,8 @@ moment_status last moment =
 -- Setting the moment of a receiver that hears and stands after what it was given. It then stands
 -- after the moment too, which belongs to all channels; or the moment is refused, and it stays as it
 -- was.
-pub record SetsMoment (moment : ℕ) (listener : Listening) (old new : Option Kept) (answer : ℕ)
-    (starts : Starts) (given : List Given) (copies : List MarkedCopy)
+pub record SetsMoment (moment : ℕ) (old new : Option Kept) (answer : ℕ) (starts : Starts)
+    (given : List Given) (copies : List MarkedCopy)
     : Type 0 where
   pub cause : answer ≡ number_of (moment_status (moment_in_force starts.moment given) moment)
   pub done : answer ≡ 0 → HasHeard starts new (then_moment given moment) copies
@@ -54,4 +54,4 @@ AnswersMoment moment old new answer None =
 AnswersMoment moment old new answer (Some listener) =
     (starts : Starts) (given : List Given) (copies : List MarkedCopy)
     → HearsGiven starts listener given copies
-    → SetsMoment moment listener old new answer starts given copies
+    → SetsMoment moment old new answer starts given copies
