@@ -4,7 +4,9 @@ use Rattle.std.specs.Prelude.{ℕ, ◌≡◌, ◌≢◌, ◌==◌, nat_lt, if◌
 use Rattle.std.specs.Prelude.{Result, Ok, Err, IfErr}
 use Rattle.std.specs.declared.alloc.AllocError.{AllocError}
 use Rattle.nx_c.specs.Faults.{resume_told}
+use Rattle.nx_c.specs.Status.{number_of}
 use Rattle.nx_c.specs.Told.{Answer, IsPut, IsTold, Room, answer, ended_told}
+use Rattle.nx_c.specs.declared.told.Status.TheVariants.{Done, StateNoRoom}
 use Rattle.nx_fec.specs.Transfers.{Contents, whole_input}
 use Rattle.nx_fec.specs.Runs.{AnswersEncoding, AnswersWordRun, IsDecoded, file_limit}
 use Rattle.nx_fec.specs.declared.fault.RunFault.{RunFault}
@@ -76,7 +78,8 @@ handed status left = if status == 0 then left else []
 -- the status behind that text, of so many bytes, and a room of so many
 abbrev pub after_handing : ℕ → ℕ → ℕ → ℕ
 after_handing status count capacity =
-    if status == 0 then (if nat_lt capacity count then 16 else 0) else status
+    if status == 0 then (if nat_lt capacity count then number_of StateNoRoom else number_of Done)
+    else status
 
 -- A call that goes on from a state: a log, the text of a state and an outcome were told so.
 pub record TellsResuming (state air : List ℕ) (log new_state : Room) (a : Answer) : Type 0 where
