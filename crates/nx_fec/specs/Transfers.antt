@@ -71,6 +71,7 @@ pub record Devices (R W : Type 0) : Type 0 where
   pub writer : CountedDevice W
   pub writer_after : CountedDevice W
 
+-- these devices, before a run and after it
 abbrev pub devices : {R W : Type 0} → (R → Option (List ℕ)) → (W → Option (List ℕ))
     → CountedDevice R → CountedDevice R → CountedDevice W → CountedDevice W → Devices R W
 devices remaining contents reader reader_after writer writer_after = record {
@@ -87,6 +88,7 @@ pub record Contents : Type 0 where
   pub before : Option (List ℕ)
   pub after : Option (List ℕ)
 
+-- what the writer of these devices held and holds
 abbrev pub contents_of : {R W : Type 0} → Devices R W → Contents
 contents_of d = record {
   before = d.contents d.writer.inner;
@@ -99,11 +101,13 @@ pub record Input (R : Type 0) : Type 0 where
   pub reader : CountedDevice R
   pub reader_after : CountedDevice R
 
+-- this reader, before a run and after it
 abbrev pub input : {R : Type 0} → (R → Option (List ℕ)) → CountedDevice R → CountedDevice R
     → Input R
 input remaining reader reader_after =
     record { remaining = remaining; reader = reader; reader_after = reader_after }
 
+-- the reader of these devices
 abbrev pub input_of : {R W : Type 0} → Devices R W → Input R
 input_of d = input d.remaining d.reader d.reader_after
 
@@ -129,7 +133,7 @@ read_from i = read_to (IsAtEnd (i.remaining i.reader_after.inner))
 abbrev pub as_read : {R W : Type 0} → Devices R W → Extent
 as_read d = read_to (IsReadOut d)
 
--- the whole input, of which bytes may be left after a failed read
+-- The whole input. After a failed read some of it may be left, and these may be any bytes.
 abbrev pub whole_input : Extent
 whole_input = record { at_end = Unit {0}; is_left = λ more. Unit {0} }
 

@@ -74,7 +74,8 @@ pub data IsEarlier (first : Role) (words : ℕ → ℕ) (w : ℕ) : Change → T
   lost : LostAt words w → ((v : ℕ) → EndedAt first words v → w < v)
       → IsEarlier first words w LostLock
 
--- The lock at t is released after word w, the earlier of the two; all its bits were heard.
+-- The lock at t is released after word w, the earlier of the two. It is the last word of the lock,
+-- and all its bits were heard.
 pub record IsReleased (bits : List Bool) (t w : ℕ) (how : Change) : Type 0 where
   pub heard : word_begin t (w + 1) ≤ length bits
   pub earlier : IsEarlier (first_role bits t) (word_of_lock bits t) w how

@@ -123,8 +123,8 @@ pub record RunOverLines (T : Type 0) : Type 1 where
 
 -- What a run answers of these bytes. At the end of the input, or at the limit, all lines were
 -- taken, a cut one too. After a failed read all lines with their ends were taken, and behind the
--- line that ends the watch, those before it. After a failed write the lines up to the one that gave
--- the bytes were taken.
+-- line that ends the watch, those before it, since that line has no effect. After a failed write
+-- the lines up to the one that gave the bytes were taken.
 abbrev pub AnswersRun : {T : Type 0} → RunOverLines T → Result LinesWatched WatchEnd → List ℕ
     → Type 0
 AnswersRun r (Ok counts) bytes =

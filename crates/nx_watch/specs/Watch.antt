@@ -206,6 +206,7 @@ module _ {D R W E : Type 0} (d : WatchDevices D R W E) where
       HasOpened entries ⊎ AnswersStarted (starts_at now entries) entries (Err Disk)
   AnswersWatch now entries outcome = AnswersStarted (starts_at now entries) entries outcome
 
+-- the devices of a watch, before it and after it, and what they tell of themselves
 abbrev pub watch_devices : {D R W E : Type 0} → (D → List ℕ) → (D → List ℕ → Type 0) → (D → ℕ)
     → (D → ℕ → List ℕ → Type 0) → D → D → (R → Option (List ℕ)) → CountedDevice R
     → CountedDevice R → (W → Option (List ℕ)) → CountedDevice W → CountedDevice W

@@ -75,14 +75,15 @@ pub record HasGiven (old new : Option (List ℕ)) (batch : Waiting) (given : Lis
   pub whole : given ≡ done ++ batch.bytes
 
 -- A taker of lines that stood so at `first` stands so now, after these lines, for which it gave
--- these bytes; a beginning of what it gives for these lines; and why it refuses the next line after
--- these.
+-- these bytes.
 abbrev pub Standing : Type 0 → Type 1
 Standing T = T → T → List Line → List ℕ → Type 0
 
+-- these bytes are a beginning of what a taker that stood so at first gives for these lines
 abbrev pub Beginning : Type 0 → Type 1
 Beginning T = T → List Line → List ℕ → Type 0
 
+-- a taker that stood so at first refuses the next line after these, for this reason
 abbrev pub Refusing : Type 0 → Type 0 → Type 1
 Refusing T F = T → List Line → Line → F → Type 0
 
@@ -99,6 +100,7 @@ pub record Taker (T F : Type 0) : Type 1 where
   pub begins : Beginning T
   pub refuses : Refusing T F
 
+-- the taker that says these three of itself
 abbrev pub taker_of : {T F : Type 0} → Standing T → Beginning T → Refusing T F → Taker T F
 taker_of stands begins refuses =
     record { stands = stands; begins = begins; refuses = refuses }
@@ -112,6 +114,7 @@ pub record LineRun (T F : Type 0) : Type 1 where
   pub writer_first : Option (List ℕ)
   pub writer_now : Option (List ℕ)
 
+-- the run of this taker from `first` to `now`, whose writer held `old` at first and holds `new` now
 abbrev pub line_run : {T F : Type 0} → Taker T F → T → T → Option (List ℕ) → Option (List ℕ)
     → LineRun T F
 line_run taker first now old new = record {

@@ -73,6 +73,7 @@ word_sent positions slot =
     else (if nat_lt slot rx_delay then phasing_1
     else rx_word (position_at positions ((slot - rx_delay) / 2)))
 
+-- the words of an emission, in the order of their slots
 unfoldable pub emission : List SentPosition → List ℕ
 emission positions = map (word_sent positions) (range_with_len 0 (slots_of positions))
 
@@ -95,6 +96,7 @@ IsInCode phasing_position = Unit {0}
 IsInCode (traffic_position number) = IsCombination number
 IsInCode end_position = Unit {0}
 
+-- each traffic position of these has a combination
 abbrev pub AreInCode : List SentPosition → Type 0
 AreInCode positions = EachIndex positions (λ i. IsInCode (position_at positions i))
 

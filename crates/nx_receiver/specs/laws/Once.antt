@@ -41,7 +41,7 @@ pub record IsHeardInTime (start : Start) (events : List Event) (parts : List Par
     (message : MessageView) : Type 0 where
   -- The bits are cut into gaps of any bits and emissions that are received.
   pub cut : IsCut (elements_among events) parts
-  -- The message is sent in these emissions, once or more often.
+  -- The message is sent in these emissions, once or more often: here is one place of its header.
   pub place : ℕ
   pub sent : IsSentAt parts message place
   -- It is not numbered 00.
