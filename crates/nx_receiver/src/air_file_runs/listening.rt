@@ -1,4 +1,5 @@
-//! Listening to an air file: the log of its lines, written while it is read.
+//! Listening to an air file: the log of its lines, written while it is read. What a line does that
+//! sets something is inlined always, since its answer would go through memory otherwise.
 
 ghost use Rattle.std.specs.Prelude.{◌≡◌, ◌+◌, ◌-◌, ◌^◌, ◌<◌, ◌≤◌, ℕ, Bool, false, List, [], ◌∷◌, ◌++◌, length, map, take, drop, Option, Some, IfOk, IfSome, MatchResult, OnOk};
 ghost use Rattle.nx_code.specs.Reading.{IsCapital};
@@ -131,6 +132,7 @@ fn line_listener(alloc: Global, saved: &SavedSet) -> Result<Listener, AllocError
 
 impl Listener {
     /// Takes a line that sets what is in force: a moment, or a command of selection.
+    #[inline(always)]
     pub(crate) fn take_setting(&mut self, kind: LineKind) -> Result<(), LineRefusal>
         requires { IsLine (line_with kind []) }
         ensures { (starts : Starts) (lines : List Line) (line : Line) (bytes : List ℕ)
