@@ -2,9 +2,9 @@ pub mod Backward
 pub mod CivilTimes
 pub mod DigitBytes
 pub mod Finding
+pub mod FourBytes
 pub mod Letters
 pub mod Reading
 pub mod Room
 pub mod Stage
-pub mod Windows
 pub mod Within

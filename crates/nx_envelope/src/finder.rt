@@ -9,9 +9,9 @@ ghost use Rattle.nx_envelope.specs.private.Finding.{begins_no_text};
 
 use crate::found::{FinderStep, Found, FoundHead, HeldCopy, How, MAX_FOUND, TextEvent};
 use crate::identity::Identity;
+use crate::markers::{eight_of, ends_marker, four_behind, marker_of};
 use crate::message::START_MARKER;
 use crate::stage::Stage;
-use crate::windows::{eight_of, ends_marker, four_behind, marker_of};
 use arrayvec::ArrayVec;
 use nx_code::{ASTERISK, NEWLINE};
 use std::marker::Model;

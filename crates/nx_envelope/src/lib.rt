@@ -7,10 +7,10 @@ mod found;
 mod identity;
 pub mod laws;
 mod letter;
+mod markers;
 mod message;
 mod moment;
 mod stage;
-mod windows;
 
 pub use finder::Finder;
 pub use found::{FinderStep, Found, FoundHead, How, MAX_FOUND, TextEvent};

@@ -6,7 +6,7 @@ use Rattle.std.specs.Int.{from_le_bytes, to_le_bytes, w32}
 use Rattle.std.proofs.lemmas.List.{reverse-append}
 use Rattle.std.proofs.lemmas.Nat.{le_bytes_4}
 use Rattle.nx_envelope.specs.private.Backward.{last_four}
-use Rattle.nx_envelope.specs.private.Windows.{Four, IsEight, window}
+use Rattle.nx_envelope.specs.private.FourBytes.{Four, IsEight, four_behind}
 
 pub four_of : (xs : List ℕ) → length xs ≡ 4 → ((i : ℕ) → get_or xs i 0 < 256) → Four xs
 four_of [] e small = absurd (omega arith)
@@ -37,17 +37,17 @@ below : (a b c d more : ℕ) → a < 256 → b < 256 → c < 256 → d < 256
     → (number a b c d + more * 4294967296) % 4294967296 ≡ number a b c d
 below a b c d more a< b< c< d< = omega arith
 
-pub record Windows (eight a b c d e f g h : ℕ) : Type 0 where
+pub record AreFours (eight a b c d e f g h : ℕ) : Type 0 where
   pub none : eight % 4294967296 ≡ number a b c d
   pub one : eight / 256 % 4294967296 ≡ number b c d e
   pub two : eight / 65536 % 4294967296 ≡ number c d e f
   pub three : eight / 16777216 % 4294967296 ≡ number d e f g
   pub four : eight / 4294967296 % 4294967296 ≡ number e f g h
 
-windows : (eight a b c d e f g h : ℕ) → a < 256 → b < 256 → c < 256 → d < 256 → e < 256 → f < 256
+fours : (eight a b c d e f g h : ℕ) → a < 256 → b < 256 → c < 256 → d < 256 → e < 256 → f < 256
     → g < 256 → h < 256 → eight ≡ number a b c d + number e f g h * 4294967296
-    → Windows eight a b c d e f g h
-windows eight a b c d e f g h a< b< c< d< e< f< g< h< is = record {
+    → AreFours eight a b c d e f g h
+fours eight a b c d e f g h a< b< c< d< e< f< g< h< is = record {
   none = omega arith;
   one = omega arith;
   two = omega arith;
@@ -65,9 +65,9 @@ eight_at back bytes old new eight e =
     let p1 : slice_index back 1 ≡ old.third = cc (old.spelled) in
     let p0 : slice_index back 0 ≡ old.last = cc (old.spelled) in
     let is = rw new.spelled at e in
-    let w : Windows eight (slice_index back 3) (slice_index back 2) (slice_index back 1)
+    let w : AreFours eight (slice_index back 3) (slice_index back 2) (slice_index back 1)
     (slice_index back 0) new.first new.second new.third new.last =
-    windows eight _ _ _ _ _ _ _ _ (rw p3 old.first_fits) (rw p2 old.second_fits)
+    fours eight _ _ _ _ _ _ _ _ (rw p3 old.first_fits) (rw p2 old.second_fits)
     (rw p1 old.third_fits) (rw p0 old.last_fits) new.first_fits new.second_fits new.third_fits
     new.last_fits is in
     record {
@@ -159,20 +159,21 @@ all_four eight back bytes w =
 later_by : (eight : ℕ) (back bytes : List ℕ) (w : IsEight eight back bytes) (count : ℕ) → count ≤ 4
     → slice_index back 3 < 256 → slice_index back 2 < 256 → slice_index back 1 < 256
     → slice_index back 0 < 256
-    → to_le_bytes w32 (window eight count)
+    → to_le_bytes w32 (four_behind eight count)
     ≡ last_four
     (reverse (take count (w.new.first ∷ w.new.second ∷ w.new.third ∷ w.new.last ∷ [])) ++ back)
-later_by eight back bytes w zero few r3 r2 r1 r0 = bytes_of (window eight 0) back w.none r3 r2 r1 r0
+later_by eight back bytes w zero few r3 r2 r1 r0 =
+    bytes_of (four_behind eight 0) back w.none r3 r2 r1 r0
 later_by eight back bytes w (suc zero) few r3 r2 r1 r0 =
-    bytes_of (window eight 1) (w.new.first ∷ back) w.one r2 r1 r0 w.new.first_fits
+    bytes_of (four_behind eight 1) (w.new.first ∷ back) w.one r2 r1 r0 w.new.first_fits
 later_by eight back bytes w (suc (suc zero)) few r3 r2 r1 r0 =
-    bytes_of (window eight 2) (w.new.second ∷ w.new.first ∷ back) w.two r1 r0
+    bytes_of (four_behind eight 2) (w.new.second ∷ w.new.first ∷ back) w.two r1 r0
     w.new.first_fits w.new.second_fits
 later_by eight back bytes w (suc (suc (suc zero))) few r3 r2 r1 r0 =
-    bytes_of (window eight 3) (w.new.third ∷ w.new.second ∷ w.new.first ∷ back)
+    bytes_of (four_behind eight 3) (w.new.third ∷ w.new.second ∷ w.new.first ∷ back)
     w.three r0 w.new.first_fits w.new.second_fits w.new.third_fits
 later_by eight back bytes w (suc (suc (suc (suc zero)))) few r3 r2 r1 r0 =
-    bytes_of (window eight 4)
+    bytes_of (four_behind eight 4)
     (w.new.last ∷ w.new.third ∷ w.new.second ∷ w.new.first ∷ back) w.four w.new.first_fits
     w.new.second_fits w.new.third_fits w.new.last_fits
 later_by eight back bytes w (suc (suc (suc (suc (suc count))))) few r3 r2 r1 r0 =
@@ -180,7 +181,7 @@ later_by eight back bytes w (suc (suc (suc (suc (suc count))))) few r3 r2 r1 r0 
 
 four_later : (eight : ℕ) (back bytes : List ℕ) → IsEight eight back bytes → (count : ℕ)
     → count ≤ 4
-    → to_le_bytes w32 (window eight count) ≡ last_four (reverse (take count bytes) ++ back)
+    → to_le_bytes w32 (four_behind eight count) ≡ last_four (reverse (take count bytes) ++ back)
 four_later eight back bytes w count few =
     let p3 : slice_index back 3 ≡ w.old.first = cc (w.old.spelled) in
     let p2 : slice_index back 2 ≡ w.old.second = cc (w.old.spelled) in
@@ -193,7 +194,7 @@ four_later eight back bytes w count few =
 -- and as the text is read from its front
 pub four_on : (eight : ℕ) (text bytes : List ℕ) → IsEight eight (reverse text) bytes → (count : ℕ)
     → count ≤ 4
-    → to_le_bytes w32 (window eight count) ≡ last_four (reverse (text ++ take count bytes))
+    → to_le_bytes w32 (four_behind eight count) ≡ last_four (reverse (text ++ take count bytes))
 four_on eight text bytes w count few =
     four_later eight (reverse text) bytes w count few
     ∙ ap last_four (sym (reverse-append text (take count bytes)))

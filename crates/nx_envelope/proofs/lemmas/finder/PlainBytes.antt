@@ -11,7 +11,7 @@ use Rattle.nx_envelope.specs.Copies.{open_headers}
 use Rattle.nx_envelope.specs.Finder.{BringNothing, HoldsOpen, Keeps}
 use Rattle.nx_envelope.specs.private.Finding.{begins_no_text}
 use Rattle.nx_envelope.specs.private.Stage.{IsStageOf}
-use Rattle.nx_envelope.specs.private.Windows.{IsEight, IsUnmarked}
+use Rattle.nx_envelope.specs.private.FourBytes.{IsEight, IsUnmarked}
 use Rattle.nx_envelope.specs.declared.identity.Identity.{Identity}
 use Rattle.nx_envelope.specs.declared.stage.Stage.{Stage}
 use Rattle.nx_envelope.specs.declared.stage.Stage.TheVariants.{Nowhere}
@@ -124,7 +124,7 @@ clear ends count e =
     let both = or_parts ends (nat_le 4096 count) e in
     record { ends = both.0; room = leb-false 4096 count both.1 }
 
--- none of the eight windows is a marker
+-- none of the fours of eight is a marker
 pub record AllUnmarked (eight : ℕ) : Type 0 where
   pub one : IsUnmarked eight 1
   pub two : IsUnmarked eight 2

@@ -4,7 +4,7 @@
 ghost use Rattle.std.specs.Prelude.{◌≡◌, ◌+◌, ◌*◌, ◌^◌, ◌/◌, ◌%◌, ◌≤◌, ℕ, List, None, false};
 ghost use Rattle.std.specs.Int.{from_le_bytes, w32};
 ghost use Rattle.nx_envelope.specs.private.Backward.{last_four, marker_back};
-ghost use Rattle.nx_envelope.specs.private.Windows.{Four, IsEight, IsUnmarked, window};
+ghost use Rattle.nx_envelope.specs.private.FourBytes.{Four, IsEight, IsUnmarked, four_behind};
 
 use crate::found::How;
 use crate::message::{END_MARKER, START_MARKER};
@@ -38,7 +38,7 @@ pub(crate) fn eight_of(recent: [u8; 4], bytes: [u8; 4]) -> u64
 #[inline(always)]
 pub(crate) fn four_behind(eight: u64, count: usize) -> u32
     requires { count ≤ 4 }
-    ensures { result ≡ window eight count }
+    ensures { result ≡ four_behind eight count }
 {
     ((eight >> (8 * count)) % (1 << 32)) as u32
 }

@@ -1,6 +1,6 @@
 use Rattle.std.proofs.Common.{arith, rules}
 use Rattle.nx_envelope.proofs.lemmas.finder.EightBytes.{four_of, is_eight}
-use Rattle.nx_envelope.proofs.windows.eight_of.Goals as goal
+use Rattle.nx_envelope.proofs.markers.eight_of.Goals as goal
 
 pub returns : goal.returns
 returns c = λ back is. is_eight c.args.recent back c.args.bytes _

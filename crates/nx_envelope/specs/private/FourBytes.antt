@@ -4,8 +4,8 @@ use Rattle.std.specs.Int.{from_le_bytes, w32}
 use Rattle.nx_envelope.specs.private.Backward.{last_four, marker_back}
 
 -- the four of eight bytes that stand behind so many of them
-abbrev pub window : ℕ → ℕ → ℕ
-window eight count = eight / 2 ^ (8 * count) % 2 ^ 32
+abbrev pub four_behind : ℕ → ℕ → ℕ
+four_behind eight count = eight / 2 ^ (8 * count) % 2 ^ 32
 
 -- four bytes, and each is one
 pub record Four (bytes : List ℕ) : Type 0 where
@@ -22,7 +22,7 @@ pub record Four (bytes : List ℕ) : Type 0 where
 -- a text that ends with these four of the eight ends with no marker
 abbrev pub IsUnmarked : ℕ → ℕ → Type 0
 IsUnmarked eight count = (back : List ℕ) → Four (last_four back)
-    → window eight count ≡ from_le_bytes w32 (last_four back) → marker_back back ≡ None
+    → four_behind eight count ≡ from_le_bytes w32 (last_four back) → marker_back back ≡ None
 
 -- the number is that of the last four bytes of a text, read from its back, and of the four that
 -- come next: those that stand behind so many of the eight are the last four of the text so much
@@ -30,11 +30,12 @@ IsUnmarked eight count = (back : List ℕ) → Four (last_four back)
 pub record IsEight (eight : ℕ) (back bytes : List ℕ) : Type 0 where
   pub old : Four (last_four back)
   pub new : Four bytes
-  pub none : window eight 0 ≡ from_le_bytes w32 (last_four back)
-  pub one : window eight 1 ≡ from_le_bytes w32 (last_four (new.first ∷ back))
-  pub two : window eight 2 ≡ from_le_bytes w32 (last_four (new.second ∷ new.first ∷ back))
+  pub none : four_behind eight 0 ≡ from_le_bytes w32 (last_four back)
+  pub one : four_behind eight 1 ≡ from_le_bytes w32 (last_four (new.first ∷ back))
+  pub two : four_behind eight 2 ≡ from_le_bytes w32 (last_four (new.second ∷ new.first ∷ back))
   pub three :
-      window eight 3 ≡ from_le_bytes w32 (last_four (new.third ∷ new.second ∷ new.first ∷ back))
+      four_behind eight 3
+      ≡ from_le_bytes w32 (last_four (new.third ∷ new.second ∷ new.first ∷ back))
   pub four :
-      window eight 4
+      four_behind eight 4
       ≡ from_le_bytes w32 (last_four (new.last ∷ new.third ∷ new.second ∷ new.first ∷ back))

@@ -2,7 +2,7 @@ use Rattle.std.proofs.Common.{◌≡◌, false, Option, Some, None, refl, sym, �
 use Rattle.std.specs.Option.{is_some}
 use Rattle.nx_envelope.specs.declared.found.How.{How}
 use Rattle.nx_envelope.proofs.lemmas.finder.EightBytes.{four_bytes}
-use Rattle.nx_envelope.proofs.windows.is_marker.Goals as goal
+use Rattle.nx_envelope.proofs.markers.is_marker.Goals as goal
 
 no-end : (end : Option How) → is_some end ≡ false → end ≡ None
 no-end None e = refl
