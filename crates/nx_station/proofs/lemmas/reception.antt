@@ -5,6 +5,6 @@ pub mod PathLaws
 pub mod PathPhasing
 pub mod PathPositions
 pub mod PathUndamaged
-pub mod PathWindows
+pub mod PathWords
 pub mod Sendings
 pub mod WordWeights

@@ -21,8 +21,8 @@ abbrev pub message_slot : ℕ
 message_slot = dx_slot first_phasing
 
 -- how many successive words are looked at together, and how many of them may be wrong
-abbrev pub window : ℕ
-window = 64
+abbrev pub word_span : ℕ
+word_span = 64
 
 abbrev pub most_wrong : ℕ
 most_wrong = 35

@@ -7,7 +7,7 @@ ghost use Rattle.nx_envelope.specs.Message.{MessageView};
 ghost use Rattle.nx_fec.specs.emissions.Emission.{SentPosition, bits_of, emission, position_at, reception, slots_of, word_sent, end_positions};
 ghost use Rattle.nx_fec.specs.emissions.Pairing.{counts_as, pairing};
 ghost use Rattle.nx_station.specs.Broadcast.{AreSpelled, IsBroadcast, digit_combination, layout};
-ghost use Rattle.nx_station.specs.reception.Path.{PassesChannel, first_slot, heard_in, message_slot, most_wrong, phasing_received, phasing_words, window};
+ghost use Rattle.nx_station.specs.reception.Path.{PassesChannel, first_slot, heard_in, message_slot, most_wrong, phasing_received, phasing_words, word_span};
 ghost use Rattle.nx_station.specs.reception.PathExample.{example_emission, example_numbers, example_parts, example_sending, heard_half, heard_without_75};
 ghost use Rattle.nx_station.specs.Sendable.{IsSendable};
 ghost use Rattle.nx_station.specs.reception.Sendings.{IsCut, IsReceived, IsSending, ReceivedEmission, StandsFrom, digit_slot, positions_before};
@@ -19,12 +19,12 @@ ghost use Rattle.nx_station.specs.reception.Sendings.{IsCut, IsReceived, IsSendi
 pub fn few_words_are_wrong()
     ensures few { (messages : List MessageView) (positions : List SentPosition) (heard : List ℕ)
         → IsBroadcast messages positions → PassesChannel positions heard
-        → (first n : ℕ) → n ≤ window
+        → (first n : ℕ) → n ≤ word_span
         → count_by is_wrong (take n (drop first heard)) ≤ most_wrong }
     ensures by_slots { (messages : List MessageView) (positions : List SentPosition)
         (heard : List ℕ)
         → IsBroadcast messages positions → PassesChannel positions heard
-        → (slot n : ℕ) → first_slot ≤ slot → n ≤ window → slot + n ≤ slots_of positions
+        → (slot n : ℕ) → first_slot ≤ slot → n ≤ word_span → slot + n ≤ slots_of positions
         → wrong_in (heard_in heard) slot n ≤ most_wrong }
     ensures in_a_lock { (messages : List MessageView) (positions : List SentPosition)
         (heard : List ℕ)
@@ -35,7 +35,7 @@ pub fn few_words_are_wrong()
         → words k ≡ heard_in heard slot)
         → (k slot : ℕ) → k + message_slot ≡ slot + whole → message_slot ≤ slot
         → slot < slots_of positions
-        → wrong_in words (k + 1 - window) (k + 1 - (k + 1 - window)) ≤ most_wrong }
+        → wrong_in words (k + 1 - word_span) (k + 1 - (k + 1 - word_span)) ≤ most_wrong }
 {}
 
 /// No DX word that is received from the first slot on is phasing signal 1 before the positions of

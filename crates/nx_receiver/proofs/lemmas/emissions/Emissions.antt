@@ -21,7 +21,7 @@ use Rattle.nx_station.specs.reception.Sendings.{IsReceived, digit_slot}
 use Rattle.nx_code.proofs.lemmas.WordCounts.{wrong_in-same}
 use Rattle.nx_station.proofs.lemmas.reception.PathLaws.{few-wrong, no-phasing_1, taken-as_sent}
 use Rattle.nx_station.proofs.lemmas.reception.PathPositions.{HasInner, told-inner}
-use Rattle.nx_station.proofs.lemmas.reception.PathWindows.{not-empty}
+use Rattle.nx_station.proofs.lemmas.reception.PathWords.{not-empty}
 use Rattle.nx_sync.specs.Words.{word_of_lock, first_role, whole_words, losing_count}
 use Rattle.nx_sync.specs.Locks.{Lock, Now, locked, IsNow}
 use Rattle.nx_receiver.specs.copies.FoundCopies.{FoundCopy, ended_in, past_copies, ended_so_far}

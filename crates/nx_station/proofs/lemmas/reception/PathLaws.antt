@@ -14,7 +14,7 @@ use Rattle.nx_fec.proofs.lemmas.emissions.Emission.{word_sent-dx, word_sent-rx}
 use Rattle.nx_fec.proofs.lemmas.emissions.Pairing.{counts_as-combination, counts_as-wrong}
 use Rattle.nx_fec.proofs.lemmas.emissions.RoundTrip.{counts_as-phasing_1, counts_as-phasing_2}
 use Rattle.nx_station.specs.reception.Path.{PassesChannel, IsAsSent, heard_in, first_slot, message_slot}
-use Rattle.nx_station.specs.reception.Path.{window, most_wrong}
+use Rattle.nx_station.specs.reception.Path.{word_span, most_wrong}
 use Rattle.nx_station.proofs.lemmas.reception.PathCounts.{one_if_wrong, right-counts_none, one_if_wrong-le}
 use Rattle.nx_station.proofs.lemmas.reception.PathCounts.{wrong_in-right, wrong_in-one}
 use Rattle.nx_code.proofs.lemmas.WordCounts.{wrong_in-add, wrong_in-le}
@@ -211,8 +211,8 @@ module _ (positions : List SentPosition) (heard : List ℕ) (has : HasInner posi
         omega (arith, wrong_in-add (heard_in heard) (2 * a) (2 * (n / 2 - 2) + 4) (n % 2))
   ]
 
-  -- of the words of a window, or of fewer, few are wrong
-  pub few-wrong : (slot n : ℕ) → first_slot ≤ slot → n ≤ window → slot + n ≤ slots_of positions
+  -- of so many successive words as are looked at together, or of fewer, few are wrong
+  pub few-wrong : (slot n : ℕ) → first_slot ≤ slot → n ≤ word_span → slot + n ≤ slots_of positions
       → wrong_in (heard_in heard) slot n ≤ most_wrong
   few-wrong slot n from some to = elim (cases_eq (slot % 2) 0) [
     | inl even ↦

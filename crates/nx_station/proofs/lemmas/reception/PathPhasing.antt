@@ -18,7 +18,7 @@ use Rattle.nx_code.specs.Reading.{combination, shift_after_all}
 use Rattle.nx_code.specs.declared.shifts.Shift.{Shift}
 use Rattle.nx_code.specs.declared.shifts.Shift.TheVariants.{Letters, Figures}
 use Rattle.nx_station.proofs.lemmas.broadcasts.Broadcast.{length-head, length-layout}
-use Rattle.nx_station.proofs.lemmas.reception.PathWindows.{not-empty}
+use Rattle.nx_station.proofs.lemmas.reception.PathWords.{not-empty}
 use Rattle.nx_station.specs.reception.Path.{PassesChannel, first_slot, phasing_words, phasing_received}
 
 get_or-phasing : (count i : ℕ) → i < count

@@ -1,4 +1,4 @@
-use Rattle.nx_station.proofs.lemmas.reception.PathWindows.{few-listed, few-in_lock, received-inner}
+use Rattle.nx_station.proofs.lemmas.reception.PathWords.{few-listed, few-in_lock, received-inner}
 use Rattle.nx_station.proofs.lemmas.reception.PathLaws.{few-wrong}
 use Rattle.nx_station.proofs.laws.path.few_words_are_wrong.Goals as goal
 

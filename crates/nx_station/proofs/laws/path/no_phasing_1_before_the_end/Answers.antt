@@ -1,4 +1,4 @@
-use Rattle.nx_station.proofs.lemmas.reception.PathWindows.{received-inner}
+use Rattle.nx_station.proofs.lemmas.reception.PathWords.{received-inner}
 use Rattle.nx_station.proofs.lemmas.reception.PathLaws.{no-phasing_1}
 use Rattle.nx_station.proofs.laws.path.no_phasing_1_before_the_end.Goals as goal
 

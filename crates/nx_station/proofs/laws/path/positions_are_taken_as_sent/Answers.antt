@@ -1,4 +1,4 @@
-use Rattle.nx_station.proofs.lemmas.reception.PathWindows.{received-inner}
+use Rattle.nx_station.proofs.lemmas.reception.PathWords.{received-inner}
 use Rattle.nx_station.proofs.lemmas.reception.PathLaws.{taken-as_sent}
 use Rattle.nx_station.proofs.laws.path.positions_are_taken_as_sent.Goals as goal
 

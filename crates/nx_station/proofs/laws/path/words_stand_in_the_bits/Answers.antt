@@ -1,5 +1,5 @@
 use Rattle.std.proofs.Common.{◌-◌, arith}
-use Rattle.nx_station.proofs.lemmas.reception.PathWindows.{word-in_bits}
+use Rattle.nx_station.proofs.lemmas.reception.PathWords.{word-in_bits}
 use Rattle.nx_station.specs.reception.Path.{first_slot}
 use Rattle.nx_station.proofs.lemmas.reception.PathPhasing.{heard-phasing}
 use Rattle.nx_station.proofs.laws.path.words_stand_in_the_bits.Goals as goal

@@ -14,7 +14,7 @@ use Rattle.nx_fec.proofs.lemmas.emissions.Aligned.{get_or-words_of}
 use Rattle.nx_station.specs.Broadcast.{IsBroadcast, layout}
 use Rattle.nx_envelope.specs.Message.{MessageView}
 use Rattle.nx_station.specs.reception.Path.{PassesChannel, heard_in, first_slot, message_slot}
-use Rattle.nx_station.specs.reception.Path.{phasing_received, window, most_wrong}
+use Rattle.nx_station.specs.reception.Path.{phasing_received, word_span, most_wrong}
 use Rattle.nx_station.proofs.lemmas.reception.PathCounts.{wrong_in-count}
 use Rattle.nx_code.proofs.lemmas.WordCounts.{wrong_in-add, wrong_in-le}
 use Rattle.nx_station.proofs.lemmas.reception.PathCounts.{wrong_in-right}
@@ -40,7 +40,7 @@ received-inner messages positions heard h passes =
 module _ (positions : List SentPosition) (heard : List ℕ) (has : HasInner positions)
     (passes : PassesChannel positions heard) where
   -- the count of a part of what is heard
-  pub few-listed : (first n : ℕ) → n ≤ window
+  pub few-listed : (first n : ℕ) → n ≤ word_span
       → count_by is_wrong (take n (drop first heard)) ≤ most_wrong
   few-listed first n some = elim (cases_lt (first + n) (length heard + 1)) [
     | inl inside ↦
@@ -76,35 +76,34 @@ module _ (positions : List SentPosition) (heard : List ℕ) (has : HasInner posi
       index : (first j : ℕ) → first + first_slot + j - first_slot ≡ first + j
       index first j = omega arith
 
-  -- The window of words up to a word of the emission, in a lock whose word `whole` is the first of
-  -- the first message, or all
-  -- up to it where they are fewer. Where they reach further back than the first slot, they hold all
-  -- words of the phasing
-  -- that is received.
+  -- The successive words up to a word of the emission, as many as are looked at together, in a lock
+  -- whose word `whole` is the first of the first message; all up to it where they are fewer. Where
+  -- they reach further back than the first slot, they hold all words of the phasing that is
+  -- received.
   pub few-in_lock : (words : ℕ → ℕ) (whole : ℕ)
       → ((k slot : ℕ) → k + message_slot ≡ slot + whole → first_slot ≤ slot
       → slot < slots_of positions → words k ≡ heard_in heard slot)
       → (k slot : ℕ) → k + message_slot ≡ slot + whole → message_slot ≤ slot
       → slot < slots_of positions
-      → wrong_in words (k + 1 - window) (k + 1 - (k + 1 - window)) ≤ most_wrong
+      → wrong_in words (k + 1 - word_span) (k + 1 - (k + 1 - word_span)) ≤ most_wrong
   few-in_lock words whole same k slot here from to =
-      let f : ℕ = k + 1 - window in
-      let n : ℕ = k + 1 - (k + 1 - window) in
-      elim (cases_lt (slot + 1 - first_slot) (k + 1 - (k + 1 - window))) [
+      let f : ℕ = k + 1 - word_span in
+      let n : ℕ = k + 1 - (k + 1 - word_span) in
+      elim (cases_lt (slot + 1 - first_slot) (k + 1 - (k + 1 - word_span))) [
         | inl back ↦
             let c : ℕ = slot + 1 - first_slot in
-            let before = wrong_in-le words (k + 1 - window)
-            (k + 1 - (k + 1 - window) - (slot + 1 - first_slot)) in
-            let split : k + 1 - (k + 1 - window)
-            ≡ (k + 1 - (k + 1 - window) - (slot + 1 - first_slot)) + (slot + 1 - first_slot) =
+            let before = wrong_in-le words (k + 1 - word_span)
+            (k + 1 - (k + 1 - word_span) - (slot + 1 - first_slot)) in
+            let split : k + 1 - (k + 1 - word_span)
+            ≡ (k + 1 - (k + 1 - word_span) - (slot + 1 - first_slot)) + (slot + 1 - first_slot) =
             omega arith in
-            let both = ap (wrong_in words (k + 1 - window)) split in
-            let sum = wrong_in-add words (k + 1 - window)
-            (k + 1 - (k + 1 - window) - (slot + 1 - first_slot)) (slot + 1 - first_slot) in
+            let both = ap (wrong_in words (k + 1 - word_span)) split in
+            let sum = wrong_in-add words (k + 1 - word_span)
+            (k + 1 - (k + 1 - word_span) - (slot + 1 - first_slot)) (slot + 1 - first_slot) in
             let heard_part = wrong_in-same words (heard_in heard)
-            ((k + 1 - window) + (k + 1 - (k + 1 - window) - (slot + 1 - first_slot))) first_slot
-            (slot + 1 - first_slot) (λ j lt. same
-            (k + 1 - window + (k + 1 - (k + 1 - window) - (slot + 1 - first_slot)) + j)
+            ((k + 1 - word_span) + (k + 1 - (k + 1 - word_span) - (slot + 1 - first_slot)))
+            first_slot (slot + 1 - first_slot) (λ j lt. same
+            (k + 1 - word_span + (k + 1 - (k + 1 - word_span) - (slot + 1 - first_slot)) + j)
             (first_slot + j) (omega arith) (omega arith) (omega arith)) in
             let parts : slot + 1 - first_slot ≡ 2 * phasing_received + (slot + 1 - message_slot) =
             omega arith in
@@ -118,12 +117,13 @@ module _ (positions : List SentPosition) (heard : List ℕ) (has : HasInner posi
             (slot + 1 - message_slot) in
             omega arith
         | inr inside ↦
-            let heard_part = wrong_in-same words (heard_in heard) (k + 1 - window)
-            (slot + 1 - (k + 1 - (k + 1 - window))) (k + 1 - (k + 1 - window))
-            (λ j lt. same (k + 1 - window + j) (slot + 1 - (k + 1 - (k + 1 - window)) + j)
+            let heard_part = wrong_in-same words (heard_in heard) (k + 1 - word_span)
+            (slot + 1 - (k + 1 - (k + 1 - word_span))) (k + 1 - (k + 1 - word_span))
+            (λ j lt. same (k + 1 - word_span + j) (slot + 1 - (k + 1 - (k + 1 - word_span)) + j)
             (omega arith) (omega arith) (omega arith)) in
-            let few = few-wrong positions heard has passes (slot + 1 - (k + 1 - (k + 1 - window)))
-            (k + 1 - (k + 1 - window)) (omega arith) (omega arith) (omega arith) in
+            let few = few-wrong positions heard has passes
+            (slot + 1 - (k + 1 - (k + 1 - word_span))) (k + 1 - (k + 1 - word_span))
+            (omega arith) (omega arith) (omega arith) in
             omega arith
       ]
 
