@@ -69,9 +69,9 @@ pub(crate) fn settle<D: DiskFile, G: Grammar, T: RecordTaker>(
     ensures explained { (start : List ℕ) → D.explains start device.new
         → D.explains start device.old }
 {
-    let mut window = vec![in alloc; 0; G::LONGEST + 3]?;
+    let mut buffer = vec![in alloc; 0; G::LONGEST + 3]?;
     device.sync()?;
-    let rest = scan(device, grammar, taker, &mut window)?;
+    let rest = scan(device, grammar, taker, &mut buffer)?;
     if rest.is_closed {
         return Ok(rest.gate);
     }

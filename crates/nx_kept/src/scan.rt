@@ -74,9 +74,9 @@ pub(crate) fn scan<D: DiskFile, G: Grammar, T: RecordTaker>(
     device: &mut D,
     grammar: &G,
     taker: &mut T,
-    window: &mut [u8],
+    buffer: &mut [u8],
 ) -> Result<Rest, OpenFault>
-    requires window { length window.old ≡ G.LONGEST + 3 }
+    requires buffer { length buffer.old ≡ G.LONGEST + 3 }
     requires understood { (record_ : List ℕ) → G.is_record record_ → T.can_take record_ }
     ensures found { (start : List ℕ) → D.explains start device.new → IfOk result
         (Ends G.is_record G.LONGEST T.takes (D.seen start device.old) taker.old taker.new) }
@@ -96,10 +96,10 @@ pub(crate) fn scan<D: DiskFile, G: Grammar, T: RecordTaker>(
     let mut gate = 0;
     let mut line = 1;
     'gates: loop {
-        let Ok(count) = device.read_at(gate, window) else {
+        let Ok(count) = device.read_at(gate, buffer) else {
             return Err(OpenFault::Read);
         };
-        let bytes = &window[..count];
+        let bytes = &buffer[..count];
         match step_at(grammar, bytes) {
             Step::Tail => {
                 let is_closed = is_closed_gate(bytes);

@@ -24,10 +24,10 @@ first_of gate n first rest size =
     ap (λ (k : ℕ). take k (gate ∷ (first ++ rest))) next
     ∙ ap (λ (l : List ℕ). gate ∷ l) (take_at first rest n (sym size))
 
-behind_first : (n : ℕ) (window : List ℕ) → drop 1 (take (n + 1) window) ≡ take n (drop 1 window)
-behind_first n window =
+behind_first : (n : ℕ) (buffer : List ℕ) → drop 1 (take (n + 1) buffer) ≡ take n (drop 1 buffer)
+behind_first n buffer =
     let turned : n + 1 ≡ 1 + n = omega arith in
-    ap (λ (k : ℕ). drop 1 (take k window)) turned ∙ drop-take 1 n window
+    ap (λ (k : ℕ). drop 1 (take k buffer)) turned ∙ drop-take 1 n buffer
 
 module _ (is_record : List ℕ → Type 0) {T : Type 0} (takes : T → List ℕ → T → Type 0) where
   -- The file is read up to a gate: before it are records behind open gates, which were taken.
@@ -61,23 +61,23 @@ module _ (is_record : List ℕ → Type 0) {T : Type 0} (takes : T → List ℕ 
 
   module _ (longest : ℕ) (file : List ℕ) (gate line : ℕ) (old : T) where
     -- a record behind an open gate is taken
-    pub reached_more : (now next : T) (n : ℕ) (window : List ℕ) (lines : ℕ)
-        → Reached file gate line old now → window ≡ take (longest + 3) (drop gate file)
-        → IsAtRecord is_record longest n (drop gate file) → n + 1 ≤ length window
-        → takes now (take n (drop 1 window)) next
-        → lines ≡ count_by (λ byte. byte == line_feed) (take (n + 1) window)
+    pub reached_more : (now next : T) (n : ℕ) (buffer : List ℕ) (lines : ℕ)
+        → Reached file gate line old now → buffer ≡ take (longest + 3) (drop gate file)
+        → IsAtRecord is_record longest n (drop gate file) → n + 1 ≤ length buffer
+        → takes now (take n (drop 1 buffer)) next
+        → lines ≡ count_by (λ byte. byte == line_feed) (take (n + 1) buffer)
         → Reached file (gate + (n + 1)) (line + lines) old next
-    reached_more now next n window lines reached shown at within took counted =
+    reached_more now next n buffer lines reached shown at within took counted =
         let rest_is = left_is file gate line old now reached in
         let all = at.gate ∷ (at.first ++ at.rest) in
-        let window_is : window ≡ take (longest + 3) all = shown
+        let buffer_is : buffer ≡ take (longest + 3) all = shown
         ∙ ap (λ (l : List ℕ). take (longest + 3) l) at.split in
         let inside : n + 1 ≤ longest + 3 =
-        omega (arith, within, ap length window_is, length-take (longest + 3) all) in
-        let shown_first : take (n + 1) window ≡ at.gate ∷ at.first =
-        ap (λ (l : List ℕ). take (n + 1) l) window_is ∙ take-take (n + 1) (longest + 3) all inside
+        omega (arith, within, ap length buffer_is, length-take (longest + 3) all) in
+        let shown_first : take (n + 1) buffer ≡ at.gate ∷ at.first =
+        ap (λ (l : List ℕ). take (n + 1) l) buffer_is ∙ take-take (n + 1) (longest + 3) all inside
         ∙ first_of at.gate n at.first at.rest at.size in
-        let given : take n (drop 1 window) ≡ at.first = sym (behind_first n window)
+        let given : take n (drop 1 buffer) ≡ at.first = sym (behind_first n buffer)
         ∙ ap (λ (l : List ℕ). drop 1 l) shown_first in
         record {
           records = reached.records ++ at.first ∷ [];
@@ -104,18 +104,18 @@ module _ (is_record : List ℕ → Type 0) {T : Type 0} (takes : T → List ℕ 
         }
 
     -- the bytes are damaged
-    pub reached_damage : (now : T) (place : ℕ) (window : List ℕ) (lines : ℕ)
+    pub reached_damage : (now : T) (place : ℕ) (buffer : List ℕ) (lines : ℕ)
         (some : (bytes : List ℕ) → is_record bytes → 0 < length bytes)
         (one : (bytes more : List ℕ) → is_record bytes → is_record (bytes ++ more) → more ≡ [])
-        → Reached file gate line old now → window ≡ take (longest + 3) (drop gate file)
-        → place ≤ length window → IsDamagedBehind is_record longest place (drop gate file)
-        → lines ≡ count_by (λ byte. byte == line_feed) (take place window)
+        → Reached file gate line old now → buffer ≡ take (longest + 3) (drop gate file)
+        → place ≤ length buffer → IsDamagedBehind is_record longest place (drop gate file)
+        → lines ≡ count_by (λ byte. byte == line_feed) (take place buffer)
         → IsDamaged is_record longest (line + lines) file
-    reached_damage now place window lines some one reached shown within damage counted =
+    reached_damage now place buffer lines some one reached shown within damage counted =
         let rest_is = left_is file gate line old now reached in
         let inside : place ≤ longest + 3 =
         omega (arith, within, ap length shown, length-take (longest + 3) (drop gate file)) in
-        let shown_same : take place window ≡ take place reached.rest =
+        let shown_same : take place buffer ≡ take place reached.rest =
         ap (λ (l : List ℕ). take place l) shown
         ∙ take-take place (longest + 3) (drop gate file) inside
         ∙ ap (λ (l : List ℕ). take place l) rest_is in

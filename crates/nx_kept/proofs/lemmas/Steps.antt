@@ -11,10 +11,10 @@ use Rattle.nx_kept.proofs.lemmas.KeptLaws.{closed_tail, tail_short, only_tail, o
 module _ (is_record : List ℕ → Type 0) (longest : ℕ) (some : (bytes : List ℕ) → is_record bytes
     → 0 < length bytes) (bounded : (bytes : List ℕ) → is_record bytes → length bytes ≤ longest)
     (one : (bytes more : List ℕ) → is_record bytes → is_record (bytes ++ more) → more ≡ []) where
-  -- a window that isn't full shows all
-  pub all_shown : (window all : List ℕ) → window ≡ take (longest + 3) all
-      → length window < longest + 3 → all ≡ window
-  all_shown window all is short =
+  -- a buffer that isn't full shows all
+  pub all_shown : (buffer all : List ℕ) → buffer ≡ take (longest + 3) all
+      → length buffer < longest + 3 → all ≡ buffer
+  all_shown buffer all is short =
       sym (is ∙ take_short (longest + 3) all (omega (arith, ap length is)))
 
   -- what stands for records and begins with a closed gate is a tail
@@ -77,15 +77,15 @@ module _ (is_record : List ℕ → Type 0) (longest : ℕ) (some : (bytes : List
             length-take (longest + 2) bytes,
           ))
 
-  -- a tail that is too long for a window
-  pub long_tail_shown : (n : ℕ) (window all : List ℕ) → n ≡ longest + 2
-      → window ≡ take (longest + 3) all → get_or window 0 0 ≡ closed_gate
-      → longest + 3 ≤ length window → IsDamagedBehind is_record longest n all
-  long_tail_shown n window [] at shown head long =
+  -- a tail that is too long for a buffer
+  pub long_tail_shown : (n : ℕ) (buffer all : List ℕ) → n ≡ longest + 2
+      → buffer ≡ take (longest + 3) all → get_or buffer 0 0 ≡ closed_gate
+      → longest + 3 ≤ length buffer → IsDamagedBehind is_record longest n all
+  long_tail_shown n buffer [] at shown head long =
       absurd (omega (arith, ap length shown, length-take {A = ℕ} (longest + 3) []))
-  long_tail_shown n window (g ∷ bytes) at shown head long =
+  long_tail_shown n buffer (g ∷ bytes) at shown head long =
       let next : longest + 3 ≡ suc (longest + 2) = omega arith in
-      let same : window ≡ g ∷ take (longest + 2) bytes = shown
+      let same : buffer ≡ g ∷ take (longest + 2) bytes = shown
       ∙ ap (λ (k : ℕ). take k (g ∷ bytes)) next in
       let gate : g ≡ closed_gate = sym (ap (λ (l : List ℕ). get_or l 0 0) same) ∙ head in
       let size : longest + 2 ≤ length bytes =
@@ -94,17 +94,17 @@ module _ (is_record : List ℕ → Type 0) (longest : ℕ) (some : (bytes : List
       (long_tail (g ∷ bytes) bytes (ap (λ (x : ℕ). x ∷ bytes) gate) size)
 
   -- a record behind an open gate
-  pub at_record : (gate n : ℕ) (window behind all : List ℕ) → window ≡ gate ∷ behind
-      → window ≡ take (longest + 3) all → gate ≢ closed_gate
+  pub at_record : (gate n : ℕ) (buffer behind all : List ℕ) → buffer ≡ gate ∷ behind
+      → buffer ≡ take (longest + 3) all → gate ≢ closed_gate
       → n ≤ length behind → is_record (take n behind) → IsAtRecord is_record longest n all
-  at_record gate n window behind [] is_window shown is_open within is_one =
-      absurd (nothing (sym is_window ∙ shown))
+  at_record gate n buffer behind [] is_buffer shown is_open within is_one =
+      absurd (nothing (sym is_buffer ∙ shown))
     where
       nothing : gate ∷ behind ≡ take (longest + 3) [] → ⊥
       nothing same = absurd (omega (arith, ap length same, length-take {A = ℕ} (longest + 3) []))
-  at_record gate n window behind (g ∷ bytes) is_window shown is_open within is_one =
+  at_record gate n buffer behind (g ∷ bytes) is_buffer shown is_open within is_one =
       let next : longest + 3 ≡ suc (longest + 2) = omega arith in
-      let same : gate ∷ behind ≡ g ∷ take (longest + 2) bytes = sym is_window ∙ shown
+      let same : gate ∷ behind ≡ g ∷ take (longest + 2) bytes = sym is_buffer ∙ shown
       ∙ ap (λ (k : ℕ). take k (g ∷ bytes)) next in
       let gates : gate ≡ g = cc in
       let begin : behind ≡ take (longest + 2) bytes = cc in
@@ -288,19 +288,19 @@ module _ (is_record : List ℕ → Type 0) (longest : ℕ) (some : (bytes : List
           goes_no_further place bytes within before no_record no_begin parts.0 parts.1 good.0
           parts.2 parts.3
 
-  -- what is told of a window behind a gate holds of all the bytes behind it
-  pub breaks_shown : (gate : ℕ) (window behind all : List ℕ) (place : ℕ) → window ≡ gate ∷ behind
-      → window ≡ take (longest + 3) all → gate ≢ closed_gate → place < length behind
+  -- what is told of a buffer behind a gate holds of all the bytes behind it
+  pub breaks_shown : (gate : ℕ) (buffer behind all : List ℕ) (place : ℕ) → buffer ≡ gate ∷ behind
+      → buffer ≡ take (longest + 3) all → gate ≢ closed_gate → place < length behind
       → IsUnfinished is_record (take place behind) → (is_record (take (place + 1) behind) → ⊥)
       → (IsUnfinished is_record (take (place + 1) behind) → ⊥)
       → IsDamagedBehind is_record longest (place + 1) all
-  breaks_shown gate window behind [] place is_window shown is_open within before no_record
+  breaks_shown gate buffer behind [] place is_buffer shown is_open within before no_record
       no_begin = absurd
-      (omega (arith, ap length (sym is_window ∙ shown), length-take {A = ℕ} (longest + 3) []))
-  breaks_shown gate window behind (g ∷ bytes) place is_window shown is_open within before no_record
+      (omega (arith, ap length (sym is_buffer ∙ shown), length-take {A = ℕ} (longest + 3) []))
+  breaks_shown gate buffer behind (g ∷ bytes) place is_buffer shown is_open within before no_record
       no_begin =
       let next : longest + 3 ≡ suc (longest + 2) = omega arith in
-      let same : gate ∷ behind ≡ g ∷ take (longest + 2) bytes = sym is_window ∙ shown
+      let same : gate ∷ behind ≡ g ∷ take (longest + 2) bytes = sym is_buffer ∙ shown
       ∙ ap (λ (k : ℕ). take k (g ∷ bytes)) next in
       let gates : gate ≡ g = cc in
       let begin : behind ≡ take (longest + 2) bytes = cc in

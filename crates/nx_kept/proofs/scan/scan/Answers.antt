@@ -33,7 +33,7 @@ pub overflow_add-length : goal.overflow_add-length
 overflow_add-length g c =
     let bytes = take c.in-Ok.count c.read_at.new.room in
     let room : length c.read_at.new.room ≡ g.G.Grammar.LONGEST + 3 =
-    omega (arith, c.requires.window, c.gates.auto.window, c.read_at.auto.room) in
+    omega (arith, c.requires.buffer, c.gates.auto.buffer, c.read_at.auto.room) in
     let size : length bytes ≤ g.G.Grammar.LONGEST + 3 =
     omega (arith, room, length-take c.in-Ok.count c.read_at.new.room) in
     let own : bytes ≡ take (g.G.Grammar.LONGEST + 3) bytes =
@@ -49,7 +49,7 @@ pub slice_bounds-take-end : goal.slice_bounds-take-end
 slice_bounds-take-end g c =
     let bytes = take c.in-Ok.count c.read_at.new.room in
     let room : length c.read_at.new.room ≡ g.G.Grammar.LONGEST + 3 =
-    omega (arith, c.requires.window, c.gates.auto.window, c.read_at.auto.room) in
+    omega (arith, c.requires.buffer, c.gates.auto.buffer, c.read_at.auto.room) in
     let size : length bytes ≤ g.G.Grammar.LONGEST + 3 =
     omega (arith, room, length-take c.in-Ok.count c.read_at.new.room) in
     let own : bytes ≡ take (g.G.Grammar.LONGEST + 3) bytes =
@@ -64,7 +64,7 @@ pub take-requires : goal.take-requires
 take-requires g c =
     let bytes = take c.in-Ok.count c.read_at.new.room in
     let room : length c.read_at.new.room ≡ g.G.Grammar.LONGEST + 3 =
-    omega (arith, c.requires.window, c.gates.auto.window, c.read_at.auto.room) in
+    omega (arith, c.requires.buffer, c.gates.auto.buffer, c.read_at.auto.room) in
     let size : length bytes ≤ g.G.Grammar.LONGEST + 3 =
     omega (arith, room, length-take c.in-Ok.count c.read_at.new.room) in
     let own : bytes ≡ take (g.G.Grammar.LONGEST + 3) bytes =
@@ -83,7 +83,7 @@ pub slice_bounds-line_feeds-end : goal.slice_bounds-line_feeds-end
 slice_bounds-line_feeds-end g c =
     let bytes = take c.in-Ok.count c.read_at.new.room in
     let room : length c.read_at.new.room ≡ g.G.Grammar.LONGEST + 3 =
-    omega (arith, c.requires.window, c.gates.auto.window, c.read_at.auto.room) in
+    omega (arith, c.requires.buffer, c.gates.auto.buffer, c.read_at.auto.room) in
     let size : length bytes ≤ g.G.Grammar.LONGEST + 3 =
     omega (arith, room, length-take c.in-Ok.count c.read_at.new.room) in
     let own : bytes ≡ take (g.G.Grammar.LONGEST + 3) bytes =
@@ -98,7 +98,7 @@ pub gates-preserved : goal.gates-preserved
 gates-preserved g c =
     let bytes = take c.in-Ok.count c.read_at.new.room in
     let room : length c.read_at.new.room ≡ g.G.Grammar.LONGEST + 3 =
-    omega (arith, c.requires.window, c.gates.auto.window, c.read_at.auto.room) in
+    omega (arith, c.requires.buffer, c.gates.auto.buffer, c.read_at.auto.room) in
     let size : length bytes ≤ g.G.Grammar.LONGEST + 3 =
     omega (arith, room, length-take c.in-Ok.count c.read_at.new.room) in
     let own : bytes ≡ take (g.G.Grammar.LONGEST + 3) bytes =
@@ -126,8 +126,8 @@ gates-preserved g c =
           (c.read_at.ensures.crash start) (c.read_at.ensures.time start);
       reached = λ start explains.
           let told = c.in-Ok.ensures.bytes start explains in
-          let asked : length c.gates.window ≡ g.G.Grammar.LONGEST + 3 =
-          omega (arith, c.requires.window, c.gates.auto.window) in
+          let asked : length c.gates.buffer ≡ g.G.Grammar.LONGEST + 3 =
+          omega (arith, c.requires.buffer, c.gates.auto.buffer) in
           let shown : bytes ≡ take (g.G.Grammar.LONGEST + 3)
           (drop c.gates.gate (g.D.DiskFile.seen start c.args.device.now)) =
           told ∙ ap (λ (n : ℕ). take n (drop c.gates.gate (g.D.DiskFile.seen start c.gates.device)))
@@ -149,12 +149,12 @@ pub returns-in-Damaged-clause-damaged : goal.returns-in-Damaged-clause-damaged
 returns-in-Damaged-clause-damaged g c = λ start line explains same.
     let bytes = take c.in-Ok.count c.read_at.new.room in
     let room : length c.read_at.new.room ≡ g.G.Grammar.LONGEST + 3 =
-    omega (arith, c.requires.window, c.gates.auto.window, c.read_at.auto.room) in
+    omega (arith, c.requires.buffer, c.gates.auto.buffer, c.read_at.auto.room) in
     let size : length bytes ≤ g.G.Grammar.LONGEST + 3 =
     omega (arith, room, length-take c.in-Ok.count c.read_at.new.room) in
     let told = c.in-Ok.ensures.bytes start explains in
-    let asked : length c.gates.window ≡ g.G.Grammar.LONGEST + 3 =
-    omega (arith, c.requires.window, c.gates.auto.window) in
+    let asked : length c.gates.buffer ≡ g.G.Grammar.LONGEST + 3 =
+    omega (arith, c.requires.buffer, c.gates.auto.buffer) in
     let shown : bytes ≡ take (g.G.Grammar.LONGEST + 3)
     (drop c.gates.gate (g.D.DiskFile.seen start c.args.device.now)) =
     told ∙ ap (λ (n : ℕ). take n (drop c.gates.gate (g.D.DiskFile.seen start c.gates.device))) asked
