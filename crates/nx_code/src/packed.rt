@@ -9,8 +9,8 @@ ghost use Rattle.nx_code.specs.Packed.{packed_elements, packed_part};
 
 use crate::words::{ELEMENTS, Word};
 
-/// How many elements a packed number has.
-const PACKED: usize = 64;
+/// How many elements a packed number has (this project's own).
+pub const PACKED: usize = 64;
 
 /// How many words `words_of` answers (this project's own: as many whole words as a packed number
 /// has room for, less one).

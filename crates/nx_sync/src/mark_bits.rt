@@ -9,7 +9,7 @@ ghost use Rattle.nx_sync.specs.Words.{losing_count, marked_words};
 ghost use Rattle.nx_sync.specs.private.Eight.{marks_after_words, wrong_ones};
 
 use crate::word_synchroniser::{EightWords, numbers};
-use nx_code::{WORDS_AT_ONCE, class_of};
+use nx_code::{NO_CLASS, WORDS_AT_ONCE, class_of};
 use std::marker::Model;
 use std::simd::prelude::*;
 
@@ -18,9 +18,6 @@ const MARKS: u32 = 64;
 
 /// How many wrong words among the marked ones lose the lock (this profile).
 const LOSING_COUNT: u32 = 40;
-
-/// The class of a word of the wrong weight.
-const WRONG_CLASS: u8 = 0;
 
 /// The marks of the last words of a lock, at most 64, whether each was wrong.
 #[derive(Clone, Copy)]
@@ -112,7 +109,7 @@ fn wrong_bits(words: &EightWords) -> u64
     ensures within { result < 2 ^ 8 }
 {
     u8x8::from_array(classes(words))
-        .simd_eq(u8x8::splat(WRONG_CLASS))
+        .simd_eq(u8x8::splat(NO_CLASS))
         .to_bitmask()
 }
 

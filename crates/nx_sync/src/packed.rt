@@ -15,9 +15,6 @@ use crate::windows_after::{joined, window_after_number};
 use crate::word_synchroniser::{ELEMENTS_OF_EIGHT, ELEMENTS_OF_TWO, EightWords, TwoWords};
 use nx_code::{ELEMENTS, Word, elements_at, packed_word, words_of};
 
-/// How many elements a packed number has.
-pub(crate) const PACKED: usize = 64;
-
 /// The element at a place.
 #[inline(always)]
 pub(crate) fn element(numbers: &[u64], place: usize) -> bool

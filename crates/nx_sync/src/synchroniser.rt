@@ -15,7 +15,7 @@ ghost use Rattle.nx_sync.specs.private.Taking.{HasPart};
 ghost use Rattle.nx_sync.specs.Synchroniser.{StandsAfter, is_hunting, is_between_words};
 
 use crate::mark_bits::Marks;
-use crate::packed::{PACKED, count_before_lock_in, element, has_no_lock};
+use crate::packed::{count_before_lock_in, element, has_no_lock};
 use crate::phasing::{PATTERN, may_lock, role_after};
 use crate::step::{Role, Step};
 use crate::track::Track;
@@ -25,7 +25,7 @@ use crate::windows_after::{
     windows_after,
 };
 use crate::word_synchroniser::WordSynchroniser;
-use nx_code::{ELEMENTS, Word, check_bits, elements_at};
+use nx_code::{ELEMENTS, PACKED, Word, check_bits, elements_at};
 use std::alloc::{AllocError, Global};
 use std::marker::Model;
 

@@ -5,8 +5,8 @@ ghost use Rattle.nx_fec.specs.Transfers.{AnswersToEnd, IsNextPiece, Reads, input
 use crate::devices::counting::Counting;
 use std::io::Read;
 
-/// How many bytes one read asks for.
-pub(crate) const CHUNK: usize = 65_536;
+/// How many bytes one read asks for (this project's own).
+pub const CHUNK: usize = 65_536;
 
 /// What one read gave.
 #[derive(Clone, Copy, Debug, PartialEq, Eq)]

@@ -10,6 +10,7 @@ ghost use Rattle.nx_fec.specs.texts.TableText.{cell_text, element_letter, table_
 use crate::devices::counting::Counting;
 use crate::devices::writing::write_out;
 use crate::fault::WriteFault;
+use crate::texts::appending::append;
 use crate::texts::hexadecimal::two_hex_digits;
 use arrayvec::ArrayVec;
 use nx_code::{ELEMENTS, SIGNALS, Shift, Signal, cell_of, signal_at, word_of};
@@ -58,7 +59,7 @@ fn push_line(signal: Signal, text: &mut ArrayVec<u8, TEXT_BYTES>)
     ensures grows { array_vec_len text.new ≤ array_vec_len text.old + LINE_BYTES }
 {
     let word = word_of(signal);
-    push_bytes(&two_hex_digits(word.number()), text);
+    append(text, &two_hex_digits(word.number()));
     text.push(b' ');
     push_elements(&word.elements(), text);
     text.push(b' ');
@@ -87,17 +88,8 @@ fn push_cell(cell: &[u8], text: &mut ArrayVec<u8, TEXT_BYTES>)
     ensures grows { array_vec_len text.new ≤ array_vec_len text.old + 5 }
 {
     if cell.is_empty() {
-        push_bytes(b"none", text);
+        append(text, b"none");
     } else {
-        push_bytes(cell, text);
+        append(text, cell);
     }
-}
-
-/// Appends these bytes.
-fn push_bytes(bytes: &[u8], text: &mut ArrayVec<u8, TEXT_BYTES>)
-    requires { array_vec_len text.old + length bytes.now ≤ TEXT_BYTES }
-    ensures items { text.new.items ≡ text.old.items ++ bytes.now }
-    ensures len { array_vec_len text.new ≡ array_vec_len text.old + length bytes.now }
-{
-    text.try_extend_from_slice(bytes).unwrap();
 }

@@ -21,7 +21,7 @@ returns-clause-line c =
     let digits = c.two_hex_digits.ensures ∙ ap two_hex_digits (c.number.ensures.number ∙ word) in
     let letters = c.elements.ensures ∙ ap elements word in
     line_parts c.args.text.now.items _ _ _ _ _ _ _ _ _ _ _ _
-    (c.push_bytes.ensures.items ∙ ap (λ l. c.args.text.now.items ++ l) digits)
+    (c.append.ensures.items ∙ ap (λ l. c.args.text.now.items ++ l) digits)
     c.push.ensures.items
     (c.push_elements.ensures.items
     ∙ ap (λ l. c.push.new.self.items ++ map element_letter l) letters) c.push-2.ensures.items
