@@ -1,6 +1,7 @@
 -- Lemmas that several proofs cite.
 pub mod chain
 pub mod channels
+pub mod copy_hearer
 pub mod emissions
 pub mod examples
 pub mod from_send
@@ -9,4 +10,3 @@ pub mod locks
 pub mod once
 pub mod receiver
 pub mod state
-pub mod watch

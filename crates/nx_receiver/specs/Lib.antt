@@ -1,8 +1,8 @@
+pub mod CopyHearing
 pub mod Events
 pub mod Listener
 pub mod LockPrinter
 pub mod Receiver
-pub mod Watching
 pub mod air_file_runs
 pub mod copies
 pub mod examples

@@ -49,9 +49,9 @@ with_receiver listener Two receiver = record listener { on_2 = receiver }
 -- have one moment
 abbrev pub starts_of : Listening → Starts
 starts_of listener = record {
-  moment = listener.on_0.watch.moment;
+  moment = listener.on_0.hearer.moment;
   entries = λ channel. content (receiver_on listener channel).memory;
-  refused = λ channel. (receiver_on listener channel).watch.refused;
+  refused = λ channel. (receiver_on listener channel).hearer.refused;
 }
 
 -- the elements among what is given, of all channels
@@ -92,7 +92,7 @@ pub record HearsGiven (starts : Starts) (listener : Listening) (given : List Giv
       → Stands content (start_on starts channel) (receiver_on listener channel)
       (share channel given) (copies_on channel copies)
   pub moments : (channel : Channel)
-      → (receiver_on listener channel).watch.moment ≡ moment_in_force starts.moment given
+      → (receiver_on listener channel).hearer.moment ≡ moment_in_force starts.moment given
   pub in_turn : PrintsInTurn starts given copies
   pub elements : listener.elements ≡ count_of (length (elements_given given))
   pub entries : listener.entries ≡ count_of (length copies)

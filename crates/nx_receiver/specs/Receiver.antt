@@ -13,24 +13,24 @@ use Rattle.nx_receiver.specs.Events.{setting_after_all, elements}
 use Rattle.nx_receiver.specs.copies.Log.{HasPrinted}
 use Rattle.nx_receiver.specs.copies.Printing.{printed_copies, entries_after}
 use Rattle.nx_receiver.specs.copies.FoundCopies.{TaggedCopy, copy_of}
-use Rattle.nx_receiver.specs.private.Watch.{WatchStands}
-use Rattle.nx_receiver.specs.Watching.{Watching, in_force}
+use Rattle.nx_receiver.specs.private.CopyHearer.{HearerStands}
+use Rattle.nx_receiver.specs.CopyHearing.{CopyHearing, in_force}
 
--- what contracts see of a receiver: its watch, and its memory
+-- what contracts see of a receiver: its hearer, and its memory
 pub record Receiving (M : Type 0) : Type 0 where
-  pub watch : Watching
+  pub hearer : CopyHearing
   pub memory : M
 
 -- The receiver stands after these events, which begin with this start, and this is the log of what
--- it handed out. Its watch stands after the elements, with what is in force at each, and what is in
+-- it handed out. Its hearer stands after the elements, with what is in force at each, and what is in
 -- force now is so after all events. The log is what is printed of the copies that have ended. The
 -- memory, whose content this function tells, holds the last of all entries made.
 pub record StandsOver {M : Type 0} (content : M → List MemoryEntry) (start : Start)
     (receiver : Receiving M) (bits : List Bool) (settings : List Setting) (now : Setting)
     (log : List TaggedCopy) : Type 0 where
   pub copies : List TaggedCopy
-  pub watch : WatchStands (first_setting start) receiver.watch bits settings copies
-  pub force : in_force receiver.watch ≡ now
+  pub hearer : HearerStands (first_setting start) receiver.hearer bits settings copies
+  pub force : in_force receiver.hearer ≡ now
   pub printed : log ≡ printed_copies start.entries copies
   pub memory : content receiver.memory ≡ last_of most_entries (entries_after start.entries copies)
 

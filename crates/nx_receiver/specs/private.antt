@@ -1,4 +1,5 @@
 pub mod Awaiting
+pub mod CopyHearer
 pub mod CopyTaker
 pub mod CopyTakerLaws
 pub mod Heads
@@ -8,4 +9,3 @@ pub mod LockReader
 pub mod StateParts
 pub mod Taken
 pub mod Unlogged
-pub mod Watch

@@ -4,7 +4,7 @@
 
 ghost use Rattle.std.specs.Prelude.{◌≡◌};
 ghost use Rattle.nx_receiver.specs.private.CopyTaker.{ReadsStep};
-ghost use Rattle.nx_receiver.specs.private.Watch.{IsFresh, over_with};
+ghost use Rattle.nx_receiver.specs.private.CopyHearer.{IsFresh, over_with};
 
 use crate::lock_reader::LockReader;
 use nx_envelope::TextEvent;

@@ -2,6 +2,7 @@
 #![tactic(auto)]
 
 mod air_file_runs;
+mod copy_hearer;
 mod copy_taker;
 mod entry;
 mod fault;
@@ -11,7 +12,6 @@ mod listener;
 mod lock_printer;
 mod lock_reader;
 mod receiver;
-mod watch;
 mod writing;
 
 pub use air_file_runs::listen_fault::{LineRefusal, ListenFault};

@@ -170,11 +170,11 @@ impl Listener {
             → TakesEvent content (receiver_on self.old channel) (receiver_on self.new channel)
             (at_moment moment)) }
         ensures taken { OnOk result
-            ((self.old.on_0.watch.moment ≤ moment) × (moment ≤ last_moment)) }
-        ensures refused { self.old.on_1.watch.moment ≡ self.old.on_0.watch.moment
-            → self.old.on_2.watch.moment ≡ self.old.on_0.watch.moment
+            ((self.old.on_0.hearer.moment ≤ moment) × (moment ≤ last_moment)) }
+        ensures refused { self.old.on_1.hearer.moment ≡ self.old.on_0.hearer.moment
+            → self.old.on_2.hearer.moment ≡ self.old.on_0.hearer.moment
             → IfErr result (λ fault.
-            Refuses self.old.on_0.watch.moment moment fault × (self.new ≡ self.old)) }
+            Refuses self.old.on_0.hearer.moment moment fault × (self.new ≡ self.old)) }
         ensures elements { self.new.elements ≡ self.old.elements }
         ensures entries { self.new.entries ≡ self.old.entries }
     {

@@ -29,7 +29,7 @@ pub(crate) struct LockReader {
 }
 
 impl Model for LockReader {
-    ghost use Rattle.nx_receiver.specs.Watching.{LockReading};
+    ghost use Rattle.nx_receiver.specs.CopyHearing.{LockReading};
 
     ghost Value = { LockReading };
 

@@ -19,7 +19,7 @@ ghost use Rattle.nx_receiver.specs.private.Awaiting.{Awaits, HandsOut, HearsUpTo
 ghost use Rattle.nx_receiver.specs.private.Heads.{headed_list};
 ghost use Rattle.nx_receiver.specs.private.LockReader.{is_open};
 ghost use Rattle.nx_receiver.specs.copies.FoundCopies.{TaggedCopy};
-ghost use Rattle.nx_receiver.specs.private.Watch.{handed_out};
+ghost use Rattle.nx_receiver.specs.private.CopyHearer.{handed_out};
 ghost use Rattle.nx_receiver.specs.declared.copy_taker.Over.TheVariants.{CopyAndLock, Lock};
 ghost use Rattle.nx_envelope.specs.Copies.{Copy};
 ghost use Rattle.nx_envelope.specs.Finder.{HasReady};
@@ -28,11 +28,11 @@ ghost use Rattle.nx_fec.specs.air_files.LineRuns.{HasGiven};
 ghost use Rattle.nx_fec.specs.declared.air_files.channel.Channel.{Channel};
 ghost use Rattle.nx_fec.specs.Transfers.{FailsOnce, WroteSome};
 
+use crate::copy_hearer::CopyHearer;
 use crate::copy_taker::{CopyTag, Over};
 use crate::entry::Entry;
 use crate::fault::{MomentFault, ReceiverFault, check_moment};
 use crate::judging::{judge, judge_head};
-use crate::watch::Watch;
 use crate::writing::{MAX_ENTRY, give_entry, spell_entry};
 use arrayvec::ArrayVec;
 use nx_envelope::{Found, FoundHead, Identity, LAST_MOMENT, Letter};
@@ -50,7 +50,7 @@ use std::marker::Model;
 /// for memory and throws it away, reading and the trials of refused memory show.
 #[derive(Drop)]
 pub struct Receiver<M: Recall> {
-    watch: Watch,
+    hearer: CopyHearer,
     memory: M,
 }
 
@@ -65,12 +65,12 @@ impl<M: Recall> Model for Receiver<M> {
 
     ghost coded = { Prim.hlevel (codes, refused_code, M.code) };
 
-    ghost view = { λ r. record { watch = r.watch; memory = r.memory } };
+    ghost view = { λ r. record { hearer = r.hearer; memory = r.memory } };
 
     ghost invariant = { λ r.
-        IsInOrder (newest_moment (M.content r.memory)) r.watch.tag.moment r.watch.moment };
+        IsInOrder (newest_moment (M.content r.memory)) r.hearer.tag.moment r.hearer.moment };
 
-    ghost inverse = { λ v. record { watch = v.watch; memory = v.memory } };
+    ghost inverse = { λ v. record { hearer = v.hearer; memory = v.memory } };
 }
 
 impl<M: Recall> Receiver<M> {
@@ -105,12 +105,14 @@ impl<M: Recall> Receiver<M> {
         ensures taken { OnOk result
             ((newest_moment (M.content memory) ≤ moment) × (moment ≤ last_moment)) }
     {
-        prove!(size_of::<Receiver<RingRecall>>() == size_of::<Watch>() + size_of::<RingRecall>());
+        prove!(
+            size_of::<Receiver<RingRecall>>() == size_of::<CopyHearer>() + size_of::<RingRecall>()
+        );
         if moment > LAST_MOMENT || memory.newest().is_some_and(|newest| moment < newest) {
             return Err(ReceiverFault::MomentRange);
         }
-        let watch = Watch::new(alloc, moment, selection).map_err(ReceiverFault::Memory)?;
-        Ok(Receiver { watch, memory })
+        let hearer = CopyHearer::new(alloc, moment, selection).map_err(ReceiverFault::Memory)?;
+        Ok(Receiver { hearer, memory })
     }
 
     /// Sets the moment, in whole seconds since 1970-01-01 00:00:00 UTC. `Range` where it is past
@@ -118,12 +120,12 @@ impl<M: Recall> Receiver<M> {
     /// it was.
     pub fn set_moment(&mut self, moment: u64) -> Result<(), MomentFault>
         ensures stands { OnOk result (TakesEvent M.content self.old self.new (at_moment moment)) }
-        ensures taken { OnOk result ((self.old.watch.moment ≤ moment) × (moment ≤ last_moment)) }
-        ensures refused { IfErr result (Refuses self.old.watch.moment moment) }
+        ensures taken { OnOk result ((self.old.hearer.moment ≤ moment) × (moment ≤ last_moment)) }
+        ensures refused { IfErr result (Refuses self.old.hearer.moment moment) }
         ensures unchanged { OnErr result (self.new ≡ self.old) }
     {
-        check_moment(self.watch.moment(), moment)?;
-        self.watch.set_moment(moment);
+        check_moment(self.hearer.moment(), moment)?;
+        self.hearer.set_moment(moment);
         Ok(())
     }
 
@@ -132,7 +134,7 @@ impl<M: Recall> Receiver<M> {
         ensures { TakesEvent M.content self.old self.new
             (command (events.select selection.now)) }
     {
-        self.watch.set_selection(selection);
+        self.hearer.set_selection(selection);
     }
 
     /// Refuses the station, for all its subjects, from here on.
@@ -140,7 +142,7 @@ impl<M: Recall> Receiver<M> {
         ensures { TakesEvent M.content self.old self.new
             (command (events.refuse_station station.byte)) }
     {
-        self.watch.refuse_station(station);
+        self.hearer.refuse_station(station);
     }
 
     /// Refuses the station no longer, from here on.
@@ -148,7 +150,7 @@ impl<M: Recall> Receiver<M> {
         ensures { TakesEvent M.content self.old self.new
             (command (events.accept_station station.byte)) }
     {
-        self.watch.accept_station(station);
+        self.hearer.accept_station(station);
     }
 
     /// Refuses the subject, of all stations, from here on. `Vital` where it is A, B, D or L (ITU-R
@@ -160,7 +162,7 @@ impl<M: Recall> Receiver<M> {
         ensures fault { IfErr result (λ vital. vital.subject ≡ subject) }
         ensures unchanged { OnErr result (self.new ≡ self.old) }
     {
-        self.watch.refuse_subject(subject)
+        self.hearer.refuse_subject(subject)
     }
 
     /// Refuses the subject no longer, from here on.
@@ -168,7 +170,7 @@ impl<M: Recall> Receiver<M> {
         ensures { TakesEvent M.content self.old self.new
             (command (events.accept_subject subject.byte)) }
     {
-        self.watch.accept_subject(subject);
+        self.hearer.accept_subject(subject);
     }
 
     /// Whether a copy whose header came now would be selected: neither the station nor the subject
@@ -180,7 +182,7 @@ impl<M: Recall> Receiver<M> {
             → result
             ≡ admits (setting_after_all (first_setting start) history).refused identity.now }
     {
-        self.watch.admits(identity)
+        self.hearer.admits(identity)
     }
 
     /// Hears elements, true for B, up to and with the one that ends the first copy that is printed;
@@ -263,8 +265,8 @@ impl<M: Recall> Receiver<M> {
         let over = self.close_lock(over);
         let judged = self.judge_ready(over);
         if let Some(head) = &judged {
-            let text = self.watch.finder().ready_text();
-            spell_entry(head, text, self.watch.tag().moment, channel, spelled);
+            let text = self.hearer.finder().ready_text();
+            spell_entry(head, text, self.hearer.tag().moment, channel, spelled);
         }
         self.leave_lock(over);
         judged.is_some()
@@ -279,11 +281,11 @@ impl<M: Recall> Receiver<M> {
         ensures moment { IfSome result (λ entry. entry.moment ≤ last_moment) }
     {
         let Receiver {
-            mut watch,
+            mut hearer,
             mut memory,
         } = self;
-        let found = watch.end_text();
-        print_copy(found, watch.tag(), &mut memory)
+        let found = hearer.end_text();
+        print_copy(found, hearer.tag(), &mut memory)
     }
 
     /// Hears elements up to and with the first one with which something is over, all of them where
@@ -299,7 +301,7 @@ impl<M: Recall> Receiver<M> {
         ensures all { result.1 ≡ None → from + result.0 ≡ length packed.now }
         ensures some { from < length packed.now → 0 < result.0 }
     {
-        self.watch.hear(packed, from)
+        self.hearer.hear(packed, from)
     }
 
     /// Hears elements that aren't packed, as `hear` does.
@@ -342,15 +344,15 @@ impl<M: Recall> Receiver<M> {
         ensures moment { IfSome result (λ entry. entry.moment ≤ last_moment) }
     {
         let found = match over {
-            Over::Copy => self.watch.take_copy(),
-            Over::Lock => self.watch.end_text(),
+            Over::Copy => self.hearer.take_copy(),
+            Over::Lock => self.hearer.end_text(),
             Over::CopyAndLock => {
-                let found = self.watch.take_copy();
-                self.watch.end_text();
+                let found = self.hearer.take_copy();
+                self.hearer.end_text();
                 found
             }
         };
-        let tag = self.watch.tag();
+        let tag = self.hearer.tag();
         print_copy(found, tag, &mut self.memory)
     }
 
@@ -379,8 +381,8 @@ impl<M: Recall> Receiver<M> {
         let judged = self.judge_ready(over);
         let given = match &judged {
             Some(head) => {
-                let text = self.watch.finder().ready_text();
-                give_entry(head, text, self.watch.tag().moment, channel, writer, batch)
+                let text = self.hearer.finder().ready_text();
+                give_entry(head, text, self.hearer.tag().moment, channel, writer, batch)
             }
             None => Ok(()),
         };
@@ -398,7 +400,7 @@ impl<M: Recall> Receiver<M> {
         ensures closed { result ≢ Some Lock }
     {
         match over {
-            Over::Lock => self.watch.close_text(),
+            Over::Lock => self.hearer.close_text(),
             Over::Copy | Over::CopyAndLock => Some(over),
         }
     }
@@ -408,12 +410,12 @@ impl<M: Recall> Receiver<M> {
     fn leave_lock(&mut self, over: Option<Over>)
         ensures { (start : Start) (history : List Event) (log : List TaggedCopy)
             → over ≢ Some Lock
-            → (over ≡ Some CopyAndLock → is_open self.old.watch.reader.finder.copy ≡ false)
+            → (over ≡ Some CopyAndLock → is_open self.old.hearer.reader.finder.copy ≡ false)
             → Awaits M.content start self.old history log (behind_copy over)
             → Stands M.content start self.new history log }
     {
         if let Some(Over::CopyAndLock) = over {
-            self.watch.restart();
+            self.hearer.restart();
         }
     }
 
@@ -426,16 +428,17 @@ impl<M: Recall> Receiver<M> {
     }
 
     /// Judges the copy that is over, where one is: its head where it is printed. The copy stays
-    /// with the watch.
+    /// with the hearer.
     fn judge_ready(&mut self, over: Option<Over>) -> Option<FoundHead>
         ensures stands { (start : Start) (history : List Event) (log : List TaggedCopy)
             → Awaits M.content start self.old history log over
             → Awaits M.content start self.new history
-            (log ++ headed_list result self.old.watch.reader.finder.text self.old.watch.tag.moment)
+            (log
+            ++ headed_list result self.old.hearer.reader.finder.text self.old.hearer.tag.moment)
             (behind_copy over) }
-        ensures watch { self.new.watch ≡ self.old.watch }
+        ensures hearer { self.new.hearer ≡ self.old.hearer }
         ensures ready { IfSome result (λ head. (copy : Copy)
-            × HasReady self.old.watch.reader.finder copy × IsHeadOf copy head) }
+            × HasReady self.old.hearer.reader.finder copy × IsHeadOf copy head) }
     {
         let Some(over) = over else {
             return None;
@@ -446,8 +449,8 @@ impl<M: Recall> Receiver<M> {
         let CopyTag {
             moment,
             is_selected,
-        } = self.watch.tag();
-        let finder = self.watch.finder();
+        } = self.hearer.tag();
+        let finder = self.hearer.finder();
         let head = finder.ready_head()?;
         let text = finder.ready_text();
         if !judge_head(&head, text, moment, is_selected, &mut self.memory) {
@@ -464,9 +467,9 @@ impl<M: Listed> Receiver<M> {
         ensures leaves { (start : Start) (history : List Event) (log : List TaggedCopy)
             → Stands M.content start self.now history log → Leaves start history result }
         ensures entries { result.entries ≡ M.content self.now.memory }
-        ensures refused { result.refused ≡ self.now.watch.refused }
+        ensures refused { result.refused ≡ self.now.hearer.refused }
     {
-        Saved::of(&self.watch.selection(), &self.memory)
+        Saved::of(&self.hearer.selection(), &self.memory)
     }
 }
 

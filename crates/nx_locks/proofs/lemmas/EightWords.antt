@@ -15,7 +15,7 @@ use Rattle.nx_code.proofs.lemmas.Packed.{length-elements}
 use Rattle.nx_sync.proofs.lemmas.states.UniqueStates.{locks-unique, now-unique}
 use Rattle.nx_locks.specs.private.Reader.{Reading}
 use Rattle.nx_locks.specs.private.Reader.{ShowsWords}
-use Rattle.nx_receiver.proofs.lemmas.watch.EightWords.{still_words}
+use Rattle.nx_receiver.proofs.lemmas.copy_hearer.EightWords.{still_words}
 use Rattle.nx_locks.specs.private.Taker.{Hears, Taking, all_at}
 use Rattle.nx_locks.proofs.lemmas.Bits.{words_on}
 

@@ -20,7 +20,7 @@ use Rattle.nx_sync.specs.declared.step.Role.{Role}
 use Rattle.nx_sync.specs.declared.step.Step.{Step}
 use Rattle.nx_sync.proofs.lemmas.states.KeptPast.{Past-within}
 use Rattle.nx_sync.proofs.lemmas.states.StateChanges.{one_more}
-use Rattle.nx_receiver.proofs.lemmas.watch.Bits.{no_word}
+use Rattle.nx_receiver.proofs.lemmas.copy_hearer.Bits.{no_word}
 use Rattle.nx_locks.specs.private.Reader.{Reading}
 use Rattle.nx_locks.specs.private.Taker.{Closes, GoesTo, Hears, ReadsTo, Shows, ShowsStep}
 use Rattle.nx_locks.specs.private.Taker.{TakerShows, Taking, all_at, closing_of, with_word}

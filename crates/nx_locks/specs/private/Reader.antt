@@ -13,7 +13,7 @@ use Rattle.nx_sync.specs.Words.{role_of}
 use Rattle.nx_sync.specs.declared.step.Role.{Role}
 use Rattle.nx_receiver.specs.copies.Log.{is_of_lines}
 use Rattle.nx_receiver.specs.private.LockReader as receiver
-use Rattle.nx_receiver.specs.Watching.{LockReading}
+use Rattle.nx_receiver.specs.CopyHearing.{LockReading}
 use Rattle.nx_receiver.specs.copies.LockText.{text_after}
 
 -- what contracts see of a reader: what arrived of the latest three DX words, the shift in force,

@@ -16,8 +16,8 @@ use Rattle.nx_receiver.specs.declared.copy_taker.Over.TheVariants as over
 use Rattle.nx_receiver.specs.copies.Log.{IsLog}
 use Rattle.nx_receiver.specs.copies.Shares.{marked}
 use Rattle.nx_fec.specs.declared.air_files.channel.Channel.{Channel}
-use Rattle.nx_receiver.specs.private.Watch.{IsOver}
-use Rattle.nx_receiver.specs.Watching.{in_force}
+use Rattle.nx_receiver.specs.private.CopyHearer.{IsOver}
+use Rattle.nx_receiver.specs.CopyHearing.{in_force}
 
 -- The receiver stands after these elements but for what is over with the last of them, which is yet
 -- to be finished: the log is what is printed of the copies that ended before it.
@@ -25,8 +25,8 @@ pub record AwaitsOver {M : Type 0} (content : M → List MemoryEntry) (start : S
     (receiver : Receiving M) (bits : List Bool) (settings : List Setting) (now : Setting)
     (log : List TaggedCopy) (over : Option Over) : Type 0 where
   pub copies : List TaggedCopy
-  pub watch : IsOver (first_setting start) receiver.watch bits settings copies over
-  pub force : in_force receiver.watch ≡ now
+  pub hearer : IsOver (first_setting start) receiver.hearer bits settings copies over
+  pub force : in_force receiver.hearer ≡ now
   pub printed : log ≡ printed_copies start.entries copies
   pub memory : content receiver.memory ≡ last_of most_entries (entries_after start.entries copies)
 

@@ -1,5 +1,5 @@
 -- What a taker of copies does with what the elements bring that a synchroniser hears (this
--- profile). The two together are a watch.
+-- profile). The two together are a hearer.
 use Rattle.std.specs.Prelude.{◌≡◌, ℕ, ◌+◌, Bool, is_some, List, Option, Some, None}
 use Rattle.nx_sync.specs.Synchroniser.{Held}
 use Rattle.nx_sync.specs.Words.{role_of}
@@ -12,18 +12,18 @@ use Rattle.nx_receiver.specs.declared.copy_taker.Over.{Over}
 use Rattle.nx_receiver.specs.declared.copy_taker.CopyTag.{CopyTag}
 use Rattle.nx_receiver.specs.declared.copy_taker.CopyTaker.{CopyTaker}
 use Rattle.nx_receiver.specs.Events.{Setting}
-use Rattle.nx_receiver.specs.Watching.{Watching}
+use Rattle.nx_receiver.specs.CopyHearing.{CopyHearing}
 use Rattle.nx_receiver.specs.private.LockReader.{HearsWord, ReadsLock}
 use Rattle.nx_receiver.specs.copies.LockText.{text_after}
-use Rattle.nx_receiver.specs.private.Watch.{HearsAll, TagGoesOn, over_with, tag_of}
+use Rattle.nx_receiver.specs.private.CopyHearer.{HearsAll, TagGoesOn, over_with, tag_of}
 
 -- what is in force for a taker
 abbrev pub setting_of : CopyTaker → Setting
 setting_of taker = record { moment = taker.moment; refused = taker.selection }
 
--- the watch whose synchroniser holds this, and whose taker is that
-abbrev pub watch_of : Held → CopyTaker → Watching
-watch_of held taker = record {
+-- the hearer whose synchroniser holds this, and whose taker is that
+abbrev pub hearer_of : Held → CopyTaker → CopyHearing
+hearer_of held taker = record {
   synchroniser = held;
   reader = taker.reader;
   refused = taker.selection;
@@ -57,13 +57,13 @@ pub record ReadsStep (old new : CopyTaker) (step : Step) (answer : Option Over) 
   pub some : (word : ℕ) (role : Role) → step.word ≡ Some (word, role)
       → ReadsWord old new word role (is_some step.change) answer
 
--- A synchroniser that held the first and a taker heard these elements, as a watch of both does, and
--- this is over with the last of them, if anything is. What is in force stays, but for the tag.
+-- A synchroniser that held the first and a taker heard these elements, as a hearer of both does,
+-- and this is over with the last of them, if anything is. What is in force stays, but for the tag.
 pub record Hears (old : Held) (before : CopyTaker) (heard : List Bool) (new : Held)
     (after : CopyTaker) (answer : Option Over) : Type 0 where
-  pub hears : HearsAll (watch_of old before) (watch_of new after) heard answer
+  pub hears : HearsAll (hearer_of old before) (hearer_of new after) heard answer
   pub force : setting_of after ≡ setting_of before
-  pub kept : TagGoesOn (watch_of old before) (watch_of new after)
+  pub kept : TagGoesOn (hearer_of old before) (hearer_of new after)
 
 -- a taker has room for whatever the elements bring
 abbrev pub HasRoom : CopyTaker → ℕ → Type 0

@@ -10,27 +10,27 @@ use Rattle.nx_receiver.specs.declared.copy_taker.CopyTag.{CopyTag}
 use Rattle.nx_receiver.specs.declared.copy_taker.Over.{Over}
 use Rattle.nx_receiver.specs.Events.{Setting}
 use Rattle.nx_receiver.specs.copies.FoundCopies.{TaggedCopy}
-use Rattle.nx_receiver.specs.Watching.{Watching, in_force}
-use Rattle.nx_receiver.specs.private.CopyTaker.{Hears, watch_of}
-use Rattle.nx_receiver.specs.private.Watch.{HasEnded, HearsBits, IsOver, TagGoesOn}
-use Rattle.nx_receiver.specs.private.Watch.{WatchStands, all_in_force, as_it_was, now_in_force}
+use Rattle.nx_receiver.specs.CopyHearing.{CopyHearing, in_force}
+use Rattle.nx_receiver.specs.private.CopyTaker.{Hears, hearer_of}
+use Rattle.nx_receiver.specs.private.CopyHearer.{HasEnded, HearsBits, IsOver, TagGoesOn}
+use Rattle.nx_receiver.specs.private.CopyHearer.{HearerStands, all_in_force, as_it_was, now_in_force}
 
-pub all_in_force-append : (watch : Watching) (xs ys : List Bool)
-    → all_in_force watch (xs ++ ys) ≡ all_in_force watch xs ++ all_in_force watch ys
+pub all_in_force-append : (hearer : CopyHearing) (xs ys : List Bool)
+    → all_in_force hearer (xs ++ ys) ≡ all_in_force hearer xs ++ all_in_force hearer ys
 unfolding all_in_force
-all_in_force-append watch xs ys = map-append (λ (bit : Bool). in_force watch) xs ys
+all_in_force-append hearer xs ys = map-append (λ (bit : Bool). in_force hearer) xs ys
 
-pub all_in_force-same : (watch other : Watching) (xs : List Bool) → in_force watch ≡ in_force other
-    → all_in_force watch xs ≡ all_in_force other xs
+pub all_in_force-same : (hearer other : CopyHearing) (xs : List Bool)
+    → in_force hearer ≡ in_force other → all_in_force hearer xs ≡ all_in_force other xs
 unfolding all_in_force
-all_in_force-same watch other xs e = ap (λ (s : Setting). map (λ (bit : Bool). s) xs) e
+all_in_force-same hearer other xs e = ap (λ (s : Setting). map (λ (bit : Bool). s) xs) e
 
-none_heard : (first : Setting) (watch : Watching) (h : List Bool) (s : List Setting)
-    (copies : List TaggedCopy) → WatchStands first watch h s copies
-    → HearsBits first watch watch h s copies [] None
+none_heard : (first : Setting) (hearer : CopyHearing) (h : List Bool) (s : List Setting)
+    (copies : List TaggedCopy) → HearerStands first hearer h s copies
+    → HearsBits first hearer hearer h s copies [] None
 unfolding all_in_force
-none_heard first watch h s copies w = record {
-  brings = subst₂ (λ (x : List Bool) (y : List Setting). WatchStands first watch x y copies)
+none_heard first hearer h s copies w = record {
+  brings = subst₂ (λ (x : List Bool) (y : List Setting). HearerStands first hearer x y copies)
       (sym (append-nil h)) (sym (append-nil s)) w;
   none_before = λ k lt. absurd (omega arith);
 }
@@ -44,7 +44,7 @@ take_into (x ∷ xs) ys (suc k) h = let e : k - length xs ≡ suc k - suc (lengt
     ap (λ l. x ∷ l) (take_into xs ys k (omega arith) ∙ ap (λ (m : ℕ). xs ++ take m ys) e)
 
 -- some elements are heard after others
-hears_on : (first : Setting) (old mid new : Watching) (h : List Bool) (s : List Setting)
+hears_on : (first : Setting) (old mid new : CopyHearing) (h : List Bool) (s : List Setting)
     (copies : List TaggedCopy) (xs ys : List Bool) (answer : Option Over)
     → in_force mid ≡ in_force old → HearsBits first old mid h s copies xs None
     → HearsBits first mid new (h ++ xs) (s ++ all_in_force old xs) copies ys answer
@@ -77,7 +77,7 @@ hears_on first old mid new h s copies xs ys answer same f g =
     }
 
 -- and so does the tag go on
-tag_on : (old mid new : Watching) → in_force mid ≡ in_force old → TagGoesOn old mid
+tag_on : (old mid new : CopyHearing) → in_force mid ≡ in_force old → TagGoesOn old mid
     → TagGoesOn mid new → TagGoesOn old new
 tag_on old mid new same f (now_in_force e) = now_in_force (e ∙ ap (λ (s : Setting). s.moment) same)
 tag_on old mid new same (as_it_was e) (as_it_was f) = as_it_was (f ∙ e)
@@ -88,7 +88,7 @@ tag_on old mid new same (now_in_force e) (as_it_was f) =
 pub heard-none : (held : Held) (taker : CopyTaker) → Hears held taker [] held taker None
 heard-none held taker = record {
   hears = record {
-    hears = λ first h s copies w. none_heard first (watch_of held taker) h s copies w;
+    hears = λ first h s copies w. none_heard first (hearer_of held taker) h s copies w;
   };
   force = refl;
   kept = as_it_was refl;
@@ -99,9 +99,9 @@ pub heard-both : (old mid new : Held) (first between last : CopyTaker) (xs ys : 
     (answer : Option Over) → Hears old first xs mid between None
     → Hears mid between ys new last answer → Hears old first (xs ++ ys) new last answer
 heard-both old mid new first between last xs ys answer f g =
-    let a = watch_of old first in
-    let b = watch_of mid between in
-    let c = watch_of new last in
+    let a = hearer_of old first in
+    let b = hearer_of mid between in
+    let c = hearer_of new last in
     record {
       hears = record {
         hears = λ start h s copies w.

@@ -13,7 +13,7 @@ use Rattle.nx_receiver.specs.Receiver.{Receiving, Stands}
 use Rattle.nx_receiver.specs.copies.Shares.{Given, Starts}
 use Rattle.nx_receiver.specs.private.Listener.{BeginsListening, BeginsLog, HearsLog, IsListening}
 use Rattle.nx_receiver.specs.Listener.{Listening}
-use Rattle.nx_receiver.specs.private.Watch.{copies_by}
+use Rattle.nx_receiver.specs.private.CopyHearer.{copies_by}
 
 tagged-by : (first : Setting) (events : List Event) (copies : List FoundCopy)
     → copies_by first (settings first events) copies ≡ tagged_copies first events copies
@@ -25,7 +25,7 @@ pub printed-so_far : {M : Type 0} (content : M → List MemoryEntry) (start : St
     (receiver : Receiving M) (events : List Event) (log : List TaggedCopy)
     → Stands content start receiver events log → HasPrinted start events log
 printed-so_far content start receiver events log s =
-    let r = s.watch.reads in
+    let r = s.hearer.reads in
     record {
       locks = r.locks;
       now = r.now;

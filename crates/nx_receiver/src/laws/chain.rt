@@ -27,7 +27,7 @@ ghost use Rattle.nx_receiver.specs.copies.Log.{IsLog};
 ghost use Rattle.nx_receiver.specs.copies.Printing.{entries_after, entries_made, printed_copies};
 ghost use Rattle.nx_receiver.specs.Receiver.{Receiving, Stands};
 ghost use Rattle.nx_receiver.specs.copies.Shares.{MarkedCopy, copies_on, none_saved, saved_of, start_on, starts_from};
-ghost use Rattle.nx_receiver.specs.Watching.{in_force};
+ghost use Rattle.nx_receiver.specs.CopyHearing.{in_force};
 ghost use Rattle.nx_receiver.specs.examples.Emission.{worked_log};
 ghost use Rattle.nx_receiver.specs.declared.air_file_runs.listening.Report.{Report};
 
@@ -123,7 +123,7 @@ pub fn a_receiver_holds_what_it_leaves<M: Recall>()
     ensures held { (start : Start) (events : List Event) (receiver : Receiving M)
         (log : List TaggedCopy) (left : SavedState) → Stands M.content start receiver events log
         → left.entries ≡ M.content receiver.memory
-        → left.refused ≡ (in_force receiver.watch).refused
+        → left.refused ≡ (in_force receiver.hearer).refused
         → Leaves start events left }
 {}
 

@@ -7,7 +7,7 @@ use Rattle.nx_receiver.specs.Receiver.{Receiving, Stands, events_of_pieces, elem
 use Rattle.nx_receiver.specs.copies.FoundCopies.{TaggedCopy}
 use Rattle.nx_receiver.proofs.lemmas.receiver.Logged.{one_printed}
 use Rattle.nx_receiver.proofs.lemmas.receiver.Printing.{has_printed}
-use Rattle.nx_receiver.proofs.lemmas.watch.Hears.{has_ended}
+use Rattle.nx_receiver.proofs.lemmas.copy_hearer.Hears.{has_ended}
 use Rattle.nx_receiver.proofs.laws.cuttings_print_the_same.Goals as goal
 
 events-of_elements : (pieces : List (List Bool))
@@ -22,9 +22,9 @@ prints : {M : Type 0} (content : M → List MemoryEntry) (start : Start) (events
     (receiver : Receiving M) (log : List TaggedCopy) → Stands content start receiver events log
     → HasPrinted start events log
 prints content start events receiver log stands =
-    let r = stands.watch.reads in
+    let r = stands.hearer.reads in
     has_printed start events stands.copies log
-    (has_ended _ receiver.watch.reader receiver.watch.tag _ _ stands.copies r) stands.printed
+    (has_ended _ receiver.hearer.reader receiver.hearer.tag _ _ stands.copies r) stands.printed
 
 pub returns : goal.returns
 returns g c = record {

@@ -21,8 +21,8 @@ use Rattle.nx_receiver.specs.copies.LockText.{PlacedByte, bytes_of}
 use Rattle.nx_receiver.specs.copies.Printing.{entries_after, entries_made, entry_made, entry_of}
 use Rattle.nx_receiver.specs.copies.Printing.{is_entered, is_good, is_number_00, is_printed}
 use Rattle.nx_receiver.specs.Receiver.{Receiving, Stands}
-use Rattle.nx_receiver.specs.private.Watch.{copies_by}
-use Rattle.nx_receiver.specs.Watching.{in_force}
+use Rattle.nx_receiver.specs.private.CopyHearer.{copies_by}
+use Rattle.nx_receiver.specs.CopyHearing.{in_force}
 use Rattle.nx_receiver.proofs.lemmas.chain.Runs.{found_same}
 use Rattle.nx_receiver.proofs.lemmas.receiver.Logged.{end_adds, entries_after-append}
 use Rattle.nx_receiver.proofs.lemmas.receiver.Logged.{tagged_copies-append}
@@ -97,10 +97,10 @@ tagged-by first events copies = refl
 pub held-left : {M : Type 0} (content : M → List MemoryEntry) (start : Start) (events : List Event)
     (receiver : Receiving M) (log : List TaggedCopy) (left : SavedState)
     → Stands content start receiver events log
-    → left.entries ≡ content receiver.memory → left.refused ≡ (in_force receiver.watch).refused
+    → left.entries ≡ content receiver.memory → left.refused ≡ (in_force receiver.hearer).refused
     → Leaves start events left
 held-left content start events receiver log left s entries refused =
-    let r = s.watch.reads in
+    let r = s.hearer.reads in
     let first = first_setting start in
     record {
       copies = found_to_end (elements_among events) r.locks r.now;

@@ -234,7 +234,7 @@ moment-on channel setting (accept_subject mark letter ∷ lines) =
 -- the receivers of all channels have that moment in force
 pub force-now : (starts : Starts) (listener : Listening) (lines : List Line) (bytes : List ℕ)
     → IsListening starts listener lines bytes → (channel : Channel)
-    → (receiver_on listener channel).watch.moment ≡ moment_after starts.moment lines
+    → (receiver_on listener channel).hearer.moment ≡ moment_after starts.moment lines
 force-now starts listener lines bytes h channel =
     ap (λ (s : Setting). s.moment) (h.hears.hears.receivers channel).force
     ∙ moment-on channel (first_setting (start_on starts channel)) lines
@@ -550,13 +550,13 @@ hears-more starts old new given channel part more copies next h few stands other
     let first = first_setting (start_on starts channel) in
     let own = stands (start_on starts channel) (share channel was) (copies_on channel copies)
     (h.receivers channel) in
-    let kept : (other : Channel) → (receiver_on new other).watch.moment
-    ≡ (receiver_on old other).watch.moment =
-    on-each (λ other. (receiver_on new other).watch.moment ≡ (receiver_on old other).watch.moment)
+    let kept : (other : Channel) → (receiver_on new other).hearer.moment
+    ≡ (receiver_on old other).hearer.moment =
+    on-each (λ other. (receiver_on new other).hearer.moment ≡ (receiver_on old other).hearer.moment)
     channel
     (ap (λ (s : Setting). s.moment) (own.force ∙ force-more first (share channel was) more
     ∙ sym (h.receivers channel).force))
-    (λ other not. ap (λ (r : Receiving RingMemory). r.watch.moment) (others other not)) in
+    (λ other not. ap (λ (r : Receiving RingMemory). r.hearer.moment) (others other not)) in
     record {
       receivers = each;
       moments = λ other. kept other ∙ h.moments other

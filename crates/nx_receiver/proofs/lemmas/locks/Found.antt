@@ -23,7 +23,7 @@ use Rattle.nx_sync.specs.declared.step.Role.{Role}
 use Rattle.nx_sync.proofs.lemmas.states.UniqueStates.{locks-unique, now-unique}
 use Rattle.nx_receiver.specs.private.LockReader.{word_place}
 use Rattle.nx_receiver.specs.copies.LockText.{PlacedByte, printed_by, text_by, bytes_of}
-use Rattle.nx_receiver.specs.private.Watch.{place_of_header}
+use Rattle.nx_receiver.specs.private.CopyHearer.{place_of_header}
 use Rattle.nx_receiver.specs.copies.FoundCopies.{FoundCopy, place_in, found_copy, ended_in, open_in}
 use Rattle.nx_receiver.specs.copies.FoundCopies.{all_in}
 use Rattle.nx_receiver.proofs.lemmas.locks.Texts.{GoesOnAs, bytes_of-append}

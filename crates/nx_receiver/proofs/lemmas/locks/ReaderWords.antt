@@ -26,7 +26,7 @@ use Rattle.nx_receiver.specs.copies.LockText.{AreNext, taken_at, positions}
 use Rattle.nx_receiver.specs.declared.lock_printer.LockPrinter.{LockPrinter}
 use Rattle.nx_receiver.specs.private.LockReader.{ReadsLock, is_open}
 use Rattle.nx_receiver.specs.copies.LockText.{dx_words, text_after}
-use Rattle.nx_receiver.specs.Watching.{LockReading}
+use Rattle.nx_receiver.specs.CopyHearing.{LockReading}
 
 -- a word of this role, among the DX words
 abbrev if_dx : Role → Counted → List Counted

@@ -8,8 +8,8 @@ use Rattle.nx_receiver.specs.Events.{command, element, first_setting, setting_af
 use Rattle.nx_receiver.specs.Events.{setting_after_all, settings, elements}
 use Rattle.nx_receiver.specs.Receiver.{Receiving, Stands}
 use Rattle.nx_receiver.specs.copies.FoundCopies.{TaggedCopy}
-use Rattle.nx_receiver.specs.private.Watch.{WatchStands, all_in_force}
-use Rattle.nx_receiver.specs.Watching.{Watching, in_force}
+use Rattle.nx_receiver.specs.private.CopyHearer.{HearerStands, all_in_force}
+use Rattle.nx_receiver.specs.CopyHearing.{CopyHearing, in_force}
 use Rattle.nx_receiver.proofs.lemmas.receiver.Logged.{bits_of-append, settings-append}
 
 -- elements as events
@@ -42,11 +42,11 @@ bits_of-more events bits =
     bits_of-append events (elements bits)
     ∙ ap (λ bs. elements_among events ++ bs) (bits_of-elements bits)
 
-pub settings-more : (first : Setting) (watch : Watching) (events : List Event) (bits : List Bool)
-    → in_force watch ≡ setting_after_all first events
-    → settings first (events ++ elements bits) ≡ settings first events ++ all_in_force watch bits
+pub settings-more : (first : Setting) (hearer : CopyHearing) (events : List Event)
+    (bits : List Bool) → in_force hearer ≡ setting_after_all first events
+    → settings first (events ++ elements bits) ≡ settings first events ++ all_in_force hearer bits
 unfolding all_in_force
-settings-more first watch events bits force =
+settings-more first hearer events bits force =
     settings-append first events (elements bits)
     ∙ ap (λ ss. settings first events ++ ss)
     (settings-elements (setting_after_all first events) bits)
@@ -79,19 +79,19 @@ force-one : (now : Setting) (event : Event)
 unfolding setting_after_all
 force-one now event = refl
 
--- the watch with this in force
-abbrev pub with_force : Watching → Setting → Watching
-with_force watch now = record watch { moment = now.moment; refused = now.refused }
+-- the hearer with this in force
+abbrev pub with_force : CopyHearing → Setting → CopyHearing
+with_force hearer now = record hearer { moment = now.moment; refused = now.refused }
 
 -- a receiver in which this event alone changed what is in force stands after the event
 pub stands_after : {M : Type 0} (content : M → List MemoryEntry) (old : Receiving M)
-    (watch : Watching) (event : Event)
-    → IsNoElement event → watch ≡ with_force old.watch (setting_after (in_force old.watch) event)
+    (hearer : CopyHearing) (event : Event)
+    → IsNoElement event → hearer ≡ with_force old.hearer (setting_after (in_force old.hearer) event)
     → (start : Start) (history : List Event) (log : List TaggedCopy)
     → Stands content start old history log
-    → Stands content start (record { watch = watch; memory = old.memory }) (history ++ event ∷ [])
+    → Stands content start (record { hearer = hearer; memory = old.memory }) (history ++ event ∷ [])
     log
-stands_after content old watch event none change start history log stands =
+stands_after content old hearer event none change start history log stands =
     let first = first_setting start in
     let bits = elements_among (history ++ event ∷ []) in
     let before : elements_among history ≡ bits =
@@ -103,15 +103,15 @@ stands_after content old watch event none change start history log stands =
     ∙ ap (λ ss. settings first history ++ ss)
     (settings-one (setting_after_all first history) event none)
     ∙ append-nil (settings first history)) in
-    let was = stands.watch in
-    let new : WatchStands first watch (elements_among history) (settings first history)
+    let was = stands.hearer in
+    let new : HearerStands first hearer (elements_among history) (settings first history)
     stands.copies =
-    subst (λ w. WatchStands first w (elements_among history) (settings first history) stands.copies)
-    (sym change) (record { synchroniser = was.synchroniser; reads = was.reads }) in
+    subst (λ w. HearerStands first w (elements_among history) (settings first history)
+    stands.copies) (sym change) (record { synchroniser = was.synchroniser; reads = was.reads }) in
     record {
       copies = stands.copies;
-      watch = subst (λ ss. WatchStands first watch bits ss stands.copies) same
-          (subst (λ bs. WatchStands first watch bs (settings first history) stands.copies) before
+      hearer = subst (λ ss. HearerStands first hearer bits ss stands.copies) same
+          (subst (λ bs. HearerStands first hearer bs (settings first history) stands.copies) before
           new);
       force = ap in_force change
           ∙ ap (λ now. setting_after now event) stands.force

@@ -13,11 +13,11 @@ use Rattle.nx_receiver.specs.copies.Log.{HasPrinted}
 use Rattle.nx_receiver.specs.Receiver.{HandsOutNoneBefore, Receiving, Stands, StandsOver}
 use Rattle.nx_receiver.specs.private.Awaiting.{Awaits, AwaitsOver, HearsUpTo}
 use Rattle.nx_receiver.specs.copies.FoundCopies.{TaggedCopy}
-use Rattle.nx_receiver.specs.private.Watch.{HasEnded, HearsAll, IsOver, all_in_force}
-use Rattle.nx_receiver.specs.Watching.{Watching, in_force}
+use Rattle.nx_receiver.specs.private.CopyHearer.{HasEnded, HearsAll, IsOver, all_in_force}
+use Rattle.nx_receiver.specs.CopyHearing.{CopyHearing, in_force}
 use Rattle.nx_receiver.proofs.lemmas.receiver.Events.{bits_of-more, force-more, settings-more}
 use Rattle.nx_receiver.proofs.lemmas.receiver.Printing.{has_printed}
-use Rattle.nx_receiver.proofs.lemmas.watch.Packed.{rest_is}
+use Rattle.nx_receiver.proofs.lemmas.copy_hearer.Packed.{rest_is}
 
 -- the first so many of these elements were fed, and no entry was handed out
 pub record Fed {M : Type 0} (content : M → List MemoryEntry) (old now : Receiving M)
@@ -37,24 +37,24 @@ fed_none content old bits = record {
   before = λ start history log s k lt. absurd (omega arith);
 }
 
--- a watch heard these elements, and what is over with the last of them is awaited
-pub awaits_on : {M : Type 0} (content : M → List MemoryEntry) (old : Receiving M) (watch : Watching)
-    (bits : List Bool) (answer : Option Over) → HearsAll old.watch watch bits answer
-    → in_force watch ≡ in_force old.watch
+-- a hearer heard these elements, and what is over with the last of them is awaited
+pub awaits_on : {M : Type 0} (content : M → List MemoryEntry) (old : Receiving M)
+    (hearer : CopyHearing) (bits : List Bool) (answer : Option Over)
+    → HearsAll old.hearer hearer bits answer → in_force hearer ≡ in_force old.hearer
     → (start : Start) (events : List Event) (log : List TaggedCopy)
     → Stands content start old events log
-    → Awaits content start (record { watch = watch; memory = old.memory })
+    → Awaits content start (record { hearer = hearer; memory = old.memory })
     (events ++ elements bits) log answer
-awaits_on content old watch bits answer hears force start events log s =
+awaits_on content old hearer bits answer hears force start events log s =
     let first = first_setting start in
-    let new : Receiving _ = record { watch = watch; memory = old.memory } in
+    let new : Receiving _ = record { hearer = hearer; memory = old.memory } in
     let heard = hears.hears first (elements_among events) (settings first events) s.copies
-    s.watch in
+    s.hearer in
     let over : AwaitsOver content start new (elements_among events ++ bits)
-    (settings first events ++ all_in_force old.watch bits) (setting_after_all first events) log
+    (settings first events ++ all_in_force old.hearer bits) (setting_after_all first events) log
     answer = record {
       copies = s.copies;
-      watch = heard.brings;
+      hearer = heard.brings;
       force = force ∙ s.force;
       printed =
           s.printed;
@@ -62,31 +62,31 @@ awaits_on content old watch bits answer hears force start events log s =
     } in
     let all = events ++ elements bits in
     let h = subst (λ h. AwaitsOver content start new h
-    (settings first events ++ all_in_force old.watch bits) (setting_after_all first events) log
+    (settings first events ++ all_in_force old.hearer bits) (setting_after_all first events) log
     answer) (sym (bits_of-more events bits)) over in
     let t = subst (λ t. AwaitsOver content start new (elements_among all) t
     (setting_after_all first events) log answer)
-    (sym (settings-more first old.watch events bits s.force)) h in
+    (sym (settings-more first old.hearer events bits s.force)) h in
     subst (λ now. AwaitsOver content start new (elements_among all) (settings first all) now log
     answer) (sym (force-more first events bits)) t
 
 -- and nothing was printed before the last of them
 pub printed_before : {M : Type 0} (content : M → List MemoryEntry) (old : Receiving M)
-    (watch : Watching) (bits : List Bool) (n : ℕ) (answer : Option Over) → n ≤ length bits
-    → HearsAll old.watch watch (take n bits) answer → HandsOutNoneBefore content old bits n
-printed_before content old watch bits n answer within hears start events log s k lt =
+    (hearer : CopyHearing) (bits : List Bool) (n : ℕ) (answer : Option Over) → n ≤ length bits
+    → HearsAll old.hearer hearer (take n bits) answer → HandsOutNoneBefore content old bits n
+printed_before content old hearer bits n answer within hears start events log s k lt =
     let first = first_setting start in
     let heard = hears.hears first (elements_among events) (settings first events) s.copies
-    s.watch in
+    s.hearer in
     let some = take k bits in
     let same : take k (take n bits) ≡ some = take-take k n bits (omega arith) in
     let ended = subst (λ l. HasEnded first (elements_among events ++ l)
-    (settings first events ++ all_in_force old.watch l) s.copies) same
+    (settings first events ++ all_in_force old.hearer l) s.copies) same
     (heard.none_before k (omega (arith, length-take n bits))) in
-    let h = subst (λ h. HasEnded first h (settings first events ++ all_in_force old.watch some)
+    let h = subst (λ h. HasEnded first h (settings first events ++ all_in_force old.hearer some)
     s.copies) (sym (bits_of-more events some)) ended in
     let t = subst (λ t. HasEnded first (elements_among (events ++ elements some)) t s.copies)
-    (sym (settings-more first old.watch events some s.force)) h in
+    (sym (settings-more first old.hearer events some s.force)) h in
     has_printed start (events ++ elements some) s.copies log t s.printed
 
 -- where nothing is over, nothing is awaited
@@ -97,7 +97,7 @@ pub nothing_awaited : {M : Type 0} (content : M → List MemoryEntry) (start : S
     → StandsOver content start receiver h s now log
 nothing_awaited content start receiver h s now log left nothing a = record {
   copies = a.copies;
-  watch = subst (IsOver (first_setting start) receiver.watch h s a.copies) nothing a.watch;
+  hearer = subst (IsOver (first_setting start) receiver.hearer h s a.copies) nothing a.hearer;
   force = a.force;
   printed = a.printed;
   memory = a.memory;
@@ -111,7 +111,7 @@ pub awaits_nothing : {M : Type 0} (content : M → List MemoryEntry) (start : St
     → AwaitsOver content start receiver h s now log None
 awaits_nothing content start receiver h s now log stands = record {
   copies = stands.copies;
-  watch = stands.watch;
+  hearer = stands.hearer;
   force = stands.force;
   printed = stands.printed;
   memory = stands.memory;

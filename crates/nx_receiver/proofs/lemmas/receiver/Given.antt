@@ -20,14 +20,14 @@ use Rattle.nx_receiver.specs.copies.FoundCopies.{TaggedCopy}
 use Rattle.nx_receiver.specs.copies.Printing.{entries_after, entries_made, entry_made, if_printed}
 use Rattle.nx_receiver.specs.copies.Printing.{is_printed, printed_copies}
 use Rattle.nx_receiver.specs.Receiver.{Receiving}
-use Rattle.nx_receiver.specs.Watching.{Watching, in_force}
+use Rattle.nx_receiver.specs.CopyHearing.{CopyHearing, in_force}
 use Rattle.nx_receiver.specs.declared.copy_taker.CopyTag.{CopyTag}
 use Rattle.nx_receiver.specs.declared.copy_taker.Over.{Over}
 use Rattle.nx_receiver.specs.declared.copy_taker.Over.TheVariants as over
 use Rattle.nx_receiver.specs.private.Awaiting.{AwaitsOver, behind_copy}
 use Rattle.nx_receiver.specs.private.Heads.{headed_copy, headed_list}
 use Rattle.nx_receiver.specs.private.LockReader.{is_open}
-use Rattle.nx_receiver.specs.private.Watch.{IsOver, ready_copy}
+use Rattle.nx_receiver.specs.private.CopyHearer.{IsOver, ready_copy}
 use Rattle.nx_receiver.proofs.lemmas.receiver.Logged.{printed_copies-append, entries_after-append}
 
 -- the copy that can be taken, with its head
@@ -113,24 +113,24 @@ shown true before head text kept copy same is =
 shown false before head text kept copy same is = refl
 
 -- A copy that is over was judged, and is handed out where it is printed.
-judged : {M : Type 0} (content : M → List MemoryEntry) (start : Start) (watch : Watching)
+judged : {M : Type 0} (content : M → List MemoryEntry) (start : Start) (hearer : CopyHearing)
     (old new : M) (h : List Bool) (s : List Setting) (now : Setting)
     (copies log more : List TaggedCopy) (copy : TaggedCopy) (left : Option Over) (is_shown : Bool)
-    → IsOver (first_setting start) watch h s (copies ++ copy ∷ []) left
-    → in_force watch ≡ now
+    → IsOver (first_setting start) hearer h s (copies ++ copy ∷ []) left
+    → in_force hearer ≡ now
     → log ≡ printed_copies start.entries copies
     → is_shown ≡ is_printed (entries_after start.entries copies) copy
     → content new ≡ last_of most_entries (entries_after start.entries copies
     ++ entry_made (entries_after start.entries copies) copy)
     → more ≡ cond is_shown (copy ∷ []) []
-    → AwaitsOver content start (record { watch = watch; memory = new }) h s now (log ++ more) left
+    → AwaitsOver content start (record { hearer = hearer; memory = new }) h s now (log ++ more) left
 unfolding printed_copies if_printed entries_made
-judged content start watch old new h s now copies log more copy left is_shown is force printed
+judged content start hearer old new h s now copies log more copy left is_shown is force printed
     prints enters gives =
     let before = entries_after start.entries copies in
     record {
       copies = copies ++ copy ∷ [];
-      watch = is;
+      hearer = is;
       force = force;
       printed = ap (λ l. l ++ more) printed
           ∙ ap (λ l. printed_copies start.entries copies ++ l)
@@ -151,29 +151,29 @@ pub record IsJudged {M : Type 0} (content : M → List MemoryEntry) (old new : M
   pub entered : (entries : List MemoryEntry) → content old ≡ last_of most_entries entries
       → content new ≡ last_of most_entries (entries ++ entry_made entries copy)
 
-copy_judged : {M : Type 0} (content : M → List MemoryEntry) (start : Start) (watch : Watching)
+copy_judged : {M : Type 0} (content : M → List MemoryEntry) (start : Start) (hearer : CopyHearing)
     (old new : M) (h : List Bool) (s : List Setting) (now : Setting)
     (copies log : List TaggedCopy) (head : FoundHead) (copy : Copy) (left : Option Over)
-    (is_shown : Bool) → HasReady watch.reader.finder copy → IsHeadOf copy head
-    → IsOver (first_setting start) watch h s (copies ++ ready_copy copy watch.tag ∷ []) left
-    → in_force watch ≡ now
+    (is_shown : Bool) → HasReady hearer.reader.finder copy → IsHeadOf copy head
+    → IsOver (first_setting start) hearer h s (copies ++ ready_copy copy hearer.tag ∷ []) left
+    → in_force hearer ≡ now
     → log ≡ printed_copies start.entries copies
     → content old ≡ last_of most_entries (entries_after start.entries copies)
     → IsJudged content old new
-    (headed_copy head watch.reader.finder.text watch.tag.moment watch.tag.is_selected) is_shown
-    → AwaitsOver content start (record { watch = watch; memory = new }) h s now
-    (log ++ cond is_shown (headed_copy head watch.reader.finder.text watch.tag.moment true ∷ []) [])
-    left
-copy_judged content start watch old new h s now copies log head copy left is_shown ready is over
+    (headed_copy head hearer.reader.finder.text hearer.tag.moment hearer.tag.is_selected) is_shown
+    → AwaitsOver content start (record { hearer = hearer; memory = new }) h s now
+    (log ++ cond is_shown (headed_copy head hearer.reader.finder.text hearer.tag.moment true ∷ [])
+    []) left
+copy_judged content start hearer old new h s now copies log head copy left is_shown ready is over
     force printed memory j =
     let before = entries_after start.entries copies in
-    let same = same_copy watch.reader.finder copy head watch.tag ready is in
+    let same = same_copy hearer.reader.finder copy head hearer.tag ready is in
     let prints = j.printed before memory ∙ ap (is_printed before) same in
-    judged content start watch old new h s now copies log _ (ready_copy copy watch.tag) left
+    judged content start hearer old new h s now copies log _ (ready_copy copy hearer.tag) left
     is_shown over force printed prints
     (j.entered before memory
     ∙ ap (λ c. last_of most_entries (before ++ entry_made before c)) same)
-    (shown is_shown before head watch.reader.finder.text watch.tag (ready_copy copy watch.tag)
+    (shown is_shown before head hearer.reader.finder.text hearer.tag (ready_copy copy hearer.tag)
     same prints)
 
 -- a copy is over, alone or with the lock
@@ -185,38 +185,38 @@ copy_is_over left is_over is (inr e) = inr (is ∙ ap Some e)
 
 -- The copy that is over was judged where it lies: it is handed out where it is printed.
 pub ready_judged : {M : Type 0} (content : M → List MemoryEntry) (start : Start)
-    (watch : Watching) (old new : M) (h : List Bool) (s : List Setting) (now : Setting)
+    (hearer : CopyHearing) (old new : M) (h : List Bool) (s : List Setting) (now : Setting)
     (log : List TaggedCopy) (head : FoundHead) (is_over : Option Over) (is_shown : Bool)
     → (is_over ≡ Some over.Copy) ⊎ (is_over ≡ Some over.CopyAndLock)
-    → ((copy : Copy) → HasReady watch.reader.finder copy → IsHeadOf copy head)
+    → ((copy : Copy) → HasReady hearer.reader.finder copy → IsHeadOf copy head)
     → IsJudged content old new
-    (headed_copy head watch.reader.finder.text watch.tag.moment watch.tag.is_selected) is_shown
-    → AwaitsOver content start (record { watch = watch; memory = old }) h s now log is_over
-    → AwaitsOver content start (record { watch = watch; memory = new }) h s now
-    (log ++ cond is_shown (headed_copy head watch.reader.finder.text watch.tag.moment true ∷ []) [])
-    (behind_copy is_over)
-ready_judged content start watch old new h s now log head None is_shown some is j a =
+    (headed_copy head hearer.reader.finder.text hearer.tag.moment hearer.tag.is_selected) is_shown
+    → AwaitsOver content start (record { hearer = hearer; memory = old }) h s now log is_over
+    → AwaitsOver content start (record { hearer = hearer; memory = new }) h s now
+    (log ++ cond is_shown (headed_copy head hearer.reader.finder.text hearer.tag.moment true ∷ [])
+    []) (behind_copy is_over)
+ready_judged content start hearer old new h s now log head None is_shown some is j a =
     elim some [ inl e ↦ cc | inr e ↦ cc ]
-ready_judged content start watch old new h s now log head (Some over.Copy) is_shown some is j a =
-    copy_judged content start watch old new h s now a.copies log head a.watch.copy None
-    is_shown a.watch.ready (is a.watch.copy a.watch.ready) a.watch.stands a.force a.printed
+ready_judged content start hearer old new h s now log head (Some over.Copy) is_shown some is j a =
+    copy_judged content start hearer old new h s now a.copies log head a.hearer.copy None
+    is_shown a.hearer.ready (is a.hearer.copy a.hearer.ready) a.hearer.stands a.force a.printed
     a.memory j
-ready_judged content start watch old new h s now log head (Some over.Lock) is_shown some is j a =
+ready_judged content start hearer old new h s now log head (Some over.Lock) is_shown some is j a =
     elim some [ inl e ↦ cc | inr e ↦ cc ]
-ready_judged content start watch old new h s now log head (Some over.CopyAndLock) is_shown some is j
-    a =
-    copy_judged content start watch old new h s now a.copies log head a.watch.copy (Some over.Lock)
-    is_shown a.watch.ready (is a.watch.copy a.watch.ready) a.watch.lock a.force a.printed
-    a.memory j
+ready_judged content start hearer old new h s now log head (Some over.CopyAndLock) is_shown some is
+    j a =
+    copy_judged content start hearer old new h s now a.copies log head a.hearer.copy
+    (Some over.Lock) is_shown a.hearer.ready (is a.hearer.copy a.hearer.ready) a.hearer.lock a.force
+    a.printed a.memory j
 
 -- a copy that is over with the lock isn't open
 pub over_not_open : {M : Type 0} (content : M → List MemoryEntry) (start : Start)
     (r : Receiving M) (h : List Bool) (s : List Setting) (now : Setting) (log : List TaggedCopy)
     (is_over : Option Over) → AwaitsOver content start r h s now log is_over
-    → is_over ≡ Some over.CopyAndLock → is_open r.watch.reader.finder.copy ≡ false
+    → is_over ≡ Some over.CopyAndLock → is_open r.hearer.reader.finder.copy ≡ false
 over_not_open content start r h s now log is_over a is =
     let both = subst (λ o. AwaitsOver content start r h s now log o) is a in
-    ap is_open both.watch.ready.held
+    ap is_open both.hearer.ready.held
 
 -- how many copies of a head are handed out
 pub heads_counted : (head : Option FoundHead) (text : List ℕ) (moment : ℕ)

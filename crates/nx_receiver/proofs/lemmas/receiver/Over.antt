@@ -1,4 +1,4 @@
--- What is over with some elements, and is then taken and ended: what the watch stands after.
+-- What is over with some elements, and is then taken and ended: what the hearer stands after.
 use Rattle.std.proofs.Common.{◌≡◌, ℕ, ◌+◌, Bool, List, [], ◌∷◌, ◌++◌, map, Option, sym, ap}
 use Rattle.std.proofs.Common.{◌∙◌, subst, append-nil}
 use Rattle.nx_sync.specs.Locks.{Lock, hunting}
@@ -13,9 +13,9 @@ use Rattle.nx_receiver.specs.Events.{Setting}
 use Rattle.nx_receiver.specs.copies.FoundCopies.{ended_in, ended_so_far, found_copy, past_copies}
 use Rattle.nx_receiver.specs.copies.FoundCopies.{past_text, TaggedCopy}
 use Rattle.nx_receiver.specs.copies.LockText.{bytes_of}
-use Rattle.nx_receiver.specs.private.Watch.{BothAreOver, LockIsOver, WatchStands, copies_by}
-use Rattle.nx_receiver.specs.private.Watch.{handed_out}
-use Rattle.nx_receiver.specs.Watching.{Watching, in_force}
+use Rattle.nx_receiver.specs.private.CopyHearer.{BothAreOver, LockIsOver, HearerStands, copies_by}
+use Rattle.nx_receiver.specs.private.CopyHearer.{handed_out}
+use Rattle.nx_receiver.specs.CopyHearing.{CopyHearing, in_force}
 use Rattle.nx_receiver.proofs.lemmas.locks.Found.{all_in-parts, one_told}
 use Rattle.nx_receiver.proofs.lemmas.locks.Growing.{hunted}
 use Rattle.nx_receiver.proofs.lemmas.locks.Texts.{bytes_are_reading}
@@ -42,10 +42,10 @@ all_ended bits lock older from none =
 
 -- A copy ended with the element that released the lock: none is open, and the end of the text adds
 -- none.
-pub both_ended : (first : Setting) (old taken new : Watching) (h : List Bool) (s : List Setting)
+pub both_ended : (first : Setting) (old taken new : CopyHearing) (h : List Bool) (s : List Setting)
     (copies these more : List TaggedCopy)
     → BothAreOver first old h s copies → LockIsOver first taken h s these
-    → WatchStands first new h s (these ++ more) → these ++ more ≡ these
+    → HearerStands first new h s (these ++ more) → these ++ more ≡ these
 both_ended first old taken new h s copies these more both over stands =
     let lock = both.lock.lock in
     let same : lock ∷ both.lock.older ≡ over.lock ∷ over.older =
@@ -66,20 +66,20 @@ both_ended first old taken new h s copies these more both over stands =
     ∙ sym over.ended
 
 -- after a call that handed out a copy, or none
-pub record Handed (first : Setting) (old new : Watching) (found : Option Found) (tag : CopyTag)
+pub record Handed (first : Setting) (old new : CopyHearing) (found : Option Found) (tag : CopyTag)
     (h : List Bool) (s : List Setting) (copies : List TaggedCopy) : Type 0 where
-  pub stands : WatchStands first new h s (copies ++ handed_out found tag)
+  pub stands : HearerStands first new h s (copies ++ handed_out found tag)
   pub force : in_force new ≡ in_force old
 
-pub handed : (first : Setting) (old new watch : Watching) (found given : Option Found)
+pub handed : (first : Setting) (old new hearer : CopyHearing) (found given : Option Found)
     (tag : CopyTag) (h : List Bool) (s : List Setting) (copies : List TaggedCopy)
-    → watch ≡ new → given ≡ found → tag ≡ watch.tag → in_force new ≡ in_force old
-    → WatchStands first new h s (copies ++ handed_out found new.tag)
-    → Handed first old watch given tag h s copies
-handed first old new watch found given tag h s copies same is its force stands = record {
-  stands = subst (λ l. WatchStands first watch h s l)
+    → hearer ≡ new → given ≡ found → tag ≡ hearer.tag → in_force new ≡ in_force old
+    → HearerStands first new h s (copies ++ handed_out found new.tag)
+    → Handed first old hearer given tag h s copies
+handed first old new hearer found given tag h s copies same is its force stands = record {
+  stands = subst (λ l. HearerStands first hearer h s l)
       (ap (λ t. copies ++ handed_out found t) (sym its)
       ∙ ap (λ f. copies ++ handed_out f tag) (sym is))
-      (subst (λ w. WatchStands first w h s (copies ++ handed_out found w.tag)) (sym same) stands);
+      (subst (λ w. HearerStands first w h s (copies ++ handed_out found w.tag)) (sym same) stands);
   force = ap in_force same ∙ force;
 }

@@ -17,9 +17,9 @@ use Rattle.nx_receiver.specs.copies.Log.{HasPrinted, PrintsToEnd}
 use Rattle.nx_receiver.specs.copies.Printing.{entries_after, entries_made, entry_made, if_printed}
 use Rattle.nx_receiver.specs.copies.Printing.{is_printed, printed_copies}
 use Rattle.nx_receiver.specs.Receiver.{Stands, StandsOver}
-use Rattle.nx_receiver.specs.private.Watch.{HasEnded, HasEndedAll, WatchStands, copies_by}
-use Rattle.nx_receiver.specs.private.Watch.{handed_out}
-use Rattle.nx_receiver.specs.Watching.{Watching, in_force}
+use Rattle.nx_receiver.specs.private.CopyHearer.{HasEnded, HasEndedAll, HearerStands, copies_by}
+use Rattle.nx_receiver.specs.private.CopyHearer.{handed_out}
+use Rattle.nx_receiver.specs.CopyHearing.{CopyHearing, in_force}
 use Rattle.nx_receiver.proofs.lemmas.receiver.Logged.{printed_copies-append, entries_after-append}
 
 -- where no copy was handed out, none is printed, and none entered
@@ -64,25 +64,25 @@ pub selected : (entries : List MemoryEntry) (found : Found) (tag : CopyTag)
 unfolding is_printed
 selected entries found tag h = ap (tagged_found found tag.moment) (sym (and_parts _ _ h).0)
 
--- A watch handed out a copy, or none; what is printed and entered of it is the next of all copies.
-pub stands_with : {M : Type 0} (content : M → List MemoryEntry) (start : Start) (watch : Watching)
-    (old new : M) (h : List Bool) (s : List Setting) (now : Setting) (copies log : List TaggedCopy)
-    (found : Option Found) (tag : CopyTag) (more : List TaggedCopy)
-    → WatchStands (first_setting start) watch h s (copies ++ handed_out found tag)
-    → in_force watch ≡ now
+-- A hearer handed out a copy, or none; what is printed and entered of it is the next of all copies.
+pub stands_with : {M : Type 0} (content : M → List MemoryEntry) (start : Start)
+    (hearer : CopyHearing) (old new : M) (h : List Bool) (s : List Setting) (now : Setting)
+    (copies log : List TaggedCopy) (found : Option Found) (tag : CopyTag) (more : List TaggedCopy)
+    → HearerStands (first_setting start) hearer h s (copies ++ handed_out found tag)
+    → in_force hearer ≡ now
     → log ≡ printed_copies start.entries copies
     → content old ≡ last_of most_entries (entries_after start.entries copies)
     → ((entries : List MemoryEntry) → content old ≡ last_of most_entries entries
     → more ≡ printed_copies entries (handed_out found tag))
     → ((entries : List MemoryEntry) → content old ≡ last_of most_entries entries
     → content new ≡ last_of most_entries (entries_after entries (handed_out found tag)))
-    → StandsOver content start (record { watch = watch; memory = new }) h s now (log ++ more)
-stands_with content start watch old new h s now copies log found tag more stands force printed
+    → StandsOver content start (record { hearer = hearer; memory = new }) h s now (log ++ more)
+stands_with content start hearer old new h s now copies log found tag more stands force printed
     memory prints enters =
     let before = entries_after start.entries copies in
     record {
       copies = copies ++ handed_out found tag;
-      watch = stands;
+      hearer = stands;
       force = force;
       printed = ap (λ l. l ++ more) printed
           ∙ ap (λ l. printed_copies start.entries copies ++ l) (prints before memory)
@@ -98,7 +98,7 @@ tagged-by : (first : Setting) (events : List Event) (copies : List FoundCopy)
 unfolding copies_by tagged_copies
 tagged-by first events copies = refl
 
--- A watch stands after the elements of these events: what is printed of its copies is the log.
+-- A hearer stands after the elements of these events: what is printed of its copies is the log.
 pub has_printed : (start : Start) (events : List Event) (copies log : List TaggedCopy)
     → HasEnded (first_setting start) (elements_among events) (settings (first_setting start) events)
     copies → log ≡ printed_copies start.entries copies → HasPrinted start events log
@@ -136,18 +136,18 @@ prints_to_end content start events memory copies log found tag more ended printe
 
 -- a receiver that was made stands after no event
 pub begins : {M : Type 0} (content : M → List MemoryEntry) (start : Start) (memory : M)
-    (watch : Watching) → ((first : Setting) → WatchStands first watch [] [] [])
-    → in_force watch ≡ first_setting start → start.entries ≡ content memory
+    (hearer : CopyHearing) → ((first : Setting) → HearerStands first hearer [] [] [])
+    → in_force hearer ≡ first_setting start → start.entries ≡ content memory
     → length (content memory) ≤ most_entries
-    → Stands content start (record { watch = watch; memory = memory }) [] []
+    → Stands content start (record { hearer = hearer; memory = memory }) [] []
 unfolding elements_among settings setting_after_all printed_copies entries_made
-begins content start memory watch stands force entries few =
+begins content start memory hearer stands force entries few =
     let all : last_of most_entries (content memory) ≡ content memory =
     ap (λ n. drop n (content memory))
     (let e : length (content memory) - most_entries ≡ 0 = omega arith in e) in
     record {
       copies = [];
-      watch = stands (first_setting start);
+      hearer = stands (first_setting start);
       force = force;
       printed = refl;
       memory = sym (ap (last_of most_entries) (append-nil start.entries ∙ entries) ∙ all);

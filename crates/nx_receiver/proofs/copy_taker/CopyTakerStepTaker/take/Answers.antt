@@ -1,5 +1,5 @@
 use Rattle.std.proofs.Common.{arith}
-use Rattle.nx_receiver.proofs.lemmas.watch.Hears.{step_taken}
+use Rattle.nx_receiver.proofs.lemmas.copy_hearer.Hears.{step_taken}
 use Rattle.nx_receiver.proofs.copy_taker.CopyTakerStepTaker.take.Goals as goal
 
 pub returns-clause-hears : goal.returns-clause-hears

@@ -6,7 +6,7 @@ use Rattle.nx_receiver.proofs.receiver.Receiver.hear.Goals as goal
 pub returns-clause-stands : goal.returns-clause-stands
 returns-clause-stands g c start history log stands =
     let content = g.M.Recall.content in
-    let old : Receiving _ = record { watch = c.self.inside.watch; memory = c.self.inside.memory } in
+    let old : Receiving _ = record { hearer = c.self.inside.hearer; memory = c.self.inside.memory } in
     let piece = take c.hear.result.0 (drop c.args.from c.args.packed.now) in
     awaits_on content old c.hear.new.self piece c.hear.result.1 c.hear.ensures.hears
     c.hear.ensures.force start history log
@@ -15,7 +15,7 @@ returns-clause-stands g c start history log stands =
 pub returns-clause-first : goal.returns-clause-first
 returns-clause-first g c start history log stands k lt =
     let content = g.M.Recall.content in
-    let old : Receiving _ = record { watch = c.self.inside.watch; memory = c.self.inside.memory } in
+    let old : Receiving _ = record { hearer = c.self.inside.hearer; memory = c.self.inside.memory } in
     printed_before content old c.hear.new.self (drop c.args.from c.args.packed.now) c.hear.result.0
     c.hear.result.1
     (omega (arith, c.hear.ensures.within, length-drop c.args.from c.args.packed.now))

@@ -22,8 +22,8 @@ judge_head-requires-clause-errors g c =
 pub returns-then-not-judge_head-clause-stands : goal.returns-then-not-judge_head-clause-stands
 returns-then-not-judge_head-clause-stands g c start history log awaits =
     let content = g.M.Recall.content in
-    let watch = c.self.inside.watch in
-    let finder = watch.reader.finder in
+    let hearer = c.self.inside.hearer in
+    let finder = hearer.reader.finder in
     let head = c.in_ok-head.head in
     let first = first_setting start in
     let now = setting_after_all first history in
@@ -34,7 +34,7 @@ returns-then-not-judge_head-clause-stands g c start history log awaits =
     (c.ready_text-text.ensures.text has.copy has.ready ∙ sym has.ready.text
     ∙ ap (λ (f : Finder). f.text) at) c.tag-moment.ensures in
     let j : IsJudged content c.self.inside.memory c.judge_head.new.memory
-    (headed_copy head finder.text watch.tag.moment watch.tag.is_selected) c.judge_head.result =
+    (headed_copy head finder.text hearer.tag.moment hearer.tag.is_selected) c.judge_head.result =
     record {
       printed = λ entries e. c.judge_head.ensures.printed entries e ∙ ap (is_printed entries) same;
       entered = λ entries e. c.judge_head.ensures.entered entries e
@@ -42,22 +42,22 @@ returns-then-not-judge_head-clause-stands g c start history log awaits =
     } in
     let before = subst (λ r. Awaits content start r history log c.args.over) (sym c.self.view_is)
     awaits in
-    let all = ready_judged content start watch c.self.inside.memory c.judge_head.new.memory
+    let all = ready_judged content start hearer c.self.inside.memory c.judge_head.new.memory
     (elements_among history) (settings first history) now log head c.args.over
     c.judge_head.result (copy_is_over c.args.over c.in-Some.over c.in-Some.is c.in-Copy.is)
     (λ copy ready. c.in_ok-head.ensures.head copy (subst (λ f. HasReady f copy) (sym at) ready)) j
     before in
     (subst (λ b. AwaitsOver content start
-    (record { watch = watch; memory = c.judge_head.new.memory })
+    (record { hearer = hearer; memory = c.judge_head.new.memory })
     (elements_among history) (settings first history) now
-    (log ++ cond b (headed_copy head finder.text watch.tag.moment true ∷ []) [])
+    (log ++ cond b (headed_copy head finder.text hearer.tag.moment true ∷ []) [])
     (behind_copy c.args.over)) c.if-not-judge_head.true all)
 
 pub returns-clause-stands : goal.returns-clause-stands
 returns-clause-stands g c start history log awaits =
     let content = g.M.Recall.content in
-    let watch = c.self.inside.watch in
-    let finder = watch.reader.finder in
+    let hearer = c.self.inside.hearer in
+    let finder = hearer.reader.finder in
     let head = c.in_ok-head.head in
     let first = first_setting start in
     let now = setting_after_all first history in
@@ -68,7 +68,7 @@ returns-clause-stands g c start history log awaits =
     (c.ready_text-text.ensures.text has.copy has.ready ∙ sym has.ready.text
     ∙ ap (λ (f : Finder). f.text) at) c.tag-moment.ensures in
     let j : IsJudged content c.self.inside.memory c.judge_head.new.memory
-    (headed_copy head finder.text watch.tag.moment watch.tag.is_selected) c.judge_head.result =
+    (headed_copy head finder.text hearer.tag.moment hearer.tag.is_selected) c.judge_head.result =
     record {
       printed = λ entries e. c.judge_head.ensures.printed entries e ∙ ap (is_printed entries) same;
       entered = λ entries e. c.judge_head.ensures.entered entries e
@@ -76,20 +76,20 @@ returns-clause-stands g c start history log awaits =
     } in
     let before = subst (λ r. Awaits content start r history log c.args.over) (sym c.self.view_is)
     awaits in
-    let all = ready_judged content start watch c.self.inside.memory c.judge_head.new.memory
+    let all = ready_judged content start hearer c.self.inside.memory c.judge_head.new.memory
     (elements_among history) (settings first history) now log head c.args.over
     c.judge_head.result (copy_is_over c.args.over c.in-Some.over c.in-Some.is c.in-Copy.is)
     (λ copy ready. c.in_ok-head.ensures.head copy (subst (λ f. HasReady f copy) (sym at) ready)) j
     before in
     subst (λ (r : Receiving g.row.M.Denot). AwaitsOver content start
-    (record { watch = watch; memory = c.judge_head.new.memory })
+    (record { hearer = hearer; memory = c.judge_head.new.memory })
     (elements_among history) (settings first history) now
-    (log ++ headed_copy head r.watch.reader.finder.text r.watch.tag.moment true ∷ [])
+    (log ++ headed_copy head r.hearer.reader.finder.text r.hearer.tag.moment true ∷ [])
     (behind_copy c.args.over)) c.self.view_is
     (subst (λ b. AwaitsOver content start
-    (record { watch = watch; memory = c.judge_head.new.memory })
+    (record { hearer = hearer; memory = c.judge_head.new.memory })
     (elements_among history) (settings first history) now
-    (log ++ cond b (headed_copy head finder.text watch.tag.moment true ∷ []) [])
+    (log ++ cond b (headed_copy head finder.text hearer.tag.moment true ∷ []) [])
     (behind_copy c.args.over)) c.if-not-judge_head.false all)
 
 pub returns-clause-ready : goal.returns-clause-ready
@@ -97,7 +97,7 @@ returns-clause-ready g c =
     let has = has_head _ c.ready_head.result c.in_ok-head.head
     c.in_ok-head.was c.ready_head.ensures.none c.ready_head.ensures.head in
     let at = c.finder-finder.ensures
-    ∙ ap (λ (w : Receiving g.row.M.Denot). w.watch.reader.finder) c.self.view_is in (
+    ∙ ap (λ (w : Receiving g.row.M.Denot). w.hearer.reader.finder) c.self.view_is in (
       has.copy,
       subst (λ f. HasReady f has.copy) at has.ready,
       has.is,

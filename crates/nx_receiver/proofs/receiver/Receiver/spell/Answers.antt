@@ -10,7 +10,7 @@ use Rattle.nx_receiver.specs.Listener.{IsSpelled}
 use Rattle.nx_receiver.specs.copies.Log.{IsEntry}
 use Rattle.nx_receiver.specs.Receiver.{Receiving}
 use Rattle.nx_receiver.specs.copies.Shares.{marked}
-use Rattle.nx_receiver.specs.Watching.{Watching}
+use Rattle.nx_receiver.specs.CopyHearing.{CopyHearing}
 use Rattle.nx_receiver.specs.declared.copy_taker.CopyTag.{CopyTag}
 use Rattle.nx_receiver.specs.private.Heads.{headed_copy, headed_list}
 use Rattle.nx_receiver.specs.private.LockReader.{is_open}
@@ -25,11 +25,11 @@ returns-clause-stands g c =
     let over = c.close_lock-over.result in
     let judged = c.judge_ready-judged.result in
     let channel = c.args.channel in
-    let finder = mid.watch.reader.finder in
-    let moment = mid.watch.tag.moment in
+    let finder = mid.hearer.reader.finder in
+    let moment = mid.hearer.tag.moment in
     let copies = headed_list judged finder.text moment in
-    let kept = c.judge_ready-judged.ensures.watch in
-    let same = ap (λ (r : Receiving g.row.M.Denot). r.watch) c.self.view_is ∙ kept in
+    let kept = c.judge_ready-judged.ensures.hearer in
+    let same = ap (λ (r : Receiving g.row.M.Denot). r.hearer) c.self.view_is ∙ kept in
     let spelled : IsSpelled channel (is_some judged) copies c.match-judged.spelled.items =
     elim c.match-judged.branch [
       | in-Some w ↦
@@ -37,11 +37,11 @@ returns-clause-stands g c =
           let has : (copy : Copy) × HasReady finder copy × IsHeadOf copy head =
           subst (λ o. IfSome o (λ head. (copy : Copy) × HasReady finder copy × IsHeadOf copy head))
           w.in-Some.is c.judge_ready-judged.ensures.ready in
-          let at = w.finder.ensures ∙ ap (λ (w : Watching). w.reader.finder) same in
+          let at = w.finder.ensures ∙ ap (λ (w : CopyHearing). w.reader.finder) same in
           let text = w.ready_text-text.ensures.text has.0
           (subst (λ (f : Finder). HasReady f has.0) (sym at) has.1) ∙ sym has.1.text in
           let tagged = ap (λ (t : CopyTag). t.moment) w.tag.ensures
-          ∙ ap (λ (w : Watching). w.tag.moment) same in
+          ∙ ap (λ (w : CopyHearing). w.tag.moment) same in
           let copy = headed_copy head finder.text moment true in
           let one = ap₂ (λ x m. headed_copy head x m true) text tagged in
           subst (λ o. IsSpelled channel (is_some o) (headed_list o finder.text moment)
@@ -62,7 +62,7 @@ returns-clause-stands g c =
       λ start events log awaits.
           let passed = c.close_lock-over.ensures.stands start events log awaits in
           c.leave_lock.ensures start events (log ++ copies) c.close_lock-over.ensures.closed
-          (λ both. ap (λ (w : Watching). is_open w.reader.finder.copy) kept
+          (λ both. ap (λ (w : CopyHearing). is_open w.reader.finder.copy) kept
           ∙ over_not_open content start mid (elements_among events)
           (settings (first_setting start) events) (setting_after_all (first_setting start) events)
           log over passed both)

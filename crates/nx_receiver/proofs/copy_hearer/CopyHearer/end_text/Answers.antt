@@ -1,7 +1,7 @@
 use Rattle.std.proofs.Common.{sym, subst}
-use Rattle.nx_receiver.specs.private.Watch.{LockIsOver, WatchStands}
-use Rattle.nx_receiver.proofs.lemmas.watch.Takes.{all_ended, lock_ended}
-use Rattle.nx_receiver.proofs.watch.Watch.end_text.Goals as goal
+use Rattle.nx_receiver.specs.private.CopyHearer.{LockIsOver, HearerStands}
+use Rattle.nx_receiver.proofs.lemmas.copy_hearer.Takes.{all_ended, lock_ended}
+use Rattle.nx_receiver.proofs.copy_hearer.CopyHearer.end_text.Goals as goal
 
 pub returns-clause-lock : goal.returns-clause-lock
 returns-clause-lock c first h s copies over =
@@ -12,4 +12,4 @@ returns-clause-lock c first h s copies over =
 pub returns-clause-all : goal.returns-clause-all
 returns-clause-all c first h s copies stands =
     all_ended first _ c.end.result h s copies c.end.ensures.closes
-    (subst (λ w. WatchStands first w h s copies) (sym c.self.view_is) stands)
+    (subst (λ w. HearerStands first w h s copies) (sym c.self.view_is) stands)

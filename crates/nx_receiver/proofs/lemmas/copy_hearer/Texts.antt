@@ -23,9 +23,9 @@ use Rattle.nx_receiver.specs.private.LockReader.{HearsWord, word_place}
 use Rattle.nx_receiver.specs.copies.LockText.{text_after}
 use Rattle.nx_receiver.specs.copies.LockText.{PlacedByte, printed_by, text_by, bytes_of}
 use Rattle.nx_receiver.specs.private.CopyTaker.{tag_after}
-use Rattle.nx_receiver.specs.private.Watch.{HasTag, copies_by, ready_copy, setting_in}
-use Rattle.nx_receiver.specs.private.Watch.{tag_of, place_of_header}
-use Rattle.nx_receiver.specs.Watching.{Watching, in_force}
+use Rattle.nx_receiver.specs.private.CopyHearer.{HasTag, copies_by, ready_copy, setting_in}
+use Rattle.nx_receiver.specs.private.CopyHearer.{tag_of, place_of_header}
+use Rattle.nx_receiver.specs.CopyHearing.{CopyHearing, in_force}
 use Rattle.nx_receiver.proofs.lemmas.locks.Texts.{bytes_are_reading, bytes_of-append, bytes-placed}
 use Rattle.nx_receiver.proofs.lemmas.locks.Found.{IsByteIn, IsHeaderIn, ended_headers_in, found-same}
 use Rattle.nx_receiver.proofs.lemmas.locks.Found.{header_placed, length-bytes_of, open_headers_in}
@@ -177,28 +177,28 @@ ended-push text byte place others e =
     (found-same text (record { byte = byte; place = place } ∷ []) (ended_copies (bytes_of text))
     (ended_headers_in (bytes_of text)))
 
-module _ (first : Setting) (settings : List Setting) (text : List PlacedByte) (watch : Watching)
+module _ (first : Setting) (settings : List Setting) (text : List PlacedByte) (hearer : CopyHearing)
     (low high place : ℕ) (finder : Finder) (placed : All (IsByteIn low high) text)
     (h : high ≤ length settings) (last : place ≡ length settings) (byte : ℕ) where
   abbrev whole : List PlacedByte
   whole = text ++ record { byte = byte; place = place } ∷ []
 
   abbrev later : List Setting
-  later = settings ++ in_force watch ∷ []
+  later = settings ++ in_force hearer ∷ []
 
-  kept_open : HasTag first settings text watch.tag
+  kept_open : HasTag first settings text hearer.tag
       → open_headers (bytes_of text ++ byte ∷ []) ≡ open_headers (bytes_of text)
-      → HasTag first later whole watch.tag
+      → HasTag first later whole hearer.tag
   unfolding HasTag
   kept_open k e =
-      subst (All (IsTagOf first later whole watch.tag))
+      subst (All (IsTagOf first later whole hearer.tag))
       (sym (ap open_headers (bytes-push text byte place) ∙ e))
-      (tags-same first settings (in_force watch ∷ []) text
-      (record { byte = byte; place = place } ∷ []) watch.tag low high placed h
+      (tags-same first settings (in_force hearer ∷ []) text
+      (record { byte = byte; place = place } ∷ []) hearer.tag low high placed h
       (open_headers (bytes_of text)) (open_headers_in (bytes_of text)) k)
 
-  pub after_keeps : HasTag first settings text watch.tag → Keeps (bytes_of text) byte
-      → AfterWord first later text whole watch.tag finder false
+  pub after_keeps : HasTag first settings text hearer.tag → Keeps (bytes_of text) byte
+      → AfterWord first later text whole hearer.tag finder false
   after_keeps k keeps = record {
     new = [];
     ended = ended-push text byte place []
@@ -221,43 +221,43 @@ module _ (first : Setting) (settings : List Setting) (text : List PlacedByte) (w
       get_or-pushed [] x = refl
       get_or-pushed (y ∷ xs) x = get_or-pushed xs x
 
-  in_force_last : setting_in first later place ≡ in_force watch
-  in_force_last = ap (setting_in first later) last ∙ get_or-pushed settings (in_force watch) first
+  in_force_last : setting_in first later place ≡ in_force hearer
+  in_force_last = ap (setting_in first later) last ∙ get_or-pushed settings (in_force hearer) first
     where
       get_or-pushed : (xs : List Setting) (x d : Setting) → get_or (xs ++ x ∷ []) (length xs) d ≡ x
       get_or-pushed [] x d = refl
       get_or-pushed (y ∷ xs) x d = get_or-pushed xs x d
 
   pub after_header : (header : Header) → Begins (bytes_of text) byte header
-      → AfterWord first later text whole (tag_of (in_force watch) header.identity) finder false
+      → AfterWord first later text whole (tag_of (in_force hearer) header.identity) finder false
   unfolding HasTag
   after_header header begins = record {
     new = [];
     ended = ended-push text byte place []
         (begins.ended ∙ sym (append-nil (ended_copies (bytes_of text))));
     brought = copies_by-nil first later;
-    has_tag = subst (All (IsTagOf first later whole (tag_of (in_force watch) header.identity)))
+    has_tag = subst (All (IsTagOf first later whole (tag_of (in_force hearer) header.identity)))
         (sym (ap open_headers (bytes-push text byte place) ∙ begins.now_open))
-        (All-cons (IsTagOf first later whole (tag_of (in_force watch) header.identity)) header []
+        (All-cons (IsTagOf first later whole (tag_of (in_force hearer) header.identity)) header []
         (ap (λ s. tag_of s header.identity)
         (sym (ap (setting_in first later) (last_place header begins.behind) ∙ in_force_last)))
-        (All-nil (IsTagOf first later whole (tag_of (in_force watch) header.identity))));
+        (All-nil (IsTagOf first later whole (tag_of (in_force hearer) header.identity))));
   }
 
-  pub after_over : HasTag first settings text watch.tag → (copy : Copy) → HasReady finder copy
-      → Ends (bytes_of text) byte copy → AfterWord first later text whole watch.tag finder true
+  pub after_over : HasTag first settings text hearer.tag → (copy : Copy) → HasReady finder copy
+      → Ends (bytes_of text) byte copy → AfterWord first later text whole hearer.tag finder true
   unfolding HasTag copies_by found_copy tag
   after_over k copy ready ends =
-      let one : All (IsTagOf first settings text watch.tag) (copy.header ∷ []) =
-      subst (All (IsTagOf first settings text watch.tag)) ends.was_open k in
+      let one : All (IsTagOf first settings text hearer.tag) (copy.header ∷ []) =
+      subst (All (IsTagOf first settings text hearer.tag)) ends.was_open k in
       let here : All (IsHeaderIn (bytes_of text)) (copy.header ∷ []) =
       subst (All (IsHeaderIn (bytes_of text))) ends.was_open
       (open_headers_in (bytes_of text)) in
-      let is : watch.tag ≡ tag_of (setting_in first later (place_of_header whole copy.header))
+      let is : hearer.tag ≡ tag_of (setting_in first later (place_of_header whole copy.header))
       copy.header.identity =
-      All-head (IsTagOf first later whole watch.tag) copy.header []
-      (tags-same first settings (in_force watch ∷ []) text
-      (record { byte = byte; place = place } ∷ []) watch.tag low high placed h
+      All-head (IsTagOf first later whole hearer.tag) copy.header []
+      (tags-same first settings (in_force hearer ∷ []) text
+      (record { byte = byte; place = place } ∷ []) hearer.tag low high placed h
       (copy.header ∷ []) here one) in
       record {
         new = found_copy whole copy ∷ [];
@@ -274,48 +274,48 @@ module _ (first : Setting) (settings : List Setting) (text : List PlacedByte) (w
             selected = t.is_selected;
           } ∷ []) (sym is);
         };
-        has_tag = tag-none first later whole watch.tag
+        has_tag = tag-none first later whole hearer.tag
             (ap open_headers (bytes-push text byte place) ∙ ends.none);
       }
 
 -- the copies and the tag after a word, whatever it brings
 pub after_word : (first : Setting) (settings : List Setting) (before after : List PlacedByte)
-    (watch : Watching) (low high place : ℕ) (finder : Finder) (event : TextEvent)
+    (hearer : CopyHearing) (low high place : ℕ) (finder : Finder) (event : TextEvent)
     → All (IsByteIn low high) before → high ≤ length settings → place ≡ length settings
-    → HasTag first settings before watch.tag → AddsByte before after place finder event
-    → AfterWord first (settings ++ in_force watch ∷ []) before after
-    (tag_after (in_force watch) watch.tag event) finder (is_over event)
-after_word first settings before after watch low high place finder events.Nothing placed h last k
+    → HasTag first settings before hearer.tag → AddsByte before after place finder event
+    → AfterWord first (settings ++ in_force hearer ∷ []) before after
+    (tag_after (in_force hearer) hearer.tag event) finder (is_over event)
+after_word first settings before after hearer low high place finder events.Nothing placed h last k
     (no_byte e n) =
     record {
       new = [];
       ended = ap ended_in e ∙ sym (append-nil (ended_in before));
-      brought = copies_by-nil first (settings ++ in_force watch ∷ []);
-      has_tag = subst (λ (l : List PlacedByte). HasTag first (settings ++ in_force watch ∷ []) l
-          watch.tag) (sym e) (tag-later first settings (in_force watch ∷ []) before watch.tag low
+      brought = copies_by-nil first (settings ++ in_force hearer ∷ []);
+      has_tag = subst (λ (l : List PlacedByte). HasTag first (settings ++ in_force hearer ∷ []) l
+          hearer.tag) (sym e) (tag-later first settings (in_force hearer ∷ []) before hearer.tag low
           high placed h k);
     }
-after_word first settings before after watch low high place finder (events.Header identity) placed h
-    last k (no_byte e n) = absurd (let wrong : events.Header identity ≡ events.Nothing = n in cc)
-after_word first settings before after watch low high place finder events.CopyOver placed h last k
+after_word first settings before after hearer low high place finder (events.Header identity) placed
+    h last k (no_byte e n) = absurd (let wrong : events.Header identity ≡ events.Nothing = n in cc)
+after_word first settings before after hearer low high place finder events.CopyOver placed h last k
     (no_byte e n) = absurd (let wrong : events.CopyOver ≡ events.Nothing = n in cc)
-after_word first settings before after watch low high place finder events.Nothing placed h last k
+after_word first settings before after hearer low high place finder events.Nothing placed h last k
     (a_byte byte e keeps) =
-    subst (λ (l : List PlacedByte). AfterWord first (settings ++ in_force watch ∷ []) before l
-    watch.tag finder false) (sym e)
-    (after_keeps first settings before watch low high place finder placed h last byte k keeps)
-after_word first settings before after watch low high place finder (events.Header identity) placed h
-    last k (a_byte byte e brings) =
-    subst (λ (l : List PlacedByte). AfterWord first (settings ++ in_force watch ∷ []) before l
-    (tag_of (in_force watch) identity) finder false) (sym e)
-    (subst (λ i. AfterWord first (settings ++ in_force watch ∷ []) before
-    (before ++ record { byte = byte; place = place } ∷ []) (tag_of (in_force watch) i) finder
+    subst (λ (l : List PlacedByte). AfterWord first (settings ++ in_force hearer ∷ []) before l
+    hearer.tag finder false) (sym e)
+    (after_keeps first settings before hearer low high place finder placed h last byte k keeps)
+after_word first settings before after hearer low high place finder (events.Header identity) placed
+    h last k (a_byte byte e brings) =
+    subst (λ (l : List PlacedByte). AfterWord first (settings ++ in_force hearer ∷ []) before l
+    (tag_of (in_force hearer) identity) finder false) (sym e)
+    (subst (λ i. AfterWord first (settings ++ in_force hearer ∷ []) before
+    (before ++ record { byte = byte; place = place } ∷ []) (tag_of (in_force hearer) i) finder
     false) brings.named
-    (after_header first settings before watch low high place finder placed h last byte brings.header
-    brings.begins))
-after_word first settings before after watch low high place finder events.CopyOver placed h last k
+    (after_header first settings before hearer low high place finder placed h last byte
+    brings.header brings.begins))
+after_word first settings before after hearer low high place finder events.CopyOver placed h last k
     (a_byte byte e ready) =
-    subst (λ (l : List PlacedByte). AfterWord first (settings ++ in_force watch ∷ []) before l
-    watch.tag finder true) (sym e)
-    (after_over first settings before watch low high place finder placed h last byte k ready.copy
+    subst (λ (l : List PlacedByte). AfterWord first (settings ++ in_force hearer ∷ []) before l
+    hearer.tag finder true) (sym e)
+    (after_over first settings before hearer low high place finder placed h last byte k ready.copy
     ready.ready ready.ends)

@@ -16,9 +16,9 @@ pub record LockReading : Type 0 where
   pub printer : Printer
   pub finder : Finder
 
--- what contracts see of a watch: the synchroniser, the reader of the lock's text, what is refused,
+-- what contracts see of a hearer: the synchroniser, the reader of the lock's text, what is refused,
 -- the moment, and what was in force at the header that was heard last
-pub record Watching : Type 0 where
+pub record CopyHearing : Type 0 where
   pub synchroniser : Held
   pub reader : LockReading
   pub refused : Refused
@@ -26,5 +26,5 @@ pub record Watching : Type 0 where
   pub tag : CopyTag
 
 -- what is in force
-abbrev pub in_force : Watching → Setting
-in_force watch = record { moment = watch.moment; refused = watch.refused }
+abbrev pub in_force : CopyHearing → Setting
+in_force hearer = record { moment = hearer.moment; refused = hearer.refused }

@@ -1,4 +1,4 @@
--- What one more element does to what a watch stands after.
+-- What one more element does to what a hearer stands after.
 use Rattle.std.proofs.Common.{◌≡◌, ℕ, zero, suc, ◌+◌, ◌*◌, ◌<◌, ◌≤◌, Bool, List, [], ◌∷◌, ◌++◌}
 use Rattle.std.proofs.Common.{length, Some, None, refl, sym, ap, ◌∙◌, subst, arith}
 use Rattle.std.specs.List.{All}
@@ -22,14 +22,14 @@ use Rattle.nx_receiver.specs.copies.FoundCopies.{FoundCopy, ended_in, past_copie
 use Rattle.nx_receiver.specs.copies.FoundCopies.{ended_so_far, TaggedCopy, tag}
 use Rattle.nx_receiver.specs.private.LockReader.{ReadsLock}
 use Rattle.nx_receiver.specs.copies.LockText.{dx_words}
-use Rattle.nx_receiver.specs.Watching.{LockReading}
+use Rattle.nx_receiver.specs.CopyHearing.{LockReading}
 use Rattle.nx_receiver.specs.copies.LockText.{PlacedByte, lock_text, text_by}
-use Rattle.nx_receiver.specs.private.Watch.{HasTag, ReadsNow, ReadsOver, copies_by, setting_in}
+use Rattle.nx_receiver.specs.private.CopyHearer.{HasTag, ReadsNow, ReadsOver, copies_by, setting_in}
 use Rattle.nx_receiver.proofs.lemmas.locks.Found.{IsByteIn, IsCopyIn, text_placed}
 use Rattle.nx_receiver.proofs.lemmas.locks.Growing.{past_copies-more, whole_heard}
 use Rattle.nx_receiver.proofs.lemmas.locks.Texts.{lock_text-more, positions-same}
 use Rattle.nx_receiver.proofs.lemmas.receiver.Logged.{ended_placed, past_is}
-use Rattle.nx_receiver.proofs.lemmas.watch.Texts.{tag-later}
+use Rattle.nx_receiver.proofs.lemmas.copy_hearer.Texts.{tag-later}
 
 -- words that are the same up to a word leave the reader where it stands
 dx_words-same : (first : Role) (f g : ℕ → ℕ) (n : ℕ) → ((j : ℕ) → j < n → f j ≡ g j)

@@ -1,4 +1,4 @@
--- What a watch hears: the elements of a step of its synchroniser, which its taker takes.
+-- What a hearer hears: the elements of a step of its synchroniser, which its taker takes.
 use Rattle.std.proofs.Common.{◌≡◌, ℕ, zero, suc, ◌+◌, ◌-◌, ◌<◌, ◌≤◌, Bool, List, [], ◌∷◌}
 use Rattle.std.proofs.Common.{false, ◌++◌, length, take, get_or, Option, Some, None, refl, sym, ap}
 use Rattle.std.proofs.Common.{◌∙◌, subst, subst₂, arith, append_assoc, append-nil, add-one}
@@ -13,20 +13,20 @@ use Rattle.nx_receiver.specs.declared.copy_taker.CopyTaker.{CopyTaker}
 use Rattle.nx_receiver.specs.declared.copy_taker.CopyTag.{CopyTag}
 use Rattle.nx_receiver.specs.declared.copy_taker.Over.{Over}
 use Rattle.nx_receiver.specs.Events.{Setting}
-use Rattle.nx_receiver.specs.Watching.{LockReading, Watching, in_force}
+use Rattle.nx_receiver.specs.CopyHearing.{LockReading, CopyHearing, in_force}
 use Rattle.nx_receiver.specs.copies.FoundCopies.{TaggedCopy, past_copies}
 use Rattle.nx_envelope.specs.declared.found.TextEvent.{TextEvent}
 use Rattle.nx_envelope.specs.declared.found.TextEvent.TheVariants as events
 use Rattle.nx_receiver.specs.private.CopyTaker.{Hears, ReadsStep, setting_of}
-use Rattle.nx_receiver.specs.private.CopyTaker.{tag_after, watch_of}
+use Rattle.nx_receiver.specs.private.CopyTaker.{tag_after, hearer_of}
 use Rattle.nx_receiver.specs.private.CopyTakerLaws.{all_in_force-append}
-use Rattle.nx_receiver.specs.private.Watch.{HasEnded, HearsBits, IsFresh, IsOver, ReadsOver}
-use Rattle.nx_receiver.specs.private.Watch.{TagGoesOn, WatchStands, all_in_force, as_it_was}
-use Rattle.nx_receiver.specs.private.Watch.{copies_by, now_in_force}
+use Rattle.nx_receiver.specs.private.CopyHearer.{HasEnded, HearsBits, IsFresh, IsOver, ReadsOver}
+use Rattle.nx_receiver.specs.private.CopyHearer.{TagGoesOn, HearerStands, all_in_force, as_it_was}
+use Rattle.nx_receiver.specs.private.CopyHearer.{copies_by, now_in_force}
 use Rattle.nx_receiver.proofs.lemmas.locks.Growing.{hunted}
-use Rattle.nx_receiver.proofs.lemmas.watch.Takes.{tag-hunting}
-use Rattle.nx_receiver.proofs.lemmas.watch.Bits.{quiet_bit}
-use Rattle.nx_receiver.proofs.lemmas.watch.Words.{word_bit}
+use Rattle.nx_receiver.proofs.lemmas.copy_hearer.Takes.{tag-hunting}
+use Rattle.nx_receiver.proofs.lemmas.copy_hearer.Bits.{quiet_bit}
+use Rattle.nx_receiver.proofs.lemmas.copy_hearer.Words.{word_bit}
 
 -- the copies that have ended
 pub has_ended : (first : Setting) (reader : LockReading) (kept : CopyTag) (bits : List Bool)
@@ -40,32 +40,32 @@ element_over : (first : Setting) (old new : CopyTaker) (held : Held) (bit : Bool
     (s : List Setting) (copies : List TaggedCopy) (r : Step) (answer : Option Over)
     → StandsAfter held (h ++ bit ∷ []) → IsStep (h ++ bit ∷ []) r → ReadsStep old new r answer
     → ReadsOver first old.reader old.tag h s copies
-    → IsOver first (watch_of held new) (h ++ bit ∷ []) (s ++ setting_of old ∷ []) copies answer
+    → IsOver first (hearer_of held new) (h ++ bit ∷ []) (s ++ setting_of old ∷ []) copies answer
 element_over first old new held bit h s copies r answer stands is read o =
     elim r.word as (λ (w : Option (ℕ × Role)). r.word ≡ w
-    → IsOver first (watch_of held new) (h ++ bit ∷ []) (s ++ setting_of old ∷ []) copies answer) [
+    → IsOver first (hearer_of held new) (h ++ bit ∷ []) (s ++ setting_of old ∷ []) copies answer) [
       | None ↦ λ none.
           let same = read.none none in
-          let here : WatchStands first (watch_of held old) (h ++ bit ∷ [])
+          let here : HearerStands first (hearer_of held old) (h ++ bit ∷ [])
           (s ++ setting_of old ∷ []) copies =
           record {
             synchroniser = stands;
             reads =
                 quiet_bit first old.reader old.tag h bit s (setting_of old) copies r o is none;
           } in
-          let there : WatchStands first (watch_of held new) (h ++ bit ∷ [])
+          let there : HearerStands first (hearer_of held new) (h ++ bit ∷ [])
           (s ++ setting_of old ∷ []) copies =
-          subst (λ (t : CopyTaker). WatchStands first (watch_of held t) (h ++ bit ∷ [])
+          subst (λ (t : CopyTaker). HearerStands first (hearer_of held t) (h ++ bit ∷ [])
           (s ++ setting_of old ∷ []) copies) (sym same.0) here in
-          subst (IsOver first (watch_of held new) (h ++ bit ∷ []) (s ++ setting_of old ∷ []) copies)
-          (sym same.1) there
+          subst (IsOver first (hearer_of held new) (h ++ bit ∷ []) (s ++ setting_of old ∷ [])
+          copies) (sym same.1) there
       | Some w ↦ λ one.
           word_bit first h bit s copies old new held answer r w.0 w.1 o is one
           (read.some w.0 w.1 one) stands
     ] refl
 
 -- elements that bring nothing
-quiet_bits : (first : Setting) (old : Watching) (h : List Bool) (s : List Setting)
+quiet_bits : (first : Setting) (old : CopyHearing) (h : List Bool) (s : List Setting)
     (copies : List TaggedCopy) (bits : List Bool) (n : ℕ) → n ≤ length bits
     → ((k : ℕ) → k < n → IsStep (h ++ take (k + 1) bits) (step None None))
     → ReadsOver first old.reader old.tag h s copies
@@ -102,11 +102,11 @@ quiet_bits first old h s copies bits (suc n) le quiet o =
 step_heard : (first : Setting) (old new : CopyTaker) (before after : Held) (bits : List Bool)
     (h : List Bool) (s : List Setting) (copies : List TaggedCopy) (r : Step) (answer : Option Over)
     → 0 < length bits → StandsAfter after (h ++ bits) → IsLastStep h bits r
-    → ReadsStep old new r answer → WatchStands first (watch_of before old) h s copies
-    → HearsBits first (watch_of before old) (watch_of after new) h s copies bits answer
+    → ReadsStep old new r answer → HearerStands first (hearer_of before old) h s copies
+    → HearsBits first (hearer_of before old) (hearer_of after new) h s copies bits answer
 unfolding all_in_force
 step_heard first old new before after bits h s copies r answer some stands is read w =
-    let watch = watch_of before old in
+    let hearer = hearer_of before old in
     let n = length bits - 1 in
     let e : n + 1 ≡ length bits = omega arith in
     let x = get_or bits n false in
@@ -116,23 +116,23 @@ step_heard first old new before after bits h s copies r answer some stands is re
     ∙ take_more bits n false (omega arith) in
     let whole : h ++ bits ≡ (h ++ rest) ++ x ∷ [] =
     ap (λ l. h ++ l) cut ∙ sym (append_assoc h rest (x ∷ [])) in
-    let force : s ++ all_in_force watch bits
-    ≡ (s ++ all_in_force watch rest) ++ setting_of old ∷ [] =
-    ap (λ l. s ++ all_in_force watch l) cut
-    ∙ ap (λ l. s ++ l) (all_in_force-append watch rest (x ∷ []))
-    ∙ sym (append_assoc s (all_in_force watch rest) (setting_of old ∷ [])) in
+    let force : s ++ all_in_force hearer bits
+    ≡ (s ++ all_in_force hearer rest) ++ setting_of old ∷ [] =
+    ap (λ l. s ++ all_in_force hearer l) cut
+    ∙ ap (λ l. s ++ l) (all_in_force-append hearer rest (x ∷ []))
+    ∙ sym (append_assoc s (all_in_force hearer rest) (setting_of old ∷ [])) in
     let quiet : (k : ℕ) → k < n → IsStep (h ++ take (k + 1) bits) (step None None) =
     λ k lt. is.quiet k (omega (arith, lt, e)) in
-    let before_last = quiet_bits first watch h s copies bits n (omega arith) quiet w.reads in
-    let last = element_over first old new after x (h ++ rest) (s ++ all_in_force watch rest) copies
+    let before_last = quiet_bits first hearer h s copies bits n (omega arith) quiet w.reads in
+    let last = element_over first old new after x (h ++ rest) (s ++ all_in_force hearer rest) copies
     r answer (subst (StandsAfter after) whole stands)
     (subst (λ (l : List Bool). IsStep l r) whole is.last) read before_last in
     record {
       brings = subst₂ (λ (x : List Bool) (y : List Setting).
-          IsOver first (watch_of after new) x y copies answer) (sym whole) (sym force) last;
+          IsOver first (hearer_of after new) x y copies answer) (sym whole) (sym force) last;
       none_before = λ k lt. has_ended first old.reader old.tag (h ++ take k bits)
-          (s ++ all_in_force watch (take k bits)) copies
-          (quiet_bits first watch h s copies bits k (omega arith)
+          (s ++ all_in_force hearer (take k bits)) copies
+          (quiet_bits first hearer h s copies bits k (omega arith)
           (λ j small. quiet j (omega (arith, small, lt, e))) w.reads);
     }
 
@@ -148,17 +148,17 @@ step_force old new r answer read =
 -- and the tag goes on
 tag_by : (old new : CopyTaker) (before after : Held) (event : TextEvent)
     → new.tag ≡ tag_after (setting_of old) old.tag event
-    → TagGoesOn (watch_of before old) (watch_of after new)
+    → TagGoesOn (hearer_of before old) (hearer_of after new)
 tag_by old new before after events.Nothing e = as_it_was e
 tag_by old new before after (events.Header identity) e =
     now_in_force (ap (λ (t : CopyTag). t.moment) e)
 tag_by old new before after events.CopyOver e = as_it_was e
 
 step_tag : (old new : CopyTaker) (before after : Held) (r : Step) (answer : Option Over)
-    → ReadsStep old new r answer → TagGoesOn (watch_of before old) (watch_of after new)
+    → ReadsStep old new r answer → TagGoesOn (hearer_of before old) (hearer_of after new)
 step_tag old new before after r answer read =
     elim r.word as (λ (w : Option (ℕ × Role)). r.word ≡ w
-    → TagGoesOn (watch_of before old) (watch_of after new)) [
+    → TagGoesOn (hearer_of before old) (hearer_of after new)) [
       | None ↦ λ none. as_it_was (ap (λ (t : CopyTaker). t.tag) (read.none none).0)
       | Some w ↦ λ one.
           let word = read.some w.0 w.1 one in
@@ -178,11 +178,11 @@ step_taken old new before after bits r answer some reads brings = record {
   kept = step_tag old new before after r answer reads;
 }
 
--- a watch that has heard nothing
-pub nothing_heard : (first : Setting) (watch : Watching) → StandsAfter watch.synchroniser []
-    → IsFresh watch.reader → WatchStands first watch [] [] []
+-- a hearer that has heard nothing
+pub nothing_heard : (first : Setting) (hearer : CopyHearing) → StandsAfter hearer.synchroniser []
+    → IsFresh hearer.reader → HearerStands first hearer [] [] []
 unfolding copies_by past_copies Past
-nothing_heard first watch stands fresh = record {
+nothing_heard first hearer stands fresh = record {
   synchroniser = stands;
   reads = record {
     locks = [];
@@ -191,6 +191,6 @@ nothing_heard first watch stands fresh = record {
     many = refl;
     ended = ap (copies_by first []) (hunted [] [] 0);
     reads = fresh;
-    has_tag = tag-hunting first [] watch.tag;
+    has_tag = tag-hunting first [] hearer.tag;
   };
 }

@@ -1,4 +1,4 @@
--- What a watch stands after, by elements and by words.
+-- What a hearer of copies stands after, by elements and by words.
 pub mod Bits
 pub mod EightWords
 pub mod Hears

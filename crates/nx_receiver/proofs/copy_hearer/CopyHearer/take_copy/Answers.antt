@@ -1,7 +1,7 @@
 use Rattle.std.proofs.Common.{sym, subst}
-use Rattle.nx_receiver.specs.private.Watch.{BothAreOver, CopyIsOver}
-use Rattle.nx_receiver.proofs.lemmas.watch.Takes.{both_taken, copy_taken}
-use Rattle.nx_receiver.proofs.watch.Watch.take_copy.Goals as goal
+use Rattle.nx_receiver.specs.private.CopyHearer.{BothAreOver, CopyIsOver}
+use Rattle.nx_receiver.proofs.lemmas.copy_hearer.Takes.{both_taken, copy_taken}
+use Rattle.nx_receiver.proofs.copy_hearer.CopyHearer.take_copy.Goals as goal
 
 pub returns-clause-copy : goal.returns-clause-copy
 returns-clause-copy c first h s copies over =

@@ -21,17 +21,17 @@ use Rattle.nx_receiver.specs.copies.FoundCopies.{ended_in, open_in, past_copies,
 use Rattle.nx_receiver.specs.copies.FoundCopies.{ended_so_far, open_so_far, found_copy, TaggedCopy, tag}
 use Rattle.nx_receiver.specs.private.LockReader.{ReadsLock}
 use Rattle.nx_receiver.specs.copies.LockText.{text_after}
-use Rattle.nx_receiver.specs.Watching.{LockReading, Watching}
+use Rattle.nx_receiver.specs.CopyHearing.{LockReading, CopyHearing}
 use Rattle.nx_receiver.specs.copies.LockText.{PlacedByte, bytes_of, text_by}
-use Rattle.nx_receiver.specs.private.Watch.{BothAreOver, CopyIsOver, HasEndedAll, HasTag, IsFresh}
-use Rattle.nx_receiver.specs.private.Watch.{IsOver, LockIsOver, ReadsNow, WatchStands, copies_by}
-use Rattle.nx_receiver.specs.private.Watch.{handed_out, over_with, ready_copy, setting_in, tag_of}
-use Rattle.nx_receiver.specs.private.Watch.{place_of_header}
+use Rattle.nx_receiver.specs.private.CopyHearer.{BothAreOver, CopyIsOver, HasEndedAll, HasTag, IsFresh}
+use Rattle.nx_receiver.specs.private.CopyHearer.{IsOver, LockIsOver, ReadsNow, HearerStands, copies_by}
+use Rattle.nx_receiver.specs.private.CopyHearer.{handed_out, over_with, ready_copy, setting_in, tag_of}
+use Rattle.nx_receiver.specs.private.CopyHearer.{place_of_header}
 use Rattle.nx_receiver.proofs.lemmas.locks.Found.{all_in-parts}
 use Rattle.nx_receiver.proofs.lemmas.locks.Growing.{hunted}
 use Rattle.nx_receiver.proofs.lemmas.locks.Texts.{bytes_are_reading}
 use Rattle.nx_receiver.proofs.lemmas.receiver.Logged.{end_adds}
-use Rattle.nx_receiver.proofs.lemmas.watch.Texts.{copies_by-append, tag-none}
+use Rattle.nx_receiver.proofs.lemmas.copy_hearer.Texts.{copies_by-append, tag-none}
 
 -- no copy stands open where no text is
 pub tag-hunting : (first : Setting) (settings : List Setting) (kept : CopyTag)
@@ -81,14 +81,14 @@ taken copy (Some found) kept h =
       selected = kept.is_selected;
     } ∷ []) h.text
 
-pub copy_taken : (first : Setting) (watch : Watching) (reader : LockReading) (found : Option Found)
-    (h : List Bool) (s : List Setting) (copies : List TaggedCopy)
-    → StandsWhere watch.reader reader
-    → ((copy : Copy) → HasReady watch.reader.finder copy → MatchOption found ⊥ (IsFound copy))
-    → CopyIsOver first watch h s copies
-    → WatchStands first (record watch { reader = reader }) h s
-    (copies ++ handed_out found watch.tag)
-copy_taken first watch reader found h s copies on is over =
+pub copy_taken : (first : Setting) (hearer : CopyHearing) (reader : LockReading)
+    (found : Option Found) (h : List Bool) (s : List Setting) (copies : List TaggedCopy)
+    → StandsWhere hearer.reader reader
+    → ((copy : Copy) → HasReady hearer.reader.finder copy → MatchOption found ⊥ (IsFound copy))
+    → CopyIsOver first hearer h s copies
+    → HearerStands first (record hearer { reader = reader }) h s
+    (copies ++ handed_out found hearer.tag)
+copy_taken first hearer reader found h s copies on is over =
     let r = over.stands.reads in
     record {
       synchroniser = over.stands.synchroniser;
@@ -97,21 +97,21 @@ copy_taken first watch reader found h s copies on is over =
         now = r.now;
         stands = r.stands;
         many = r.many;
-        ended = ap (λ l. copies ++ l) (taken over.copy found watch.tag (is over.copy over.ready))
+        ended = ap (λ l. copies ++ l) (taken over.copy found hearer.tag (is over.copy over.ready))
             ∙ r.ended;
-        reads = reads_on watch.reader reader on h r.now r.reads;
+        reads = reads_on hearer.reader reader on h r.now r.reads;
         has_tag = r.has_tag;
       };
     }
 
-pub both_taken : (first : Setting) (watch : Watching) (reader : LockReading) (found : Option Found)
-    (h : List Bool) (s : List Setting) (copies : List TaggedCopy)
-    → StandsWhere watch.reader reader
-    → ((copy : Copy) → HasReady watch.reader.finder copy → MatchOption found ⊥ (IsFound copy))
-    → BothAreOver first watch h s copies
-    → LockIsOver first (record watch { reader = reader }) h s
-    (copies ++ handed_out found watch.tag)
-both_taken first watch reader found h s copies on is both =
+pub both_taken : (first : Setting) (hearer : CopyHearing) (reader : LockReading)
+    (found : Option Found) (h : List Bool) (s : List Setting) (copies : List TaggedCopy)
+    → StandsWhere hearer.reader reader
+    → ((copy : Copy) → HasReady hearer.reader.finder copy → MatchOption found ⊥ (IsFound copy))
+    → BothAreOver first hearer h s copies
+    → LockIsOver first (record hearer { reader = reader }) h s
+    (copies ++ handed_out found hearer.tag)
+both_taken first hearer reader found h s copies on is both =
     let r = both.lock in
     record {
       synchroniser = r.synchroniser;
@@ -120,7 +120,7 @@ both_taken first watch reader found h s copies on is both =
       from = r.from;
       stands = r.stands;
       many = r.many;
-      ended = ap (λ l. copies ++ l) (taken both.copy found watch.tag (is both.copy both.ready))
+      ended = ap (λ l. copies ++ l) (taken both.copy found hearer.tag (is both.copy both.ready))
           ∙ r.ended;
       reads = on (first_role h r.lock.at) (word_of_lock h r.lock.at) (r.lock.last + 1) r.reads;
       has_tag = r.has_tag;
@@ -164,18 +164,18 @@ closes first settings text (Some found) kept k h =
     ∙ sym (taken copy (Some found) kept h.is_found)
 
 -- the text of the lock that is over, as its words print it
-abbrev pub text_over : {first : Setting} {watch : Watching} {h : List Bool} {s : List Setting}
-    {copies : List TaggedCopy} → LockIsOver first watch h s copies → List ℕ
+abbrev pub text_over : {first : Setting} {hearer : CopyHearing} {h : List Bool} {s : List Setting}
+    {copies : List TaggedCopy} → LockIsOver first hearer h s copies → List ℕ
 text_over {h = h} over =
     text_after (first_role h over.lock.at) (word_of_lock h over.lock.at) (over.lock.last + 1)
 
-ended_at : (first : Setting) (watch : Watching) (reader : LockReading) (found : Option Found)
-    (h : List Bool) (s : List Setting) (copies : List TaggedCopy)
-    → IsFresh reader → (over : LockIsOver first watch h s copies) → Closes (text_over over) found
-    → WatchStands first (record watch { reader = reader }) h s
-    (copies ++ handed_out found watch.tag)
+ended_at : (first : Setting) (hearer : CopyHearing) (reader : LockReading)
+    (found : Option Found) (h : List Bool) (s : List Setting) (copies : List TaggedCopy)
+    → IsFresh reader → (over : LockIsOver first hearer h s copies) → Closes (text_over over) found
+    → HearerStands first (record hearer { reader = reader }) h s
+    (copies ++ handed_out found hearer.tag)
 unfolding past_copies
-ended_at first watch reader found h s copies fresh over ends =
+ended_at first hearer reader found h s copies fresh over ends =
     let lock = over.lock in
     let text = past_text h lock in
     let closed : Closes (bytes_of text) found =
@@ -189,28 +189,28 @@ ended_at first watch reader found h s copies fresh over ends =
         now = hunting over.from;
         stands = over.stands;
         many = over.many;
-        ended = ap (λ l. l ++ handed_out found watch.tag) over.ended
+        ended = ap (λ l. l ++ handed_out found hearer.tag) over.ended
             ∙ ap (λ l. copies_by first s (past_copies h over.older ++ ended_in text) ++ l)
-            (sym (closes first s text found watch.tag over.has_tag closed))
+            (sym (closes first s text found hearer.tag over.has_tag closed))
             ∙ sym (copies_by-append first s (past_copies h over.older ++ ended_in text)
             (open_in text))
             ∙ ap (copies_by first s) (append_assoc (past_copies h over.older) (ended_in text)
             (open_in text) ∙ ap (λ l. past_copies h over.older ++ l) (sym (all_in-parts text))
             ∙ hunted h (lock ∷ over.older) over.from);
         reads = fresh;
-        has_tag = tag-hunting first s watch.tag;
+        has_tag = tag-hunting first s hearer.tag;
       };
     }
 
-pub lock_ended : (first : Setting) (watch : Watching) (reader : LockReading) (found : Option Found)
-    (h : List Bool) (s : List Setting) (copies : List TaggedCopy)
+pub lock_ended : (first : Setting) (hearer : CopyHearing) (reader : LockReading)
+    (found : Option Found) (h : List Bool) (s : List Setting) (copies : List TaggedCopy)
     → IsFresh reader → ((first : Role) (words : ℕ → ℕ) (n : ℕ)
-    → ReadsLock watch.reader first words n → Closes (text_after first words n) found)
-    → LockIsOver first watch h s copies
-    → WatchStands first (record watch { reader = reader }) h s
-    (copies ++ handed_out found watch.tag)
-lock_ended first watch reader found h s copies fresh ends over =
-    ended_at first watch reader found h s copies fresh over
+    → ReadsLock hearer.reader first words n → Closes (text_after first words n) found)
+    → LockIsOver first hearer h s copies
+    → HearerStands first (record hearer { reader = reader }) h s
+    (copies ++ handed_out found hearer.tag)
+lock_ended first hearer reader found h s copies fresh ends over =
+    ended_at first hearer reader found h s copies fresh over
     (ends (first_role h over.lock.at) (word_of_lock h over.lock.at) (over.lock.last + 1) over.reads)
 
 -- a copy as it is handed out
@@ -223,17 +223,17 @@ found_of copy = record {
   counted = refl;
 }
 
-closed_ready : (first : Setting) (watch : Watching) (reader : LockReading) (h : List Bool)
+closed_ready : (first : Setting) (hearer : CopyHearing) (reader : LockReading) (h : List Bool)
     (s : List Setting) (copies : List TaggedCopy) → IsFresh reader
-    → (over : LockIsOver first watch h s copies) → ClosesReady (text_over over) reader.finder
-    → CopyIsOver first (record watch { reader = reader }) h s copies
+    → (over : LockIsOver first hearer h s copies) → ClosesReady (text_over over) reader.finder
+    → CopyIsOver first (record hearer { reader = reader }) h s copies
 unfolding found_of
-closed_ready first watch reader h s copies fresh over ends =
+closed_ready first hearer reader h s copies fresh over ends =
     let copy = closed_copy (text_over over) ends.header in
     record {
       copy = copy;
       ready = ends.ready;
-      stands = ended_at first watch reader (Some (found_of copy)) h s copies fresh over
+      stands = ended_at first hearer reader (Some (found_of copy)) h s copies fresh over
           (record {
             header = ends.header;
             was_open = ends.was_open;
@@ -242,28 +242,28 @@ closed_ready first watch reader h s copies fresh over ends =
           });
     }
 
-closed_as : (first : Setting) (watch : Watching) (reader : LockReading) (h : List Bool)
+closed_as : (first : Setting) (hearer : CopyHearing) (reader : LockReading) (h : List Bool)
     (s : List Setting) (copies : List TaggedCopy) (ready : Bool) → IsFresh reader
-    → (over : LockIsOver first watch h s copies) → ClosesHeld (text_over over) reader.finder
+    → (over : LockIsOver first hearer h s copies) → ClosesHeld (text_over over) reader.finder
     → is_ready reader.finder ≡ ready
-    → IsOver first (record watch { reader = reader }) h s copies (over_with ready false)
-closed_as first watch reader h s copies true fresh over ends is =
-    closed_ready first watch reader h s copies fresh over (ends.some is)
-closed_as first watch reader h s copies false fresh over ends is =
-    subst (λ l. WatchStands first (record watch { reader = reader }) h s l) (append-nil copies)
-    (ended_at first watch reader None h s copies fresh over (ends.none is))
+    → IsOver first (record hearer { reader = reader }) h s copies (over_with ready false)
+closed_as first hearer reader h s copies true fresh over ends is =
+    closed_ready first hearer reader h s copies fresh over (ends.some is)
+closed_as first hearer reader h s copies false fresh over ends is =
+    subst (λ l. HearerStands first (record hearer { reader = reader }) h s l) (append-nil copies)
+    (ended_at first hearer reader None h s copies fresh over (ends.none is))
 
 -- The text of a lock that is over ended, and the copy that stood open in it, if one did, can be
 -- taken.
-pub lock_closed : (first : Setting) (watch : Watching) (reader : LockReading) (h : List Bool)
+pub lock_closed : (first : Setting) (hearer : CopyHearing) (reader : LockReading) (h : List Bool)
     (s : List Setting) (copies : List TaggedCopy) (ready : Bool) → IsFresh reader
-    → ((first : Role) (words : ℕ → ℕ) (n : ℕ) → ReadsLock watch.reader first words n
+    → ((first : Role) (words : ℕ → ℕ) (n : ℕ) → ReadsLock hearer.reader first words n
     → ClosesHeld (text_after first words n) reader.finder)
     → is_ready reader.finder ≡ ready
-    → LockIsOver first watch h s copies
-    → IsOver first (record watch { reader = reader }) h s copies (over_with ready false)
-lock_closed first watch reader h s copies ready fresh ends is over =
-    closed_as first watch reader h s copies ready fresh over
+    → LockIsOver first hearer h s copies
+    → IsOver first (record hearer { reader = reader }) h s copies (over_with ready false)
+lock_closed first hearer reader h s copies ready fresh ends is over =
+    closed_as first hearer reader h s copies ready fresh over
     (ends (first_role h over.lock.at) (word_of_lock h over.lock.at) (over.lock.last + 1) over.reads)
     is
 
@@ -273,15 +273,15 @@ closed_over true e = cc
 closed_over false e = cc
 
 -- where no copy stands open in it, none is handed out
-pub lock_ended_none : (first : Setting) (watch : Watching) (reader : LockReading) (h : List Bool)
-    (s : List Setting) (copies : List TaggedCopy)
+pub lock_ended_none : (first : Setting) (hearer : CopyHearing) (reader : LockReading)
+    (h : List Bool) (s : List Setting) (copies : List TaggedCopy)
     → IsFresh reader → ((first : Role) (words : ℕ → ℕ) (n : ℕ)
-    → ReadsLock watch.reader first words n → Closes (text_after first words n) None)
-    → LockIsOver first watch h s copies
-    → WatchStands first (record watch { reader = reader }) h s copies
-lock_ended_none first watch reader h s copies fresh ends over =
-    subst (λ l. WatchStands first (record watch { reader = reader }) h s l) (append-nil copies)
-    (lock_ended first watch reader None h s copies fresh ends over)
+    → ReadsLock hearer.reader first words n → Closes (text_after first words n) None)
+    → LockIsOver first hearer h s copies
+    → HearerStands first (record hearer { reader = reader }) h s copies
+lock_ended_none first hearer reader h s copies fresh ends over =
+    subst (λ l. HearerStands first (record hearer { reader = reader }) h s l) (append-nil copies)
+    (lock_ended first hearer reader None h s copies fresh ends over)
 
 -- what the reader stands after is the text of what stands
 stands_in : (reader : LockReading) (found : Option Found)
@@ -300,22 +300,22 @@ stands_in reader found ends bits (locked p t) r =
     (sym (bytes_are_reading (first_role bits t) (word_of_lock bits t) t (whole_words bits t)))
     (ends (first_role bits t) (word_of_lock bits t) (whole_words bits t) r)
 
-pub all_ended : (first : Setting) (watch : Watching) (found : Option Found) (h : List Bool)
+pub all_ended : (first : Setting) (hearer : CopyHearing) (found : Option Found) (h : List Bool)
     (s : List Setting) (copies : List TaggedCopy)
-    → ((first : Role) (words : ℕ → ℕ) (n : ℕ) → ReadsLock watch.reader first words n
+    → ((first : Role) (words : ℕ → ℕ) (n : ℕ) → ReadsLock hearer.reader first words n
     → Closes (text_after first words n) found)
-    → WatchStands first watch h s copies
-    → HasEndedAll first h s (copies ++ handed_out found watch.tag)
-all_ended first watch found h s copies ends stands =
+    → HearerStands first hearer h s copies
+    → HasEndedAll first h s (copies ++ handed_out found hearer.tag)
+all_ended first hearer found h s copies ends stands =
     let r = stands.reads in
     record {
       locks = r.locks;
       now = r.now;
       stands = r.stands;
-      ended = ap (λ l. l ++ handed_out found watch.tag) r.ended
+      ended = ap (λ l. l ++ handed_out found hearer.tag) r.ended
           ∙ ap (λ l. copies_by first s (ended_so_far h r.locks r.now) ++ l)
-          (sym (closes first s (standing_text h r.now) found watch.tag r.has_tag
-          (stands_in watch.reader found ends h r.now r.reads)))
+          (sym (closes first s (standing_text h r.now) found hearer.tag r.has_tag
+          (stands_in hearer.reader found ends h r.now r.reads)))
           ∙ sym (copies_by-append first s (ended_so_far h r.locks r.now) (open_so_far h r.now))
           ∙ ap (copies_by first s) (sym (end_adds h r.locks r.now));
     }

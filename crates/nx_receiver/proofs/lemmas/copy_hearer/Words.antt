@@ -1,4 +1,4 @@
--- What a word of the lock does to what a watch stands after, with its last element.
+-- What a word of the lock does to what a hearer stands after, with its last element.
 use Rattle.std.proofs.Common.{◌≡◌, ℕ, ◌+◌, ◌*◌, ◌≤◌, Bool, true, false, is_some, List, [], ◌∷◌}
 use Rattle.std.proofs.Common.{◌++◌, length, Option, Some, None, sym, ap, ◌∙◌, subst, arith, append_assoc}
 use Rattle.std.proofs.Common.{append-nil}
@@ -21,50 +21,50 @@ use Rattle.nx_receiver.specs.copies.FoundCopies.{FoundCopy, ended_in, past_copie
 use Rattle.nx_receiver.specs.copies.FoundCopies.{ended_so_far, TaggedCopy}
 use Rattle.nx_receiver.specs.private.LockReader.{ReadsLock, word_place}
 use Rattle.nx_receiver.specs.copies.LockText.{PlacedByte, lock_text}
-use Rattle.nx_receiver.specs.private.Watch.{HasTag, IsOver, LockIsOver, ReadsNow, ReadsOver}
-use Rattle.nx_receiver.specs.private.Watch.{WatchStands, copies_by, over_with}
+use Rattle.nx_receiver.specs.private.CopyHearer.{HasTag, IsOver, LockIsOver, ReadsNow, ReadsOver}
+use Rattle.nx_receiver.specs.private.CopyHearer.{HearerStands, copies_by, over_with}
 use Rattle.nx_receiver.specs.private.CopyTaker.{ReadsWord, setting_of, tag_after}
-use Rattle.nx_receiver.specs.private.CopyTaker.{watch_of}
-use Rattle.nx_receiver.specs.Watching.{Watching}
+use Rattle.nx_receiver.specs.private.CopyTaker.{hearer_of}
+use Rattle.nx_receiver.specs.CopyHearing.{CopyHearing}
 use Rattle.nx_receiver.proofs.lemmas.locks.Found.{text_placed}
 use Rattle.nx_receiver.proofs.lemmas.locks.Growing.{past_copies-more}
 use Rattle.nx_receiver.proofs.lemmas.locks.Texts.{lock_text-more}
 use Rattle.nx_receiver.proofs.lemmas.receiver.Logged.{ended_placed}
-use Rattle.nx_receiver.proofs.lemmas.watch.Texts.{AfterWord, Brought, adds_byte, after_word}
-use Rattle.nx_receiver.proofs.lemmas.watch.Texts.{copies_by-append}
-use Rattle.nx_receiver.proofs.lemmas.watch.Bits.{copies_by-later, reads-more}
+use Rattle.nx_receiver.proofs.lemmas.copy_hearer.Texts.{AfterWord, Brought, adds_byte, after_word}
+use Rattle.nx_receiver.proofs.lemmas.copy_hearer.Texts.{copies_by-append}
+use Rattle.nx_receiver.proofs.lemmas.copy_hearer.Bits.{copies_by-later, reads-more}
 
 -- what is over, by what a word brought to the copies
-stand_on : (first : Setting) (watch : Watching) (bits : List Bool) (settings : List Setting)
+stand_on : (first : Setting) (hearer : CopyHearing) (bits : List Bool) (settings : List Setting)
     (copies new : List TaggedCopy) (is_copy_over : Bool)
-    → Brought is_copy_over new watch.reader.finder watch.tag
-    → WatchStands first watch bits settings (copies ++ new)
-    → IsOver first watch bits settings copies (over_with is_copy_over false)
-stand_on first watch bits settings copies new false brought stands =
-    subst (WatchStands first watch bits settings)
+    → Brought is_copy_over new hearer.reader.finder hearer.tag
+    → HearerStands first hearer bits settings (copies ++ new)
+    → IsOver first hearer bits settings copies (over_with is_copy_over false)
+stand_on first hearer bits settings copies new false brought stands =
+    subst (HearerStands first hearer bits settings)
     (ap (λ l. copies ++ l) brought ∙ append-nil copies) stands
-stand_on first watch bits settings copies new true brought stands =
+stand_on first hearer bits settings copies new true brought stands =
     record {
       copy = brought.copy;
       ready = brought.ready;
       stands =
-          subst (WatchStands first watch bits settings) (ap (λ l. copies ++ l) brought.is) stands;
+          subst (HearerStands first hearer bits settings) (ap (λ l. copies ++ l) brought.is) stands;
     }
 
-be_over : (first : Setting) (watch : Watching) (bits : List Bool) (settings : List Setting)
+be_over : (first : Setting) (hearer : CopyHearing) (bits : List Bool) (settings : List Setting)
     (copies new : List TaggedCopy) (is_copy_over : Bool)
-    → Brought is_copy_over new watch.reader.finder watch.tag
-    → LockIsOver first watch bits settings (copies ++ new)
-    → IsOver first watch bits settings copies (over_with is_copy_over true)
-be_over first watch bits settings copies new false brought stands =
-    subst (LockIsOver first watch bits settings) (ap (λ l. copies ++ l) brought ∙ append-nil copies)
-    stands
-be_over first watch bits settings copies new true brought stands =
+    → Brought is_copy_over new hearer.reader.finder hearer.tag
+    → LockIsOver first hearer bits settings (copies ++ new)
+    → IsOver first hearer bits settings copies (over_with is_copy_over true)
+be_over first hearer bits settings copies new false brought stands =
+    subst (LockIsOver first hearer bits settings) (ap (λ l. copies ++ l) brought
+    ∙ append-nil copies) stands
+be_over first hearer bits settings copies new true brought stands =
     record {
       copy = brought.copy;
       ready = brought.ready;
       lock =
-          subst (LockIsOver first watch bits settings) (ap (λ l. copies ++ l) brought.is) stands;
+          subst (LockIsOver first hearer bits settings) (ap (λ l. copies ++ l) brought.is) stands;
     }
 
 -- The last element of word k of the lock at t was heard after these elements.
@@ -77,8 +77,8 @@ module _ (first : Setting) (bits : List Bool) (b : Bool) (settings : List Settin
   abbrev settings' : List Setting
   settings' = settings ++ setting_of old ∷ []
 
-  abbrev watch : Watching
-  watch = watch_of held new
+  abbrev hearer : CopyHearing
+  hearer = hearer_of held new
 
   longer : length bits' ≡ length bits + 1
   longer = length_push bits b
@@ -107,7 +107,7 @@ module _ (first : Setting) (bits : List Bool) (b : Bool) (settings : List Settin
       let adds = adds_byte (first_role bits' t) (word_of_lock bits' t) t k new.reader.finder r.event
       (r.hears (first_role bits' t) (word_of_lock bits' t) k at is_word is_role) in
       let after = after_word first settings (lock_text bits' t k) (lock_text bits' t (k + 1))
-      (watch_of held old) t
+      (hearer_of held old) t
       (t + 7 * k) (word_place t k) new.reader.finder r.event
       (text_placed (first_role bits' t) (word_of_lock bits' t) t k) (omega (arith, heard, many))
       (omega (arith, e, longer, many))
@@ -154,7 +154,7 @@ module _ (first : Setting) (bits : List Bool) (b : Bool) (settings : List Settin
       → (r : Step) → r.word ≡ Some (w, role) → ReadsWord old new w role (is_some r.change) answer
       → IsNow bits' (lock ∷ locks) (hunting q) → length bits' ≡ q
       → r ≡ step (Some (heard_word bits' lock.at lock.last)) (Some lock.how)
-      → IsOver first watch bits' settings'
+      → IsOver first hearer bits' settings'
       (copies_by first settings (ended_so_far bits locks (locked p lock.at))) answer
   unfolding Past
   over_case w role locks p lock q is reads k r one wr on end f =
@@ -169,10 +169,10 @@ module _ (first : Setting) (bits : List Bool) (b : Bool) (settings : List Settin
       (subst (λ (m : ℕ). HasTag first settings (lock_text bits t m) old.tag) whole k) w role
       (is_some r.change) (ap (λ x. x.0) pair) (sym (ap (λ x. x.1) pair)) wr in
       let changed : is_some r.change ≡ true = ap (λ x. is_some x.change) f in
-      subst (IsOver first watch bits' settings'
+      subst (IsOver first hearer bits' settings'
       (copies_by first settings (ended_so_far bits locks (locked p t))))
       (sym (read.is ∙ ap (over_with read.is_copy_over) changed))
-      (be_over first watch bits' settings'
+      (be_over first hearer bits' settings'
       (copies_by first settings (ended_so_far bits locks (locked p t)))
       (copies_by first settings' read.after.new) read.is_copy_over read.after.brought (record {
         synchroniser = synchroniser;
@@ -192,7 +192,7 @@ module _ (first : Setting) (bits : List Bool) (b : Bool) (settings : List Settin
       → (r : Step) → r.word ≡ Some (w, role) → ReadsWord old new w role (is_some r.change) answer
       → (newer : List Lock) (next : Now) → IsNow bits' newer next → Brings bits' r newer next
       → OneMore bits' locks now newer next
-      → IsOver first watch bits' settings' (copies_by first settings (ended_so_far bits locks now))
+      → IsOver first hearer bits' settings' (copies_by first settings (ended_so_far bits locks now))
       answer
   unfolding ended_so_far
   word_case w role locks (hunting p) is reads k r one wr newer (hunting q) on (hunts h e)
@@ -224,10 +224,10 @@ module _ (first : Setting) (bits : List Bool) (b : Bool) (settings : List Settin
       (subst (λ (m : ℕ). HasTag first settings (lock_text bits t m) old.tag) whole k) w role
       (is_some r.change) (ap (λ x. x.0) pair) (sym (ap (λ x. x.1) pair)) wr in
       let still : is_some r.change ≡ false = ap (λ x. is_some x.change) f in
-      subst (IsOver first watch bits' settings'
+      subst (IsOver first hearer bits' settings'
       (copies_by first settings (ended_so_far bits locks (locked p t))))
       (sym (read.is ∙ ap (over_with read.is_copy_over) still))
-      (stand_on first watch bits' settings'
+      (stand_on first hearer bits' settings'
       (copies_by first settings (ended_so_far bits locks (locked p t)))
       (copies_by first settings' read.after.new) read.is_copy_over read.after.brought (record {
         synchroniser = synchroniser;
@@ -252,7 +252,7 @@ module _ (first : Setting) (bits : List Bool) (b : Bool) (settings : List Settin
       (now_over lock x y z) =
       subst (λ (u : ℕ). IsNow bits locks (locked p u) → ReadsNow old.reader bits (locked p u)
       → HasTag first settings (standing_text bits (locked p u)) old.tag
-      → IsOver first watch bits' settings'
+      → IsOver first hearer bits' settings'
       (copies_by first settings (ended_so_far bits locks (locked p u))) answer) y
       (λ was at has. over_case w role locks p lock q was at has r one wr on z f) is reads k
 
@@ -262,10 +262,10 @@ pub word_bit : (first : Setting) (bits : List Bool) (b : Bool) (settings : List 
     → ReadsOver first old.reader old.tag bits settings copies → IsStep (bits ++ b ∷ []) r
     → r.word ≡ Some (w, role) → ReadsWord old new w role (is_some r.change) answer
     → StandsAfter held (bits ++ b ∷ [])
-    → IsOver first (watch_of held new) (bits ++ b ∷ []) (settings ++ setting_of old ∷ []) copies
+    → IsOver first (hearer_of held new) (bits ++ b ∷ []) (settings ++ setting_of old ∷ []) copies
     answer
 word_bit first bits b settings copies old new held answer r w role o is one wr synchroniser =
-    subst (λ (l : List TaggedCopy). IsOver first (watch_of held new) (bits ++ b ∷ [])
+    subst (λ (l : List TaggedCopy). IsOver first (hearer_of held new) (bits ++ b ∷ [])
     (settings ++ setting_of old ∷ []) l answer) (sym o.ended)
     (word_case first bits b settings o.many old new held answer synchroniser w role o.locks o.now
     o.stands o.reads o.has_tag r one wr is.locks is.now is.stands is.brings

@@ -31,21 +31,21 @@ use Rattle.nx_receiver.specs.Events.{Setting}
 use Rattle.nx_receiver.specs.copies.FoundCopies.{FoundCopy, ended_in, ended_so_far, found_copy}
 use Rattle.nx_receiver.specs.copies.FoundCopies.{past_copies, standing_text, TaggedCopy, tag}
 use Rattle.nx_receiver.specs.copies.LockText.{PlacedByte, bytes_of, lock_text, text_by}
-use Rattle.nx_receiver.specs.Watching.{LockReading, Watching, in_force}
+use Rattle.nx_receiver.specs.CopyHearing.{LockReading, CopyHearing, in_force}
 use Rattle.nx_receiver.specs.private.LockReader.{PrintsPlain, ReadsLock}
 use Rattle.nx_receiver.specs.copies.LockText.{AreNext, text_after}
-use Rattle.nx_receiver.specs.private.Watch.{HasEnded, HasTag, HearsBits, ReadsNow, ReadsOver}
-use Rattle.nx_receiver.specs.private.CopyTaker.{Hears, watch_of}
-use Rattle.nx_receiver.specs.private.Watch.{WatchStands, all_in_force, as_it_was, copies_by}
-use Rattle.nx_receiver.specs.private.Watch.{setting_in}
+use Rattle.nx_receiver.specs.private.CopyHearer.{HasEnded, HasTag, HearsBits, ReadsNow, ReadsOver}
+use Rattle.nx_receiver.specs.private.CopyTaker.{Hears, hearer_of}
+use Rattle.nx_receiver.specs.private.CopyHearer.{HearerStands, all_in_force, as_it_was, copies_by}
+use Rattle.nx_receiver.specs.private.CopyHearer.{setting_in}
 use Rattle.nx_receiver.proofs.lemmas.locks.Found.{IsByteIn, ended_headers_in, found-same, open_headers_in}
 use Rattle.nx_receiver.proofs.lemmas.locks.Found.{text_placed}
 use Rattle.nx_receiver.proofs.lemmas.locks.Growing.{ended_go_on, past_copies-more}
 use Rattle.nx_receiver.proofs.lemmas.locks.Texts.{bytes_are_reading, bytes_of-append, lock_text-more}
 use Rattle.nx_receiver.proofs.lemmas.locks.Texts.{text_by-grows}
 use Rattle.nx_receiver.proofs.lemmas.receiver.Logged.{ended_placed}
-use Rattle.nx_receiver.proofs.lemmas.watch.Bits.{copies_by-later, no_word, reads-more}
-use Rattle.nx_receiver.proofs.lemmas.watch.Texts.{IsTagOf, tags-same}
+use Rattle.nx_receiver.proofs.lemmas.copy_hearer.Bits.{copies_by-later, no_word, reads-more}
+use Rattle.nx_receiver.proofs.lemmas.copy_hearer.Texts.{IsTagOf, tags-same}
 
 -- an element with no change, after which the lock still stands, and the word that it completes
 record StillStands (bits : List Bool) (r : Step) (locks : List Lock) (p t : ℕ) : Type 0 where
@@ -273,7 +273,7 @@ pub record ReadsPlain (old new : LockReading) (next : List ℕ) (count : ℕ) : 
       → PrintsPlain (text_after first words n) (text_after first words (n + count))
 
 -- So many words come after these elements.
-module _ (first : Setting) (h : List Bool) (s : List Setting) (old : Watching)
+module _ (first : Setting) (h : List Bool) (s : List Setting) (old : CopyHearing)
     (reader : LockReading) (next : List ℕ) (count : ℕ) (some : 0 < count)
     (size : length next ≡ count) (quiet : AreQuietWords h Dx next)
     (reads : ReadsPlain old.reader reader next count)
@@ -380,22 +380,22 @@ words_heard : (first : Setting) (old : CopyTaker) (before after : Held) (reader 
     (next : List ℕ) (h : List Bool) (s : List Setting) (copies : List TaggedCopy)
     → (count : ℕ) → 0 < count → length next ≡ count → ReadsPlain old.reader reader next count
     → BringsWords before after next
-    → WatchStands first (watch_of before old) h s copies
-    → HearsBits first (watch_of before old) (watch_of after (record old { reader = reader })) h s
+    → HearerStands first (hearer_of before old) h s copies
+    → HearsBits first (hearer_of before old) (hearer_of after (record old { reader = reader })) h s
     copies (flat_map elements next) None
 words_heard first old before after reader next h s copies count some size reads brings w =
-    let watch = watch_of before old in
+    let hearer = hearer_of before old in
     let o = w.reads in
     let more : List Bool = flat_map elements next in
     let quiet = brings.quiet h w.synchroniser in
-    let later : ReadsOver first reader old.tag (h ++ more) (s ++ all_in_force watch more) copies =
-    subst (ReadsOver first reader old.tag (h ++ more) (s ++ all_in_force watch more)) (sym o.ended)
-    (words_now first h s watch reader next count some size quiet reads o.many o.locks o.now o.stands
-    (brings.limit h w.synchroniser) o.reads o.has_tag) in
+    let later : ReadsOver first reader old.tag (h ++ more) (s ++ all_in_force hearer more) copies =
+    subst (ReadsOver first reader old.tag (h ++ more) (s ++ all_in_force hearer more)) (sym o.ended)
+    (words_now first h s hearer reader next count some size quiet reads o.many o.locks o.now
+    o.stands (brings.limit h w.synchroniser) o.reads o.has_tag) in
     record {
       brings = record { synchroniser = brings.stands h w.synchroniser; reads = later };
-      none_before = λ k lt. none_ended first h more s (all_in_force watch more)
-          (all_in_force watch (take k more)) copies o.locks later.locks o.now later.now o.stands
+      none_before = λ k lt. none_ended first h more s (all_in_force hearer more)
+          (all_in_force hearer (take k more)) copies o.locks later.locks o.now later.now o.stands
           later.stands o.many o.ended later.ended k;
     }
 

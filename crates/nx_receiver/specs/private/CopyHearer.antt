@@ -1,6 +1,6 @@
 -- What a receiver keeps but its memory, and after which elements: the layer below what is printed.
--- A watch turns elements into copies, each with the moment and the selection in force at its second
--- digit (this profile).
+-- A hearer turns elements into copies, each with the moment and the selection in force at its
+-- second digit (this profile).
 use Rattle.std.specs.Prelude.{◌≡◌, ℕ, ◌+◌, ◌-◌, ◌≤◌, Bool, true, false}
 use Rattle.std.specs.Prelude.{List, [], ◌∷◌, ◌++◌, length, map, take, Option, Some, None}
 use Rattle.std.specs.Prelude.{slice_index_or}
@@ -20,7 +20,7 @@ use Rattle.nx_receiver.specs.declared.copy_taker.Over.TheVariants as over
 use Rattle.nx_receiver.specs.declared.copy_taker.CopyTag.{CopyTag}
 use Rattle.nx_receiver.specs.Events.{Setting}
 use Rattle.nx_receiver.specs.private.LockReader.{ReadsLock}
-use Rattle.nx_receiver.specs.Watching.{LockReading, Watching, in_force}
+use Rattle.nx_receiver.specs.CopyHearing.{LockReading, CopyHearing, in_force}
 use Rattle.nx_receiver.specs.copies.LockText.{PlacedByte, bytes_of}
 use Rattle.nx_receiver.specs.copies.FoundCopies.{FoundCopy, place_in, ended_in, past_text, past_copies}
 use Rattle.nx_receiver.specs.copies.FoundCopies.{standing_text, ended_so_far, found_to_end, TaggedCopy}
@@ -90,17 +90,17 @@ pub record ReadsOver (first : Setting) (reader : LockReading) (kept : CopyTag) (
   pub reads : ReadsNow reader bits now
   pub has_tag : HasTag first settings (standing_text bits now) kept
 
--- The watch stands after these elements, with what is in force at each: these copies have ended.
-pub record WatchStands (first : Setting) (watch : Watching) (bits : List Bool)
+-- The hearer stands after these elements, with what is in force at each: these copies have ended.
+pub record HearerStands (first : Setting) (hearer : CopyHearing) (bits : List Bool)
     (settings : List Setting) (copies : List TaggedCopy) : Type 0 where
-  pub synchroniser : StandsAfter watch.synchroniser bits
-  pub reads : ReadsOver first watch.reader watch.tag bits settings copies
+  pub synchroniser : StandsAfter hearer.synchroniser bits
+  pub reads : ReadsOver first hearer.reader hearer.tag bits settings copies
 
 -- The last of these elements released a lock. The words of its text were read, but its end wasn't:
 -- these copies ended before it, and the tag is that of the copy that stands open there.
-pub record LockIsOver (first : Setting) (watch : Watching) (bits : List Bool)
+pub record LockIsOver (first : Setting) (hearer : CopyHearing) (bits : List Bool)
     (settings : List Setting) (copies : List TaggedCopy) : Type 0 where
-  pub synchroniser : StandsAfter watch.synchroniser bits
+  pub synchroniser : StandsAfter hearer.synchroniser bits
   pub lock : Lock
   pub older : List Lock
   pub from : ℕ
@@ -109,8 +109,8 @@ pub record LockIsOver (first : Setting) (watch : Watching) (bits : List Bool)
   pub ended :
       copies ≡ copies_by first settings (past_copies bits older ++ ended_in (past_text bits lock))
   pub reads :
-      ReadsLock watch.reader (first_role bits lock.at) (word_of_lock bits lock.at) (lock.last + 1)
-  pub has_tag : HasTag first settings (past_text bits lock) watch.tag
+      ReadsLock hearer.reader (first_role bits lock.at) (word_of_lock bits lock.at) (lock.last + 1)
+  pub has_tag : HasTag first settings (past_text bits lock) hearer.tag
 
 -- a copy that the finder has, with its tag
 abbrev pub ready_copy : Copy → CopyTag → TaggedCopy
@@ -122,49 +122,49 @@ ready_copy copy kept = record {
   selected = kept.is_selected;
 }
 
--- a copy has ended, which can be taken, and the watch stands after the elements with it
-pub record CopyIsOver (first : Setting) (watch : Watching) (bits : List Bool)
+-- a copy has ended, which can be taken, and the hearer stands after the elements with it
+pub record CopyIsOver (first : Setting) (hearer : CopyHearing) (bits : List Bool)
     (settings : List Setting) (copies : List TaggedCopy) : Type 0 where
   pub copy : Copy
-  pub ready : HasReady watch.reader.finder copy
-  pub stands : WatchStands first watch bits settings (copies ++ ready_copy copy watch.tag ∷ [])
+  pub ready : HasReady hearer.reader.finder copy
+  pub stands : HearerStands first hearer bits settings (copies ++ ready_copy copy hearer.tag ∷ [])
 
 -- a copy has ended, which can be taken, and the same element released the lock
-pub record BothAreOver (first : Setting) (watch : Watching) (bits : List Bool)
+pub record BothAreOver (first : Setting) (hearer : CopyHearing) (bits : List Bool)
     (settings : List Setting) (copies : List TaggedCopy) : Type 0 where
   pub copy : Copy
-  pub ready : HasReady watch.reader.finder copy
-  pub lock : LockIsOver first watch bits settings (copies ++ ready_copy copy watch.tag ∷ [])
+  pub ready : HasReady hearer.reader.finder copy
+  pub lock : LockIsOver first hearer bits settings (copies ++ ready_copy copy hearer.tag ∷ [])
 
 -- what is over with the last of these elements, before which these copies had ended
-abbrev pub IsOver : Setting → Watching → List Bool → List Setting → List TaggedCopy → Option Over
+abbrev pub IsOver : Setting → CopyHearing → List Bool → List Setting → List TaggedCopy → Option Over
     → Type 0
-IsOver first watch bits settings copies None = WatchStands first watch bits settings copies
-IsOver first watch bits settings copies (Some over.Copy) =
-    CopyIsOver first watch bits settings copies
-IsOver first watch bits settings copies (Some over.Lock) =
-    LockIsOver first watch bits settings copies
-IsOver first watch bits settings copies (Some over.CopyAndLock) =
-    BothAreOver first watch bits settings copies
+IsOver first hearer bits settings copies None = HearerStands first hearer bits settings copies
+IsOver first hearer bits settings copies (Some over.Copy) =
+    CopyIsOver first hearer bits settings copies
+IsOver first hearer bits settings copies (Some over.Lock) =
+    LockIsOver first hearer bits settings copies
+IsOver first hearer bits settings copies (Some over.CopyAndLock) =
+    BothAreOver first hearer bits settings copies
 
 -- what is in force at each of these elements, where it doesn't change
-unfoldable pub all_in_force : Watching → List Bool → List Setting
-all_in_force watch bits = map (λ bit. in_force watch) bits
+unfoldable pub all_in_force : CopyHearing → List Bool → List Setting
+all_in_force hearer bits = map (λ bit. in_force hearer) bits
 
--- The watch heard these elements after others, and this is what is over with the last of them; with
--- none before it any copy ended.
-pub record HearsBits (first : Setting) (old new : Watching) (bits : List Bool)
+-- The hearer heard these elements after others, and this is what is over with the last of them;
+-- with none before it any copy ended.
+pub record HearsBits (first : Setting) (old new : CopyHearing) (bits : List Bool)
     (settings : List Setting) (copies : List TaggedCopy) (heard : List Bool)
     (answer : Option Over) : Type 0 where
   pub brings : IsOver first new (bits ++ heard) (settings ++ all_in_force old heard) copies answer
   pub none_before : (k : ℕ) → k + 1 ≤ length heard
       → HasEnded first (bits ++ take k heard) (settings ++ all_in_force old (take k heard)) copies
 
--- whatever a watch heard before, it hears these elements after that, and this is over with the last
-pub record HearsAll (old new : Watching) (heard : List Bool) (answer : Option Over)
+-- whatever a hearer heard before, it hears these after that, and this is over with the last
+pub record HearsAll (old new : CopyHearing) (heard : List Bool) (answer : Option Over)
     : Type 0 where
   pub hears : (first : Setting) (bits : List Bool) (settings : List Setting)
-      (copies : List TaggedCopy) → WatchStands first old bits settings copies
+      (copies : List TaggedCopy) → HearerStands first old bits settings copies
       → HearsBits first old new bits settings copies heard answer
 
 -- the copy that was handed out, with its tag
@@ -180,6 +180,6 @@ over_with false true = Some over.Lock
 over_with true true = Some over.CopyAndLock
 
 -- the moment of the tag is as it was, or the one in force; all else that is in force stays
-pub data TagGoesOn (old new : Watching) : Type 0 where
+pub data TagGoesOn (old new : CopyHearing) : Type 0 where
   as_it_was : new.tag ≡ old.tag → TagGoesOn old new
   now_in_force : new.tag.moment ≡ old.moment → TagGoesOn old new

@@ -7,9 +7,9 @@ ghost use Rattle.nx_memory.specs.Selection.{admits, is_vital};
 ghost use Rattle.nx_receiver.specs.Events as events;
 ghost use Rattle.nx_receiver.specs.Events.{Setting, Start, first_setting, refused_after};
 ghost use Rattle.nx_receiver.specs.copies.FoundCopies.{TaggedCopy};
-ghost use Rattle.nx_receiver.specs.private.Watch.{BothAreOver, CopyIsOver, HasEndedAll, HearsAll, IsOver, LockIsOver, TagGoesOn, WatchStands, handed_out};
+ghost use Rattle.nx_receiver.specs.private.CopyHearer.{BothAreOver, CopyIsOver, HasEndedAll, HearerStands, HearsAll, IsOver, LockIsOver, TagGoesOn, handed_out};
 ghost use Rattle.nx_receiver.specs.private.LockReader.{is_open};
-ghost use Rattle.nx_receiver.specs.Watching.{in_force};
+ghost use Rattle.nx_receiver.specs.CopyHearing.{in_force};
 ghost use Rattle.nx_receiver.specs.declared.copy_taker.Over.TheVariants.{Lock};
 
 use crate::copy_taker::{CopyTag, CopyTaker, Over};
@@ -20,26 +20,26 @@ use nx_sync::Synchroniser;
 use std::alloc::{AllocError, Global};
 use std::marker::Model;
 
-/// A watch over the elements that arrive.
+/// A hearer of the elements that arrive.
 ///
 /// It holds what the synchroniser and the taker of copies hold.
 #[derive(Drop)]
-pub(crate) struct Watch {
+pub(crate) struct CopyHearer {
     synchroniser: Synchroniser,
     taker: CopyTaker,
 }
 
-impl Model for Watch {
+impl Model for CopyHearer {
     ghost use Rattle.std.specs.Coded.{codes};
     ghost use Rattle.nx_memory.specs.private.RefusedCode.{refused_code};
-    ghost use Rattle.nx_receiver.specs.Watching.{Watching};
-    ghost use Rattle.nx_receiver.specs.private.CopyTaker.{watch_of};
+    ghost use Rattle.nx_receiver.specs.CopyHearing.{CopyHearing};
+    ghost use Rattle.nx_receiver.specs.private.CopyTaker.{hearer_of};
 
-    ghost Value = { Watching };
+    ghost Value = { CopyHearing };
 
     ghost coded = { Prim.hlevel (codes, refused_code) };
 
-    ghost view = { λ w. watch_of w.synchroniser w.taker };
+    ghost view = { λ h. hearer_of h.synchroniser h.taker };
 
     ghost inverse = { λ v. record {
       synchroniser = v.synchroniser;
@@ -47,19 +47,23 @@ impl Model for Watch {
     } };
 }
 
-impl Watch {
-    /// A watch that has heard nothing, from this moment on, with what is selected at first. Fails
+impl CopyHearer {
+    /// A hearer that has heard nothing, from this moment on, with what is selected at first. Fails
     /// where no synchroniser is made.
-    pub(crate) fn new(alloc: Global, moment: u64, selection: Selection) -> Result<Watch, AllocError>
-        ensures stands { IfOk result (λ w. (first : Setting) → WatchStands first w [] [] []) }
+    pub(crate) fn new(
+        alloc: Global,
+        moment: u64,
+        selection: Selection,
+    ) -> Result<CopyHearer, AllocError>
+        ensures stands { IfOk result (λ h. (first : Setting) → HearerStands first h [] [] []) }
         ensures force { (start : Start) → start.moment ≡ moment → start.refused ≡ selection
-            → IfOk result (λ w. in_force w ≡ first_setting start) }
-        ensures tag { IfOk result (λ w. w.tag.moment ≡ moment) }
-        ensures moment { IfOk result (λ w. w.moment ≡ moment) }
+            → IfOk result (λ h. in_force h ≡ first_setting start) }
+        ensures tag { IfOk result (λ h. h.tag.moment ≡ moment) }
+        ensures moment { IfOk result (λ h. h.moment ≡ moment) }
     {
-        prove!(size_of::<Watch>() == size_of::<Synchroniser>() + size_of::<CopyTaker>());
+        prove!(size_of::<CopyHearer>() == size_of::<Synchroniser>() + size_of::<CopyTaker>());
         let synchroniser = Synchroniser::new(alloc)?;
-        Ok(Watch {
+        Ok(CopyHearer {
             synchroniser,
             taker: CopyTaker::new(moment, selection),
         })
@@ -114,7 +118,7 @@ impl Watch {
     pub(crate) fn take_copy(&mut self) -> Option<Found>
         ensures copy { (first : Setting) (h : List Bool) (s : List Setting)
             (copies : List TaggedCopy) → CopyIsOver first self.old h s copies
-            → WatchStands first self.new h s (copies ++ handed_out result self.new.tag) }
+            → HearerStands first self.new h s (copies ++ handed_out result self.new.tag) }
         ensures both { (first : Setting) (h : List Bool) (s : List Setting)
             (copies : List TaggedCopy) → BothAreOver first self.old h s copies
             → LockIsOver first self.new h s (copies ++ handed_out result self.new.tag) }
@@ -149,9 +153,9 @@ impl Watch {
     pub(crate) fn end_text(&mut self) -> Option<Found>
         ensures lock { (first : Setting) (h : List Bool) (s : List Setting)
             (copies : List TaggedCopy) → LockIsOver first self.old h s copies
-            → WatchStands first self.new h s (copies ++ handed_out result self.new.tag) }
+            → HearerStands first self.new h s (copies ++ handed_out result self.new.tag) }
         ensures all { (first : Setting) (h : List Bool) (s : List Setting)
-            (copies : List TaggedCopy) → WatchStands first self.old h s copies
+            (copies : List TaggedCopy) → HearerStands first self.old h s copies
             → HasEndedAll first h s (copies ++ handed_out result self.new.tag) }
         ensures force { in_force self.new ≡ in_force self.old }
         ensures tag { self.new.tag ≡ self.old.tag }
@@ -164,7 +168,7 @@ impl Watch {
         ensures lock { (first : Setting) (h : List Bool) (s : List Setting)
             (copies : List TaggedCopy) →
             LockIsOver first self.old h s copies → is_open self.old.reader.finder.copy ≡ false
-            → WatchStands first self.new h s copies }
+            → HearerStands first self.new h s copies }
         ensures force { in_force self.new ≡ in_force self.old }
         ensures tag { self.new.tag ≡ self.old.tag }
     {

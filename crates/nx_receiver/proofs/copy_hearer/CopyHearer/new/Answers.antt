@@ -1,5 +1,5 @@
-use Rattle.nx_receiver.proofs.lemmas.watch.Hears.{nothing_heard}
-use Rattle.nx_receiver.proofs.watch.Watch.new.Goals as goal
+use Rattle.nx_receiver.proofs.lemmas.copy_hearer.Hears.{nothing_heard}
+use Rattle.nx_receiver.proofs.copy_hearer.CopyHearer.new.Goals as goal
 
 pub returns-clause-stands : goal.returns-clause-stands
 returns-clause-stands c first =

@@ -1,8 +1,8 @@
 use Rattle.std.proofs.Common.{sym, subst, ap, ◌≡◌, ◌∙◌, false}
 use Rattle.nx_receiver.specs.private.LockReader.{is_open}
-use Rattle.nx_receiver.specs.private.Watch.{LockIsOver}
-use Rattle.nx_receiver.proofs.lemmas.watch.Takes.{lock_ended_none}
-use Rattle.nx_receiver.proofs.watch.Watch.restart.Goals as goal
+use Rattle.nx_receiver.specs.private.CopyHearer.{LockIsOver}
+use Rattle.nx_receiver.proofs.lemmas.copy_hearer.Takes.{lock_ended_none}
+use Rattle.nx_receiver.proofs.copy_hearer.CopyHearer.restart.Goals as goal
 
 pub returns-clause-lock : goal.returns-clause-lock
 returns-clause-lock c first h s copies over none =
