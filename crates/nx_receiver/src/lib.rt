@@ -26,4 +26,4 @@ pub use judging::judge;
 pub use listener::{LastEntries, Listener};
 pub use lock_printer::LockPrinter;
 pub use receiver::Receiver;
-pub use writing::{MAX_ENTRY, entry_bytes, entry_text, entry_text_on};
+pub use writing::{MAX_ENTRY, entry_bytes, entry_end, entry_text, entry_text_on};

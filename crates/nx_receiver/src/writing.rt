@@ -92,7 +92,7 @@ pub(crate) fn give_entry<W: Write>(
     let line = head_line(head, text, moment, channel);
     batch.give(writer, line.as_slice())?;
     batch.give(writer, text)?;
-    batch.give(writer, end_of(text))
+    batch.give(writer, entry_end(text))
 }
 
 /// The bytes of an entry as it stands in the log of its channel. The moment is at most the last
@@ -129,7 +129,7 @@ pub(crate) fn spell_entry(
     bytes.clear();
     append(bytes, line.as_slice());
     append(bytes, text);
-    append(bytes, end_of(text));
+    append(bytes, entry_end(text));
 }
 
 /// The line that heads an entry.
@@ -186,7 +186,7 @@ fn how_text(how: How) -> &'static str
 /// What stands behind the text of an entry: a newline where the text isn't empty and doesn't end
 /// with one, and a newline.
 #[tactic(auto, unfolding(crate::specs::copies::Log::missing_newline, crate::specs::copies::Log::is_of_lines))]
-fn end_of(text: &[u8]) -> &'static [u8]
+pub fn entry_end(text: &[u8]) -> &'static [u8]
     ensures end { result.now ≡ missing_newline text.now ++ newline ∷ [] }
     ensures short { length result.now ≤ 2 }
 {

@@ -7,11 +7,12 @@ ghost use Rattle.nx_envelope.specs.declared.identity.Identity.{Identity as TheId
 ghost use Rattle.nx_log.specs.private.Stages.{CanBe, FromCharacters, FromEnd, FromErrors, FromMark, FromName, FromNewline, FromText, FromTime};
 ghost use Rattle.nx_log.specs.private.Stages.{IsCount, IsEnd, IsMark, IsName, IsPartOf, IsTextOf, IsTime, ShowsSome};
 
-use crate::entries::entry::{end_of, errors_in, is_text};
+use crate::entries::entry::{errors_in, is_text};
 use crate::entries::head::{behind_newline, count_at, how_at, mark_at, name_at, time_at};
 use crate::entries::moment::moment_of;
 use itoa::Buffer;
 use nx_envelope::{CIVIL_LEN, MAX_FOUND};
+use nx_receiver::entry_end;
 
 /// Endings of a civil time. What begins a civil time is one with the end of the first or of the
 /// second, which are the same but for the last digit of the day: a month has its 1st, 11th and
@@ -113,7 +114,7 @@ fn can_be_from_text(bytes: &[u8], errors: u16, characters: u16) -> bool
             if !is_text(text) || errors_in(text) != usize::from(errors) {
                 return false;
             }
-            is_beginning_of(rest, end_of(text))
+            is_beginning_of(rest, entry_end(text))
         }
         None => is_part_of_text(bytes, usize::from(errors), usize::from(characters)),
     }

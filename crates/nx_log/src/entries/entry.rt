@@ -1,16 +1,15 @@
 //! An entry of a log, read back.
 
-ghost use Rattle.std.specs.Prelude.{◌≡◌, ◌≢◌, ◌↔◌, ℕ, List, [], ◌∷◌, ◌++◌, All, IfNone, IfSome, IsTrue};
+ghost use Rattle.std.specs.Prelude.{◌≡◌, ◌≢◌, ◌↔◌, ℕ, List, ◌++◌, All, IfNone, IfSome, IsTrue};
 ghost use Rattle.nx_envelope.specs.Copies.{errors_of};
-ghost use Rattle.nx_code.specs.Reading.{newline};
-ghost use Rattle.nx_receiver.specs.copies.Log.{missing_newline};
 ghost use Rattle.nx_receiver.specs.copies.Shares.{MarkedCopy};
 ghost use Rattle.nx_log.specs.Entries.{IsWholeEntry};
 ghost use Rattle.nx_log.specs.Logged.{IsLoggedAs, is_text_byte as the_is_text_byte};
 ghost use Rattle.nx_log.specs.View.{IsViewOf};
 
 use crate::entries::head::{LoggedHead, head_at};
-use nx_code::{NEWLINE, char_to_code};
+use nx_code::char_to_code;
+use nx_receiver::entry_end;
 
 /// The most bytes of a logged entry.
 pub const MAX_LOGGED: usize = 4146;
@@ -38,7 +37,7 @@ pub fn entry_at(bytes: &[u8]) -> Option<EntryView>
     if !is_text(text) || errors_in(text) != usize::from(head.errors) {
         return None;
     }
-    let rest = rest.strip_prefix(end_of(text))?;
+    let rest = rest.strip_prefix(entry_end(text))?;
     Some(EntryView {
         head,
         text,
@@ -81,16 +80,4 @@ pub(crate) fn errors_in(text: &[u8]) -> usize
     ensures { result ≡ errors_of text.now }
 {
     text.iter().filter(|byte| **byte == b'*').count()
-}
-
-/// What stands behind the text of an entry: a newline where the text isn't empty and doesn't end
-/// with one, and a newline.
-#[tactic(auto, unfolding(nx_receiver::specs::copies::Log::missing_newline, nx_receiver::specs::copies::Log::is_of_lines))]
-pub(crate) fn end_of(text: &[u8]) -> &'static [u8]
-    ensures { result.now ≡ missing_newline text.now ++ newline ∷ [] }
-{
-    match text.last() {
-        Some(last) if *last != NEWLINE => b"\n\n",
-        Some(_) | None => b"\n",
-    }
 }

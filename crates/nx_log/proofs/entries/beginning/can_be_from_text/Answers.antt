@@ -45,11 +45,12 @@ returns-else-errors_in-from c =
         c.if-errors_in-from.false,
       ),
       record {
-        more = drop (length c.in-Some.rest.now) c.end_of.result.now;
-        is = sym c.end_of.ensures ∙ c.is_beginning_of.ensures.beginning yes;
+        more = drop (length c.in-Some.rest.now) c.entry_end.result.now;
+        is = sym c.entry_end.ensures.end ∙ c.is_beginning_of.ensures.beginning yes;
       },
     ))
-    (λ letters count ext. c.is_beginning_of.ensures.other ext.more (c.end_of.ensures ∙ ext.is))
+    (λ letters count ext.
+    c.is_beginning_of.ensures.other ext.more (c.entry_end.ensures.end ∙ ext.is))
 
 pub returns-in-None : goal.returns-in-None
 returns-in-None c =

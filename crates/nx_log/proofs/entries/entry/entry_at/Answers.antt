@@ -63,9 +63,10 @@ returns-in_err-rest-clause-none c = rw c.from_residual-in_err-rest.ensures (λ o
     let text = split_text c.in_ok-head.rest.now c.in_ok-text.text.now c.in_ok-text.rest.now
     one.copy.text _ c.from.result c.in_ok-text.ensures.cases same.rest
     (c.from.ensures ∙ ap (λ (h : LoggedHead). h.characters) same.piece) in
-    let end = c.end_of.ensures ∙ ap (λ t. missing_newline t ++ newline ∷ []) text.piece in
-    let there : take (length c.end_of.result.now) c.in_ok-text.rest.now ≡ c.end_of.result.now =
-    begins_with c.end_of.result.now c.in_ok-text.rest.now more
+    let end = c.entry_end.ensures.end ∙ ap (λ t. missing_newline t ++ newline ∷ []) text.piece in
+    let there : take (length c.entry_end.result.now) c.in_ok-text.rest.now
+    ≡ c.entry_end.result.now =
+    begins_with c.entry_end.result.now c.in_ok-text.rest.now more
     (text.rest ∙ sym (append_assoc (missing_newline one.copy.text) (newline ∷ []) more)
     ∙ ap (λ l. l ++ more) (sym end)) in
     let equal = (slice_eq-Decides Decides-eqb _ _ _ (sym c.in_err-rest.ensures.cases)).1 there in
@@ -79,9 +80,9 @@ returns-clause-found c =
     let there = (slice_eq-Decides Decides-eqb _ _ _ (sym strip.0)).0 refl in
     let end : c.in_ok-text.rest.now
     ≡ (missing_newline c.in_ok-text.text.now ++ newline ∷ []) ++ c.in_ok-rest.rest.now =
-    sym (take-append-drop (length c.end_of.result.now) c.in_ok-text.rest.now)
-    ∙ ap (λ l. l ++ drop (length c.end_of.result.now) c.in_ok-text.rest.now)
-    (there ∙ c.end_of.ensures)
+    sym (take-append-drop (length c.entry_end.result.now) c.in_ok-text.rest.now)
+    ∙ ap (λ l. l ++ drop (length c.entry_end.result.now) c.in_ok-text.rest.now)
+    (there ∙ c.entry_end.ensures.end)
     ∙ ap (λ l. (missing_newline c.in_ok-text.text.now ++ newline ∷ []) ++ l) (sym strip.1) in
     is_view c.args.bytes.now c.in_ok-head.rest.now c.in_ok-text.rest.now c.in_ok-rest.rest.now
     c.in_ok-head.head c.in_ok-text.text.now _ found.0 found.1
