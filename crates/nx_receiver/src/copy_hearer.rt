@@ -2,15 +2,15 @@
 //! the selection in force at its second digit. What runs for each line of elements is inlined
 //! always.
 
-ghost use Rattle.std.specs.Prelude.{◌≡◌, ◌≢◌, ◌+◌, ◌<◌, ◌≤◌, List, Bool, [], ◌++◌, ◌↔◌, length, take, drop, false, None, Some, IfOk, IfErr, IsErr, IsTrue, OnErr, OnOk};
+ghost use Rattle.std.specs.Prelude.{◌≡◌, ◌+◌, ◌<◌, ◌≤◌, List, Bool, [], ◌++◌, ◌↔◌, length, take, drop, false, true, None, Some, IfOk, IfErr, IsErr, IsTrue, OnErr, OnOk};
+ghost use Rattle.nx_envelope.specs.Finder.{is_ready};
 ghost use Rattle.nx_memory.specs.Selection.{admits, is_vital};
 ghost use Rattle.nx_receiver.specs.Events as events;
 ghost use Rattle.nx_receiver.specs.Events.{Setting, Start, first_setting, refused_after};
 ghost use Rattle.nx_receiver.specs.copies.FoundCopies.{TaggedCopy};
-ghost use Rattle.nx_receiver.specs.private.CopyHearer.{BothAreOver, CopyIsOver, HasEndedAll, HearerStands, HearsAll, IsOver, LockIsOver, TagGoesOn, handed_out};
+ghost use Rattle.nx_receiver.specs.private.CopyHearer.{HasEndedAll, HearerStands, HearsAll, IsOver, LockIsOver, TagGoesOn, handed_out, over_now, over_with};
 ghost use Rattle.nx_receiver.specs.private.LockReader.{is_open};
 ghost use Rattle.nx_receiver.specs.CopyHearing.{in_force};
-ghost use Rattle.nx_receiver.specs.declared.copy_taker.Over.TheVariants.{Lock};
 
 use crate::copy_taker::{CopyTag, CopyTaker, Over};
 use nx_envelope::{Finder, Found, Identity, Letter};
@@ -114,14 +114,19 @@ impl CopyHearer {
             .hear(&mut self.taker, packed.numbers(), from, left)
     }
 
-    /// The copy that is over, which can be taken.
+    /// The copy that can be taken, where one can. Where the lock is over with it, that is left; no
+    /// copy stands open then.
     pub(crate) fn take_copy(&mut self) -> Option<Found>
-        ensures copy { (first : Setting) (h : List Bool) (s : List Setting)
-            (copies : List TaggedCopy) → CopyIsOver first self.old h s copies
-            → HearerStands first self.new h s (copies ++ handed_out result self.new.tag) }
-        ensures both { (first : Setting) (h : List Bool) (s : List Setting)
-            (copies : List TaggedCopy) → BothAreOver first self.old h s copies
-            → LockIsOver first self.new h s (copies ++ handed_out result self.new.tag) }
+        ensures taken { (first : Setting) (h : List Bool) (s : List Setting)
+            (copies : List TaggedCopy) (is_lock_over : Bool)
+            → (IsTrue is_lock_over → is_ready self.old.reader.finder ≡ true)
+            → IsOver first self.old h s copies (over_now self.old is_lock_over)
+            → IsOver first self.new h s (copies ++ handed_out result self.new.tag)
+            (over_with false is_lock_over) }
+        ensures closed { (first : Setting) (h : List Bool) (s : List Setting)
+            (copies : List TaggedCopy) → is_ready self.old.reader.finder ≡ true
+            → IsOver first self.old h s copies (over_now self.old true)
+            → is_open self.new.reader.finder.copy ≡ false }
         ensures force { in_force self.new ≡ in_force self.old }
         ensures tag { self.new.tag ≡ self.old.tag }
     {
@@ -137,23 +142,18 @@ impl CopyHearer {
 
     /// Ends the text of a lock that is over. The copy that stands open, if one does, is over then,
     /// and can be taken.
-    pub(crate) fn close_text(&mut self) -> Option<Over>
+    pub(crate) fn close_text(&mut self)
         ensures lock { (first : Setting) (h : List Bool) (s : List Setting)
             (copies : List TaggedCopy) → LockIsOver first self.old h s copies
-            → IsOver first self.new h s copies result }
-        ensures closed { result ≢ Some Lock }
+            → IsOver first self.new h s copies (over_now self.new false) }
         ensures force { in_force self.new ≡ in_force self.old }
         ensures tag { self.new.tag ≡ self.old.tag }
     {
-        let is_copy_over = self.taker.reader.close();
-        Over::of(is_copy_over, false)
+        self.taker.reader.close();
     }
 
     /// Ends the text of the lock, and answers the copy that stands open, which is over then.
     pub(crate) fn end_text(&mut self) -> Option<Found>
-        ensures lock { (first : Setting) (h : List Bool) (s : List Setting)
-            (copies : List TaggedCopy) → LockIsOver first self.old h s copies
-            → HearerStands first self.new h s (copies ++ handed_out result self.new.tag) }
         ensures all { (first : Setting) (h : List Bool) (s : List Setting)
             (copies : List TaggedCopy) → HearerStands first self.old h s copies
             → HasEndedAll first h s (copies ++ handed_out result self.new.tag) }

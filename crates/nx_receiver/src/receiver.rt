@@ -2,7 +2,7 @@
 //! elements is inlined always. What finishes a copy is not, so that no loop over elements has a
 //! place for an entry or its head.
 
-ghost use Rattle.std.specs.Prelude.{◌≡◌, ◌≢◌, ◌↔◌, ℕ, Option, MatchResult, false, ◌+◌, ◌<◌, ◌≤◌, ◌==◌, ◌||◌, List, [], ◌++◌, length, take, drop, IfErr, IfOk, IfSome, IsErr, IsNone, IsSome, IsTrue, None, OnErr, OnOk, Some, Bool, true};
+ghost use Rattle.std.specs.Prelude.{◌≡◌, ◌↔◌, ℕ, Option, MatchResult, false, ◌+◌, ◌<◌, ◌≤◌, ◌==◌, ◌||◌, List, [], ◌++◌, length, take, drop, IfErr, IfOk, IfSome, IsErr, IsNone, IsSome, IsTrue, None, OnErr, OnOk, Some, Bool, true};
 ghost use Rattle.nx_envelope.specs.Moment.{last_moment};
 ghost use Rattle.nx_code.specs.Lists.{last_of};
 ghost use Rattle.nx_memory.specs.Memory.{most_entries, newest_moment};
@@ -15,14 +15,13 @@ ghost use Rattle.nx_receiver.specs.Listener.{IsSpelled};
 ghost use Rattle.nx_receiver.specs.copies.Log.{PrintsToEnd};
 ghost use Rattle.nx_receiver.specs.copies.Printing.{entries_after, printed_copies};
 ghost use Rattle.nx_receiver.specs.Receiver.{HandsOutNoneBefore, RefusesStart, Stands, TakesEvent, entry_list};
-ghost use Rattle.nx_receiver.specs.private.Awaiting.{Awaits, HandsOut, HearsUpTo, behind_copy};
+ghost use Rattle.nx_receiver.specs.private.Awaiting.{Awaits, HandsOut, HearsUpTo};
 ghost use Rattle.nx_receiver.specs.private.Heads.{headed_list};
-ghost use Rattle.nx_receiver.specs.private.LockReader.{is_open};
 ghost use Rattle.nx_receiver.specs.copies.FoundCopies.{TaggedCopy};
-ghost use Rattle.nx_receiver.specs.private.CopyHearer.{handed_out};
-ghost use Rattle.nx_receiver.specs.declared.copy_taker.Over.TheVariants.{CopyAndLock, Lock};
+ghost use Rattle.nx_receiver.specs.private.CopyHearer.{handed_out, over_now, over_with};
+ghost use Rattle.nx_receiver.specs.private.LockReader.{is_open};
 ghost use Rattle.nx_envelope.specs.Copies.{Copy};
-ghost use Rattle.nx_envelope.specs.Finder.{HasReady};
+ghost use Rattle.nx_envelope.specs.Finder.{HasReady, is_ready};
 ghost use Rattle.nx_envelope.specs.Found.{IsHeadOf};
 ghost use Rattle.nx_fec.specs.air_files.LineRuns.{HasGiven};
 ghost use Rattle.nx_fec.specs.declared.air_files.channel.Channel.{Channel};
@@ -262,13 +261,13 @@ impl<M: Recall> Receiver<M> {
             → Stands M.content start self.new history (log ++ copies)) }
         ensures unchanged { result ≡ false → spelled.new ≡ spelled.old }
     {
-        let over = self.close_lock(over);
-        let judged = self.judge_ready(over);
+        let is_lock_over = self.close_lock(over);
+        let judged = self.judge_ready();
         if let Some(head) = &judged {
             let text = self.hearer.finder().ready_text();
             spell_entry(head, text, self.hearer.tag().moment, channel, spelled);
         }
-        self.leave_lock(over);
+        self.leave_lock(is_lock_over);
         judged.is_some()
     }
 
@@ -343,17 +342,10 @@ impl<M: Recall> Receiver<M> {
             → Stands M.content start self.new history (log ++ entry_list result) }
         ensures moment { IfSome result (λ entry. entry.moment ≤ last_moment) }
     {
-        let found = match over {
-            Over::Copy => self.hearer.take_copy(),
-            Over::Lock => self.hearer.end_text(),
-            Over::CopyAndLock => {
-                let found = self.hearer.take_copy();
-                self.hearer.end_text();
-                found
-            }
-        };
-        let tag = self.hearer.tag();
-        print_copy(found, tag, &mut self.memory)
+        let is_lock_over = self.close_lock(over);
+        let entry = self.take_ready();
+        self.leave_lock(is_lock_over);
+        entry
     }
 
     /// Finishes what is over, and gives the entry that it brings on a channel, if it brings one:
@@ -377,8 +369,8 @@ impl<M: Recall> Receiver<M> {
             fault.written)) }
         ensures counts { FailsOnce writer.new result.1 }
     {
-        let over = self.close_lock(over);
-        let judged = self.judge_ready(over);
+        let is_lock_over = self.close_lock(over);
+        let judged = self.judge_ready();
         let given = match &judged {
             Some(head) => {
                 let text = self.hearer.finder().ready_text();
@@ -386,35 +378,40 @@ impl<M: Recall> Receiver<M> {
             }
             None => Ok(()),
         };
-        self.leave_lock(over);
+        self.leave_lock(is_lock_over);
         (judged.is_some(), given)
     }
 
-    /// Ends the text where the lock alone is over: the copy that stood open is over then. Answers
-    /// what is over.
+    /// Ends the text where the lock alone is over: the copy that stood open, if one did, can be
+    /// taken then. Whether the lock is over with the copy, and is to be left behind it.
     #[inline(always)]
-    fn close_lock(&mut self, over: Over) -> Option<Over>
+    fn close_lock(&mut self, over: Over) -> bool
         ensures stands { (start : Start) (history : List Event) (log : List TaggedCopy)
             → Awaits M.content start self.old history log (Some over)
-            → Awaits M.content start self.new history log result }
-        ensures closed { result ≢ Some Lock }
+            → Awaits M.content start self.new history log (over_now self.new.hearer result) }
+        ensures ready { (start : Start) (history : List Event) (log : List TaggedCopy)
+            → Awaits M.content start self.old history log (Some over) → IsTrue result
+            → is_ready self.new.hearer.reader.finder ≡ true }
     {
         match over {
-            Over::Lock => self.hearer.close_text(),
-            Over::Copy | Over::CopyAndLock => Some(over),
+            Over::Copy => false,
+            Over::Lock => {
+                self.hearer.close_text();
+                false
+            }
+            Over::CopyAndLock => true,
         }
     }
 
     /// Leaves the lock where it was over with the copy, which was handed out.
     #[inline(always)]
-    fn leave_lock(&mut self, over: Option<Over>)
+    fn leave_lock(&mut self, is_lock_over: bool)
         ensures { (start : Start) (history : List Event) (log : List TaggedCopy)
-            → over ≢ Some Lock
-            → (over ≡ Some CopyAndLock → is_open self.old.hearer.reader.finder.copy ≡ false)
-            → Awaits M.content start self.old history log (behind_copy over)
+            → (IsTrue is_lock_over → is_open self.old.hearer.reader.finder.copy ≡ false)
+            → Awaits M.content start self.old history log (over_with false is_lock_over)
             → Stands M.content start self.new history log }
     {
-        if let Some(Over::CopyAndLock) = over {
+        if is_lock_over {
             self.hearer.restart();
         }
     }
@@ -427,25 +424,41 @@ impl<M: Recall> Receiver<M> {
         self.finish(over).is_some()
     }
 
-    /// Judges the copy that is over, where one is: its head where it is printed. The copy stays
-    /// with the hearer.
-    fn judge_ready(&mut self, over: Option<Over>) -> Option<FoundHead>
+    /// Takes the copy that can be taken, where one can, and judges it: its entry where it is
+    /// printed.
+    fn take_ready(&mut self) -> Option<Entry>
         ensures stands { (start : Start) (history : List Event) (log : List TaggedCopy)
-            → Awaits M.content start self.old history log over
+            (is_lock_over : Bool)
+            → (IsTrue is_lock_over → is_ready self.old.hearer.reader.finder ≡ true)
+            → Awaits M.content start self.old history log
+            (over_now self.old.hearer is_lock_over)
+            → Awaits M.content start self.new history (log ++ entry_list result)
+            (over_with false is_lock_over) }
+        ensures closed { (start : Start) (history : List Event) (log : List TaggedCopy)
+            → is_ready self.old.hearer.reader.finder ≡ true
+            → Awaits M.content start self.old history log (over_now self.old.hearer true)
+            → is_open self.new.hearer.reader.finder.copy ≡ false }
+        ensures moment { IfSome result (λ entry. entry.moment ≤ last_moment) }
+    {
+        let found = self.hearer.take_copy();
+        print_copy(found, self.hearer.tag(), &mut self.memory)
+    }
+
+    /// Judges the copy that can be taken, where one can: its head where it is printed. The copy
+    /// stays with the hearer.
+    fn judge_ready(&mut self) -> Option<FoundHead>
+        ensures stands { (start : Start) (history : List Event) (log : List TaggedCopy)
+            (is_lock_over : Bool)
+            → Awaits M.content start self.old history log
+            (over_now self.old.hearer is_lock_over)
             → Awaits M.content start self.new history
             (log
             ++ headed_list result self.old.hearer.reader.finder.text self.old.hearer.tag.moment)
-            (behind_copy over) }
+            (over_with false is_lock_over) }
         ensures hearer { self.new.hearer ≡ self.old.hearer }
         ensures ready { IfSome result (λ head. (copy : Copy)
             × HasReady self.old.hearer.reader.finder copy × IsHeadOf copy head) }
     {
-        let Some(over) = over else {
-            return None;
-        };
-        let (Over::Copy | Over::CopyAndLock) = over else {
-            return None;
-        };
         let CopyTag {
             moment,
             is_selected,

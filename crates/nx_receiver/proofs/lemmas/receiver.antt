@@ -5,5 +5,4 @@ pub mod Given
 pub mod Judging
 pub mod Log
 pub mod Logged
-pub mod Over
 pub mod Printing

@@ -12,7 +12,6 @@ use Rattle.nx_receiver.specs.copies.FoundCopies.{TaggedCopy}
 use Rattle.nx_receiver.specs.copies.Printing.{printed_copies, entries_after}
 use Rattle.nx_receiver.specs.Receiver.{Receiving, Stands}
 use Rattle.nx_receiver.specs.declared.copy_taker.Over.{Over}
-use Rattle.nx_receiver.specs.declared.copy_taker.Over.TheVariants as over
 use Rattle.nx_receiver.specs.copies.Log.{IsLog}
 use Rattle.nx_receiver.specs.copies.Shares.{marked}
 use Rattle.nx_fec.specs.declared.air_files.channel.Channel.{Channel}
@@ -45,13 +44,6 @@ HearsUpTo content old new bits over =
     (start : Start) (history : List Event) (log : List TaggedCopy)
     → Stands content start old history log
     → Awaits content start new (history ++ elements bits) log over
-
--- what is left of what is over, once the copy that ended was handed out
-abbrev pub behind_copy : Option Over → Option Over
-behind_copy None = None
-behind_copy (Some over.Copy) = None
-behind_copy (Some over.Lock) = Some over.Lock
-behind_copy (Some over.CopyAndLock) = Some over.Lock
 
 -- Whatever a receiver of this channel was given before, what awaited to be finished was: it handed
 -- out these copies, one where it says so and else none, and these bytes are their log.

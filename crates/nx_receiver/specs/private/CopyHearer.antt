@@ -11,7 +11,7 @@ use Rattle.nx_sync.specs.Words.{word_of_lock, first_role, whole_words}
 use Rattle.nx_sync.specs.declared.step.Role.{Role}
 use Rattle.nx_envelope.specs.Copies.{Copy, open_headers}
 use Rattle.nx_envelope.specs.Header.{Header}
-use Rattle.nx_envelope.specs.Finder.{HasReady}
+use Rattle.nx_envelope.specs.Finder.{HasReady, is_ready}
 use Rattle.nx_envelope.specs.declared.found.Found.{Found}
 use Rattle.nx_envelope.specs.declared.identity.Identity.{Identity}
 use Rattle.nx_memory.specs.Selection.{admits}
@@ -178,6 +178,10 @@ over_with false false = None
 over_with true false = Some over.Copy
 over_with false true = Some over.Lock
 over_with true true = Some over.CopyAndLock
+
+-- what is over where the finder has a copy that can be taken or none, by whether the lock is over
+abbrev pub over_now : CopyHearing → Bool → Option Over
+over_now hearer is_lock_over = over_with (is_ready hearer.reader.finder) is_lock_over
 
 -- the moment of the tag is as it was, or the one in force; all else that is in force stays
 pub data TagGoesOn (old new : CopyHearing) : Type 0 where

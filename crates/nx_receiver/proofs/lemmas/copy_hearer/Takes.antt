@@ -1,31 +1,33 @@
 -- A copy that is over is taken, and a text ends.
-use Rattle.std.proofs.Common.{◌≡◌, ◌≢◌, ℕ, zero, ◌+◌, Bool, true, false, refl, List, [], ◌∷◌, ◌++◌}
+use Rattle.std.proofs.Common.{◌≡◌, ℕ, zero, ◌+◌, Bool, true, false, refl, List, [], ◌∷◌, ◌++◌}
 use Rattle.std.proofs.Common.{map, Option, Some, None, sym, ap, ◌∙◌, subst, append-nil}
 use Rattle.std.proofs.Common.{append_assoc}
-use Rattle.std.specs.Prelude.{MatchOption}
+use Rattle.std.specs.Prelude.{IsNone, MatchOption}
 use Rattle.std.specs.List.{All}
 use Rattle.std.proofs.lemmas.List.Elements.{All-head}
 use Rattle.nx_sync.specs.Locks.{Now, hunting, locked}
 use Rattle.nx_sync.specs.Words.{word_of_lock, first_role, whole_words}
 use Rattle.nx_sync.specs.declared.step.Role.{Role}
 use Rattle.nx_envelope.specs.Copies.{Copy, closed_copy, errors_of, open_headers}
-use Rattle.nx_envelope.specs.Finder.{Closes, ClosesHeld, ClosesReady, HasReady, is_ready}
+use Rattle.nx_envelope.specs.Finder.{Closes, ClosesHeld, ClosesReady, HasReady, HoldsCopy, is_ready}
 use Rattle.nx_envelope.specs.Found.{IsFound}
 use Rattle.nx_envelope.specs.Header.{Header}
 use Rattle.nx_envelope.specs.declared.found.Found.{Found}
+use Rattle.nx_envelope.specs.declared.found.HeldCopy.{HeldCopy}
+use Rattle.nx_envelope.specs.declared.found.HeldCopy.TheVariants as held
 use Rattle.nx_envelope.proofs.lemmas.copies.OneOpenCopy.{open_headers-nil}
 use Rattle.nx_receiver.specs.declared.copy_taker.CopyTag.{CopyTag}
-use Rattle.nx_receiver.specs.declared.copy_taker.Over.TheVariants as over
 use Rattle.nx_receiver.specs.Events.{Setting}
 use Rattle.nx_receiver.specs.copies.FoundCopies.{ended_in, open_in, past_copies, past_text, standing_text}
 use Rattle.nx_receiver.specs.copies.FoundCopies.{ended_so_far, open_so_far, found_copy, TaggedCopy, tag}
-use Rattle.nx_receiver.specs.private.LockReader.{ReadsLock}
+use Rattle.nx_receiver.specs.private.LockReader.{ReadsLock, is_open}
 use Rattle.nx_receiver.specs.copies.LockText.{text_after}
 use Rattle.nx_receiver.specs.CopyHearing.{LockReading, CopyHearing}
 use Rattle.nx_receiver.specs.copies.LockText.{PlacedByte, bytes_of, text_by}
 use Rattle.nx_receiver.specs.private.CopyHearer.{BothAreOver, CopyIsOver, HasEndedAll, HasTag, IsFresh}
 use Rattle.nx_receiver.specs.private.CopyHearer.{IsOver, LockIsOver, ReadsNow, HearerStands, copies_by}
-use Rattle.nx_receiver.specs.private.CopyHearer.{handed_out, over_with, ready_copy, setting_in, tag_of}
+use Rattle.nx_receiver.specs.private.CopyHearer.{handed_out, over_now, over_with, ready_copy}
+use Rattle.nx_receiver.specs.private.CopyHearer.{setting_in, tag_of}
 use Rattle.nx_receiver.specs.private.CopyHearer.{place_of_header}
 use Rattle.nx_receiver.proofs.lemmas.locks.Found.{all_in-parts}
 use Rattle.nx_receiver.proofs.lemmas.locks.Growing.{hunted}
@@ -81,7 +83,7 @@ taken copy (Some found) kept h =
       selected = kept.is_selected;
     } ∷ []) h.text
 
-pub copy_taken : (first : Setting) (hearer : CopyHearing) (reader : LockReading)
+copy_taken : (first : Setting) (hearer : CopyHearing) (reader : LockReading)
     (found : Option Found) (h : List Bool) (s : List Setting) (copies : List TaggedCopy)
     → StandsWhere hearer.reader reader
     → ((copy : Copy) → HasReady hearer.reader.finder copy → MatchOption found ⊥ (IsFound copy))
@@ -104,7 +106,7 @@ copy_taken first hearer reader found h s copies on is over =
       };
     }
 
-pub both_taken : (first : Setting) (hearer : CopyHearing) (reader : LockReading)
+both_taken : (first : Setting) (hearer : CopyHearing) (reader : LockReading)
     (found : Option Found) (h : List Bool) (s : List Setting) (copies : List TaggedCopy)
     → StandsWhere hearer.reader reader
     → ((copy : Copy) → HasReady hearer.reader.finder copy → MatchOption found ⊥ (IsFound copy))
@@ -125,6 +127,81 @@ both_taken first hearer reader found h s copies on is both =
       reads = on (first_role h r.lock.at) (word_of_lock h r.lock.at) (r.lock.last + 1) r.reads;
       has_tag = r.has_tag;
     }
+
+none_taken : (first : Setting) (hearer : CopyHearing) (reader : LockReading)
+    (found : Option Found) (h : List Bool) (s : List Setting) (copies : List TaggedCopy)
+    → StandsWhere hearer.reader reader → IsNone found
+    → HearerStands first hearer h s copies
+    → HearerStands first (record hearer { reader = reader }) h s
+    (copies ++ handed_out found hearer.tag)
+none_taken first hearer reader (Some found) h s copies on none stands = cc
+none_taken first hearer reader None h s copies on none stands =
+    let r = stands.reads in
+    record {
+      synchroniser = stands.synchroniser;
+      reads = record {
+        locks = r.locks;
+        now = r.now;
+        stands = r.stands;
+        many = r.many;
+        ended = append-nil copies ∙ r.ended;
+        reads = reads_on hearer.reader reader on h r.now r.reads;
+        has_tag = r.has_tag;
+      };
+    }
+
+-- The copy that can be taken was taken, where one can: where the lock was over with it, that is
+-- left.
+pub over_taken : (first : Setting) (hearer : CopyHearing) (reader : LockReading)
+    (found : Option Found) (h : List Bool) (s : List Setting) (copies : List TaggedCopy)
+    (is_copy_over is_lock_over : Bool)
+    → StandsWhere hearer.reader reader
+    → ((copy : Copy) → HasReady hearer.reader.finder copy → MatchOption found ⊥ (IsFound copy))
+    → (is_copy_over ≡ false → IsNone found)
+    → (is_lock_over ≡ true → is_copy_over ≡ true)
+    → IsOver first hearer h s copies (over_with is_copy_over is_lock_over)
+    → IsOver first (record hearer { reader = reader }) h s
+    (copies ++ handed_out found hearer.tag) (over_with false is_lock_over)
+over_taken first hearer reader found h s copies true false on is none with_copy over =
+    copy_taken first hearer reader found h s copies on is over
+over_taken first hearer reader found h s copies true true on is none with_copy over =
+    both_taken first hearer reader found h s copies on is over
+over_taken first hearer reader found h s copies false false on is none with_copy over =
+    none_taken first hearer reader found h s copies on (none refl) over
+over_taken first hearer reader found h s copies false true on is none with_copy over =
+    let wrong : false ≡ true = with_copy refl in cc
+
+-- a finder that stands after a text in which no copy is open holds no open one
+not_open : (copy : HeldCopy) (kept text : List ℕ) → HoldsCopy copy kept text
+    → open_headers text ≡ [] → is_open copy ≡ false
+not_open held.Nothing kept text holds none = refl
+not_open (held.Open identity fresh) kept text holds none =
+    let wrong : holds.header ∷ [] ≡ [] = sym holds.stands_open ∙ none in cc
+not_open (held.Ready identity how) kept text holds none = refl
+
+-- a copy ended with the element that released the lock, so none stands open behind it
+both_open_none : (first : Setting) (hearer : CopyHearing) (reader : LockReading) (h : List Bool)
+    (s : List Setting) (copies : List TaggedCopy)
+    → StandsWhere hearer.reader reader → BothAreOver first hearer h s copies
+    → is_open reader.finder.copy ≡ false
+both_open_none first hearer reader h s copies on both =
+    let lock = both.lock.lock in
+    let words = word_of_lock h lock.at in
+    let n = lock.last + 1 in
+    let none : open_headers (text_after (first_role h lock.at) words n) ≡ [] =
+    subst (λ held. HoldsCopy held hearer.reader.finder.text
+    (text_after (first_role h lock.at) words n)) both.ready.held both.lock.reads.finder.copy in
+    not_open reader.finder.copy reader.finder.text _
+    (on (first_role h lock.at) words n both.lock.reads).finder.copy none
+
+pub none_opens : (first : Setting) (hearer : CopyHearing) (reader : LockReading) (h : List Bool)
+    (s : List Setting) (copies : List TaggedCopy) (is_copy_over : Bool)
+    → StandsWhere hearer.reader reader → is_copy_over ≡ true
+    → IsOver first hearer h s copies (over_with is_copy_over true)
+    → is_open reader.finder.copy ≡ false
+none_opens first hearer reader h s copies true on is over =
+    both_open_none first hearer reader h s copies on over
+none_opens first hearer reader h s copies false on is over = cc
 
 -- the copy that stands open, as the end of the text hands it out
 closed-none : (text : List PlacedByte) → open_headers (bytes_of text) ≡ [] → open_in text ≡ []
@@ -202,7 +279,7 @@ ended_at first hearer reader found h s copies fresh over ends =
       };
     }
 
-pub lock_ended : (first : Setting) (hearer : CopyHearing) (reader : LockReading)
+lock_ended : (first : Setting) (hearer : CopyHearing) (reader : LockReading)
     (found : Option Found) (h : List Bool) (s : List Setting) (copies : List TaggedCopy)
     → IsFresh reader → ((first : Role) (words : ℕ → ℕ) (n : ℕ)
     → ReadsLock hearer.reader first words n → Closes (text_after first words n) found)
@@ -256,21 +333,16 @@ closed_as first hearer reader h s copies false fresh over ends is =
 -- The text of a lock that is over ended, and the copy that stood open in it, if one did, can be
 -- taken.
 pub lock_closed : (first : Setting) (hearer : CopyHearing) (reader : LockReading) (h : List Bool)
-    (s : List Setting) (copies : List TaggedCopy) (ready : Bool) → IsFresh reader
+    (s : List Setting) (copies : List TaggedCopy) → IsFresh reader
     → ((first : Role) (words : ℕ → ℕ) (n : ℕ) → ReadsLock hearer.reader first words n
     → ClosesHeld (text_after first words n) reader.finder)
-    → is_ready reader.finder ≡ ready
     → LockIsOver first hearer h s copies
-    → IsOver first (record hearer { reader = reader }) h s copies (over_with ready false)
-lock_closed first hearer reader h s copies ready fresh ends is over =
-    closed_as first hearer reader h s copies ready fresh over
+    → IsOver first (record hearer { reader = reader }) h s copies
+    (over_now (record hearer { reader = reader }) false)
+lock_closed first hearer reader h s copies fresh ends over =
+    closed_as first hearer reader h s copies (is_ready reader.finder) fresh over
     (ends (first_role h over.lock.at) (word_of_lock h over.lock.at) (over.lock.last + 1) over.reads)
-    is
-
--- what is over then is no lock
-pub closed_over : (ready : Bool) → over_with ready false ≢ Some over.Lock
-closed_over true e = cc
-closed_over false e = cc
+    refl
 
 -- where no copy stands open in it, none is handed out
 pub lock_ended_none : (first : Setting) (hearer : CopyHearing) (reader : LockReading)

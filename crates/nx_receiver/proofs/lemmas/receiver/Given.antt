@@ -1,5 +1,5 @@
 -- A copy that is over is judged where it lies, and handed out.
-use Rattle.std.proofs.Common.{◌≡◌, ◌⊎◌, inl, inr, ℕ, Bool, true, false, cond, List, [], ◌∷◌, ◌++◌}
+use Rattle.std.proofs.Common.{◌≡◌, ℕ, Bool, true, false, cond, List, [], ◌∷◌, ◌++◌}
 use Rattle.std.proofs.Common.{Option}
 use Rattle.std.proofs.Common.{None, Some, IsNone, is_some, length, refl, sym, ap, ◌∙◌}
 use Rattle.std.proofs.Common.{subst, append-nil}
@@ -24,10 +24,10 @@ use Rattle.nx_receiver.specs.CopyHearing.{CopyHearing, in_force}
 use Rattle.nx_receiver.specs.declared.copy_taker.CopyTag.{CopyTag}
 use Rattle.nx_receiver.specs.declared.copy_taker.Over.{Over}
 use Rattle.nx_receiver.specs.declared.copy_taker.Over.TheVariants as over
-use Rattle.nx_receiver.specs.private.Awaiting.{AwaitsOver, behind_copy}
+use Rattle.nx_receiver.specs.private.Awaiting.{AwaitsOver}
 use Rattle.nx_receiver.specs.private.Heads.{headed_copy, headed_list}
 use Rattle.nx_receiver.specs.private.LockReader.{is_open}
-use Rattle.nx_receiver.specs.private.CopyHearer.{IsOver, ready_copy}
+use Rattle.nx_receiver.specs.private.CopyHearer.{IsOver, over_with, ready_copy}
 use Rattle.nx_receiver.proofs.lemmas.receiver.Logged.{printed_copies-append, entries_after-append}
 
 -- the copy that can be taken, with its head
@@ -176,47 +176,33 @@ copy_judged content start hearer old new h s now copies log head copy left is_sh
     (shown is_shown before head hearer.reader.finder.text hearer.tag (ready_copy copy hearer.tag)
     same prints)
 
--- a copy is over, alone or with the lock
-pub copy_is_over : (left : Option Over) (is_over : Over) → left ≡ Some is_over
-    → (is_over ≡ over.Copy) ⊎ (is_over ≡ over.CopyAndLock)
-    → (left ≡ Some over.Copy) ⊎ (left ≡ Some over.CopyAndLock)
-copy_is_over left is_over is (inl e) = inl (is ∙ ap Some e)
-copy_is_over left is_over is (inr e) = inr (is ∙ ap Some e)
-
 -- The copy that is over was judged where it lies: it is handed out where it is printed.
 pub ready_judged : {M : Type 0} (content : M → List MemoryEntry) (start : Start)
     (hearer : CopyHearing) (old new : M) (h : List Bool) (s : List Setting) (now : Setting)
-    (log : List TaggedCopy) (head : FoundHead) (is_over : Option Over) (is_shown : Bool)
-    → (is_over ≡ Some over.Copy) ⊎ (is_over ≡ Some over.CopyAndLock)
+    (log : List TaggedCopy) (head : FoundHead) (is_copy_over is_lock_over is_shown : Bool)
+    → is_copy_over ≡ true
     → ((copy : Copy) → HasReady hearer.reader.finder copy → IsHeadOf copy head)
     → IsJudged content old new
     (headed_copy head hearer.reader.finder.text hearer.tag.moment hearer.tag.is_selected) is_shown
-    → AwaitsOver content start (record { hearer = hearer; memory = old }) h s now log is_over
+    → AwaitsOver content start (record { hearer = hearer; memory = old }) h s now log
+    (over_with is_copy_over is_lock_over)
     → AwaitsOver content start (record { hearer = hearer; memory = new }) h s now
     (log ++ cond is_shown (headed_copy head hearer.reader.finder.text hearer.tag.moment true ∷ [])
-    []) (behind_copy is_over)
-ready_judged content start hearer old new h s now log head None is_shown some is j a =
-    elim some [ inl e ↦ cc | inr e ↦ cc ]
-ready_judged content start hearer old new h s now log head (Some over.Copy) is_shown some is j a =
+    []) (over_with false is_lock_over)
+ready_judged content start hearer old new h s now log head false is_lock_over is_shown e is j a = cc
+ready_judged content start hearer old new h s now log head true false is_shown e is j a =
     copy_judged content start hearer old new h s now a.copies log head a.hearer.copy None
     is_shown a.hearer.ready (is a.hearer.copy a.hearer.ready) a.hearer.stands a.force a.printed
     a.memory j
-ready_judged content start hearer old new h s now log head (Some over.Lock) is_shown some is j a =
-    elim some [ inl e ↦ cc | inr e ↦ cc ]
-ready_judged content start hearer old new h s now log head (Some over.CopyAndLock) is_shown some is
-    j a =
+ready_judged content start hearer old new h s now log head true true is_shown e is j a =
     copy_judged content start hearer old new h s now a.copies log head a.hearer.copy
     (Some over.Lock) is_shown a.hearer.ready (is a.hearer.copy a.hearer.ready) a.hearer.lock a.force
     a.printed a.memory j
 
--- a copy that is over with the lock isn't open
-pub over_not_open : {M : Type 0} (content : M → List MemoryEntry) (start : Start)
-    (r : Receiving M) (h : List Bool) (s : List Setting) (now : Setting) (log : List TaggedCopy)
-    (is_over : Option Over) → AwaitsOver content start r h s now log is_over
-    → is_over ≡ Some over.CopyAndLock → is_open r.hearer.reader.finder.copy ≡ false
-over_not_open content start r h s now log is_over a is =
-    let both = subst (λ o. AwaitsOver content start r h s now log o) is a in
-    ap is_open both.hearer.ready.held
+pub ready_not_open : (copy : HeldCopy) → is_ready_copy copy ≡ true → is_open copy ≡ false
+ready_not_open held.Nothing e = cc
+ready_not_open (held.Open identity fresh) e = cc
+ready_not_open (held.Ready identity how) e = refl
 
 -- how many copies of a head are handed out
 pub heads_counted : (head : Option FoundHead) (text : List ℕ) (moment : ℕ)

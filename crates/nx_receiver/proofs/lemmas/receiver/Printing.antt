@@ -16,9 +16,11 @@ use Rattle.nx_receiver.specs.copies.FoundCopies.{FoundCopy, TaggedCopy, tagged_c
 use Rattle.nx_receiver.specs.copies.Log.{HasPrinted, PrintsToEnd}
 use Rattle.nx_receiver.specs.copies.Printing.{entries_after, entries_made, entry_made, if_printed}
 use Rattle.nx_receiver.specs.copies.Printing.{is_printed, printed_copies}
-use Rattle.nx_receiver.specs.Receiver.{Stands, StandsOver}
+use Rattle.nx_receiver.specs.Receiver.{Stands}
+use Rattle.nx_receiver.specs.declared.copy_taker.Over.{Over}
+use Rattle.nx_receiver.specs.private.Awaiting.{AwaitsOver}
 use Rattle.nx_receiver.specs.private.CopyHearer.{HasEnded, HasEndedAll, HearerStands, copies_by}
-use Rattle.nx_receiver.specs.private.CopyHearer.{handed_out}
+use Rattle.nx_receiver.specs.private.CopyHearer.{IsOver, handed_out}
 use Rattle.nx_receiver.specs.CopyHearing.{CopyHearing, in_force}
 use Rattle.nx_receiver.proofs.lemmas.receiver.Logged.{printed_copies-append, entries_after-append}
 
@@ -65,10 +67,11 @@ unfolding is_printed
 selected entries found tag h = ap (tagged_found found tag.moment) (sym (and_parts _ _ h).0)
 
 -- A hearer handed out a copy, or none; what is printed and entered of it is the next of all copies.
-pub stands_with : {M : Type 0} (content : M → List MemoryEntry) (start : Start)
+pub awaits_with : {M : Type 0} (content : M → List MemoryEntry) (start : Start)
     (hearer : CopyHearing) (old new : M) (h : List Bool) (s : List Setting) (now : Setting)
     (copies log : List TaggedCopy) (found : Option Found) (tag : CopyTag) (more : List TaggedCopy)
-    → HearerStands (first_setting start) hearer h s (copies ++ handed_out found tag)
+    (left : Option Over)
+    → IsOver (first_setting start) hearer h s (copies ++ handed_out found tag) left
     → in_force hearer ≡ now
     → log ≡ printed_copies start.entries copies
     → content old ≡ last_of most_entries (entries_after start.entries copies)
@@ -76,9 +79,9 @@ pub stands_with : {M : Type 0} (content : M → List MemoryEntry) (start : Start
     → more ≡ printed_copies entries (handed_out found tag))
     → ((entries : List MemoryEntry) → content old ≡ last_of most_entries entries
     → content new ≡ last_of most_entries (entries_after entries (handed_out found tag)))
-    → StandsOver content start (record { hearer = hearer; memory = new }) h s now (log ++ more)
-stands_with content start hearer old new h s now copies log found tag more stands force printed
-    memory prints enters =
+    → AwaitsOver content start (record { hearer = hearer; memory = new }) h s now (log ++ more) left
+awaits_with content start hearer old new h s now copies log found tag more left stands force
+    printed memory prints enters =
     let before = entries_after start.entries copies in
     record {
       copies = copies ++ handed_out found tag;

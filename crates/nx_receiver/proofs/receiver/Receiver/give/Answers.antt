@@ -3,20 +3,18 @@ use Rattle.std.proofs.Common.{map}
 use Rattle.std.proofs.Common.{subst, sym, true}
 use Rattle.std.specs.Prelude.{IfSome, MatchResult}
 use Rattle.nx_envelope.specs.Copies.{Copy}
-use Rattle.nx_envelope.specs.Finder.{HasReady}
+use Rattle.nx_envelope.specs.Finder.{HasReady, is_ready}
 use Rattle.nx_envelope.specs.Found.{IsHeadOf}
 use Rattle.nx_envelope.specs.declared.finder.Finder.{Finder}
 use Rattle.nx_fec.specs.air_files.LineRuns.{HasGiven}
 use Rattle.nx_fec.specs.Transfers.{WroteSome}
-use Rattle.nx_receiver.specs.Events.{elements_among, first_setting, setting_after_all, settings}
 use Rattle.nx_receiver.specs.copies.Log.{IsEntry, IsLog}
 use Rattle.nx_receiver.specs.Receiver.{Receiving}
 use Rattle.nx_receiver.specs.copies.Shares.{marked}
 use Rattle.nx_receiver.specs.CopyHearing.{CopyHearing}
 use Rattle.nx_receiver.specs.declared.copy_taker.CopyTag.{CopyTag}
 use Rattle.nx_receiver.specs.private.Heads.{headed_copy, headed_list}
-use Rattle.nx_receiver.specs.private.LockReader.{is_open}
-use Rattle.nx_receiver.proofs.lemmas.receiver.Given.{heads_counted, over_not_open}
+use Rattle.nx_receiver.proofs.lemmas.receiver.Given.{heads_counted, ready_not_open}
 use Rattle.nx_receiver.proofs.lemmas.receiver.Log.{no-log, one-log}
 use Rattle.nx_receiver.proofs.receiver.Receiver.give.Goals.{in-None, in-Some}
 use Rattle.nx_receiver.proofs.receiver.Receiver.give.Goals as goal
@@ -24,8 +22,8 @@ use Rattle.nx_receiver.proofs.receiver.Receiver.give.Goals as goal
 pub returns-clause-given : goal.returns-clause-given
 returns-clause-given g c =
     let content = g.M.Recall.content in
-    let mid = c.close_lock-over.new.self in
-    let over = c.close_lock-over.result in
+    let closed = c.close_lock-is_lock_over in
+    let mid = closed.new.self in
     let judged = c.judge_ready-judged.result in
     let channel = c.args.channel in
     let finder = mid.hearer.reader.finder in
@@ -74,13 +72,11 @@ returns-clause-given g c =
       record {
         copies = copies;
         stands = λ start events log awaits.
-            let passed = c.close_lock-over.ensures.stands start events log awaits in
-            c.leave_lock.ensures start events (log ++ copies) c.close_lock-over.ensures.closed
-            (λ both. ap (λ (w : CopyHearing). is_open w.reader.finder.copy) kept
-            ∙ over_not_open content start mid (elements_among events)
-            (settings (first_setting start) events) (setting_after_all (first_setting start) events)
-            log over passed both)
-            (c.judge_ready-judged.ensures.stands start events log passed);
+            c.leave_lock.ensures start events (log ++ copies)
+            (λ both. ready_not_open _ (ap (λ (w : CopyHearing). is_ready w.reader.finder) kept
+            ∙ closed.ensures.ready start events log awaits both))
+            (c.judge_ready-judged.ensures.stands start events log closed.result
+            (closed.ensures.stands start events log awaits));
         spelled = gave.1;
         counted = heads_counted judged finder.text moment
             ∙ ap (λ b. cond b 1 0) (sym c.is_some.ensures);

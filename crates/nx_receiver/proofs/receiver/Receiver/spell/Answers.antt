@@ -2,10 +2,9 @@ use Rattle.std.proofs.Common.{◌++◌, ◌∙◌, true, ap, ap₂, refl, subst,
 use Rattle.std.proofs.Common.{is_some}
 use Rattle.std.specs.Prelude.{IfSome}
 use Rattle.nx_envelope.specs.Copies.{Copy}
-use Rattle.nx_envelope.specs.Finder.{HasReady}
+use Rattle.nx_envelope.specs.Finder.{HasReady, is_ready}
 use Rattle.nx_envelope.specs.Found.{IsHeadOf}
 use Rattle.nx_envelope.specs.declared.finder.Finder.{Finder}
-use Rattle.nx_receiver.specs.Events.{elements_among, first_setting, setting_after_all, settings}
 use Rattle.nx_receiver.specs.Listener.{IsSpelled}
 use Rattle.nx_receiver.specs.copies.Log.{IsEntry}
 use Rattle.nx_receiver.specs.Receiver.{Receiving}
@@ -13,16 +12,15 @@ use Rattle.nx_receiver.specs.copies.Shares.{marked}
 use Rattle.nx_receiver.specs.CopyHearing.{CopyHearing}
 use Rattle.nx_receiver.specs.declared.copy_taker.CopyTag.{CopyTag}
 use Rattle.nx_receiver.specs.private.Heads.{headed_copy, headed_list}
-use Rattle.nx_receiver.specs.private.LockReader.{is_open}
-use Rattle.nx_receiver.proofs.lemmas.receiver.Given.{over_not_open}
+use Rattle.nx_receiver.proofs.lemmas.receiver.Given.{ready_not_open}
 use Rattle.nx_receiver.proofs.receiver.Receiver.spell.Goals.{in-Some, in_default}
 use Rattle.nx_receiver.proofs.receiver.Receiver.spell.Goals as goal
 
 pub returns-clause-stands : goal.returns-clause-stands
 returns-clause-stands g c =
     let content = g.M.Recall.content in
-    let mid = c.close_lock-over.new.self in
-    let over = c.close_lock-over.result in
+    let closed = c.close_lock-is_lock_over in
+    let mid = closed.new.self in
     let judged = c.judge_ready-judged.result in
     let channel = c.args.channel in
     let finder = mid.hearer.reader.finder in
@@ -60,11 +58,9 @@ returns-clause-stands g c =
       subst (λ b. IsSpelled channel b copies c.match-judged.spelled.items) (sym c.is_some.ensures)
           spelled,
       λ start events log awaits.
-          let passed = c.close_lock-over.ensures.stands start events log awaits in
-          c.leave_lock.ensures start events (log ++ copies) c.close_lock-over.ensures.closed
-          (λ both. ap (λ (w : CopyHearing). is_open w.reader.finder.copy) kept
-          ∙ over_not_open content start mid (elements_among events)
-          (settings (first_setting start) events) (setting_after_all (first_setting start) events)
-          log over passed both)
-          (c.judge_ready-judged.ensures.stands start events log passed),
+          c.leave_lock.ensures start events (log ++ copies)
+          (λ both. ready_not_open _ (ap (λ (w : CopyHearing). is_ready w.reader.finder) kept
+          ∙ closed.ensures.ready start events log awaits both))
+          (c.judge_ready-judged.ensures.stands start events log closed.result
+          (closed.ensures.stands start events log awaits)),
     )
