@@ -2,6 +2,7 @@
 -- was put before it (this profile).
 use Rattle.std.specs.Prelude.{◌≡◌, ℕ, ◌+◌, ◌<◌, List, [], ◌∷◌, ◌++◌, Option, ⊤}
 use Rattle.std.specs.List.{flat_map}
+use Rattle.nx_code.specs.Lists.{Begins}
 use Rattle.nx_fec.specs.air_files.AirFile.{Line}
 use Rattle.nx_fec.specs.declared.air_files.channel.Channel.{Channel}
 use Rattle.nx_log.specs.Logged.{remembered_on}
@@ -15,10 +16,6 @@ use Rattle.nx_receiver.specs.copies.Shares.{Given, MarkedCopy, Starts, copies_on
 use Rattle.nx_sync.specs.Locks.{IsNow, Lock, Now}
 use Rattle.nx_watch.specs.Acting.{acting_lines}
 use Rattle.nx_watch.specs.Watch.{StandsForEntries, starts_at}
-
--- the one list begins the other
-abbrev pub Begins : {A : Type 0} → List A → List A → Type 0
-Begins {A} front all = (rest : List A) × (all ≡ front ++ rest)
 
 -- ---- a watch
 

@@ -2,6 +2,7 @@
 //! nothing; its contract is the law.
 
 ghost use Rattle.std.specs.Prelude.{◌≡◌, ℕ, ◌+◌, ◌*◌, ◌<◌, ◌≤◌, Bool, List, [], ◌∷◌, ◌++◌, length, All};
+ghost use Rattle.nx_code.specs.Lists.{Begins};
 ghost use Rattle.nx_code.specs.Reading.{text};
 ghost use Rattle.nx_code.specs.declared.shifts.Shift.TheVariants.{Letters};
 ghost use Rattle.nx_envelope.specs.Moment.{last_moment};
@@ -72,14 +73,13 @@ pub fn the_end_closes_the_open_copy()
 pub fn more_events_keep_the_log()
     ensures found { (bits more : List Bool) (older locks : List Lock) (was now : Now)
         → IsNow bits older was → IsNow (bits ++ more) locks now
-        → (rest : List FoundCopy)
-        × (ended_so_far (bits ++ more) locks now ≡ ended_so_far bits older was ++ rest) }
+        → Begins (ended_so_far bits older was) (ended_so_far (bits ++ more) locks now) }
     ensures printed { (start : Start) (events more : List Event) (log later : List TaggedCopy) →
         HasPrinted start events log → HasPrinted start (events ++ more) later
-        → (rest : List TaggedCopy) × (later ≡ log ++ rest) }
+        → Begins log later }
     ensures closed { (start : Start) (events more : List Event) (log whole : List TaggedCopy) →
         HasPrinted start events log → PrintsToEnd start (events ++ more) whole
-        → (rest : List TaggedCopy) × (whole ≡ log ++ rest) }
+        → Begins log whole }
 {}
 
 /// All that a receiver was given has one log: one list of printed copies; and, where
@@ -103,7 +103,7 @@ pub fn there_is_one_log()
 /// The log of a beginning is a beginning of the log; a log and then another are the log of both.
 pub fn logs_go_on()
     ensures begins { (front back : List MarkedCopy) (bytes whole : List ℕ) → IsLog front bytes
-        → IsLog (front ++ back) whole → (more : List ℕ) × (whole ≡ bytes ++ more) }
+        → IsLog (front ++ back) whole → Begins bytes whole }
     ensures join { (front back : List MarkedCopy) (bytes more : List ℕ)
         → IsLog front bytes → IsLog back more
         → IsLog (front ++ back) (bytes ++ more) }

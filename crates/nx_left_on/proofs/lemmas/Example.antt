@@ -8,6 +8,7 @@ use Rattle.std.proofs.lemmas.Bool.{and_from, le-leb}
 use Rattle.std.specs.List.{All, AllZip, Contains, concat}
 use Rattle.std.proofs.lemmas.List.{length-take}
 use Rattle.std.proofs.lemmas.List.Elements.{All-cons, All-contains, All-nil}
+use Rattle.nx_code.specs.Lists.{Begins}
 use Rattle.nx_code.specs.Reading.{characters, is_in_code}
 use Rattle.nx_envelope.specs.Moment.{last_moment}
 use Rattle.nx_envelope.specs.declared.found.How.TheVariants.{Full}
@@ -53,7 +54,7 @@ use Rattle.nx_receiver.proofs.lemmas.channels.Marked.{of-one}
 use Rattle.nx_receiver.proofs.lemmas.channels.Some.{some-in_turn}
 use Rattle.nx_receiver.specs.examples.Emission.{damaged_words, worked_log}
 use Rattle.nx_watch.specs.Acting.{acting_behind, acting_lines, moment_said}
-use Rattle.nx_left_on.specs.Chain.{Begins, ClocksAreNear, GoesOn, HadEnded, IsChain, Judges}
+use Rattle.nx_left_on.specs.Chain.{ClocksAreNear, GoesOn, HadEnded, IsChain, Judges}
 use Rattle.nx_left_on.specs.Chain.{Watch, all_copies, all_put, copies_in}
 use Rattle.nx_watch.specs.Watch.{StandsForEntries}
 use Rattle.nx_left_on.specs.Chain.{events_in}

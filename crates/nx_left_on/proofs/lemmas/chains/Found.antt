@@ -5,6 +5,7 @@ use Rattle.std.proofs.Common.{◌∙◌, subst, arith, append-nil, append_assoc}
 use Rattle.std.specs.List.{All}
 use Rattle.std.proofs.lemmas.List.Elements.{All-append, All-nil}
 use Rattle.std.proofs.lemmas.List.Elements.{All-weaker}
+use Rattle.nx_code.specs.Lists.{Begins}
 use Rattle.nx_receiver.specs.Events.{Event, Setting, elements_among}
 use Rattle.nx_receiver.specs.copies.FoundCopies.{FoundCopy, ended_so_far}
 use Rattle.nx_receiver.specs.copies.FoundCopies.{found_to_end, open_in, open_so_far}
@@ -19,7 +20,7 @@ use Rattle.nx_receiver.proofs.lemmas.receiver.Logged.{tagged_copies-append}
 use Rattle.nx_sync.proofs.lemmas.states.StateChanges.{standing_after}
 use Rattle.nx_sync.specs.Locks.{IsNow, Lock, Now, hunting, locked}
 use Rattle.nx_sync.specs.Words.{first_role, whole_words, word_of_lock}
-use Rattle.nx_left_on.specs.Chain.{AreFoundOf, Begins, Ending, HadEnded, answered, stopped}
+use Rattle.nx_left_on.specs.Chain.{AreFoundOf, Ending, HadEnded, answered, stopped}
 use Rattle.nx_left_on.specs.Chain.{stopped_closing}
 use Rattle.nx_left_on.proofs.lemmas.entries.Climbing.{Climbs, IsWithin, Rise, climbs-front, copies-climb}
 

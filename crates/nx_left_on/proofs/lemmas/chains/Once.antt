@@ -7,7 +7,7 @@ use Rattle.std.proofs.lemmas.List.Elements.{All-append, All-contains, All-contai
 use Rattle.std.proofs.lemmas.List.Elements.{All-drop, All-filter, All-head, All-map, All-nil}
 use Rattle.std.proofs.lemmas.List.Elements.{All-tail, All-weaker}
 use Rattle.std.proofs.lemmas.List.Elements.{Contains-append_left, Contains-append_right}
-use Rattle.nx_code.specs.Lists.{last_of}
+use Rattle.nx_code.specs.Lists.{Begins, last_of}
 use Rattle.nx_envelope.specs.Copies.{errors_of}
 use Rattle.nx_envelope.specs.Identity.{same_identity}
 use Rattle.nx_envelope.specs.Message.{MessageView, text_of}
@@ -39,7 +39,7 @@ use Rattle.nx_receiver.proofs.lemmas.once.Rising.{contains_map, one_of_key}
 use Rattle.nx_receiver.proofs.lemmas.receiver.Logged.{ended_placed}
 use Rattle.nx_watch.specs.Start.{is_in_order, is_last_known, is_near, passing}
 use Rattle.nx_watch.proofs.lemmas.log.Start.{All-passing}
-use Rattle.nx_left_on.specs.Chain.{Begins, ClocksAreNear, HadEnded, IsChain, Judges, Watch}
+use Rattle.nx_left_on.specs.Chain.{ClocksAreNear, HadEnded, IsChain, Judges, Watch}
 use Rattle.nx_left_on.specs.Chain.{all_copies, all_put, copies_in, events_in}
 use Rattle.nx_left_on.specs.LeftOn.{CutWatch, HasEndedAt, IsHeardInTimeOver, IsSentIn}
 use Rattle.nx_left_on.specs.LeftOn.{IsUnknownOver, elements_in, in_force_in}

@@ -2,6 +2,7 @@
 use Rattle.std.proofs.Common.{◌≡◌, true, false, cond, List, [], ◌∷◌, ◌++◌, map, refl, sym, ap}
 use Rattle.std.proofs.Common.{◌∙◌, subst, append_assoc}
 use Rattle.std.proofs.lemmas.List.{append_cancel_left, map-append}
+use Rattle.nx_code.specs.Lists.{Begins}
 use Rattle.nx_fec.specs.air_files.AirFile.{Line}
 use Rattle.nx_fec.specs.declared.air_files.channel.Channel.{Channel}
 use Rattle.nx_memory.specs.declared.memories.entry.MemoryEntry.{MemoryEntry}
@@ -16,7 +17,7 @@ use Rattle.nx_receiver.specs.copies.Shares.{MarkedCopy, Starts, copies_on, share
 use Rattle.nx_receiver.proofs.lemmas.channels.Shares.{copies_on-append, share-append, to_end-on}
 use Rattle.nx_receiver.proofs.lemmas.receiver.Logged.{ended_placed, printed_copies-append}
 use Rattle.nx_receiver.proofs.lemmas.receiver.Logged.{tagged_copies-more}
-use Rattle.nx_left_on.specs.Chain.{AreFoundOf, Begins, Ending, GoesOn, HadEnded, PrintOf, Puts}
+use Rattle.nx_left_on.specs.Chain.{AreFoundOf, Ending, GoesOn, HadEnded, PrintOf, Puts}
 use Rattle.nx_left_on.specs.Chain.{Watch, answered, events_in, lines_of, start_in, stopped}
 use Rattle.nx_left_on.specs.Chain.{stopped_closing}
 use Rattle.nx_left_on.proofs.lemmas.chains.Found.{begins-more, ended-begin, ended-found, one-ended}

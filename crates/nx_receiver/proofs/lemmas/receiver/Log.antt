@@ -7,6 +7,7 @@ use Rattle.std.proofs.lemmas.List.Elements.{All-head, All-tail}
 use Rattle.nx_envelope.specs.Moment.{last_moment}
 use Rattle.nx_envelope.proofs.lemmas.moments.EveryMoment.{every_moment}
 use Rattle.nx_envelope.proofs.lemmas.moments.OneText.{one_text}
+use Rattle.nx_code.specs.Lists.{Begins}
 use Rattle.nx_code.specs.Reading.{newline}
 use Rattle.nx_envelope.specs.Moment.{IsShownAs}
 use Rattle.nx_envelope.specs.declared.found.FoundHead.{FoundHead}
@@ -110,7 +111,7 @@ cut (c ∷ cs) back (e ∷ es) h =
 
 -- the log of a beginning is a beginning of the log
 pub log_begins : (front back : List MarkedCopy) (bytes whole : List ℕ) → IsLog front bytes
-    → IsLog (front ++ back) whole → (more : List ℕ) × (whole ≡ bytes ++ more)
+    → IsLog (front ++ back) whole → Begins bytes whole
 log_begins front back bytes whole l m =
     let c = cut front back m.entries m.each in (
       concat c.right,
