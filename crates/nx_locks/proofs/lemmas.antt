@@ -9,5 +9,5 @@ pub mod OneReport
 pub mod PlainWords
 pub mod ReaderWords
 pub mod Runs
+pub mod Showing
 pub mod Taking
-pub mod Watching

@@ -1,7 +1,7 @@
 -- The report of the locks in the bits that a receiver has heard: for each lock the line that opens
 -- it, its text, and the lines that close it; and one last line (this profile). `moments` has the
 -- moment in force at each bit, in seconds since 1970-01-01 00:00:00 UTC.
-use Rattle.std.specs.Prelude.{◌≡◌, ℕ, ◌+◌, ◌-◌, ◌*◌, Bool, List, [], ◌∷◌, ◌++◌, length}
+use Rattle.std.specs.Prelude.{◌≡◌, ℕ, ◌+◌, ◌-◌, Bool, List, [], ◌∷◌, ◌++◌, length}
 use Rattle.std.specs.Prelude.{slice_index_or}
 use Rattle.nx_envelope.specs.Moment.{IsShownAs}
 use Rattle.nx_sync.specs.Locks.{Lock, Now, hunting, locked, IsNow}

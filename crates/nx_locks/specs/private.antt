@@ -1,6 +1,6 @@
 pub mod Reader
 pub mod ReportWriter
 pub mod ReportWriterBegins
+pub mod Showing
 pub mod Taker
 pub mod TakerLaws
-pub mod Watch

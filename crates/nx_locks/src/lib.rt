@@ -8,6 +8,5 @@ mod reader;
 mod report_text;
 mod report_writer;
 mod taker;
-mod watch;
 
 pub use lock_report::{LocksReport, locks};

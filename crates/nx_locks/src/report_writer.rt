@@ -10,10 +10,11 @@ ghost use Rattle.nx_fec.specs.Transfers.{HasWritten};
 ghost use Rattle.nx_fec.specs.air_files.LineRuns.{ExplainsTaking, HasGiven, HasTaken, line_run};
 ghost use Rattle.nx_fec.specs.Transfers.{Writes};
 ghost use Rattle.nx_memory.specs.Selection.{is_vital};
-ghost use Rattle.nx_locks.specs.private.ReportWriter.{HasClosed, HasClosedSome, IsShowing, RefusesLine, Showing, StandsFrom, report_taker};
+ghost use Rattle.nx_locks.specs.private.ReportWriter.{HasClosed, HasClosedSome, IsShowing, RefusesLine, StandsFrom, report_taker};
+ghost use Rattle.nx_locks.specs.private.Showing.{EndsShown, HearsAll, Showing};
 
 use crate::lock_report::LocksReport;
-use crate::watch::LockWatch;
+use crate::taker::LockTaker;
 use nx_envelope::Letter;
 use nx_fec::{
     Batch, Channel, Counting, LineKind, LineTaker, LinesRead, PackedElements, Scanner, TakeFault,
@@ -21,6 +22,7 @@ use nx_fec::{
 };
 use nx_memory::Selection;
 use nx_receiver::{LineRefusal, check_moment};
+use nx_sync::{Change, Synchroniser};
 use std::alloc::{AllocError, Global};
 use std::io::Write;
 use std::marker::Model;
@@ -34,38 +36,42 @@ pub enum ReportRefusal {
     TooMany,
 }
 
-/// A watch that takes the lines of an air file.
+/// Takes the lines of an air file, and shows the locks in their elements of channel 0.
 #[derive(Drop)]
 pub(crate) struct ReportWriter {
-    watch: LockWatch,
+    synchroniser: Synchroniser,
+    taker: LockTaker,
     has_moment: bool,
 }
 
 impl Model for ReportWriter {
-    ghost use Rattle.nx_locks.specs.private.ReportWriter.{Showing};
+    ghost use Rattle.nx_locks.specs.private.Showing.{Showing};
 
     ghost Value = { Showing };
 
     ghost view = { λ s. record {
-      watch = s.watch;
+      synchroniser = s.synchroniser;
+      taker = s.taker;
       has_moment = s.has_moment;
     } };
 
     ghost inverse = { λ v. record {
-      watch = v.watch;
+      synchroniser = v.synchroniser;
+      taker = v.taker;
       has_moment = v.has_moment;
     } };
 }
 
 impl ReportWriter {
-    /// A taker that has taken no line.
+    /// A taker that has taken no line. Fails where no synchroniser is made.
     pub(crate) fn new(alloc: Global) -> Result<ReportWriter, AllocError>
         ensures { IfOk result (λ report_writer. IsShowing report_writer [] []) }
     {
-        prove!(size_of::<ReportWriter>() == size_of::<LockWatch>() + 8);
-        let watch = LockWatch::new(alloc)?;
+        prove!(size_of::<ReportWriter>() == size_of::<Synchroniser>() + size_of::<LockTaker>() + 8);
+        let synchroniser = Synchroniser::new(alloc)?;
         Ok(ReportWriter {
-            watch,
+            synchroniser,
+            taker: LockTaker::new(),
             has_moment: false,
         })
     }
@@ -78,8 +84,8 @@ impl ReportWriter {
             (λ why. RefusesLine lines (line.moment given) (ReportRefusal.Line why)) }
         ensures unchanged { OnErr result (self.new ≡ self.old) }
     {
-        check_moment(self.watch.moment(), given)?;
-        self.watch.set_moment(given);
+        check_moment(self.taker.moment(), given)?;
+        self.taker.set_moment(given);
         self.has_moment = true;
         Ok(())
     }
@@ -111,14 +117,23 @@ impl ReportWriter {
         if !is_on_0(mark) {
             return Ok(());
         }
-        if elements.len() as u64 > u64::MAX - self.watch.elements() {
+        if elements.len() as u64 > u64::MAX - self.taker.elements() {
             return Err(TakeFault::Refused(ReportRefusal::TooMany));
         }
-        self.watch.hear(elements);
-        if let Err(fault) = batch.give(writer, self.watch.shown()) {
+        self.hear(elements);
+        if let Err(fault) = batch.give(writer, self.taker.shown()) {
             return Err(TakeFault::Write(fault.written));
         }
         Ok(())
+    }
+
+    /// Hears elements, and shows what they bring, in place of what was shown before.
+    fn hear(&mut self, elements: &PackedElements)
+        ensures hears { HearsAll self.old self.new elements.now }
+    {
+        self.taker.clear();
+        self.synchroniser
+            .hear(&mut self.taker, elements.numbers(), 0, elements.len());
     }
 
     /// Ends the file: writes what its end shows, and counts.
@@ -138,9 +153,9 @@ impl ReportWriter {
         ensures once { writer.new.failures ≤ 1 }
         ensures none { OnOk result (writer.new.failures ≡ 0) }
     {
-        let elements = self.watch.elements();
-        let (locks, copies) = self.watch.end();
-        if let Err(fault) = write_on(writer, read.written, self.watch.shown()) {
+        let elements = self.taker.elements();
+        let (locks, copies) = self.end();
+        if let Err(fault) = write_on(writer, read.written, self.taker.shown()) {
             return Err(fault);
         }
         Ok(LocksReport {
@@ -149,6 +164,19 @@ impl ReportWriter {
             locks,
             copies,
         })
+    }
+
+    /// Ends the report where the elements end: closes the lock that stands, if one does, and shows
+    /// the last line, in place of what was shown before. Answers how many locks there are, and how
+    /// many headers stand in their texts.
+    fn end(&mut self) -> (u64, u64)
+        ensures ends { EndsShown self.old self.new result }
+    {
+        self.taker.clear();
+        if self.synchroniser.is_locked() {
+            self.taker.close(Change::Locked);
+        }
+        self.taker.end()
     }
 }
 

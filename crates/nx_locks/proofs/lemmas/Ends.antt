@@ -14,7 +14,7 @@ use Rattle.nx_locks.specs.Report.{now_locks, past_headers}
 use Rattle.nx_locks.specs.ReportText.{closing_lines, last_line}
 use Rattle.nx_locks.specs.private.Reader.{IsFresh, ReadsLock}
 use Rattle.nx_locks.specs.private.Taker.{Closes, ReadsNow, TakerShows, Taking, closing_of}
-use Rattle.nx_locks.specs.private.Watch.{HasEnded}
+use Rattle.nx_locks.specs.private.Showing.{HasEnded}
 use Rattle.nx_locks.proofs.lemmas.Growing.{missing_is, shown_is}
 
 -- a taker that was made

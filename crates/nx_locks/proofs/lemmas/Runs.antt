@@ -29,8 +29,9 @@ use Rattle.nx_receiver.specs.copies.Shares.{all_at_zero, events_for, to_one}
 use Rattle.nx_locks.specs.Run.{ExplainsShowing, HasShown, HasShownAll, IsReportOf, ShowsLocks}
 use Rattle.nx_locks.specs.private.ReportWriterBegins.{begins-report}
 use Rattle.nx_locks.specs.private.ReportWriter.{HasClosed, HasClosedSome, HasTooMany}
-use Rattle.nx_locks.specs.private.ReportWriter.{IsShowing, RefusesLine, Showing, StandsFrom}
+use Rattle.nx_locks.specs.private.ReportWriter.{IsShowing, RefusesLine, StandsFrom}
 use Rattle.nx_locks.specs.private.ReportWriter.{as_lines_fault, report_taker}
+use Rattle.nx_locks.specs.private.Showing.{Showing}
 use Rattle.nx_receiver.specs.declared.air_file_runs.listen_fault.ListenFault.{ListenFault}
 use Rattle.nx_receiver.specs.declared.air_file_runs.listen_fault.ListenFault.TheVariants.{Memory, Read, Write}
 use Rattle.nx_receiver.specs.declared.air_file_runs.listen_fault.LineRefusal.TheVariants as reason

@@ -27,12 +27,12 @@ use Rattle.nx_receiver.proofs.lemmas.listening.Listener.{given_by-one, moment-on
 use Rattle.nx_receiver.proofs.lemmas.listening.Listener.{taken-one}
 use Rattle.nx_receiver.proofs.lemmas.receiver.Logged.{bits_of-append, settings-append}
 use Rattle.nx_locks.specs.Run.{elements_on_0, ending_of, moments_on_0}
-use Rattle.nx_locks.specs.private.ReportWriter.{IsShowing, RefusesLine, Showing, StandsFrom, report_taker}
+use Rattle.nx_locks.specs.private.ReportWriter.{IsShowing, RefusesLine, StandsFrom, report_taker}
+use Rattle.nx_locks.specs.private.Showing.{HearsAll, Showing, ShowsSoFar}
 use Rattle.nx_locks.specs.declared.report_writer.ReportRefusal.{ReportRefusal}
 use Rattle.nx_locks.specs.declared.report_writer.ReportRefusal.TheVariants as refusal
 use Rattle.nx_receiver.specs.declared.air_file_runs.listen_fault.LineRefusal.{LineRefusal}
-use Rattle.nx_locks.specs.private.Taker.{all_at}
-use Rattle.nx_locks.specs.private.Watch.{HearsAll, Watching, WatchShows, at_moment}
+use Rattle.nx_locks.specs.private.Taker.{TakerShows, Taking, all_at}
 
 -- what a line gives to channel 0, and what is in force there after lines
 abbrev gives : Line → List Event
@@ -71,14 +71,14 @@ other_line : (old new : Showing) (lines : List Line) (line : Line) (given : List
     → IsShowing old lines given → IsTakenAfter all_at_zero lines line
     → elements_among (gives line) ≡ [] → moments_in (in_force lines) (gives line) ≡ []
     → new.has_moment ≡ has_moment (lines ++ line ∷ [])
-    → new.watch.taker.moment ≡ moment_after (ending_of lines) (line ∷ [])
-    → WatchShows new.watch (elements_on_0 lines) (moments_on_0 lines) given
+    → new.taker.moment ≡ moment_after (ending_of lines) (line ∷ [])
+    → ShowsSoFar new (elements_on_0 lines) (moments_on_0 lines) given
     → IsShowing new (lines ++ line ∷ []) given
 other_line old new lines line given h taken none never said now shows = record {
   taken = taken-one all_at_zero lines line h.taken taken;
   has_moment = said;
   moment = now ∙ sym (after-more 0 lines (line ∷ []));
-  shows = subst₂ (λ (x : List Bool) (y : List ℕ). WatchShows new.watch x y given)
+  shows = subst₂ (λ (x : List Bool) (y : List ℕ). ShowsSoFar new x y given)
       (sym (elements-one lines line ∙ ap (λ l. elements_on_0 lines ++ l) none
       ∙ append-nil (elements_on_0 lines)))
       (sym (moments-one lines line ∙ ap (λ l. moments_on_0 lines ++ l) never
@@ -106,15 +106,14 @@ given-elements mark bits b e = ap (λ (c : Bool). if c then events.elements bits
 pub element_line : (old new : Showing) (lines : List Line) (mark : Option Channel)
     (bits : List Bool) (given : List ℕ)
     → same_channel (channel_of mark) Zero ≡ true → IsShowing old lines given
-    → has_moment lines ≡ true → new.has_moment ≡ old.has_moment
-    → HearsAll old.watch new.watch bits
+    → has_moment lines ≡ true → HearsAll old new bits
     → length (elements_on_0 lines) + length bits < 2 ^ 64
-    → IsShowing new (lines ++ elements mark bits ∷ []) (given ++ new.watch.taker.shown)
-element_line old new lines mark bits given zero h some same heard few =
+    → IsShowing new (lines ++ elements mark bits ∷ []) (given ++ new.taker.shown)
+element_line old new lines mark bits given zero h some heard few =
     let line = elements mark bits in
     let shows = heard.hears (elements_on_0 lines) (moments_on_0 lines) given h.shows few in
     let gives_bits = given-elements mark bits true zero in
-    let times : moments_on_0 lines ++ all_at old.watch.taker.moment bits
+    let times : moments_on_0 lines ++ all_at old.taker.moment bits
     ≡ moments_on_0 (lines ++ line ∷ []) =
     ap (λ m. moments_on_0 lines ++ all_at m bits)
     (h.moment ∙ sym (moment-on Zero (first_setting (start_on all_at_zero Zero)) lines))
@@ -127,15 +126,15 @@ element_line old new lines mark bits given zero h some same heard few =
     ∙ sym (elements-one lines line) in
     record {
       taken = taken-one all_at_zero lines line h.taken some;
-      has_moment = moment-other lines line _ (same ∙ h.has_moment) refl;
+      has_moment = moment-other lines line _ (heard.has_moment ∙ h.has_moment) refl;
       moment = heard.moment ∙ h.moment ∙ sym (after-more 0 lines (line ∷ []));
-      shows = subst₂ (λ (x : List Bool) (y : List ℕ). WatchShows new.watch x y
-          (given ++ new.watch.taker.shown)) all times shows;
+      shows = subst₂ (λ (x : List Bool) (y : List ℕ). ShowsSoFar new x y
+          (given ++ new.taker.shown)) all times shows;
     }
 
 -- a taker that has taken nothing
-pub nothing_taken : (report_writer : Showing) → WatchShows report_writer.watch [] [] []
-    → report_writer.watch.taker.moment ≡ 0
+pub nothing_taken : (report_writer : Showing) → ShowsSoFar report_writer [] [] []
+    → report_writer.taker.moment ≡ 0
     → report_writer.has_moment ≡ false → IsShowing report_writer [] []
 unfolding AreTakenAfter elements_among settings
 nothing_taken report_writer shows zero has = record {
@@ -146,23 +145,23 @@ nothing_taken report_writer shows zero has = record {
 }
 
 -- a moment
-pub moment_line : (old new : Showing) (lines : List Line) (n : ℕ) (given : List ℕ)
-    → IsShowing old lines given → old.watch.taker.moment ≤ n → n ≤ last_moment
-    → new.has_moment ≡ true → new.watch ≡ at_moment old.watch n
-    → IsShowing new (lines ++ moment n ∷ []) given
+pub moment_line : (old : Showing) (taker : Taking) (lines : List Line) (n : ℕ) (given : List ℕ)
+    → IsShowing old lines given → old.taker.moment ≤ n → n ≤ last_moment
+    → taker ≡ record old.taker { moment = n }
+    → IsShowing (record old { taker = taker; has_moment = true }) (lines ++ moment n ∷ []) given
 unfolding elements_among settings
-moment_line old new lines n given h after within said now =
-    other_line old new lines (moment n) given h (subst (λ m. m ≤ n) h.moment after, within) refl
-    refl (said ∙ moment-one lines n) (ap (λ (w : Watching). w.taker.moment) now)
-    (subst (λ (w : Watching). WatchShows w (elements_on_0 lines) (moments_on_0 lines) given)
-    (sym now) (record {
+moment_line old taker lines n given h after within now =
+    other_line old (record old { taker = taker; has_moment = true }) lines (moment n) given h
+    (subst (λ m. m ≤ n) h.moment after, within) refl refl (moment-one lines n)
+    (ap (λ (t : Taking). t.moment) now) (record {
       synchroniser = h.shows.synchroniser;
-      taker = record {
-        elements = h.shows.taker.elements;
-        room = h.shows.taker.room;
-        shows = h.shows.taker.shows;
-      };
-    }))
+      taker = subst (λ (t : Taking). TakerShows t (elements_on_0 lines) (moments_on_0 lines) given)
+          (sym now) (record {
+            elements = h.shows.taker.elements;
+            room = h.shows.taker.room;
+            shows = h.shows.taker.shows;
+          });
+    })
 
 -- elements of another channel change nothing
 pub skipped_line : (now : Showing) (lines : List Line) (mark : Option Channel) (bits : List Bool)

@@ -1,5 +1,5 @@
 -- How the taker of lines behind a run that shows locks stands after lines (this profile).
-use Rattle.std.specs.Prelude.{◌≡◌, ℕ, ◌+◌, ◌^◌, ◌≤◌, Bool, List, length, Option}
+use Rattle.std.specs.Prelude.{◌≡◌, ℕ, ◌+◌, ◌^◌, ◌≤◌, List, length, Option}
 use Rattle.std.specs.Io.KnownBytes.{Appends}
 use Rattle.nx_fec.specs.air_files.AirFile.{Line, elements}
 use Rattle.nx_fec.specs.air_files.LineRuns.{Taker, taker_of}
@@ -16,20 +16,15 @@ use Rattle.nx_locks.specs.Run.{IsReportOfLines, elements_on_0, ending_of, moment
 use Rattle.nx_locks.specs.declared.report_writer.ReportRefusal.{ReportRefusal}
 use Rattle.nx_locks.specs.declared.report_writer.ReportRefusal.TheVariants as refusal
 use Rattle.nx_locks.specs.declared.lock_report.LocksReport.{LocksReport}
-use Rattle.nx_locks.specs.private.Watch.{Watching, WatchShows}
-
--- what contracts see of a taker: its watch, and whether there was a moment
-pub record Showing : Type 0 where
-  pub watch : Watching
-  pub has_moment : Bool
+use Rattle.nx_locks.specs.private.Showing.{Showing, ShowsSoFar}
 
 -- The taker stands so after these lines, each taken after those before it; these bytes are their
 -- report so far.
 pub record IsShowing (report_writer : Showing) (lines : List Line) (given : List ℕ) : Type 0 where
   pub taken : AreTaken all_at_zero lines
   pub has_moment : report_writer.has_moment ≡ has_moment lines
-  pub moment : report_writer.watch.taker.moment ≡ ending_of lines
-  pub shows : WatchShows report_writer.watch (elements_on_0 lines) (moments_on_0 lines) given
+  pub moment : report_writer.taker.moment ≡ ending_of lines
+  pub shows : ShowsSoFar report_writer (elements_on_0 lines) (moments_on_0 lines) given
 
 -- there are more elements of channel 0, with those of the line, than a counter counts
 abbrev pub HasTooMany : List Line → Line → Type 0

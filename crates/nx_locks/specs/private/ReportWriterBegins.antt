@@ -3,7 +3,8 @@ use Rattle.std.specs.Prelude.{ℕ, List}
 use Rattle.nx_fec.specs.air_files.AirFile.{Line}
 use Rattle.nx_locks.specs.Report.{IsReportSoFar}
 use Rattle.nx_locks.specs.Run.{IsReportOfLines}
-use Rattle.nx_locks.specs.private.ReportWriter.{IsShowing, Showing}
+use Rattle.nx_locks.specs.private.ReportWriter.{IsShowing}
+use Rattle.nx_locks.specs.private.Showing.{Showing}
 use Rattle.nx_locks.specs.private.Taker.{Shows}
 use Rattle.nx_locks.specs.private.Reader.{Reading}
 

@@ -3,4 +3,7 @@ use Rattle.nx_locks.proofs.lemmas.Taking.{nothing_taken}
 use Rattle.nx_locks.proofs.report_writer.ReportWriter.new.Goals as goal
 
 pub returns : goal.returns
-returns c = nothing_taken _ c.in_ok-watch.ensures.shows c.in_ok-watch.ensures.moment refl
+returns c = nothing_taken _ (record {
+  synchroniser = c.in_ok-synchroniser.ensures.stands;
+  taker = c.new-2.ensures.shows;
+}) c.new-2.ensures.moment refl

@@ -1,16 +1,17 @@
-use Rattle.std.proofs.Common.{◌∙◌, refl, arith, subst}
+use Rattle.std.proofs.Common.{◌∙◌, arith, subst}
 use Rattle.std.proofs.lemmas.Result.{err_from_is_err_and}
 use Rattle.nx_receiver.specs.Events.{Refuses}
-use Rattle.nx_locks.specs.private.ReportWriter.{Showing}
+use Rattle.nx_locks.specs.private.Showing.{Showing}
 use Rattle.nx_locks.proofs.lemmas.Taking.{moment_line}
 use Rattle.nx_locks.proofs.report_writer.ReportWriter.take_moment.Goals as goal
 
 pub returns-clause-taken : goal.returns-clause-taken
 returns-clause-taken c = rw (← c.self.view_is) (λ lines bytes h.
     let i = c.self.inside in
-    let old : Showing = record { watch = i.watch; has_moment = i.has_moment } in
+    let old : Showing =
+    record { synchroniser = i.synchroniser; taker = i.taker; has_moment = i.has_moment } in
     let may = c.in_ok-check_moment.ensures.taken in
-    moment_line old _ lines c.args.given bytes h (omega (arith, may.0)) may.1 refl
+    moment_line old _ lines c.args.given bytes h (omega (arith, may.0)) may.1
     c.set_moment.ensures)
 
 pub returns-in_err-check_moment-clause-taken : goal.returns-in_err-check_moment-clause-taken

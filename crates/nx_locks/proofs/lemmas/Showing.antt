@@ -1,4 +1,4 @@
--- What a watch shows of elements that its synchroniser heard for its taker, and of their end.
+-- What is shown of elements that a synchroniser heard for its taker, and of their end.
 use Rattle.std.proofs.Common.{◌≡◌, ℕ, ◌-◌, Bool, true, false, List, [], ◌++◌, length, take, Option}
 use Rattle.std.proofs.Common.{refl, sym, ap, ◌∙◌, subst, arith}
 use Rattle.std.specs.Prelude.{◌↔◌, IsTrue}
@@ -10,11 +10,12 @@ use Rattle.nx_sync.specs.declared.step.Change.TheVariants.{Locked}
 use Rattle.nx_receiver.proofs.lemmas.copy_hearer.Packed.{all_is}
 use Rattle.nx_locks.specs.ReportText.{last_line}
 use Rattle.nx_locks.specs.private.Taker.{Closes, Hears, TakerShows, Taking, all_at}
-use Rattle.nx_locks.specs.private.Watch.{EndsShown, HearsAll, Watching}
+use Rattle.nx_locks.specs.private.Showing.{EndsShown, HearsAll, Showing}
 use Rattle.nx_locks.proofs.lemmas.Ends.{ended_hunting, ended_locked}
 
-abbrev watching : Held → Taking → Watching
-watching held taker = record { synchroniser = held; taker = taker }
+abbrev showing : Held → Taking → Bool → Showing
+showing held taker has_moment =
+    record { synchroniser = held; taker = taker; has_moment = has_moment }
 
 -- elements that are packed in these numbers, all of which were heard
 pub heard_all : (bits : List Bool) (numbers : List ℕ) (count heard : ℕ)
@@ -26,17 +27,18 @@ heard_all bits numbers count heard is counted all =
     ap (packed_part numbers 0) many ∙ all_is bits numbers 0 is (omega arith) in
     ap (take heard) whole ∙ take_all heard bits (omega (arith, counted, all))
 
--- a watch hears what its synchroniser hears for its taker, which was cleared before
-pub watch_hears : (before after : Held) (old cleared new : Taking) (heard bits : List Bool)
-    (over : Option (Unit {0})) → cleared ≡ record old { shown = [] } → heard ≡ bits
-    → Hears before cleared heard after new over
-    → HearsAll (watching before old) (watching after new) bits
-watch_hears before after old cleared new heard bits over clear all h =
+-- what a synchroniser hears for its taker is shown, where the taker was cleared before
+pub hears_all : (before after : Held) (old cleared new : Taking) (has_moment : Bool)
+    (heard bits : List Bool) (over : Option (Unit {0})) → cleared ≡ record old { shown = [] }
+    → heard ≡ bits → Hears before cleared heard after new over
+    → HearsAll (showing before old has_moment) (showing after new has_moment) bits
+hears_all before after old cleared new has_moment heard bits over clear all h =
     let hears : Hears before (record old { shown = [] }) bits after new over =
     subst (λ xs. Hears before (record old { shown = [] }) xs after new over) all
     (subst (λ t. Hears before t heard after new over) clear h) in
     record {
       moment = hears.moment;
+      has_moment = refl;
       hears = λ bits' moments given w few.
           let goes = hears.shows bits' moments given w.synchroniser (record {
             elements = w.taker.elements;
@@ -50,22 +52,22 @@ watch_hears before after old cleared new heard bits over clear all h =
           };
     }
 
--- a watch ends the report, whether a lock stands or not, once its taker was cleared
-pub watch_ends : (held after : Held) (old cleared closed new : Taking) (counts : ℕ × ℕ)
-    (is_locked : Bool) → cleared ≡ record old { shown = [] }
+-- the report is ended, whether a lock stands or not, once the taker was cleared
+pub ends_shown : (held after : Held) (old cleared closed new : Taking) (has_moment : Bool)
+    (counts : ℕ × ℕ) (is_locked : Bool) → cleared ≡ record old { shown = [] }
     → ((bits : List Bool) → StandsAfter held bits → IsTrue is_locked ↔ LockStands bits)
     → (is_locked ≡ true → Closes cleared closed Locked) → (is_locked ≡ false → closed ≡ cleared)
     → new.shown ≡ closed.shown ++ last_line closed.elements closed.locks closed.copies
     → counts ≡ (closed.locks, closed.copies)
-    → EndsShown (watching held old) (watching after new) counts
-watch_ends held after old cleared closed new counts true clear stands locked hunts ends counted =
-    λ bits moments given w.
+    → EndsShown (showing held old has_moment) (showing after new has_moment) counts
+ends_shown held after old cleared closed new has_moment counts true clear stands locked hunts ends
+    counted = λ bits moments given w.
     ended_locked (record old { shown = [] }) closed bits moments given new.shown counts
     (record { elements = w.taker.elements; room = w.taker.room; shows = w.taker.shows })
     ((stands bits w.synchroniser).0 refl) refl
     (subst (λ t. Closes t closed Locked) clear (locked refl)) ends counted
-watch_ends held after old cleared closed new counts false clear stands locked hunts ends counted =
-    λ bits moments given w.
+ends_shown held after old cleared closed new has_moment counts false clear stands locked hunts ends
+    counted = λ bits moments given w.
     let same : closed ≡ record old { shown = [] } = hunts refl ∙ clear in
     ended_hunting (record old { shown = [] }) bits moments given new.shown counts
     (record { elements = w.taker.elements; room = w.taker.room; shows = w.taker.shows })

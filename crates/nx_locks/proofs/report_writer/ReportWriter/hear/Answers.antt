@@ -1,7 +1,7 @@
 use Rattle.std.proofs.Common.{◌≡◌, take}
 use Rattle.nx_code.specs.Packed.{packed_part}
-use Rattle.nx_locks.proofs.lemmas.Watching.{heard_all, watch_hears}
-use Rattle.nx_locks.proofs.watch.LockWatch.hear.Goals as goal
+use Rattle.nx_locks.proofs.lemmas.Showing.{heard_all, hears_all}
+use Rattle.nx_locks.proofs.report_writer.ReportWriter.hear.Goals as goal
 
 pub returns : goal.returns
 returns c = rw (← c.self.view_is) (record {
@@ -13,6 +13,6 @@ returns c = rw (← c.self.view_is) (record {
       let bits : take c.hear.result.0 (packed_part numbers 0 c.len.result) ≡ all =
       heard_all all numbers c.len.result c.hear.result.0 c.numbers.ensures.elements
       c.len.ensures.count (c.hear.ensures.all heard.none) in
-      watch_hears i.synchroniser c.hear.new.self i.taker c.clear.new.self c.hear.new.taker _ all
-      c.hear.result.1 c.clear.ensures bits heard;
+      hears_all i.synchroniser c.hear.new.self i.taker c.clear.new.self c.hear.new.taker
+      i.has_moment _ all c.hear.result.1 c.clear.ensures bits heard;
 })
