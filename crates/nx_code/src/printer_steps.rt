@@ -63,7 +63,7 @@ fn row(class: u8, shift: Shift) -> usize
     2 * usize::from(class) + shift as usize
 }
 
-/// What four positions print: the first `count` of these bytes.
+/// What at most four positions print: the first `count` of these bytes.
 #[derive(Clone, Copy, Debug)]
 pub struct FourPrinted {
     /// The bytes, of which those from `count` on mean nothing.
@@ -73,6 +73,17 @@ pub struct FourPrinted {
 }
 
 impl FourPrinted {
+    /// What no position prints: nothing.
+    #[inline(always)]
+    pub fn none() -> FourPrinted
+        ensures { result.count ≡ 0 }
+    {
+        FourPrinted {
+            bytes: [0; 4],
+            count: 0,
+        }
+    }
+
     /// Adds what one more position prints: this byte, or nothing where it is 0.
     #[inline(always)]
     pub(crate) fn push(&mut self, byte: u8)

@@ -1,7 +1,6 @@
 //! What a receiver prints of the positions that it takes.
 
-ghost use Rattle.std.specs.Prelude.{◌≡◌, ◌<◌, ◌≤◌, List, [], ◌∷◌, ◌++◌, map, take};
-ghost use Rattle.std.specs.List.{AllByRecursion};
+ghost use Rattle.std.specs.Prelude.{◌≡◌, ◌+◌, ◌<◌, ◌≤◌, List, [], ◌∷◌, ◌++◌, take};
 ghost use Rattle.std.specs.Option.{option_to_list};
 ghost use Rattle.nx_code.specs.Reading.{Reception, combination, character_of, byte_of, shift_after, shift_after_all, text};
 ghost use Rattle.nx_code.specs.Taken.{reception_of};
@@ -87,25 +86,21 @@ impl Printer {
         byte_given(self.print_byte(class))
     }
 
-    /// Takes the next four positions by their classes, and answers the bytes that they print.
+    /// Takes the next position by its class, as `print_class` does, and appends the byte that it
+    /// prints, if any, to those of at most three others.
     #[inline(always)]
-    pub fn print_four(&mut self, classes: &[u8; 4]) -> FourPrinted
-        requires { AllByRecursion (λ class. class < 34) classes.now }
+    pub fn print_behind(&mut self, class: u8, printed: &mut FourPrinted)
+        requires class { class < 34 }
+        requires room { printed.old.count < 4 }
 
-        ensures printed { take result.count result.bytes
-            ≡ text (map reception_of_class classes.now) self.old }
+        ensures printed { take printed.new.count printed.new.bytes
+            ≡ take printed.old.count printed.old.bytes
+            ++ option_to_list (byte_of (reception_of_class class) self.old) }
 
-        ensures count { result.count ≤ 4 }
-        ensures shift { self.new ≡ shift_after_all (map reception_of_class classes.now) self.old }
+        ensures count { printed.new.count ≤ printed.old.count + 1 }
+        ensures shift { self.new ≡ shift_after (reception_of_class class) self.old }
     {
-        let mut four = FourPrinted {
-            bytes: [0; 4],
-            count: 0,
-        };
-        for place in 0..4 {
-            four.push(self.print_byte(classes[place]));
-        }
-        four
+        printed.push(self.print_byte(class));
     }
 
     /// Takes the next position by its class, and answers the byte that it prints, or 0.

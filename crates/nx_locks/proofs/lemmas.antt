@@ -1,6 +1,5 @@
 -- Lemmas that several proofs cite.
 pub mod Bits
-pub mod EightWords
 pub mod Ends
 pub mod FoundCopies
 pub mod Growing
@@ -11,3 +10,4 @@ pub mod ReaderWords
 pub mod Runs
 pub mod Showing
 pub mod Taking
+pub mod WordsTaken

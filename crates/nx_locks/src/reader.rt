@@ -1,21 +1,22 @@
-//! The text of one lock, read from its words, and what is counted of it. What runs for each word,
-//! for two or for eight of them is inlined always. What begins anew for the next lock never is, so
-//! that no loop over words has a place for a text of 4,100.
+//! The text of one lock, read from its words, and what is counted of it. What runs for each word
+//! or for some at once is inlined always. What begins anew for the next lock never is, so that no
+//! loop over words has a place for a text of 4,100.
 
-ghost use Rattle.std.specs.Prelude.{◌≡◌, ◌+◌, ◌≤◌, ◌==◌, ◌++◌, ℕ, List, false, not, slice_index, take, if◌then◌else◌, IsTrue};
+ghost use Rattle.std.specs.Prelude.{◌≡◌, ◌+◌, ◌≤◌, ◌==◌, ◌++◌, ℕ, List, false, length, not, slice_index, take, if◌then◌else◌, IsTrue};
 ghost use Rattle.arrayvec.specs.ArrayVec.{array_vec_len};
 ghost use Rattle.nx_code.specs.Word.{is_wrong, wrong_in};
 ghost use Rattle.nx_envelope.specs.Finder.{StandsAfter};
 ghost use Rattle.nx_code.specs.Reading.{newline};
 ghost use Rattle.nx_locks.specs.private.Reader.{HearsWord, IsFresh, ShowsWord, ShowsWords, TakesByte, counted};
 ghost use Rattle.nx_receiver.specs.copies.Log.{is_of_lines};
+ghost use Rattle.nx_sync.specs.Taking.{ArePairs};
 ghost use Rattle.nx_sync.specs.declared.step.Role.TheVariants.{Dx as DxRole};
 
 use crate::report_text::{Shown, append_some};
 use nx_code::{NEWLINE, Word, check_bits};
 use nx_envelope::{Finder, TextEvent};
 use nx_receiver::LockPrinter;
-use nx_sync::{EightWords, Role, TwoWords};
+use nx_sync::Role;
 use std::marker::Model;
 
 /// Reads the text of a lock, of which it is given one word after the other, and counts its words,
@@ -101,22 +102,6 @@ impl LockReader {
         self.is_line_open
     }
 
-    /// Takes the next word of the lock, which has that role, and answers the byte that it prints,
-    /// if it prints one.
-    #[inline(always)]
-    fn take_word(&mut self, word: Word, role: Role) -> Option<u8>
-        ensures { HearsWord self.old self.new word role result }
-    {
-        self.count(word);
-        match self.printer.print(word, role) {
-            Some(byte) => {
-                self.take(byte);
-                Some(byte)
-            }
-            None => None,
-        }
-    }
-
     /// Hears the next word of the lock, which has that role, and appends the byte that it prints,
     /// if it prints one.
     #[inline(always)]
@@ -125,18 +110,21 @@ impl LockReader {
         ensures few { array_vec_len shown.new ≤ array_vec_len shown.old + 1 }
         ensures shows { ShowsWord self.old self.new word role shown.old.items shown.new.items }
     {
-        if let Some(byte) = self.take_word(word, role) {
+        self.count(word);
+        if let Some(byte) = self.printer.print(word, role) {
+            self.take(byte);
             shown.push(byte);
         }
     }
 
-    /// Hears the next eight words of the lock, of which the first is a DX word, at once, where
-    /// surely no header begins or ends in what they print, and appends that: `true` where it did.
-    /// Else nothing changed, and they have to be heard one by one.
+    /// Hears the next words of the lock at once, DX and RX by turns, where surely no header begins
+    /// or ends in what they print, and appends that: `true` where it did. Else nothing changed, and
+    /// they have to be heard one by one.
     #[inline(always)]
-    pub(crate) fn hear_eight(&mut self, words: &EightWords, shown: &mut Shown) -> bool
-        requires room { array_vec_len shown.old + 8 ≤ 57856 }
-        ensures few { array_vec_len shown.new ≤ array_vec_len shown.old + 8 }
+    pub(crate) fn hear_words(&mut self, words: &[Word], shown: &mut Shown) -> bool
+        requires pairs { ArePairs words.now }
+        requires room { array_vec_len shown.old + 4 ≤ 57856 }
+        ensures few { array_vec_len shown.new ≤ array_vec_len shown.old + 4 }
         ensures shows { IsTrue result → ShowsWords self.old self.new DxRole words.now
             shown.old.items shown.new.items }
         ensures reader { result ≡ false → self.new ≡ self.old }
@@ -147,38 +135,14 @@ impl LockReader {
             diversity: self.printer.diversity,
             printer: self.printer.printer,
         };
-        let four = printer.print_eight(words);
-        if !self.finder.hear_plain(four.bytes, four.count) {
+        let printed = printer.print_words(words);
+        if !self.finder.hear_plain(printed.bytes, printed.count) {
             return false;
         }
         self.printer.diversity = printer.diversity;
         self.printer.printer = printer.printer;
         self.words = self.words.saturating_add(words.len() as u64);
         self.wrong = self.wrong.saturating_add(wrong_among(words));
-        self.is_line_open = is_open_after(self.is_line_open, &four.bytes, four.count);
-        append_some(shown, four.bytes, four.count);
-        true
-    }
-
-    /// Hears the next two words of the lock at once, a DX word and an RX word, as `hear_eight`
-    /// hears eight.
-    #[inline(always)]
-    pub(crate) fn hear_two(&mut self, words: &TwoWords, shown: &mut Shown) -> bool
-        requires room { array_vec_len shown.old + 4 ≤ 57856 }
-        ensures few { array_vec_len shown.new ≤ array_vec_len shown.old + 4 }
-        ensures shows { IsTrue result → ShowsWords self.old self.new DxRole words.now
-            shown.old.items shown.new.items }
-        ensures reader { result ≡ false → self.new ≡ self.old }
-        ensures shown { result ≡ false → shown.new ≡ shown.old }
-    {
-        let mut printer = self.printer;
-        let printed = printer.print_two(words);
-        if !self.finder.hear_plain(printed.bytes, printed.count) {
-            return false;
-        }
-        self.printer = printer;
-        self.words = self.words.saturating_add(words.len() as u64);
-        self.wrong = self.wrong.saturating_add(wrong_of_two(words));
         self.is_line_open = is_open_after(self.is_line_open, &printed.bytes, printed.count);
         append_some(shown, printed.bytes, printed.count);
         true
@@ -228,28 +192,17 @@ impl LockReader {
     }
 }
 
-/// How many of eight words have the wrong weight.
+/// How many of at most eight words have the wrong weight.
 #[inline(always)]
-fn wrong_among(words: &EightWords) -> u64
-    ensures { result ≡ wrong_in (slice_index words.now) 0 8 }
+fn wrong_among(words: &[Word]) -> u64
+    requires { length words.now ≤ 8 }
+    ensures { result ≡ wrong_in (slice_index words.now) 0 (length words.now) }
 {
-    let first_half = one_if_wrong(words[0])
-        + one_if_wrong(words[1])
-        + one_if_wrong(words[2])
-        + one_if_wrong(words[3]);
-    let second_half = one_if_wrong(words[4])
-        + one_if_wrong(words[5])
-        + one_if_wrong(words[6])
-        + one_if_wrong(words[7]);
-    first_half + second_half
-}
-
-/// How many of two words have the wrong weight.
-#[inline(always)]
-fn wrong_of_two(words: &TwoWords) -> u64
-    ensures { result ≡ wrong_in (slice_index words.now) 0 2 }
-{
-    one_if_wrong(words[0]) + one_if_wrong(words[1])
+    let mut wrong = 0;
+    for place in 0..words.len() {
+        wrong += one_if_wrong(words[place]);
+    }
+    wrong
 }
 
 /// 1 for a word of the wrong weight, else 0.

@@ -9,10 +9,8 @@ ghost use Rattle.nx_locks.specs.private.Taker.{Closes, HasRoom, Opens, ReadsWord
 use crate::reader::LockReader;
 use crate::report_text::{Counts, Shown, close_lock, end_report, open_lock};
 use arrayvec::ArrayVec;
-use nx_code::{NEWLINE, Word};
-use nx_sync::{
-    Change, ELEMENTS_OF_EIGHT, ELEMENTS_OF_TWO, EightWords, Role, Step, StepTaker, TwoWords,
-};
+use nx_code::{ELEMENTS, NEWLINE, Word};
+use nx_sync::{Change, Role, Step, StepTaker};
 use std::marker::Model;
 
 /// Takes what the elements bring, and shows their locks.
@@ -209,20 +207,12 @@ impl StepTaker for LockTaker {
     }
 
     #[inline(always)]
-    fn take_eight(&mut self, words: &EightWords) -> bool {
-        if !self.reader.hear_eight(words, &mut self.shown) {
+    fn take_words(&mut self, words: &[Word]) -> bool {
+        if !self.reader.hear_words(words, &mut self.shown) {
             return false;
         }
-        self.elements = self.elements.saturating_add(ELEMENTS_OF_EIGHT as u64);
-        true
-    }
-
-    #[inline(always)]
-    fn take_two(&mut self, words: &TwoWords) -> bool {
-        if !self.reader.hear_two(words, &mut self.shown) {
-            return false;
-        }
-        self.elements = self.elements.saturating_add(ELEMENTS_OF_TWO as u64);
+        let elements = (ELEMENTS * words.len()) as u64;
+        self.elements = self.elements.saturating_add(elements);
         true
     }
 

@@ -7,9 +7,10 @@ ghost use Rattle.nx_receiver.specs.private.CopyTaker.{ReadsStep};
 ghost use Rattle.nx_receiver.specs.private.CopyHearer.{IsFresh, over_with};
 
 use crate::lock_reader::LockReader;
+use nx_code::Word;
 use nx_envelope::TextEvent;
 use nx_memory::Selection;
-use nx_sync::{EightWords, Step, StepTaker, TwoWords};
+use nx_sync::{Step, StepTaker};
 
 /// What is over with an element that was heard, where anything is. It is copied for each element,
 /// so it is small; a copy that is over is left with the finder.
@@ -120,13 +121,8 @@ impl StepTaker for CopyTaker {
     }
 
     #[inline(always)]
-    fn take_eight(&mut self, words: &EightWords) -> bool {
-        self.reader.hear_eight(words)
-    }
-
-    #[inline(always)]
-    fn take_two(&mut self, words: &TwoWords) -> bool {
-        self.reader.hear_two(words)
+    fn take_words(&mut self, words: &[Word]) -> bool {
+        self.reader.hear_words(words)
     }
 
     ghost none = { heard-none };

@@ -1,16 +1,18 @@
-//! What prints the words of a lock. What runs for each word or for eight of them is inlined always,
+//! What prints the words of a lock. What runs for each word or for some at once is inlined always,
 //! since its answers would go through memory otherwise.
 
-ghost use Rattle.std.specs.Prelude.{◌≡◌, ◌≤◌, ℕ, take};
+ghost use Rattle.std.specs.Prelude.{◌≡◌, ◌+◌, ◌*◌, ◌<◌, ◌≤◌, ℕ, length, take};
 ghost use Rattle.std.specs.Option.{option_to_list};
 ghost use Rattle.nx_receiver.specs.LockPrinter.{HasPrintedWords, PrintsLock};
 ghost use Rattle.nx_receiver.specs.copies.LockText.{AreNext};
 ghost use Rattle.nx_sync.specs.Words.{role_of};
+ghost use Rattle.nx_sync.specs.Taking.{ArePairs};
 ghost use Rattle.nx_sync.specs.declared.step.Role.{Role};
+ghost use Rattle.nx_sync.specs.declared.step.Role.TheVariants.{Dx as DxRole};
 
 use nx_code::{FourPrinted, Printer, Word};
 use nx_fec::Diversity;
-use nx_sync::{EightWords, Role, TwoWords};
+use nx_sync::Role;
 
 /// Prints the words of a lock, of which it is given one after the other, DX and RX by turns.
 ///
@@ -55,48 +57,39 @@ impl LockPrinter {
         }
     }
 
-    /// Takes the next two words of the lock at once, a DX word and an RX word, and answers the byte
-    /// that they print, if they print one.
+    /// Takes the next words of the lock at once, DX and RX by turns, and answers the bytes that
+    /// they print.
     #[inline(always)]
-    pub fn print_two(&mut self, words: &TwoWords) -> FourPrinted
+    pub fn print_words(&mut self, words: &[Word]) -> FourPrinted
+        requires { ArePairs words.now }
         ensures printed { (first : Role) (before : ℕ → ℕ) (n : ℕ)
             → PrintsLock self.old first before n → AreNext first before n words.now
-            → HasPrintedWords self.new first before n 2 (take result.count result.bytes) }
-        ensures count { result.count ≤ 1 }
+            → HasPrintedWords self.new first before n (length words.now)
+            (take result.count result.bytes) }
+        ensures count { 2 * result.count ≤ length words.now }
     {
-        self.diversity.hear_dx(words[0]);
-        let class = self.diversity.hear_rx(words[1]);
-        one_printed(self.printer.print_class(class))
+        let mut printed = FourPrinted::none();
+        for pair in 0..words.len() / 2 {
+            self.print_pair(words[2 * pair], words[2 * pair + 1], &mut printed);
+        }
+        printed
     }
 
-    /// Takes the next eight words of the lock at once, of which the first is a DX word, and answers
-    /// the bytes that they print.
+    /// Takes the next two words of the lock, a DX word and an RX word, and appends the byte that
+    /// they print, if they print one, to those of at most three other pairs.
     #[inline(always)]
-    pub fn print_eight(&mut self, words: &EightWords) -> FourPrinted
-        ensures printed { (first : Role) (before : ℕ → ℕ) (n : ℕ)
-            → PrintsLock self.old first before n → AreNext first before n words.now
-            → HasPrintedWords self.new first before n 8 (take result.count result.bytes) }
-        ensures count { result.count ≤ 4 }
+    fn print_pair(&mut self, dx: Word, rx: Word, printed: &mut FourPrinted)
+        requires { printed.old.count < 4 }
+        ensures printed { (first : Role) (words : ℕ → ℕ) (n count : ℕ)
+            → HasPrintedWords self.old first words n count
+            (take printed.old.count printed.old.bytes)
+            → role_of first (n + count) ≡ DxRole → words (n + count) ≡ dx
+            → words (n + count + 1) ≡ rx → HasPrintedWords self.new first words n (count + 2)
+            (take printed.new.count printed.new.bytes) }
+        ensures count { printed.new.count ≤ printed.old.count + 1 }
     {
-        let classes = self.diversity.eight(words);
-        self.printer.print_four(&classes)
-    }
-}
-
-/// What one position prints, by the byte that it prints, if it prints one.
-#[inline(always)]
-fn one_printed(byte: Option<u8>) -> FourPrinted
-    ensures printed { take result.count result.bytes ≡ option_to_list byte }
-    ensures count { result.count ≤ 1 }
-{
-    match byte {
-        Some(byte) => FourPrinted {
-            bytes: [byte, 0, 0, 0],
-            count: 1,
-        },
-        None => FourPrinted {
-            bytes: [0; 4],
-            count: 0,
-        },
+        self.diversity.hear_dx(dx);
+        let class = self.diversity.hear_rx(rx);
+        self.printer.print_behind(class, printed);
     }
 }

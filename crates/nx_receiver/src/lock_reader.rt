@@ -1,8 +1,9 @@
-//! The text of one lock, read from its words. What runs for each word or for eight of them is
+//! The text of one lock, read from its words. What runs for each word or for some at once is
 //! inlined always, since its answers would go through memory otherwise. What hands a copy out is
 //! not inlined, so that no loop over words has a place for a text of 4,100.
 
-ghost use Rattle.std.specs.Prelude.{◌≡◌, ◌↔◌, ◌+◌, ℕ, false, IsNone, IsTrue, MatchOption};
+ghost use Rattle.std.specs.Prelude.{◌≡◌, ◌↔◌, ◌+◌, ℕ, false, length, IsNone, IsTrue, MatchOption};
+ghost use Rattle.nx_sync.specs.Taking.{ArePairs};
 ghost use Rattle.nx_sync.specs.Words.{role_of};
 ghost use Rattle.nx_sync.specs.declared.step.Role.{Role};
 ghost use Rattle.nx_envelope.specs.Copies.{Copy};
@@ -14,7 +15,7 @@ ghost use Rattle.nx_receiver.specs.copies.LockText.{AreNext, text_after};
 use crate::lock_printer::LockPrinter;
 use nx_code::Word;
 use nx_envelope::{Finder, Found, FoundHead, TextEvent};
-use nx_sync::{EightWords, Role, TwoWords};
+use nx_sync::Role;
 use std::marker::Model;
 
 /// Reads the text of a lock, of which it is given one word after the other, and finds the copies in
@@ -76,17 +77,19 @@ impl LockReader {
         }
     }
 
-    /// Hears the next eight words of the lock at once, of which the first is a DX word, where
-    /// surely none of them begins or ends a copy: `true` where it did. Else nothing changed, and
-    /// they have to be heard one by one.
+    /// Hears the next words of the lock at once, DX and RX by turns, where surely none of them
+    /// begins or ends a copy: `true` where it did. Else nothing changed, and they have to be heard
+    /// one by one.
     #[inline(always)]
-    pub(crate) fn hear_eight(&mut self, words: &EightWords) -> bool
+    pub(crate) fn hear_words(&mut self, words: &[Word]) -> bool
+        requires { ArePairs words.now }
         ensures stands { IsTrue result → (first : Role) (before : ℕ → ℕ) (n : ℕ)
             → ReadsLock self.old first before n → AreNext first before n words.now
-            → ReadsLock self.new first before (n + 8) }
+            → ReadsLock self.new first before (n + length words.now) }
         ensures brings { IsTrue result → (first : Role) (before : ℕ → ℕ) (n : ℕ)
             → ReadsLock self.old first before n → AreNext first before n words.now
-            → PrintsPlain (text_after first before n) (text_after first before (n + 8)) }
+            → PrintsPlain (text_after first before n)
+            (text_after first before (n + length words.now)) }
         ensures same { result ≡ false → self.new ≡ self.old }
     {
         // Copied field by field: as one number of four bytes it would have to be cut apart.
@@ -94,33 +97,12 @@ impl LockReader {
             diversity: self.printer.diversity,
             printer: self.printer.printer,
         };
-        let four = printer.print_eight(words);
-        if !self.finder.hear_plain(four.bytes, four.count) {
+        let printed = printer.print_words(words);
+        if !self.finder.hear_plain(printed.bytes, printed.count) {
             return false;
         }
         self.printer.diversity = printer.diversity;
         self.printer.printer = printer.printer;
-        true
-    }
-
-    /// Hears the next two words of the lock at once, a DX word and an RX word, as `hear_eight`
-    /// hears eight.
-    #[inline(always)]
-    pub(crate) fn hear_two(&mut self, words: &TwoWords) -> bool
-        ensures stands { IsTrue result → (first : Role) (before : ℕ → ℕ) (n : ℕ)
-            → ReadsLock self.old first before n → AreNext first before n words.now
-            → ReadsLock self.new first before (n + 2) }
-        ensures brings { IsTrue result → (first : Role) (before : ℕ → ℕ) (n : ℕ)
-            → ReadsLock self.old first before n → AreNext first before n words.now
-            → PrintsPlain (text_after first before n) (text_after first before (n + 2)) }
-        ensures same { result ≡ false → self.new ≡ self.old }
-    {
-        let mut printer = self.printer;
-        let printed = printer.print_two(words);
-        if !self.finder.hear_plain(printed.bytes, printed.count) {
-            return false;
-        }
-        self.printer = printer;
         true
     }
 

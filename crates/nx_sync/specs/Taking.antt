@@ -1,5 +1,5 @@
 -- What a taker is given of the elements that a synchroniser hears, and what both hold after them.
-use Rattle.std.specs.Prelude.{ℕ, ◌+◌, Bool, List, ◌++◌, length, Option}
+use Rattle.std.specs.Prelude.{◌≡◌, ℕ, ◌+◌, ◌%◌, ◌<◌, ◌≤◌, Bool, List, ◌++◌, length, Option}
 use Rattle.std.specs.List.{flat_map}
 use Rattle.nx_code.specs.Word.{elements}
 use Rattle.nx_sync.specs.declared.step.Role.TheVariants.{Dx}
@@ -7,12 +7,12 @@ use Rattle.nx_sync.specs.declared.step.Step.{Step}
 use Rattle.nx_sync.specs.Steps.{AreQuietWords, IsLastStep, LimitStands}
 use Rattle.nx_sync.specs.Synchroniser.{Held, StandsAfter}
 
--- how many elements the words have that are taken at once: eight, or two
-abbrev pub elements_of_eight : ℕ
-elements_of_eight = 56
-
-abbrev pub elements_of_two : ℕ
-elements_of_two = 14
+-- These words may be taken at once: as many DX words as RX words, by turns, at least one of each
+-- and at most four.
+pub record ArePairs (words : List ℕ) : Type 0 where
+  pub some : 0 < length words
+  pub few : length words ≤ 8
+  pub even : length words % 2 ≡ 0
 
 -- A synchroniser heard these bits, after whichever it stood, and the last of them brings s, those
 -- before it nothing.

@@ -18,6 +18,4 @@ pub use step::{Change, Role, Step};
 pub use synchroniser::Synchroniser;
 pub use taking::StepTaker;
 pub use windows::first_lock;
-pub use word_synchroniser::{
-    ELEMENTS_OF_EIGHT, ELEMENTS_OF_TWO, EightWords, TwoWords, WordSynchroniser,
-};
+pub use word_synchroniser::WordSynchroniser;

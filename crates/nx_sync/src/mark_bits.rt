@@ -1,15 +1,15 @@
 //! The marks of the last words of a lock, in one number. What runs for each word is inlined always,
 //! since its answers would go through memory otherwise.
 
-ghost use Rattle.std.specs.Prelude.{◌≡◌, ◌∷◌, ◌++◌, ◌≤◌, ◌<◌, ◌^◌, ◌+◌, ◌==◌, [], map, nat_le};
+ghost use Rattle.std.specs.Prelude.{◌≡◌, ◌∷◌, ◌++◌, ◌≤◌, ◌<◌, ◌^◌, ◌+◌, ◌==◌, [], length, map, nat_le};
 ghost use Rattle.std.specs.List.{count_by};
 ghost use Rattle.circular_buffer.specs.Buffer.{keep_last};
 ghost use Rattle.nx_code.specs.Word.{number_of};
 ghost use Rattle.nx_sync.specs.Words.{losing_count, marked_words};
 ghost use Rattle.nx_sync.specs.private.Eight.{marks_after_words, wrong_ones};
 
-use crate::word_synchroniser::{EightWords, numbers};
-use nx_code::{NO_CLASS, WORDS_AT_ONCE, class_of};
+use crate::windows_after::numbers;
+use nx_code::{NO_CLASS, WORDS_AT_ONCE, Word, check_bits, class_of};
 use std::marker::Model;
 use std::simd::prelude::*;
 
@@ -65,9 +65,24 @@ impl Marks {
         self.count = (self.count + 1).min(MARKS);
     }
 
-    /// Adds the marks of eight words; of more than 64 the oldest go.
+    /// Adds the marks of words; of more than 64 the oldest go.
     #[inline(always)]
-    pub(crate) fn push_eight(&mut self, words: &EightWords)
+    pub(crate) fn push_words(&mut self, words: &[Word])
+        ensures { self.new ≡ marks_after_words self.old words.now }
+    {
+        if words.len() == WORDS_AT_ONCE {
+            self.push_eight(words);
+        } else {
+            for place in 0..words.len() {
+                self.push(!check_bits(words[place]));
+            }
+        }
+    }
+
+    /// Adds the marks of eight words at once.
+    #[inline(always)]
+    fn push_eight(&mut self, words: &[Word])
+        requires { length words.now ≡ 8 }
         ensures { self.new ≡ marks_after_words self.old words.now }
     {
         self.bits = (self.bits >> 8) + (wrong_bits(words) << 56);
@@ -104,7 +119,8 @@ impl Marks {
 /// The marks of eight words, whether each has the wrong weight, as bits of a number, the first
 /// word's in the least place.
 #[inline(always)]
-fn wrong_bits(words: &EightWords) -> u64
+fn wrong_bits(words: &[Word]) -> u64
+    requires { length words.now ≡ 8 }
     ensures number { result ≡ number_of (wrong_ones words.now) }
     ensures within { result < 2 ^ 8 }
 {
@@ -115,7 +131,8 @@ fn wrong_bits(words: &EightWords) -> u64
 
 /// The classes of eight words.
 #[inline(always)]
-fn classes(words: &EightWords) -> [u8; WORDS_AT_ONCE]
+fn classes(words: &[Word]) -> [u8; WORDS_AT_ONCE]
+    requires { length words.now ≡ 8 }
     ensures { map (λ class. class == 0) result ≡ wrong_ones words.now }
 {
     // Each word is one of 128. That is all that this says, and nothing runs for it.

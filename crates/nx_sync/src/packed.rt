@@ -1,19 +1,17 @@
 //! Hunting in packed elements, 64 of them in a number. What runs for each number is inlined always,
 //! since a call would cost more than its few instructions.
 
-ghost use Rattle.std.specs.Prelude.{◌≡◌, ℕ, ◌+◌, ◌*◌, ◌^◌, ◌<◌, ◌≤◌, length, [], ◌∷◌, IsTrue};
+ghost use Rattle.std.specs.Prelude.{◌≡◌, ℕ, ◌+◌, ◌*◌, ◌^◌, ◌<◌, ◌≤◌, length, take, [], ◌∷◌, IsTrue};
 ghost use Rattle.std.specs.List.{flat_map};
-ghost use Rattle.nx_code.specs.Word.{elements};
+ghost use Rattle.nx_code.specs.Word.{elements, word_elements};
 ghost use Rattle.nx_code.specs.Packed.{packed_elements, packed_part};
 ghost use Rattle.nx_sync.specs.Locks.{pattern_elements};
-ghost use Rattle.nx_sync.specs.Taking.{elements_of_eight, elements_of_two};
 ghost use Rattle.nx_sync.specs.private.Windows as spec;
 ghost use Rattle.nx_sync.specs.private.Windows.{IsBeforeLockIn};
 
 use crate::phasing::{is_block, is_lock_window};
 use crate::windows_after::{joined, window_after_number};
-use crate::word_synchroniser::{ELEMENTS_OF_EIGHT, ELEMENTS_OF_TWO, EightWords, TwoWords};
-use nx_code::{ELEMENTS, Word, elements_at, packed_word, words_of};
+use nx_code::{ELEMENTS, WORDS_AT_ONCE, Word, elements_at, packed_word, words_of};
 
 /// The element at a place.
 #[inline(always)]
@@ -33,23 +31,17 @@ pub(crate) fn word_in(numbers: &[u64], place: usize) -> Word
     packed_word(elements_at(numbers, place, ELEMENTS))
 }
 
-/// The two words of the 14 elements from a place on.
+/// The words of the elements from a place on, at most eight: the first `count` of these. Those
+/// behind them mean nothing.
 #[inline(always)]
-pub(crate) fn two_words_in(numbers: &[u64], place: usize) -> TwoWords
-    requires { place + elements_of_two ≤ packed_elements * length numbers.now }
-    ensures { flat_map elements result ≡ packed_part numbers.now place elements_of_two }
+pub(crate) fn words_in(numbers: &[u64], place: usize, count: usize) -> [Word; WORDS_AT_ONCE]
+    requires some { 0 < count }
+    requires few { count ≤ 8 }
+    requires room { place + word_elements * count ≤ packed_elements * length numbers.now }
+    ensures { flat_map elements (take count result)
+        ≡ packed_part numbers.now place (word_elements * count) }
 {
-    let both = elements_at(numbers, place, ELEMENTS_OF_TWO);
-    [packed_word(both % 128), packed_word(both >> ELEMENTS)]
-}
-
-/// The eight words of the 56 elements from a place on.
-#[inline(always)]
-pub(crate) fn eight_words_in(numbers: &[u64], place: usize) -> EightWords
-    requires { place + elements_of_eight ≤ packed_elements * length numbers.now }
-    ensures { flat_map elements result ≡ packed_part numbers.now place elements_of_eight }
-{
-    words_of(elements_at(numbers, place, ELEMENTS_OF_EIGHT))
+    words_of(elements_at(numbers, place, ELEMENTS * count))
 }
 
 /// Whether one of the windows after each of the 64 elements of a number may be a pattern. The first

@@ -1,22 +1,27 @@
 //! How packed elements are heard for a taker. What comes next, a hunt, a part of a word, one word,
-//! two or eight of them, is decided here alone, and what the synchroniser holds meanwhile. What
-//! runs for each word is inlined always, since its answers would go through memory otherwise.
+//! or two, six or eight of them at once, is decided here alone, and what the synchroniser holds
+//! meanwhile. What runs for each word is inlined always, since its answers would go through memory
+//! otherwise.
 
-ghost use Rattle.std.specs.Prelude.{◌≡◌, ℕ, ◌+◌, ◌*◌, ◌^◌, ◌<◌, ◌≤◌, List, Bool, Option, None, false, [], ◌++◌, length, take, IsTrue};
+ghost use Rattle.std.specs.Prelude.{◌≡◌, ℕ, ◌+◌, ◌*◌, ◌%◌, ◌^◌, ◌<◌, ◌≤◌, List, Bool, Option, None, false, [], ◌++◌, length, take, IsTrue};
 ghost use Rattle.std.specs.List.{flat_map};
 ghost use Rattle.nx_code.specs.Packed.{packed_elements, packed_part};
-ghost use Rattle.nx_code.specs.Word.{elements};
+ghost use Rattle.nx_code.specs.Word.{elements, word_elements};
 ghost use Rattle.nx_sync.specs.Synchroniser.{Held, is_between_words, is_hunting};
-ghost use Rattle.nx_sync.specs.Taking.{BringsStep, BringsWords, IsTaken, elements_of_eight, elements_of_two};
+ghost use Rattle.nx_sync.specs.Taking.{ArePairs, BringsStep, BringsWords, IsTaken};
 ghost use Rattle.nx_sync.specs.private.Taking.{HasPart, TakesSome};
 
-use crate::packed::{eight_words_in, element, two_words_in, word_in};
+use crate::packed::{element, word_in, words_in};
 use crate::step::Step;
 use crate::synchroniser::Synchroniser;
-use crate::word_synchroniser::{
-    ELEMENTS_OF_EIGHT, ELEMENTS_OF_TWO, EightWords, TwoWords, WordSynchroniser,
-};
-use nx_code::ELEMENTS;
+use crate::word_synchroniser::WordSynchroniser;
+use nx_code::{ELEMENTS, WORDS_AT_ONCE, Word};
+
+/// How many words are heard at once where eight aren't left, and where six aren't. These numbers
+/// and eight are even, so that the roles stay in step (this project's own).
+const SIX_WORDS: usize = 6;
+
+const TWO_WORDS: usize = 2;
 
 /// Takes what the elements bring that a synchroniser hears, in order.
 pub trait StepTaker {
@@ -39,24 +44,15 @@ pub trait StepTaker {
             → BringsStep old new bits step → hears old self.old bits new self.new result }
         ensures can { (more : ℕ) → can_take self.old (count + more) → can_take self.new more };
 
-    /// Takes eight words of a lock that bring no change, the first of which is a DX word, at once,
-    /// where surely nothing is over with any of them: `true` where it did. Else nothing changed,
-    /// and they have to be taken one by one.
-    fn take_eight(&mut self, words: &EightWords) -> bool
-        requires can { can_take self.old elements_of_eight }
+    /// Takes words of a lock that bring no change, DX and RX by turns, at once, where surely
+    /// nothing is over with any of them: `true` where it did. Else nothing changed, and they have
+    /// to be taken one by one.
+    fn take_words(&mut self, words: &[Word]) -> bool
+        requires pairs { ArePairs words.now }
+        requires can { can_take self.old (word_elements * length words.now) }
         ensures hears { IsTrue result → (old new : Held) → BringsWords old new words.now
             → hears old self.old (flat_map elements words.now) new self.new None }
-        ensures can { (more : ℕ) → can_take self.old (elements_of_eight + more)
-            → can_take self.new more }
-        ensures same { result ≡ false → self.new ≡ self.old };
-
-    /// Takes two words of a lock that bring no change, a DX word and an RX word, as `take_eight`
-    /// takes eight.
-    fn take_two(&mut self, words: &TwoWords) -> bool
-        requires can { can_take self.old elements_of_two }
-        ensures hears { IsTrue result → (old new : Held) → BringsWords old new words.now
-            → hears old self.old (flat_map elements words.now) new self.new None }
-        ensures can { (more : ℕ) → can_take self.old (elements_of_two + more)
+        ensures can { (more : ℕ) → can_take self.old (word_elements * length words.now + more)
             → can_take self.new more }
         ensures same { result ≡ false → self.new ≡ self.old };
 
@@ -226,9 +222,10 @@ impl WordSynchroniser {
         (heard, None)
     }
 
-    /// Hears the next eight words of these elements at once, where they are there and neither the
-    /// lock nor anything for the taker is over with them; else as many by twos and ones. Before an
-    /// RX word it hears that word alone, so that eights begin with the DX word behind it.
+    /// Hears the next eight words of these elements at once, or six, where they are there and
+    /// neither the lock nor anything for the taker is over with them; else as many by twos and
+    /// ones. Before an RX word it hears that word alone, so that eights begin with the DX word
+    /// behind it.
     #[inline(always)]
     fn hear_some<T: StepTaker>(
         &mut self,
@@ -244,13 +241,17 @@ impl WordSynchroniser {
         ensures takes { TakesSome T.hears T.can_take self.old taker.old numbers.now from count
             self.new taker.new result }
     {
-        if count >= ELEMENTS_OF_EIGHT {
-            if self.hear_eight(taker, &eight_words_in(numbers, from)) {
-                return (ELEMENTS_OF_EIGHT, None);
+        if count >= ELEMENTS * WORDS_AT_ONCE {
+            if self.hear_at_once(taker, numbers, from, WORDS_AT_ONCE) {
+                return (ELEMENTS * WORDS_AT_ONCE, None);
+            }
+        } else if count >= ELEMENTS * SIX_WORDS {
+            if self.hear_at_once(taker, numbers, from, SIX_WORDS) {
+                return (ELEMENTS * SIX_WORDS, None);
             }
         }
         let few = if self.awaits_dx() {
-            ELEMENTS_OF_EIGHT
+            ELEMENTS * WORDS_AT_ONCE
         } else {
             ELEMENTS
         };
@@ -301,56 +302,47 @@ impl WordSynchroniser {
         ensures takes { TakesSome T.hears T.can_take self.old taker.old numbers.now from count
             self.new taker.new result }
     {
-        if count >= ELEMENTS_OF_TWO {
-            if self.hear_two(taker, &two_words_in(numbers, from)) {
-                return (ELEMENTS_OF_TWO, None);
+        if count >= ELEMENTS * TWO_WORDS {
+            if self.hear_at_once(taker, numbers, from, TWO_WORDS) {
+                return (ELEMENTS * TWO_WORDS, None);
             }
         }
         let step = self.push(word_in(numbers, from));
         (ELEMENTS, taker.take(ELEMENTS, step))
     }
 
-    /// Hears these two words, which come next, at once, where neither the lock nor anything for the
-    /// taker is over with them: `true` where it did. Else nothing changed.
+    /// Hears the next words of these elements at once, so many, DX and RX by turns, where neither
+    /// the lock nor anything for the taker is over with them: `true` where it did. Else nothing
+    /// changed.
     #[inline(always)]
-    fn hear_two<T: StepTaker>(&mut self, taker: &mut T, words: &TwoWords) -> bool
+    fn hear_at_once<T: StepTaker>(
+        &mut self,
+        taker: &mut T,
+        numbers: &[u64],
+        from: usize,
+        count: usize,
+    ) -> bool
         requires limit { IsTrue (is_between_words self.old) }
-        requires can { T.can_take taker.old elements_of_two }
+        requires some { 0 < count }
+        requires few { count ≤ 8 }
+        requires even { count % 2 ≡ 0 }
+        requires room { from + word_elements * count ≤ packed_elements * length numbers.now }
+        requires can { T.can_take taker.old (word_elements * count) }
         ensures taken { IsTrue result → IsTaken T.hears T.can_take self.old taker.old
-            (flat_map elements words.now) self.new taker.new None }
+            (packed_part numbers.now from (word_elements * count)) self.new taker.new None }
         ensures limit { IsTrue (is_between_words self.new) }
         ensures same { result ≡ false → self.new ≡ self.old }
         ensures same_taker { result ≡ false → taker.new ≡ taker.old }
     {
-        if !self.keeps_lock_for_two(words) {
-            return false;
-        }
-        if !taker.take_two(words) {
-            return false;
-        }
-        self.push_two(words);
-        true
-    }
-
-    /// Hears these eight words, which come next, at once, where neither the lock nor anything for
-    /// the taker is over with them: `true` where it did. Else nothing changed.
-    #[inline(always)]
-    fn hear_eight<T: StepTaker>(&mut self, taker: &mut T, words: &EightWords) -> bool
-        requires limit { IsTrue (is_between_words self.old) }
-        requires can { T.can_take taker.old elements_of_eight }
-        ensures taken { IsTrue result → IsTaken T.hears T.can_take self.old taker.old
-            (flat_map elements words.now) self.new taker.new None }
-        ensures limit { IsTrue (is_between_words self.new) }
-        ensures same { result ≡ false → self.new ≡ self.old }
-        ensures same_taker { result ≡ false → taker.new ≡ taker.old }
-    {
+        let eight = words_in(numbers, from, count);
+        let words = &eight[..count];
         if !self.keeps_lock(words) {
             return false;
         }
-        if !taker.take_eight(words) {
+        if !taker.take_words(words) {
             return false;
         }
-        self.push_eight(words);
+        self.push_words(words);
         true
     }
 }

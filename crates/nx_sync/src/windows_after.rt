@@ -7,12 +7,11 @@ ghost use Rattle.std.specs.Prelude.{◌≡◌, ℕ, ◌+◌, ◌^◌, ◌<◌, �
 ghost use Rattle.nx_code.specs.Packed.{packed_elements};
 ghost use Rattle.nx_code.specs.Word.{elements_from};
 ghost use Rattle.nx_sync.specs.Locks.{pattern_elements};
-ghost use Rattle.nx_sync.specs.private.Eight.{last_four};
+ghost use Rattle.nx_sync.specs.private.Eight.{last_four, window_after_words};
 ghost use Rattle.nx_sync.specs.private.Windows as spec;
 
 use crate::phasing::PATTERN;
-use crate::word_synchroniser::EightWords;
-use nx_code::Word;
+use nx_code::{WORDS_AT_ONCE, Word};
 
 /// How many elements are hunted through at once. A pattern that ends at one of them has the seven
 /// elements before the first of them in it.
@@ -70,16 +69,56 @@ pub(crate) fn next_word_window(window: u32, word: Word) -> u32
     (window >> 7) + (u32::from(word.number()) << 21)
 }
 
-/// The window after eight words, which is what the rule gives for their elements, whichever window
-/// was before: it has the last four words.
+/// The window after more words, which is what the rule gives for their elements. Each word is one
+/// of 128, of which the clause `small` alone speaks; nothing runs for it.
 #[inline(always)]
-pub(crate) fn window_after_eight(words: &EightWords) -> u32
+pub(crate) fn window_after_words(window: u32, words: &[Word]) -> u32
+    requires window { window < 2 ^ pattern_elements }
+    ensures value { result ≡ window_after_words window words.now }
+    ensures within { result < 2 ^ pattern_elements }
+    ensures small { (k : ℕ) → k < length words.now → slice_index words.now k < 128 }
+{
+    if words.len() == WORDS_AT_ONCE {
+        return window_after_eight(words);
+    }
+    let mut last = window;
+    for place in 0..words.len() {
+        last = next_word_window(last, words[place]);
+    }
+    last
+}
+
+/// The window after eight words, whichever window was before: it has the last four words.
+#[inline(always)]
+fn window_after_eight(words: &[Word]) -> u32
+    requires eight { length words.now ≡ 8 }
     ensures value { result ≡ last_four words.now }
     ensures within { result < 2 ^ pattern_elements }
+    ensures small { (k : ℕ) → k < 8 → slice_index words.now k < 128 }
 {
+    let _words = numbers(words);
     let older = u32::from(words[4].number()) + (u32::from(words[5].number()) << 7);
     let newer = (u32::from(words[6].number()) << 14) + (u32::from(words[7].number()) << 21);
     older + newer
+}
+
+/// The numbers of eight words.
+#[inline(always)]
+pub(crate) fn numbers(words: &[Word]) -> [u8; WORDS_AT_ONCE]
+    requires { length words.now ≡ 8 }
+    ensures value { result ≡ words.now }
+    ensures small { (k : ℕ) → k < 8 → slice_index result k < 128 }
+{
+    [
+        words[0].number(),
+        words[1].number(),
+        words[2].number(),
+        words[3].number(),
+        words[4].number(),
+        words[5].number(),
+        words[6].number(),
+        words[7].number(),
+    ]
 }
 
 /// A window, and above it the elements of the number that comes after it.

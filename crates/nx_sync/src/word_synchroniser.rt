@@ -1,7 +1,7 @@
-//! A synchroniser at work on whole words of a lock. All of it runs for each word or for eight of
-//! them, and is inlined always, since its answers would go through memory otherwise.
+//! A synchroniser at work on whole words of a lock. All of it runs for each word or for some of
+//! them at once, and is inlined always, since its answers would go through memory otherwise.
 
-ghost use Rattle.std.specs.Prelude.{◌≡◌, ℕ, ◌+◌, ◌^◌, ◌<◌, List, Bool, ◌++◌, slice_index, IsTrue};
+ghost use Rattle.std.specs.Prelude.{◌≡◌, ◌+◌, ◌^◌, ◌<◌, List, Bool, ◌++◌, IsTrue};
 ghost use Rattle.std.specs.List.{flat_map};
 ghost use Rattle.std.specs.Option.{ForSome};
 ghost use Rattle.nx_sync.specs.declared.step.Role.TheVariants.{Dx};
@@ -11,27 +11,15 @@ ghost use Rattle.nx_sync.specs.Steps.{IsWordStep, AreQuietWords};
 ghost use Rattle.nx_sync.specs.private.Calls.{fills_dx, held_at_words};
 ghost use Rattle.nx_sync.specs.Synchroniser as held;
 ghost use Rattle.nx_sync.specs.Synchroniser.{StandsAfter, is_between_words, keeps_lock};
+ghost use Rattle.nx_sync.specs.Taking.{ArePairs};
 
 use crate::mark_bits::Marks;
 use crate::phasing::PHASING_1;
 use crate::step::{Role, Step};
 use crate::track::Track;
-use crate::windows_after::{next_word_window, window_after_eight};
-use nx_code::{ELEMENTS, WORDS_AT_ONCE, Word, check_bits};
+use crate::windows_after::{next_word_window, window_after_words};
+use nx_code::{Word, check_bits};
 use std::marker::Model;
-
-/// Eight words of a lock, the first of which is a DX word: heard at once where so many are left.
-/// Their number is even, so that the roles stay in step.
-pub type EightWords = [Word; WORDS_AT_ONCE];
-
-/// How many elements eight words have.
-pub const ELEMENTS_OF_EIGHT: usize = WORDS_AT_ONCE * ELEMENTS;
-
-/// A DX word of a lock and the RX word behind it: heard at once where eight words are not.
-pub type TwoWords = [Word; 2];
-
-/// How many elements two words have.
-pub const ELEMENTS_OF_TWO: usize = 2 * ELEMENTS;
 
 /// How many bytes the fields take (on the target of this toolchain).
 const BYTES: usize = 24;
@@ -156,42 +144,12 @@ impl WordSynchroniser {
         step
     }
 
-    /// Whether surely neither of the next two words, if they are these, brings a change, so that
-    /// `push_two` may hear them. It says no where `keeps_lock` does, but to some in a lock that is
-    /// nearly lost.
-    #[inline(always)]
-    pub(crate) fn keeps_lock_for_two(&self, words: &TwoWords) -> bool
-        ensures { result ≡ keeps_lock self.now words.now }
-    {
-        let Some(track) = self.track else {
-            return false;
-        };
-        track.awaits_free_dx()
-            & (words[0].number() != PHASING_1)
-            & self.marks.keeps_lock_for(words.len())
-    }
-
-    /// Hears two words, a DX word and an RX word: what `push` does of one after the other. Neither
-    /// of them brings a change.
-    #[inline(always)]
-    pub(crate) fn push_two(&mut self, words: &TwoWords)
-        requires { IsTrue (keeps_lock self.old words.now) }
-        ensures stands { (h : List Bool) → StandsAfter self.old h
-            → StandsAfter self.new (h ++ flat_map elements words.now) }
-        ensures steps { (h : List Bool) → StandsAfter self.old h → AreQuietWords h Dx words.now }
-        ensures between { IsTrue (is_between_words self.new) }
-    {
-        // The track stays, as behind eight words.
-        self.recent = next_word_window(next_word_window(self.recent, words[0]), words[1]);
-        self.marks.push(!check_bits(words[0]));
-        self.marks.push(!check_bits(words[1]));
-    }
-
-    /// Whether surely none of the next eight words, if they are these, brings a change, so that
-    /// `push_eight` may hear them. It says no to some that bring none: where a lock is in phasing
+    /// Whether surely none of the next words, if they are these, brings a change, so that
+    /// `push_words` may hear them. It says no to some that bring none: where a lock is in phasing
     /// the other way round, where a DX word is phasing signal 1, and in a lock that is nearly lost.
     #[inline(always)]
-    pub fn keeps_lock(&self, words: &EightWords) -> bool
+    pub fn keeps_lock(&self, words: &[Word]) -> bool
+        requires { ArePairs words.now }
         ensures { result ≡ keeps_lock self.now words.now }
     {
         let Some(track) = self.track else {
@@ -200,50 +158,33 @@ impl WordSynchroniser {
         track.awaits_free_dx() & !has_dx_phasing_1(words) & self.marks.keeps_lock_for(words.len())
     }
 
-    /// Hears eight words, the first of which is a DX word: what `push` does of one after the other.
-    /// None of them brings a change.
+    /// Hears words, DX and RX by turns: what `push` does of one after the other. None of them
+    /// brings a change.
     #[inline(always)]
-    pub fn push_eight(&mut self, words: &EightWords)
-        requires { IsTrue (keeps_lock self.old words.now) }
+    pub fn push_words(&mut self, words: &[Word])
+        requires pairs { ArePairs words.now }
+        requires keeps { IsTrue (keeps_lock self.old words.now) }
         ensures stands { (h : List Bool) → StandsAfter self.old h
             → StandsAfter self.new (h ++ flat_map elements words.now) }
         ensures steps { (h : List Bool) → StandsAfter self.old h → AreQuietWords h Dx words.now }
         ensures between { IsTrue (is_between_words self.new) }
     {
-        // Each word is one of 128. That is all that this says, and nothing runs for it.
-        let _words = numbers(words);
         // The track stays: the next word is a DX word again, and none of the DX words before it
         // was phasing signal 1.
-        self.marks.push_eight(words);
-        self.recent = window_after_eight(words);
+        self.marks.push_words(words);
+        self.recent = window_after_words(self.recent, words);
     }
 }
 
-/// The numbers of eight words.
+/// Whether one of the DX words among these, which are DX and RX by turns, is phasing signal 1.
 #[inline(always)]
-pub(crate) fn numbers(words: &EightWords) -> [u8; WORDS_AT_ONCE]
-    ensures value { result ≡ words.now }
-    ensures small { (k : ℕ) → k < 8 → slice_index result k < 128 }
-{
-    [
-        words[0].number(),
-        words[1].number(),
-        words[2].number(),
-        words[3].number(),
-        words[4].number(),
-        words[5].number(),
-        words[6].number(),
-        words[7].number(),
-    ]
-}
-
-/// Whether the first of eight words, or each second one after it, is phasing signal 1.
-#[inline(always)]
-fn has_dx_phasing_1(words: &EightWords) -> bool
+fn has_dx_phasing_1(words: &[Word]) -> bool
+    requires { ArePairs words.now }
     ensures { result ≡ held.has_dx_phasing_1 words.now }
 {
-    (words[0].number() == PHASING_1)
-        | (words[2].number() == PHASING_1)
-        | (words[4].number() == PHASING_1)
-        | (words[6].number() == PHASING_1)
+    let mut found = false;
+    for pair in 0..words.len() / 2 {
+        found |= words[2 * pair].number() == PHASING_1;
+    }
+    found
 }

@@ -43,35 +43,6 @@ reading_push xs x old new result printed after stands = (
       (sym (printed ∙ ap (byte_of x) stands)),
 )
 
--- the receptions of one class more
-classes-more : (classes : List ℕ) (place : ℕ) → place < length classes
-    → map reception_of_class (take (place + 1) classes)
-    ≡ map reception_of_class (take place classes)
-    ++ reception_of_class (get_or classes place 0) ∷ []
-classes-more classes place h =
-    ap (map reception_of_class) (take_more classes place 0 h)
-    ∙ map-append reception_of_class (take place classes) (get_or classes place 0 ∷ [])
-
-pub text_of_classes-more : (classes : List ℕ) (place : ℕ) (shift : Shift) → place < length classes
-    → text (map reception_of_class (take (place + 1) classes)) shift
-    ≡ text (map reception_of_class (take place classes)) shift
-    ++ option_to_list (byte_of (reception_of_class (get_or classes place 0))
-    (shift_after_all (map reception_of_class (take place classes)) shift))
-text_of_classes-more classes place shift h =
-    ap (λ l. text l shift) (classes-more classes place h)
-    ∙ text-push (map reception_of_class (take place classes))
-    (reception_of_class (get_or classes place 0)) shift
-
-pub shift_after_classes-more : (classes : List ℕ) (place : ℕ) (shift : Shift)
-    → place < length classes
-    → shift_after_all (map reception_of_class (take (place + 1) classes)) shift
-    ≡ shift_after (reception_of_class (get_or classes place 0))
-    (shift_after_all (map reception_of_class (take place classes)) shift)
-shift_after_classes-more classes place shift h =
-    ap (λ l. shift_after_all l shift) (classes-more classes place h)
-    ∙ shift_after_all-append (map reception_of_class (take place classes))
-    (reception_of_class (get_or classes place 0) ∷ []) shift
-
 -- positions that set no shift leave it
 pub shift_after_all-none : (xs : List Reception) (shift : Shift) → SetsNone xs
     → shift_after_all xs shift ≡ shift

@@ -1,11 +1,10 @@
 //! Diversity reception: a position is taken from its DX word and the RX word five slots later
 //! (M.625). What runs for each word is inlined always.
 
-ghost use Rattle.std.specs.Prelude.{◌≡◌, ◌+◌, ◌*◌, ◌<◌, ℕ, [], ◌∷◌, ◌++◌, List, slice_index};
+ghost use Rattle.std.specs.Prelude.{◌≡◌, ◌+◌, ◌<◌, [], ◌∷◌, ◌++◌, List};
 ghost use Rattle.nx_code.specs.Classes.{reception_of_class};
 ghost use Rattle.nx_code.specs.Taken.{reception_of};
 ghost use Rattle.nx_fec.specs.declared.emissions.diversity.Heard.TheVariants.{Wrong};
-ghost use Rattle.nx_fec.specs.emissions.Aligned.{dx_words};
 ghost use Rattle.nx_fec.specs.emissions.Pairing.{Counted, IsHeardOf, IsLatest, counts_as, heard_as, pairing, third_last};
 ghost use Rattle.nx_fec.specs.private.WordClasses.{counted_by};
 
@@ -187,28 +186,5 @@ impl Diversity {
         ensures range { result < 34 }
     {
         pair_classes(self.oldest, class_of(word))
-    }
-
-    /// Takes the next eight words, DX first and RX by turns, and answers the classes of the four
-    /// positions that the RX words complete, as `hear_dx` and `hear_rx` do in turn.
-    #[inline(always)]
-    pub fn eight(&mut self, words: &[Word; 8]) -> [u8; 4]
-        ensures stands { (before : List Counted) → IsLatest self.old before
-            → IsLatest self.new (before ++ dx_words words.now 0 4) }
-        ensures taken { (before : List Counted) → IsLatest self.old before → (k : ℕ) → k < 4
-            → reception_of_class (slice_index result k)
-            ≡ pairing (third_last (before ++ dx_words words.now 0 (k + 1)))
-            (counts_as (slice_index words.now (2 * k + 1))) }
-        ensures range { (k : ℕ) → slice_index result k < 34 }
-    {
-        self.hear_dx(words[0]);
-        let first = self.hear_rx(words[1]);
-        self.hear_dx(words[2]);
-        let second = self.hear_rx(words[3]);
-        self.hear_dx(words[4]);
-        let third = self.hear_rx(words[5]);
-        self.hear_dx(words[6]);
-        let fourth = self.hear_rx(words[7]);
-        [first, second, third, fourth]
     }
 }

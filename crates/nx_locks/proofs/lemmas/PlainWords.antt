@@ -2,7 +2,7 @@
 -- ends a copy.
 use Rattle.std.proofs.Common.{◌≡◌, ℕ, suc, ◌+◌, ◌-◌, ◌^◌, ◌<◌, ◌≤◌, eqb, not, List, [], ◌∷◌, ◌++◌}
 use Rattle.std.proofs.Common.{length, take, get_or, sym, ap, ◌∙◌, subst, append_assoc}
-use Rattle.std.proofs.Common.{append-nil, arith, slice_index}
+use Rattle.std.proofs.Common.{add-one, append-nil, arith, slice_index}
 use Rattle.std.specs.Prelude.{min}
 use Rattle.std.proofs.lemmas.Grind.{get_or_default_zero}
 use Rattle.std.proofs.lemmas.List.{take_more}
@@ -25,22 +25,14 @@ pub wrong_at : (words : List ℕ) (k x : ℕ) → k < length words
     → one_if (is_wrong (get_or words k x)) ≡ one_if (is_wrong (slice_index words k))
 wrong_at words k x h = ap (λ w. one_if (is_wrong w)) (get_or_default_zero words k x h)
 
--- what the wrong ones of eight words count
-pub sum_of_wrong : (words : List ℕ) (a b c d e f g h : ℕ)
-    → a ≡ one_if (is_wrong (slice_index words 0)) → b ≡ one_if (is_wrong (slice_index words 1))
-    → c ≡ one_if (is_wrong (slice_index words 2)) → d ≡ one_if (is_wrong (slice_index words 3))
-    → e ≡ one_if (is_wrong (slice_index words 4)) → f ≡ one_if (is_wrong (slice_index words 5))
-    → g ≡ one_if (is_wrong (slice_index words 6)) → h ≡ one_if (is_wrong (slice_index words 7))
-    → ((a + b) + c) + d + (((e + f) + g) + h) ≡ wrong_in (slice_index words) 0 8
+-- how many of the first words are wrong, with one more
+pub wrong_in-next : (words : ℕ → ℕ) (n : ℕ)
+    → wrong_in words 0 (n + 1) ≡ wrong_in words 0 n + one_if (is_wrong (words n))
 unfolding wrong_in
-sum_of_wrong words a b c d e f g h ea eb ec ed ee ef eg eh =
-    omega (arith, ea, eb, ec, ed, ee, ef, eg, eh)
-
--- what the wrong ones of two words count
-pub sum_of_two : (words : List ℕ) (a b : ℕ) → a ≡ one_if (is_wrong (slice_index words 0))
-    → b ≡ one_if (is_wrong (slice_index words 1)) → a + b ≡ wrong_in (slice_index words) 0 2
-unfolding wrong_in
-sum_of_two words a b ea eb = omega (arith, ea, eb)
+wrong_in-next words n =
+    let e : 0 + n ≡ n = omega arith in
+    ap (wrong_in words 0) (add-one n)
+    ∙ ap (λ k. wrong_in words 0 n + one_if (is_wrong (words k))) e
 
 headers_plain : (text bytes : List ℕ) → BringNothing text bytes
     → headers (text ++ bytes) ≡ headers text

@@ -1,8 +1,8 @@
 -- What a hearer of copies stands after, by elements and by words.
 pub mod Bits
-pub mod EightWords
 pub mod Hears
 pub mod Packed
+pub mod PlainWords
 pub mod Takes
 pub mod Texts
 pub mod Words

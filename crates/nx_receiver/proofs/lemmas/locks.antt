@@ -1,6 +1,5 @@
 -- The texts of locks, and the copies in them.
 pub mod Apart
-pub mod EightWords
 pub mod Found
 pub mod Growing
 pub mod ReaderWords

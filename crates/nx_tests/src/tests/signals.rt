@@ -4,9 +4,9 @@
 
 use super::{expect_text, expect_told};
 use nx_code::{
-    Case, Comb, Extent, Printer, Shift, Signal, SpellFault, Taken, Word, cell_of, char_to_code,
-    check_bits, class_of, code_to_char, elements_at, extent_of, laws, packed_word, pair_classes,
-    signal_at, signal_of, spell, word_of, words_of,
+    Case, Comb, Extent, FourPrinted, Printer, Shift, Signal, SpellFault, Taken, Word, cell_of,
+    char_to_code, check_bits, class_of, code_to_char, elements_at, extent_of, laws, packed_word,
+    pair_classes, signal_at, signal_of, spell, word_of, words_of,
 };
 use std::alloc::AllocError;
 use std::process::Abort;
@@ -206,8 +206,12 @@ fn packed_words(rt: HostRuntime) {
 #[test]
 fn printing_by_class(rt: HostRuntime) {
     let mut printer = Printer::new();
-    let four = printer.print_four(&[30, 1, 29, 1]);
-    assert_eq!(rt; four.count, 2);
-    expect_text(&rt, "printed", &four.bytes[..2], b"-A");
+    let mut printed = FourPrinted::none();
+    printer.print_behind(30, &mut printed);
+    printer.print_behind(1, &mut printed);
+    printer.print_behind(29, &mut printed);
+    printer.print_behind(1, &mut printed);
+    assert_eq!(rt; printed.count, 2);
+    expect_text(&rt, "printed", &printed.bytes[..2], b"-A");
     assert_eq!(rt; printer.print_class(2), Some(b'B'));
 }

@@ -2,7 +2,7 @@
 -- and what one word more adds to the positions.
 use Rattle.std.proofs.Common.{◌≡◌, ℕ, false, is_some, Option, zero, suc, ◌+◌, ◌-◌, ◌*◌, ◌<◌, ◌≤◌}
 use Rattle.std.proofs.Common.{cond, List, [], ◌∷◌, ◌++◌, length, get_or, inl, inr, refl, sym, ap}
-use Rattle.std.proofs.Common.{◌∙◌, subst, add-one, append_assoc, append-nil, length-append, arith, slice_index}
+use Rattle.std.proofs.Common.{◌∙◌, subst, add-one, append_assoc, append-nil, length-append, arith}
 use Rattle.std.proofs.lemmas.Bool.{cases_lt}
 use Rattle.std.proofs.lemmas.Bool.Decides.{nat_tests}
 use Rattle.std.proofs.Math.Seq.{get_or-append_seam}
@@ -22,7 +22,7 @@ use Rattle.nx_sync.specs.Words.{role_of, other_role, is_dx}
 use Rattle.nx_sync.specs.declared.step.Role.{Role}
 use Rattle.nx_sync.specs.declared.step.Role.TheVariants.{Dx, Rx}
 use Rattle.nx_receiver.specs.LockPrinter.{HasPrintedWords, PrintsLock}
-use Rattle.nx_receiver.specs.copies.LockText.{AreNext, taken_at, positions}
+use Rattle.nx_receiver.specs.copies.LockText.{taken_at, positions}
 use Rattle.nx_receiver.specs.declared.lock_printer.LockPrinter.{LockPrinter}
 use Rattle.nx_receiver.specs.private.LockReader.{ReadsLock, is_open}
 use Rattle.nx_receiver.specs.copies.LockText.{dx_words, text_after}
@@ -222,29 +222,38 @@ has_printed_more {new = new} {first = first} {words = words} {n = n} {k = k} {m 
           ∙ append_assoc (text_after first words n) some more));
     }
 
--- a DX word and an RX word, given one after the other
-pub has_read_two : {old mid new : LockPrinter} {position : Reception} {printed : Option ℕ}
-    {first : Role} {words : ℕ → ℕ} {n : ℕ} (next : List ℕ) → length next ≡ 2
-    → PrintsLock old first words n → AreNext first words n next
+-- a DX word and an RX word, given behind others one after the other
+pub has_printed_pair : {old mid new : LockPrinter} {position : Reception} {some more : List ℕ}
+    {first : Role} {words : ℕ → ℕ} {n count dx rx : ℕ}
+    → HasPrintedWords old first words n count some → role_of first (n + count) ≡ Dx
+    → words (n + count) ≡ dx → words (n + count + 1) ≡ rx
     → ((sent : List Counted) → IsLatest old.diversity sent
-    → IsLatest mid.diversity (sent ++ counts_as (slice_index next 0) ∷ []))
+    → IsLatest mid.diversity (sent ++ counts_as dx ∷ []))
     → mid.printer ≡ old.printer
     → ((sent : List Counted) → IsLatest mid.diversity sent
-    → position ≡ pairing (third_last sent) (counts_as (slice_index next 1)))
+    → position ≡ pairing (third_last sent) (counts_as rx))
     → new.diversity ≡ mid.diversity
-    → printed ≡ byte_of position mid.printer → new.printer ≡ shift_after position mid.printer
-    → HasPrintedWords new first words n 2 (option_to_list printed)
+    → more ≡ some ++ option_to_list (byte_of position mid.printer)
+    → new.printer ≡ shift_after position mid.printer
+    → HasPrintedWords new first words n (count + 2) more
 unfolding role_of
-has_read_two {first = first} {words = words} {n = n} next two before all hears kept pairs same
-    prints shifts =
-    let e : n + 0 ≡ n = omega arith in
-    let dx : words n ≡ slice_index next 0 =
-    ap words (sym e) ∙ all.are 0 (omega (arith, two)) in
-    let rx : role_of first (n + 1) ≡ Rx = ap (role_of first) (add-one n) ∙ ap other_role all.dx in
-    let one = has_read_dx before all.dx (ap counts_as (sym dx)) hears kept in
-    let rest = has_read_rx one.stands rx
-    (ap counts_as (sym (all.are 1 (omega (arith, two))))) pairs same prints shifts in
-    has_printed_more one rest
+has_printed_pair {new = new} {first = first} {words = words} {n = n} {count = count} before is_dx dx
+    rx hears kept pairs same prints shifts =
+    let is_rx : role_of first (n + count + 1) ≡ Rx =
+    ap (role_of first) (add-one (n + count)) ∙ ap other_role is_dx in
+    let one = has_read_dx before.stands is_dx (ap counts_as (sym dx)) hears kept in
+    let rest = has_read_rx one.stands is_rx (ap counts_as (sym rx)) pairs same refl shifts in
+    subst (HasPrintedWords new first words n (count + 2)) (sym prints)
+    (has_printed_more before (has_printed_more one rest))
+
+-- a DX word after as many pairs
+pub dx_of_pair : (first : Role) (n i : ℕ) → role_of first n ≡ Dx → role_of first (n + 2 * i) ≡ Dx
+unfolding role_of
+dx_of_pair first n zero dx = let e : n + 2 * 0 ≡ n = omega arith in ap (role_of first) e ∙ dx
+dx_of_pair first n (suc i) dx =
+    let e : n + 2 * suc i ≡ suc (suc (n + 2 * i)) = omega arith in
+    ap (role_of first) e
+    ∙ ap (λ role. other_role (other_role role)) (dx_of_pair first n i dx)
 
 -- what prints the words for a reader
 abbrev pub printer_of : LockReading → LockPrinter

@@ -46,40 +46,31 @@ eight_items (a ∷ b ∷ c ∷ d ∷ e ∷ f ∷ g ∷ []) l = absurd (omega ari
 eight_items (a ∷ b ∷ c ∷ d ∷ e ∷ f ∷ g ∷ h ∷ []) l = refl
 eight_items (a ∷ b ∷ c ∷ d ∷ e ∷ f ∷ g ∷ h ∷ i ∷ xs) l = absurd (omega arith)
 
--- two items by their places
-pub two_items : (xs : List ℕ) → length xs ≡ 2 → xs ≡ slice_index xs 0 ∷ slice_index xs 1 ∷ []
-two_items [] l = absurd (omega arith)
-two_items (a ∷ []) l = absurd (omega arith)
-two_items (a ∷ b ∷ []) l = refl
-two_items (a ∷ b ∷ c ∷ xs) l = absurd (omega arith)
-
-or_four : (a b c d : Bool) → (a || b || c || d) ≡ (a || (b || (c || (d || false))))
-or_four true b c d = refl
-or_four false true c d = refl
-or_four false false true d = refl
-or_four false false false true = refl
-or_four false false false false = refl
-
 or_none : (a : Bool) → a ≡ (a || false)
 or_none true = refl
 or_none false = refl
 
--- whether a DX word among eight, or the one of two, is phasing signal 1
-pub dx_phasing_1-eight : (xs : List ℕ) (a b c d : ℕ) → length xs ≡ 8 → a ≡ slice_index xs 0
-    → b ≡ slice_index xs 2 → c ≡ slice_index xs 4 → d ≡ slice_index xs 6
-    → ((a == phasing_1) || (b == phasing_1) || (c == phasing_1) || (d == phasing_1))
-    ≡ has_dx_phasing_1 xs
-unfolding has_dx_phasing_1
-dx_phasing_1-eight xs a b c d l ea eb ec ed =
-    rw (ea, eb, ec, ed) (or_four (slice_index xs 0 == phasing_1) (slice_index xs 2 == phasing_1)
-    (slice_index xs 4 == phasing_1) (slice_index xs 6 == phasing_1)
-    ∙ sym (ap has_dx_phasing_1 (eight_items xs l)))
+or_assoc : (a b c : Bool) → (a || (b || c)) ≡ ((a || b) || c)
+or_assoc true b c = refl
+or_assoc false b c = refl
 
-pub dx_phasing_1-two : (xs : List ℕ) (a : ℕ) → length xs ≡ 2 → a ≡ slice_index xs 0
-    → (a == phasing_1) ≡ has_dx_phasing_1 xs
+-- whether a DX word among the first pairs of words is phasing signal 1, with one pair more
+pub dx_phasing_1-more : (n : ℕ) (xs : List ℕ) → 2 * n + 1 < length xs
+    → has_dx_phasing_1 (take (2 * (n + 1)) xs)
+    ≡ (has_dx_phasing_1 (take (2 * n) xs) || (slice_index xs (2 * n) == phasing_1))
 unfolding has_dx_phasing_1
-dx_phasing_1-two xs a l ea =
-    rw ea (or_none (slice_index xs 0 == phasing_1) ∙ sym (ap has_dx_phasing_1 (two_items xs l)))
+dx_phasing_1-more n [] h = absurd (omega arith)
+dx_phasing_1-more n (a ∷ []) h = absurd (omega arith)
+dx_phasing_1-more zero (a ∷ b ∷ xs) h = sym (or_none (a == phasing_1))
+dx_phasing_1-more (suc n) (a ∷ b ∷ xs) h =
+    let e : 2 * (suc n + 1) ≡ suc (suc (2 * (n + 1))) = omega arith in
+    let f : suc (suc (2 * n)) ≡ 2 * suc n = omega arith in
+    let all : List ℕ = a ∷ b ∷ xs in
+    ap (λ k. has_dx_phasing_1 (take k all)) e
+    ∙ ap (λ o. (a == phasing_1) || o) (dx_phasing_1-more n xs (omega arith))
+    ∙ or_assoc (a == phasing_1) (has_dx_phasing_1 (take (2 * n) xs))
+    (slice_index xs (2 * n) == phasing_1)
+    ∙ ap (λ k. has_dx_phasing_1 (take k all) || (slice_index all k == phasing_1)) f
 
 -- whether a word is wrong
 pub wrong_by : (word : ℕ) (right : Bool)
@@ -97,9 +88,9 @@ pub record Judged (xs : List ℕ) (k : ℕ) (class : ℕ) : Type 0 where
   pub is : (class == 0) ≡ is_wrong (slice_index xs k)
 
 pub judged : (xs : List ℕ) (k x class : ℕ) → length xs ≡ 8 → k < 8 → slice_index xs k < 128
-    → class ≡ class_of (get_or xs k x) → Judged xs k class
-judged xs k x class l h small is =
-    let same : get_or xs k x ≡ slice_index xs k = get_or_default_zero xs k x (omega arith) in
+    → x ≡ get_or xs k x → class ≡ class_of x → Judged xs k class
+judged xs k x class l h small at is =
+    let same : x ≡ slice_index xs k = at ∙ get_or_default_zero xs k x (omega arith) in
     let weighed = weight-class_of (slice_index xs k) small in
     record { is = rw (is, same, weighed) (not_twice (class_of (slice_index xs k) == 0)) }
 
@@ -133,6 +124,30 @@ four_words r a b c d h ha hb hc =
     let three : (r / 2 ^ 21 + 2 ^ 7 * a + 2 ^ 14 * b + 2 ^ 21 * c) / 2 ^ 7
     ≡ a + 2 ^ 7 * b + 2 ^ 14 * c = omega arith in
     rw (one, two, three) refl
+
+-- the window after one word more, and the marks
+pub window_after_words-more : (k : ℕ) (xs : List ℕ) (r : ℕ) → k < length xs
+    → window_after_words r (take (k + 1) xs)
+    ≡ next_word_window (window_after_words r (take k xs)) (slice_index xs k)
+unfolding window_after_words
+window_after_words-more k [] r h = absurd (omega arith)
+window_after_words-more zero (x ∷ xs) r h = refl
+window_after_words-more (suc k) (x ∷ xs) r h =
+    let e : suc k + 1 ≡ suc (k + 1) = omega arith in
+    ap (λ n. window_after_words r (take n (x ∷ xs))) e
+    ∙ window_after_words-more k xs (next_word_window r x) (omega arith)
+
+pub marks_after_words-more : (k : ℕ) (xs : List ℕ) (marks : List Bool) → k < length xs
+    → marks_after_words marks (take (k + 1) xs)
+    ≡ keep_last marked_words
+    (marks_after_words marks (take k xs) ++ is_wrong (slice_index xs k) ∷ [])
+unfolding marks_after_words
+marks_after_words-more k [] marks h = absurd (omega arith)
+marks_after_words-more zero (x ∷ xs) marks h = refl
+marks_after_words-more (suc k) (x ∷ xs) marks h =
+    let e : suc k + 1 ≡ suc (k + 1) = omega arith in
+    ap (λ n. marks_after_words marks (take n (x ∷ xs))) e
+    ∙ marks_after_words-more k xs (keep_last marked_words (marks ++ is_wrong x ∷ [])) (omega arith)
 
 pub window_after_eight : (xs : List ℕ) (r : ℕ) → length xs ≡ 8 → r < 2 ^ 28
     → ((k : ℕ) → k < 8 → slice_index xs k < 128) → window_after_words r xs ≡ last_four xs
@@ -375,18 +390,6 @@ pairs_go_on (suc n) (a ∷ b ∷ xs) l free =
     let one : fills_releasing_word (track_after (track_from Dx) a) ≡ false = rw parts.0 refl in
     let rest = pairs_go_on n xs (omega arith) parts.1 in
     (refl, (one, subst (λ t. NoneEnds t xs) (sym (dx_then_rx a b parts.0)) rest))
-
--- what is held after two words
-pub after_two : (held : Held) (words : List ℕ) (r : ℕ) (m : List Bool) → length words ≡ 2
-    → r ≡ next_word_window (next_word_window held.recent (slice_index words 0))
-    (slice_index words 1)
-    → m ≡ keep_last marked_words (keep_last marked_words
-    (held.wrong ++ is_wrong (slice_index words 0) ∷ []) ++ is_wrong (slice_index words 1) ∷ [])
-    → record held { recent = r; wrong = m } ≡ after_words held words
-unfolding window_after_words marks_after_words
-after_two held words r m l window marks =
-    ap₂ (λ r m. record held { recent = r; wrong = m }) window marks
-    ∙ ap (after_words held) (sym (two_items words l))
 
 pub record WordsHeard (held : Held) (words : List ℕ) (before : List Bool) (new : Held)
     : Type 0 where

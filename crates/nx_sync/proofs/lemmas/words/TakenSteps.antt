@@ -1,9 +1,10 @@
 -- What a taker is given of packed elements: that of some, and of those after them.
-use Rattle.std.proofs.Common.{◌≡◌, ℕ, ◌+◌, ◌-◌, ◌*◌, ◌<◌, ◌≤◌, Bool, List, [], ◌∷◌, ◌++◌}
+use Rattle.std.proofs.Common.{◌≡◌, ℕ, zero, suc, ◌+◌, ◌-◌, ◌*◌, ◌<◌, ◌≤◌, Bool, List, [], ◌∷◌, ◌++◌}
 use Rattle.std.proofs.Common.{length, take, drop, Option, None, refl, sym, ap, ◌∙◌, subst}
 use Rattle.std.proofs.Common.{arith, length-append, take-take, take_all}
 use Rattle.std.proofs.lemmas.List.{length-take-le}
 use lib.Seq.{take-add}
+use Rattle.std.proofs.Math.Seq.{take-append-add}
 use Rattle.std.specs.List.{flat_map}
 use Rattle.nx_code.specs.Packed.{packed_elements, packed_part}
 use Rattle.nx_code.specs.Word.{elements}
@@ -175,3 +176,15 @@ length-of_words (w ∷ words) =
       length-elements w,
       length-of_words words,
     )
+
+-- the elements of the first of these words
+pub first_words : (n : ℕ) (words : List ℕ) → n ≤ length words
+    → flat_map elements (take n words) ≡ take (7 * n) (flat_map elements words)
+first_words zero words h = refl
+first_words (suc n) [] h = absurd (omega arith)
+first_words (suc n) (word ∷ words) h =
+    let e : length (elements word) + 7 * n ≡ 7 * suc n = omega (arith, length-elements word) in
+    let all : List Bool = flat_map elements (word ∷ words) in
+    ap (λ l. elements word ++ l) (first_words n words (omega arith))
+    ∙ (sym (take-append-add (elements word) (flat_map elements words) (7 * n))
+    ∙ ap (λ k. take k all) e)

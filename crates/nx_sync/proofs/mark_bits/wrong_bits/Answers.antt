@@ -17,7 +17,7 @@ eight classes words is l =
 pub returns-clause-number : goal.returns-clause-number
 returns-clause-number c =
     let classes : List ℕ = c.classes.result in
-    bitmask_splat w8 eqb classes 8 0 (eight classes c.args.words.now c.classes.ensures c.told-words)
+    bitmask_splat w8 eqb classes 8 0 (eight classes c.args.words.now c.classes.ensures c.requires)
     (omega arith)
     ∙ (ap mask_l c.classes.ensures ∙ mask_is_number (wrong_ones c.args.words.now))
 
@@ -25,7 +25,7 @@ pub returns-clause-within : goal.returns-clause-within
 returns-clause-within c =
     let classes : List ℕ = c.classes.result in
     let long : length classes ≡ 8 =
-    eight classes c.args.words.now c.classes.ensures c.told-words in
+    eight classes c.args.words.now c.classes.ensures c.requires in
     let mask = bitmask_splat w8 eqb classes 8 0 long (omega arith) in
     let bits : List Bool = map (λ class. eqb class 0) classes in
     let few : length bits ≡ 8 = omega (arith, length-map classes (λ class. class == 0), long) in

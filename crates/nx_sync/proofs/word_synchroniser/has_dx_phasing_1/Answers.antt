@@ -1,14 +1,21 @@
-use Rattle.std.proofs.Common.{◌∙◌, ℕ, List, arith}
+use Rattle.std.proofs.Common.{◌≡◌, ◌<◌, ◌+◌, ◌*◌, ◌==◌, ◌||◌, ◌∙◌, ℕ, List, length, refl, sym, ap₂, slice_index, arith}
 use Rattle.std.proofs.lemmas.Grind.{get_or_default_zero}
-use Rattle.nx_sync.proofs.lemmas.words.EightWords.{dx_phasing_1-eight}
+use Rattle.nx_code.specs.Table.{phasing_1}
+use Rattle.nx_sync.specs.Synchroniser.{has_dx_phasing_1}
+use Rattle.nx_sync.proofs.lemmas.words.EightWords.{dx_phasing_1-more}
 use Rattle.nx_sync.proofs.word_synchroniser.has_dx_phasing_1.Goals as goal
 
-pub returns : goal.returns
-returns c =
+pub loop-pair-init : goal.loop-pair-init
+unfolding has_dx_phasing_1
+loop-pair-init c = refl
+
+pub loop-pair-preserved : goal.loop-pair-preserved
+loop-pair-preserved c =
     let xs : List ℕ = c.args.words.now in
-    let l = c.told-words in
-    dx_phasing_1-eight xs _ _ _ _ l
-    (c.number.ensures.number ∙ get_or_default_zero xs 0 _ (omega (arith, l)))
-    (c.number-2.ensures.number ∙ get_or_default_zero xs 2 _ (omega (arith, l)))
-    (c.number-3.ensures.number ∙ get_or_default_zero xs 4 _ (omega (arith, l)))
-    (c.number-4.ensures.number ∙ get_or_default_zero xs 6 _ (omega (arith, l)))
+    let pair : ℕ = c.loop-pair.pair in
+    let both : 2 * pair + 1 < length xs = omega (arith, c.loop-pair-test.true, c.requires.even) in
+    let dx : c.number.result ≡ slice_index xs (2 * pair) =
+    c.number.ensures.number ∙ c.index-words-pair.is
+    ∙ get_or_default_zero xs (2 * pair) _ (omega (arith, both)) in
+    ap₂ (λ found n. found || (n == phasing_1)) c.loop-pair.invariant dx
+    ∙ sym (dx_phasing_1-more pair xs both)

@@ -49,14 +49,21 @@ fn the_third_last(rt: HostRuntime) {
 
 /// Words by turns, of which the first three RX words meet words from before, or none.
 #[test]
-fn eight_words(rt: HostRuntime) {
+fn words_by_turns(rt: HostRuntime) {
     let a = Word::new(0x47).expect(&rt, "A");
     let b = Word::new(0x72).expect(&rt, "B");
     let idle = Word::new(0x0F).expect(&rt, "P1");
     let wrong = Word::new(0x46).expect(&rt, "no signal");
     let mut diversity = Diversity::new();
-    let words = [a, b, b, wrong, idle, a, wrong, wrong];
-    assert_eq!(rt; diversity.eight(&words), [2, 0, 1, 2]);
+    for (pair, dx, rx, class) in [
+        ("first", a, b, 2),
+        ("second", b, wrong, 0),
+        ("third", idle, a, 1),
+        ("fourth", wrong, wrong, 2),
+    ] {
+        diversity.hear_dx(dx);
+        assert_eq!(rt; diversity.hear_rx(rx), class, "the {pair} pair");
+    }
     assert_eq!(rt; diversity.hear_rx(wrong), 2);
     diversity.hear_dx(a);
     assert_eq!(rt; diversity.hear_rx(idle), 33);

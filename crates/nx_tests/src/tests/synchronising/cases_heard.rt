@@ -73,7 +73,7 @@ impl Run {
             if let Some(words) = eight_words(rest) {
                 let mut at_words = self.sync.at_words();
                 if at_words.keeps_lock(&words) {
-                    at_words.push_eight(&words);
+                    at_words.push_words(&words);
                     self.sync.go_on_from(&at_words);
                     self.note_eight(rt, &words);
                     return;

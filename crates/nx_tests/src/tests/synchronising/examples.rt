@@ -53,11 +53,11 @@ fn hunts_packed_elements(rt: HostRuntime) {
     }
 }
 
-/// Eight words of phasing after P2 P1 P2 P1 are heard at once. Not so after one more word, since
+/// Eight words of phasing after P2 P1 P2 P1 are heard at once, and two. Not so after one more word, since
 /// the next one is an RX word then; nor with a DX word among them that is P1; nor after such a one,
 /// as long as it may end the lock.
 #[test]
-fn hears_eight_words(rt: HostRuntime) {
+fn hears_words_at_once(rt: HostRuntime) {
     let mut sync = Synchroniser::new(rt.alloc()).expect(&rt, "memory");
     let p1 = Word::from_elements([true, true, true, true, false, false, false]);
     let p2 = Word::from_elements([false, true, true, false, false, true, true]);
@@ -68,10 +68,12 @@ fn hears_eight_words(rt: HostRuntime) {
     assert!(rt; sync.is_between_words());
     let mut words = sync.at_words();
     assert!(rt; !words.keeps_lock(&[p2, p1, p2, p1, p2, p1, p1, p1]));
+    assert!(rt; words.keeps_lock(&[p2, p1]));
+    assert!(rt; !words.keeps_lock(&[p1, p2]));
     let keeps = words.keeps_lock(&phasing);
     assert!(rt; keeps);
     if keeps {
-        words.push_eight(&phasing);
+        words.push_words(&phasing);
     }
     for (word, role, kept) in [
         (p1, Role::Dx, false),

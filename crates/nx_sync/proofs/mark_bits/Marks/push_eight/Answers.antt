@@ -14,7 +14,7 @@ invariant_of-self c =
     let next : ℕ = bits / 256 + new * 72057594037927936 % 18446744073709551616 in
     let low : new < 256 = c.wrong_bits.ensures.within in
     let m = moved_by_eight count bits new next words c.self.invariant.0 (omega arith)
-    c.self.invariant.2 c.told-words c.wrong_bits.ensures.number (omega (arith, low))
+    c.self.invariant.2 c.requires c.wrong_bits.ensures.number (omega (arith, low))
     (omega (arith, low)) in
     let many : min (count + 8) 64 ≡ c.min-self-inside.result = sym c.min-self-inside.ensures in
     let after = subst (λ n. Moved n next (marks_in count bits) (wrong_ones words)) many m in (
@@ -32,7 +32,7 @@ returns c =
     let next : ℕ = bits / 256 + new * 72057594037927936 % 18446744073709551616 in
     let low : new < 256 = c.wrong_bits.ensures.within in
     let m = moved_by_eight count bits new next words c.self.invariant.0 (omega arith)
-    c.self.invariant.2 c.told-words c.wrong_bits.ensures.number (omega (arith, low))
+    c.self.invariant.2 c.requires c.wrong_bits.ensures.number (omega (arith, low))
     (omega (arith, low)) in
     let many : min (count + 8) 64 ≡ c.min-self-inside.result = sym c.min-self-inside.ensures in
     let after = subst (λ n. Moved n next (marks_in count bits) (wrong_ones words)) many m in
