@@ -2,7 +2,7 @@
 //! loop over words has a place for a line. What appends the bytes of words always is, so that four
 //! of them are one write.
 
-ghost use Rattle.std.specs.Prelude.{◌≡◌, ◌+◌, ◌*◌, ◌≤◌, ℕ, List, [], ◌++◌, length, take};
+ghost use Rattle.std.specs.Prelude.{◌≡◌, ◌+◌, ◌*◌, ◌≤◌, ℕ, List, ◌++◌, length, take};
 ghost use Rattle.arrayvec.specs.ArrayVec.{array_vec_len};
 ghost use Rattle.nx_envelope.specs.Moment.{IsShownAs, last_moment};
 ghost use Rattle.nx_locks.specs.ReportText.{closing_lines, how_name, last_line, opening_line};
@@ -10,7 +10,7 @@ ghost use Rattle.nx_locks.specs.ReportText.{closing_lines, how_name, last_line, 
 use arrayvec::ArrayVec;
 use itoa::Buffer;
 use nx_envelope::{CIVIL_LEN, civil};
-use nx_fec::MAX_ELEMENTS;
+use nx_fec::{MAX_ELEMENTS, append};
 use nx_sync::Change;
 
 /// The most bytes that one element brings: a byte of text, a newline, and the lines that close a
@@ -103,17 +103,6 @@ fn how_text(how: Change) -> &'static str
         Change::Ended => "ended",
         Change::LostLock => "lost",
     }
-}
-
-/// Appends bytes, for which there is room.
-fn append(shown: &mut Shown, more: &[u8])
-    requires { array_vec_len shown.old + length more.now ≤ 57856 }
-    ensures items { shown.new.items ≡ shown.old.items ++ more.now }
-    ensures len { array_vec_len shown.new ≡ array_vec_len shown.old + length more.now }
-{
-    let Ok(()) = shown.try_extend_from_slice(more) else {
-        unreachable!()
-    };
 }
 
 /// Appends the first `count` of these bytes.

@@ -15,12 +15,9 @@ use crate::log_fault::LogFault;
 use crate::queries::query::Query;
 use crate::writing::form::Form;
 use crate::writing::output::Output;
-use nx_fec::{Counting, Piece, next_piece};
+use nx_fec::{CHUNK, Counting, Piece, next_piece};
 use std::alloc::Global;
 use std::io::{Read, Write};
-
-/// How many bytes one read asks for at most.
-const CHUNK: usize = 65_536;
 
 /// The most bytes that are read, 2^63 - 1.
 const MAX_READ: u64 = 9_223_372_036_854_775_807;

@@ -2,7 +2,6 @@
 
 ghost use Rattle.std.specs.Prelude.{◌≡◌, ◌+◌, ◌≤◌, ℕ, true, List, [], ◌∷◌, ◌++◌, length, Option, MatchResult};
 ghost use Rattle.std.specs.Io.KnownBytes.{Appends};
-ghost use Rattle.arrayvec.specs.ArrayVec.{array_vec_len};
 ghost use Rattle.nx_envelope.specs.Copies.{errors_of};
 ghost use Rattle.nx_code.specs.Reading.{newline};
 ghost use Rattle.nx_envelope.specs.Moment.{IsShownAs, last_moment};
@@ -19,7 +18,7 @@ use arrayvec::ArrayVec;
 use itoa::Buffer;
 use nx_code::NEWLINE;
 use nx_envelope::{CIVIL_LEN, FoundHead, How, MAX_FOUND, civil};
-use nx_fec::{Batch, Channel, Counting, WriteFault, write_out};
+use nx_fec::{Batch, Channel, Counting, WriteFault, append, write_out};
 use std::io::Write;
 
 /// The most bytes of the line that heads an entry: a mark of at most 2 bytes, a number of at most 5
@@ -194,15 +193,4 @@ pub fn entry_end(text: &[u8]) -> &'static [u8]
         Some(last) if *last != NEWLINE => b"\n\n",
         Some(_) | None => b"\n",
     }
-}
-
-/// Appends bytes, for which there is room.
-fn append<const N: usize>(bytes: &mut ArrayVec<u8, N>, more: &[u8])
-    requires { array_vec_len bytes.old + length more.now ≤ N }
-    ensures items { bytes.new.items ≡ bytes.old.items ++ more.now }
-    ensures len { array_vec_len bytes.new ≡ array_vec_len bytes.old + length more.now }
-{
-    let Ok(()) = bytes.try_extend_from_slice(more) else {
-        unreachable!()
-    };
 }

@@ -1,7 +1,6 @@
 //! A logged entry as a line of JSON, given to a writer.
 
-ghost use Rattle.std.specs.Prelude.{◌≡◌, ◌≤◌, ◌+◌, ◌++◌, ℕ, List, Option, All, IsTrue, MatchResult, codes, decimal, length};
-ghost use Rattle.arrayvec.specs.ArrayVec.{array_vec_len};
+ghost use Rattle.std.specs.Prelude.{◌≡◌, ◌≤◌, ◌+◌, ◌++◌, ℕ, List, Option, All, IsTrue, MatchResult, codes};
 ghost use Rattle.json.specs.Print.{escape};
 ghost use Rattle.nx_envelope.specs.Moment.{IsShownAs, last_moment};
 ghost use Rattle.nx_fec.specs.air_files.LineRuns.{HasGiven};
@@ -18,7 +17,7 @@ use arrayvec::ArrayVec;
 use itoa::Buffer;
 use memchr::memchr;
 use nx_code::NEWLINE;
-use nx_fec::{Batch, Counting, WriteFault};
+use nx_fec::{Batch, Counting, WriteFault, append};
 use std::io::Write;
 
 /// The most bytes of a line of JSON before the text of its entry: 99 bytes of keys, and the values
@@ -120,15 +119,4 @@ fn give_escaped<W: Write>(
         at += end + 1;
     }
     batch.give(writer, &text[at..])
-}
-
-/// Appends bytes, for which there is room.
-fn append<const N: usize>(bytes: &mut ArrayVec<u8, N>, more: &[u8])
-    requires { array_vec_len bytes.old + length more.now ≤ N }
-    ensures items { bytes.new.items ≡ bytes.old.items ++ more.now }
-    ensures len { array_vec_len bytes.new ≡ array_vec_len bytes.old + length more.now }
-{
-    let Ok(()) = bytes.try_extend_from_slice(more) else {
-        unreachable!()
-    };
 }

@@ -10,13 +10,10 @@ ghost use Rattle.nx_watch.specs.private.Scanning.{CutsAs, IsPassedOver, IsScanni
 
 use memchr::memchr;
 use nx_code::NEWLINE;
-use nx_fec::{LineKind, PackedElements, Scanner};
+use nx_fec::{CHUNK, LineKind, PackedElements, Scanner};
 
 /// The most bytes of the input of a watch: 2^63 - 1.
 pub(crate) const MOST_BYTES: u64 = 9_223_372_036_854_775_807;
-
-/// The most bytes of a piece.
-pub(crate) const CHUNK: usize = 65_536;
 
 /// Reads the lines of any bytes piece by piece.
 #[derive(Drop)]

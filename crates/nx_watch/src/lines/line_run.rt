@@ -12,10 +12,10 @@ ghost use Rattle.nx_watch.specs.private.Running.{EndsInput, EndsRun, IsRunning, 
 ghost use Rattle.nx_watch.specs.private.Scanning.{IsScanning};
 ghost use Rattle.nx_watch.specs.declared.lines.line_run.WatchEnd.TheVariants.{Read as ReadFailed, Write as WriteEnd};
 
-use crate::lines::any_scanner::{AnyScanner, CHUNK, Ended};
+use crate::lines::any_scanner::{AnyScanner, Ended};
 use crate::lines::line_effects::{Effect, LineEffects};
 use crate::lines::telling::{tell_first, tell_number};
-use nx_fec::{Counting, Piece, Scanner, next_piece};
+use nx_fec::{CHUNK, Counting, Piece, Scanner, next_piece};
 use std::io::{Read, Write};
 use thiserror::Error;
 

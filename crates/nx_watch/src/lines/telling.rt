@@ -1,11 +1,11 @@
 //! What is told of lines without effect.
 
-ghost use Rattle.std.specs.Prelude.{◌≡◌, ◌+◌, ◌≤◌, ◌<◌, ◌^◌, ℕ, List, ◌++◌, IsSome, Some, Option, codes, decimal, length};
+ghost use Rattle.std.specs.Prelude.{◌≡◌, ◌+◌, ◌≤◌, ◌<◌, ℕ, List, ◌++◌, IsSome, Some, Option, decimal, length};
 ghost use Rattle.nx_watch.specs.LineRun.{HasTold, first_told, number_told};
 
 use arrayvec::ArrayVec;
 use itoa::Buffer;
-use nx_fec::{Counting, write_out};
+use nx_fec::{Counting, append, write_out};
 use std::io::Write;
 
 /// The most bytes of what is told at once: 27 beside a number of at most 20 digits.
@@ -64,14 +64,4 @@ pub fn write_more<W: Write>(bytes: &[u8], writer: &mut Counting<W>)
         return;
     }
     let _ = write_out(writer, bytes);
-}
-
-/// Appends bytes, for which there is room.
-fn append(text: &mut ArrayVec<u8, MOST_TOLD>, more: &[u8])
-    requires { length text.old.items + length more.now ≤ MOST_TOLD }
-    ensures { text.new.items ≡ text.old.items ++ more.now }
-{
-    let Ok(()) = text.try_extend_from_slice(more) else {
-        unreachable!()
-    };
 }

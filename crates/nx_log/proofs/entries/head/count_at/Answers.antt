@@ -8,23 +8,23 @@ use Rattle.nx_log.proofs.entries.head.count_at.Goals as goal
 none_some : (n : ℕ) → ◌≡◌ {A = Option ℕ} None (Some n) → ⊥
 none_some n e = cc
 
--- the window that is looked through
-window : (m : ℕ) (bytes : List ℕ) (s : ℕ) (r : Option ℕ) → m ≡ min (length bytes) 5
+-- the bytes that are searched
+searched : (m : ℕ) (bytes : List ℕ) (s : ℕ) (r : Option ℕ) → m ≡ min (length bytes) 5
     → r ≡ position (λ b. b == s) (take m bytes)
     → r ≡ position (λ b. b == s) (take (min (length bytes) 5) bytes)
-window m bytes s r e f = f ∙ ap (λ k. position (λ b. b == s) (take k bytes)) e
+searched m bytes s r e f = f ∙ ap (λ k. position (λ b. b == s) (take k bytes)) e
 
 pub returns-in_err-at-clause-none : goal.returns-in_err-at-clause-none
 returns-in_err-at-clause-none c = rw c.from_residual.ensures (λ number more small e.
     let ends = ends_at c.args.bytes.now c.args.end number more small c.requires e in
-    let looked = window _ c.args.bytes.now c.args.end None c.min.ensures c.in_err-at.ensures in
+    let looked = searched _ c.args.bytes.now c.args.end None c.min.ensures c.in_err-at.ensures in
     none_some _ (looked ∙ ends.place))
 
 pub returns-in_err-number-clause-none : goal.returns-in_err-number-clause-none
 returns-in_err-number-clause-none c =
     rw c.from_residual-in_err-number.ensures (λ number more small e.
     let ends = ends_at c.args.bytes.now c.args.end number more small c.requires e in
-    let looked = window _ c.args.bytes.now c.args.end (Some c.in_ok-at.at) c.min.ensures
+    let looked = searched _ c.args.bytes.now c.args.end (Some c.in_ok-at.at) c.min.ensures
     c.in_ok-at.ensures in
     let place = some_same c.in_ok-at.at (length (decimal number)) (looked ∙ ends.place) in
     c.in_err-number.ensures.none number small (ap (λ n. take n c.args.bytes.now) place
