@@ -30,13 +30,17 @@ use Rattle.nx_station.specs.declared.fault.SendRunFault.{SendRunFault}
 use Rattle.nx_station.specs.declared.fault.SendRunFault.TheVariants as sending
 use Rattle.nx_station.specs.declared.sending.Sent.{Sent}
 
+-- a writer that held nothing, and holds these bytes
+abbrev pub written_anew : List ℕ → Contents
+written_anew bytes = record { before = Some []; after = Some bytes }
+
 -- ---- listening
 
 -- a run that listens to these bytes, with this start, writes this log, and none where there is no
 -- memory for it
 pub record ListensFrom (starts : Starts) (air log : List ℕ) (outcome : Result Report ListenFault)
     : Type 0 where
-  pub answers : AnswersListening starts whole_input (Some []) (Some log) outcome air
+  pub answers : AnswersListening starts whole_input (written_anew log) outcome air
   pub memory : (error : AllocError) → outcome ≡ Err (Memory error) → log ≡ []
 
 abbrev pub ListensTo : List ℕ → List ℕ → Result Report ListenFault → Type 0
@@ -47,8 +51,8 @@ ListensTo air log outcome = ListensFrom all_at_zero air log outcome
 pub record HasResumed (states : SavedStates) (air log text : List ℕ) : Type 0 where
   pub left : SavedStates
   pub sound : AreSavedStates left
-  pub gone : HasGoneOn states (Some []) (Some log) air left
-  pub printed : HasPrintedOnce (starts_from states) (Some []) (Some log) air
+  pub gone : HasGoneOn states (written_anew log) air left
+  pub printed : HasPrintedOnce (starts_from states) (written_anew log) air
   pub spelled : text ≡ state_bytes left
 
 -- A run that goes on from these states over an air file has this log, and leaves this text of a
@@ -93,10 +97,6 @@ pub record TellsResuming (state air : List ℕ) (log new_state : Room) (a : Answ
   pub answered : a.status ≡ after_handing status (length left) (length new_state.old)
 
 -- ---- runs that write at their end
-
--- a writer that held nothing, and holds these bytes
-abbrev pub written_anew : List ℕ → Contents
-written_anew bytes = record { before = Some []; after = Some bytes }
 
 -- a run that decodes these bytes writes this text, and none before a fault that isn't one of
 -- writing

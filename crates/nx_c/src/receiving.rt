@@ -1,7 +1,7 @@
 //! Listening to an air file, from nothing or from a state.
 
 ghost use Rattle.std.specs.Prelude.{◌≡◌, ◌≢◌, ◌≤◌, [], length, take, Some, IfOk, OnOk};
-ghost use Rattle.nx_c.specs.Calls.{GoesOnTo, HasResumed, ListensTo, ResumesTo, TellsResuming, after_handing, handed};
+ghost use Rattle.nx_c.specs.Calls.{GoesOnTo, HasResumed, ListensTo, ResumesTo, TellsResuming, after_handing, handed, written_anew};
 ghost use Rattle.nx_c.specs.Faults.{listen_told, resume_told};
 ghost use Rattle.nx_c.specs.Told.{IsPut, Tells, answer, room};
 ghost use Rattle.nx_memory.specs.Saved.{AreSavedStates};
@@ -36,7 +36,7 @@ pub extern "C" fn nx_listen(
     ensures fits { result ≡ 0 → written.new ≤ length log.old }
     ensures log { result ≡ 0 → IsLogOf all_at_zero air.now (take written.new log.new) }
     ensures once { result ≡ 0
-        → HasPrintedOnce all_at_zero (Some []) (Some (take written.new log.new)) air.now }
+        → HasPrintedOnce all_at_zero (written_anew (take written.new log.new)) air.now }
 {
     let mut writer = Counting::new(Vec::new(alloc));
     let told = match listen(alloc, &mut Counting::new(air), &mut writer) {

@@ -81,8 +81,10 @@ ExplainsShowing extent old new bytes Read =
     StopsAt bytes (λ lines rest more.
     (length (file_of lines ++ rest) ≤ air_limit) × extent.is_left more × HasShown old new lines)
 ExplainsShowing extent old new bytes (Write written) =
-    StopsAt bytes (λ lines rest more. HasLoggedSome (IsReportOfLines lines) old new written)
-    ⊎ (extent.at_end × HasLoggedSome (IsReportOf bytes) old new written)
+    StopsAt bytes (λ lines rest more.
+    HasLoggedSome (IsReportOfLines lines) (record { before = old; after = new }) written)
+    ⊎ (extent.at_end
+    × HasLoggedSome (IsReportOf bytes) (record { before = old; after = new }) written)
 ExplainsShowing extent old new bytes (LineCut line) =
     extent.at_end × HasListenFault all_at_zero (HasShown old new) bytes (LineCut line)
 ExplainsShowing extent old new bytes fault =

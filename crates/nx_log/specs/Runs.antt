@@ -1,7 +1,7 @@
 -- What a run that listens wrote, said as logged entries (this profile).
-use Rattle.std.specs.Prelude.{ℕ, List, Option, Result, Ok, Err, ⊤}
+use Rattle.std.specs.Prelude.{ℕ, List, Result, Ok, Err, ⊤}
 use Rattle.std.specs.Io.KnownBytes.{Appends}
-use Rattle.nx_fec.specs.Transfers.{WroteSome}
+use Rattle.nx_fec.specs.Transfers.{Contents, WroteSome}
 use Rattle.nx_receiver.specs.copies.Shares.{MarkedCopy}
 use Rattle.nx_receiver.specs.declared.air_file_runs.listen_fault.ListenFault.{ListenFault}
 use Rattle.nx_receiver.specs.declared.air_file_runs.listen_fault.ListenFault.TheVariants.{Memory, Write}
@@ -17,14 +17,15 @@ SomeLog holds =
 
 -- What was written is the log of logged entries. Where a write failed, the first bytes of one were
 -- written; where memory ran out, the run wrote nothing.
-abbrev pub WroteEntries : Option (List ℕ) → Option (List ℕ) → Result Report ListenFault → Type 0
-WroteEntries old new (Err (Write written)) = SomeLog (λ log. WroteSome old new log written)
-WroteEntries old new (Err (Memory error)) = ⊤
-WroteEntries old new outcome = SomeLog (Appends old new)
+abbrev pub WroteEntries : Contents → Result Report ListenFault → Type 0
+WroteEntries contents (Err (Write written)) =
+    SomeLog (λ log. WroteSome contents.before contents.after log written)
+WroteEntries contents (Err (Memory error)) = ⊤
+WroteEntries contents outcome = SomeLog (Appends contents.before contents.after)
 
 -- The same of a run that resumes and writes its log: a fault of the state comes before anything is
 -- written.
-abbrev pub ResumedEntries : Option (List ℕ) → Option (List ℕ) → Result Report ResumeFault → Type 0
-ResumedEntries old new (Ok report) = WroteEntries old new (Ok report)
-ResumedEntries old new (Err (resume.Listen fault)) = WroteEntries old new (Err fault)
-ResumedEntries old new (Err fault) = ⊤
+abbrev pub ResumedEntries : Contents → Result Report ResumeFault → Type 0
+ResumedEntries contents (Ok report) = WroteEntries contents (Ok report)
+ResumedEntries contents (Err (resume.Listen fault)) = WroteEntries contents (Err fault)
+ResumedEntries contents (Err fault) = ⊤

@@ -5,7 +5,7 @@ ghost use Rattle.std.specs.Io.KnownBytes.{IsAtEnd};
 ghost use Rattle.nx_code.specs.Lists.{last_of};
 ghost use Rattle.nx_envelope.specs.Moment.{IsShownAs};
 ghost use Rattle.nx_fec.specs.air_files.AirFile.{Line};
-ghost use Rattle.nx_fec.specs.Transfers.{read_to};
+ghost use Rattle.nx_fec.specs.Transfers.{Contents, read_to};
 ghost use Rattle.nx_fec.specs.declared.air_files.channel.Channel.{Channel};
 ghost use Rattle.nx_memory.specs.Memory.{most_entries};
 ghost use Rattle.nx_memory.specs.Saved.{SavedStates};
@@ -69,14 +69,14 @@ pub fn a_run_writes_a_log()
     ensures closed { (starts : Starts) (lines : List Line) (copies : List MarkedCopy)
         → AreTaken starts lines → PrintAllToEnd starts (given_by lines) copies
         → All IsLogged copies }
-    ensures listened { (starts : Starts) (left_after old new : Option (List ℕ))
+    ensures listened { (starts : Starts) (left_after : Option (List ℕ)) (contents : Contents)
         (outcome : Result Report ListenFault) (bytes : List ℕ)
-        → AnswersListening starts (read_to (IsAtEnd left_after)) old new outcome bytes
-        → WroteEntries old new outcome }
-    ensures resumed { (left_after old new : Option (List ℕ)) (outcome : Result Report ResumeFault)
-        (input : List ℕ)
-        → AnswersResuming Log (read_to (IsAtEnd left_after)) old new outcome input
-        → ResumedEntries old new outcome }
+        → AnswersListening starts (read_to (IsAtEnd left_after)) contents outcome bytes
+        → WroteEntries contents outcome }
+    ensures resumed { (left_after : Option (List ℕ)) (contents : Contents)
+        (outcome : Result Report ResumeFault) (input : List ℕ)
+        → AnswersResuming Log (read_to (IsAtEnd left_after)) contents outcome input
+        → ResumedEntries contents outcome }
 {}
 
 /// A log says what the memory of its run knew: the entries that are made of copies are those that

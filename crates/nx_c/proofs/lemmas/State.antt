@@ -1,7 +1,7 @@
 -- A run that goes on from the state with which some bytes begin.
 use Rattle.std.proofs.Common.{◌≡◌, ℕ, List, IfSome, Option, Some, Result, Ok, Err, OnOk}
 use Rattle.std.proofs.Common.{subst, sym}
-use Rattle.nx_fec.specs.Transfers.{Devices, whole_input}
+use Rattle.nx_fec.specs.Transfers.{Contents, Devices, contents_of, whole_input}
 use Rattle.nx_fec.proofs.lemmas.devices.TransferLaws.{IfSome-end}
 use Rattle.nx_memory.specs.Saved.{SavedStates}
 use Rattle.nx_receiver.specs.air_file_runs.Chain.{HasGoneOn}
@@ -53,21 +53,24 @@ module _ (input air log left : List ℕ) (states : SavedStates) where
 -- what a run leaves that read its file to the end, it leaves of the whole file
 pub leaves-whole : {R W : Type 0} (saved left : SavedStates) (d : Devices R W) (report : Report)
     → GoesOnBy saved d (Ok (report, left))
-    → IfSome (d.remaining d.reader.inner) (λ file. HasGoneOn saved (d.contents d.writer.inner)
-    (d.contents d.writer_after.inner) file left)
+    → IfSome (d.remaining d.reader.inner)
+    (λ file. HasGoneOn saved (contents_of d) file left)
 leaves-whole saved left d report h =
     let run = h.listens.run in
     IfSome-end (d.remaining d.reader.inner) (d.remaining d.reader_after.inner) run.bytes
-    (λ file. HasGoneOn saved (d.contents d.writer.inner) (d.contents d.writer_after.inner) file
-    left) run.consumed run.answer.0 h.left
+    (λ file. HasGoneOn saved (contents_of d) file left) run.consumed run.answer.0 h.left
+
+-- a writer that held and holds these bytes
+abbrev pub told : List ℕ → List ℕ → Contents
+told before after = record { before = Some before; after = Some after }
 
 -- what holds of the contents of a writer and of the bytes of a reader holds of lists that they are
-pub moved : (P : Option (List ℕ) → Option (List ℕ) → List ℕ → Type 0)
+pub moved : (P : Contents → List ℕ → Type 0)
     → {a a' b b' xs xs' : List ℕ} → a ≡ a' → b ≡ b' → xs ≡ xs'
-    → P (Some a) (Some b) xs → P (Some a') (Some b') xs'
+    → P (told a b) xs → P (told a' b') xs'
 moved P {a} {a'} {b} {b'} {xs} {xs'} old new read p =
-    subst (λ l. P (Some a') (Some b') l) read
-    (subst (λ l. P (Some a') (Some l) xs) new (subst (λ l. P (Some l) (Some b) xs) old p))
+    subst (λ l. P (told a' b') l) read
+    (subst (λ l. P (told a' l) xs) new (subst (λ l. P (told l b) xs) old p))
 
 -- a run that resumed has the log and the state that stand in the rooms
 pub in-rooms : (input air : List ℕ) {log log' left left' : List ℕ} → log' ≡ log → left' ≡ left

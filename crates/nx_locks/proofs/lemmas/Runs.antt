@@ -273,7 +273,7 @@ part-shown : (first now : Showing) (old mid new : Option (List ℕ)) (bytes : Li
     → HasTakenAll (line_run report_taker first now old mid) bytes read
     → ((lines : List Line) (given : List ℕ) → IsShowing now lines given
     → HasWritten old mid given read.written → HasClosedSome old new lines written)
-    → HasLoggedSome (IsReportOf bytes) old new written
+    → HasLoggedSome (IsReportOf bytes) (record { before = old; after = new }) written
 part-shown first now old mid new bytes read written h closed =
     let t = h.taken in
     let e = closed h.lines t.given t.stood t.here in

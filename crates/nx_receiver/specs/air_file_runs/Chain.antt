@@ -1,10 +1,11 @@
 -- A chain of runs: each begins with what the one before it left (this profile).
-use Rattle.std.specs.Prelude.{◌≡◌, ℕ, List, [], ◌∷◌, map, Option}
+use Rattle.std.specs.Prelude.{◌≡◌, ℕ, List, [], ◌∷◌, map}
 use Rattle.std.specs.Io.KnownBytes.{Appends}
 use Rattle.std.specs.List.{flat_map}
 use Rattle.nx_code.specs.Lists.{last_of}
 use Rattle.nx_fec.specs.air_files.AirFile.{Line}
 use Rattle.nx_fec.specs.declared.air_files.channel.Channel.{Channel}
+use Rattle.nx_fec.specs.Transfers.{Contents}
 use Rattle.nx_memory.specs.Memory.{most_entries}
 use Rattle.nx_memory.specs.Saved.{SavedState, SavedStates}
 use Rattle.nx_memory.specs.declared.memories.entry.MemoryEntry.{MemoryEntry}
@@ -62,12 +63,11 @@ pub record GoesOn (saved : SavedStates) (run : Run) (left : SavedStates) : Type 
 
 -- a run that starts with what is saved read the file of these bytes to its end, wrote its log, and
 -- leaves this
-pub record HasGoneOn (saved : SavedStates) (old new : Option (List ℕ)) (file : List ℕ)
-    (left : SavedStates)
-    : Type 0 where
+pub record HasGoneOn (saved : SavedStates) (contents : Contents) (file : List ℕ)
+    (left : SavedStates) : Type 0 where
   pub run : Run
   pub read : run.file ≡ file
-  pub written : Appends old new run.log
+  pub written : Appends contents.before contents.after run.log
   pub goes : GoesOn saved run left
 
 -- The runs, in order, are a chain: the first starts with `first`, each other with what the run

@@ -9,7 +9,8 @@ use Rattle.nx_fec.specs.air_files.AirFile.{Line, moment, elements, refuse_statio
 use Rattle.nx_fec.specs.air_files.AirFile.{refuse_subject, accept_subject}
 use Rattle.nx_fec.specs.air_files.Channels.{channel_of}
 use Rattle.nx_fec.specs.declared.air_files.channel.Channel.{Channel}
-use Rattle.nx_fec.specs.Transfers.{Devices, Extent, WroteSome, as_read, whole_input}
+use Rattle.nx_fec.specs.Transfers.{Contents, Devices, Extent, WroteSome, as_read, contents_of}
+use Rattle.nx_fec.specs.Transfers.{whole_input}
 use Rattle.nx_fec.specs.air_files.Lines.{StopsAt, air_limit, IsAirFile, IsCause, IsLineRefused, elements_of}
 use Rattle.nx_fec.specs.air_files.Lines.{file_of}
 use Rattle.nx_fec.specs.declared.air_files.line_taking.LinesFault.{LinesFault}
@@ -111,27 +112,28 @@ pub record IsLogOfLines (starts : Starts) (lines : List Line) (log : List ℕ) :
 
 -- the log of the whole file was written, and the report counts its lines, its elements and its
 -- entries
-pub record HasListened (starts : Starts) (old new : Option (List ℕ)) (bytes : List ℕ)
+pub record HasListened (starts : Starts) (contents : Contents) (bytes : List ℕ)
     (report : Report) : Type 0 where
   pub lines : List Line
   pub copies : List MarkedCopy
   pub log : List ℕ
   pub heard : IsLogOfFile starts bytes lines copies log
-  pub written : Appends old new log
+  pub written : Appends contents.before contents.after log
   pub lines_counted : report.lines ≡ length lines
   pub bits_counted : report.bits ≡ length (flat_map elements_of lines)
   pub printed_counted : report.printed ≡ length copies
 
 -- the log of these lines was written
-abbrev pub HasLogged : Starts → Option (List ℕ) → Option (List ℕ) → List Line → Type 0
-HasLogged starts old new lines =
-    (log : List ℕ) × IsLogOfLines starts lines log × Appends old new log
+abbrev pub HasLogged : Starts → Contents → List Line → Type 0
+HasLogged starts contents lines =
+    (log : List ℕ) × IsLogOfLines starts lines log
+    × Appends contents.before contents.after log
 
 -- a write failed, before which the writer took the first `written` bytes of the log, of which this
 -- holds
-abbrev pub HasLoggedSome : (List ℕ → Type 0) → Option (List ℕ) → Option (List ℕ) → ℕ → Type 0
-HasLoggedSome IsLogged old new written =
-    (log : List ℕ) × IsLogged log × WroteSome old new log written
+abbrev pub HasLoggedSome : (List ℕ → Type 0) → Contents → ℕ → Type 0
+HasLoggedSome IsLogged contents written =
+    (log : List ℕ) × IsLogged log × WroteSome contents.before contents.after log written
 
 -- the fault of a run that stands for the fault of its file
 abbrev pub file_fault : LineFault → ListenFault
@@ -178,30 +180,34 @@ HasListenFault starts holds bytes fault = StopsAt bytes (λ lines rest more.
 -- were read, from the first on, or of the whole file, closed, if it had ended. A want of memory
 -- says nothing of the bytes. Each other fault is the first of the file; `LineCut` comes only where
 -- the file ends.
-abbrev pub AnswersListening : Starts → Extent → Option (List ℕ) → Option (List ℕ)
-    → Result Report ListenFault → List ℕ → Type 0
-AnswersListening starts extent old new (Ok report) bytes =
-    extent.at_end × HasListened starts old new bytes report
-AnswersListening starts extent old new (Err (Memory error)) bytes = ⊤
-AnswersListening starts extent old new (Err Read) bytes = StopsAt bytes (λ lines rest more.
+abbrev pub AnswersListening : Starts → Extent → Contents → Result Report ListenFault → List ℕ
+    → Type 0
+AnswersListening starts extent contents (Ok report) bytes =
+    extent.at_end × HasListened starts contents bytes report
+AnswersListening starts extent contents (Err (Memory error)) bytes = ⊤
+AnswersListening starts extent contents (Err Read) bytes = StopsAt bytes (λ lines rest more.
     (length (file_of lines ++ rest) ≤ air_limit) × extent.is_left more
-    × HasLogged starts old new lines)
-AnswersListening starts extent old new (Err (Write written)) bytes =
-    (log : List ℕ) × WroteSome old new log written
+    × HasLogged starts contents lines)
+AnswersListening starts extent contents (Err (Write written)) bytes =
+    (log : List ℕ) × WroteSome contents.before contents.after log written
     × (StopsAt bytes (λ lines rest more. IsLogOfLines starts lines log)
     ⊎ (extent.at_end × (lines : List Line) × (copies : List MarkedCopy)
     × IsLogOfFile starts bytes lines copies log))
-AnswersListening starts extent old new (Err (LineCut line)) bytes =
-    extent.at_end × HasListenFault starts (HasLogged starts old new) bytes (LineCut line)
-AnswersListening starts extent old new (Err fault) bytes =
-    HasListenFault starts (HasLogged starts old new) bytes fault
+AnswersListening starts extent contents (Err (LineCut line)) bytes =
+    extent.at_end × HasListenFault starts (HasLogged starts contents) bytes (LineCut line)
+AnswersListening starts extent contents (Err fault) bytes =
+    HasListenFault starts (HasLogged starts contents) bytes fault
+
+-- nothing is known of what a writer held and holds
+abbrev pub untold : Contents
+untold = record { before = None; after = None }
 
 -- What such a run answers whose log isn't written: no write fails, and nothing is known of the log
 -- but that there is one.
 abbrev pub AnswersUnlogged : Starts → Extent → Result Report ListenFault → List ℕ → Type 0
 AnswersUnlogged starts extent (Err (Write written)) bytes = ⊥
 AnswersUnlogged starts extent outcome bytes =
-    AnswersListening starts extent None None outcome bytes
+    AnswersListening starts extent untold outcome bytes
 
 -- A run that listens, with this start. It answers so to the bytes that it read, and to the whole
 -- file, however it came. Where a read fails, the log of the whole lines before it was written
@@ -211,10 +217,9 @@ pub record Listens {R W : Type 0} (starts : Starts) (d : Devices R W)
     (outcome : Result Report ListenFault) : Type 0 where
   pub bytes : List ℕ
   pub consumed : Consumes (d.remaining d.reader.inner) (d.remaining d.reader_after.inner) bytes
-  pub answer : AnswersListening starts (as_read d) (d.contents d.writer.inner)
-      (d.contents d.writer_after.inner) outcome bytes
-  pub file : IfSome (d.remaining d.reader.inner) (AnswersListening starts whole_input
-      (d.contents d.writer.inner) (d.contents d.writer_after.inner) outcome)
+  pub answer : AnswersListening starts (as_read d) (contents_of d) outcome bytes
+  pub file : IfSome (d.remaining d.reader.inner)
+      (AnswersListening starts whole_input (contents_of d) outcome)
   pub unread : IsErrOf outcome Read ↔ (d.reader_after.failures ≡ 1)
   pub read_once : d.reader_after.failures ≤ 1
   pub unwritten : ((written : ℕ) × (outcome ≡ Err (Write written)))

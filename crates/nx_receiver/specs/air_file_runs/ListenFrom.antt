@@ -1,7 +1,7 @@
 -- A run that listens and goes on from what is saved: what it answers, and what it leaves (this
 -- profile).
 use Rattle.std.specs.Prelude.{Result, Ok, Err, IfOk}
-use Rattle.nx_fec.specs.Transfers.{Devices}
+use Rattle.nx_fec.specs.Transfers.{Devices, contents_of}
 use Rattle.nx_memory.specs.Saved.{SavedStates}
 use Rattle.nx_receiver.specs.air_file_runs.Chain.{HasGoneOn}
 use Rattle.nx_receiver.specs.laws.ListenOnce.{ListensOnce}
@@ -19,5 +19,5 @@ reported (Err fault) = Err fault
 pub record GoesOnBy {R W : Type 0} (saved : SavedStates) (d : Devices R W)
     (outcome : Result (Report × SavedStates) ListenFault) : Type 0 where
   pub listens : ListensOnce (starts_from saved) d (reported outcome)
-  pub left : IfOk outcome (λ answer. HasGoneOn saved (d.contents d.writer.inner)
-      (d.contents d.writer_after.inner) listens.run.bytes answer.1)
+  pub left : IfOk outcome
+      (λ answer. HasGoneOn saved (contents_of d) listens.run.bytes answer.1)

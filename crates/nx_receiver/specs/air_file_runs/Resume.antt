@@ -1,13 +1,14 @@
 -- A run that resumes: it reads the text of a state, and goes on from it over the air file behind
 -- (this profile).
-use Rattle.std.specs.Prelude.{◌≡◌, ◌⊎◌, ◌↔◌, ℕ, ◌≤◌, List, [], ◌∷◌, map, Option, None, Result, Ok}
+use Rattle.std.specs.Prelude.{◌≡◌, ◌⊎◌, ◌↔◌, ℕ, ◌≤◌, List, [], ◌∷◌, map, Option, Result, Ok}
 use Rattle.std.specs.Prelude.{Err, IfSome, ⊤}
 use Rattle.std.specs.List.{flat_map}
 use Rattle.std.specs.Io.KnownBytes.{Appends, Consumes}
-use Rattle.nx_fec.specs.Transfers.{CountedDevice, Devices, Extent, Writes, WroteSome, as_read, whole_input}
+use Rattle.nx_fec.specs.Transfers.{Contents, CountedDevice, Devices, Extent, Writes, WroteSome}
+use Rattle.nx_fec.specs.Transfers.{as_read, contents_of, whole_input}
 use Rattle.nx_memory.specs.Saved.{AreSavedStates, SavedStates}
 use Rattle.nx_receiver.specs.air_file_runs.Chain.{HasGoneOn, IsChain, Run, all_logs, files}
-use Rattle.nx_receiver.specs.air_file_runs.Listen.{AnswersListening, AnswersUnlogged, IsLogOf}
+use Rattle.nx_receiver.specs.air_file_runs.Listen.{AnswersListening, AnswersUnlogged, IsLogOf, untold}
 use Rattle.nx_receiver.specs.laws.ListenOnce.{HasPrintedOnce}
 use Rattle.nx_receiver.specs.copies.Shares.{starts_from}
 use Rattle.nx_receiver.specs.air_file_runs.State.{BeginsWith, ExplainsState, IsStateBytes, state_bytes}
@@ -24,38 +25,38 @@ use Rattle.nx_receiver.specs.declared.air_file_runs.state_fault.StateFault.TheVa
 pub record HasLeft (holds : List ℕ → Type 0) (states : SavedStates) (air : List ℕ) : Type 0 where
   pub left : SavedStates
   pub sound : AreSavedStates left
-  pub gone : HasGoneOn states None None air left
+  pub gone : HasGoneOn states untold air left
   pub here : holds (state_bytes left)
 
 -- What a run answers that goes on from these states over bytes of this extent of an air file. Where
 -- the log is wanted, it is written, with both halves of the headline. Where the state is wanted, no
 -- log is, and the text of what the air file leaves is written; or the first bytes of it, before the
 -- write that failed.
-abbrev pub AnswersAir : Want → SavedStates → Extent → Option (List ℕ) → Option (List ℕ)
-    → Result Report ResumeFault → List ℕ → Type 0
-AnswersAir Log states extent old new (Ok report) air =
-    AnswersListening (starts_from states) extent old new (Ok report) air
-    × HasPrintedOnce (starts_from states) old new air
-AnswersAir Log states extent old new (Err (resume.Listen fault)) air =
-    AnswersListening (starts_from states) extent old new (Err fault) air
-AnswersAir State states extent old new (Ok report) air =
+abbrev pub AnswersAir : Want → SavedStates → Extent → Contents → Result Report ResumeFault
+    → List ℕ → Type 0
+AnswersAir Log states extent contents (Ok report) air =
+    AnswersListening (starts_from states) extent contents (Ok report) air
+    × HasPrintedOnce (starts_from states) contents air
+AnswersAir Log states extent contents (Err (resume.Listen fault)) air =
+    AnswersListening (starts_from states) extent contents (Err fault) air
+AnswersAir State states extent contents (Ok report) air =
     AnswersUnlogged (starts_from states) extent (Ok report) air
-    × HasLeft (Appends old new) states air
-AnswersAir State states extent old new (Err (resume.Listen fault)) air =
+    × HasLeft (Appends contents.before contents.after) states air
+AnswersAir State states extent contents (Err (resume.Listen fault)) air =
     AnswersUnlogged (starts_from states) extent (Err fault) air
-AnswersAir State states extent old new (Err (resume.Write written)) air =
+AnswersAir State states extent contents (Err (resume.Write written)) air =
     ((report : Report) × AnswersUnlogged (starts_from states) extent (Ok report) air)
-    × HasLeft (λ text. WroteSome old new text written) states air
-AnswersAir want states extent old new outcome air = ⊥
+    × HasLeft (λ text. WroteSome contents.before contents.after text written) states air
+AnswersAir want states extent contents outcome air = ⊥
 
 -- What a run that resumes answers to bytes of this extent of its input: a fault of the state. Or
 -- they begin with the text of a state, from which the run goes on over the air file that follows.
-abbrev pub AnswersResuming : Want → Extent → Option (List ℕ) → Option (List ℕ)
-    → Result Report ResumeFault → List ℕ → Type 0
-AnswersResuming want extent old new (Err (resume.State fault)) input =
+abbrev pub AnswersResuming : Want → Extent → Contents → Result Report ResumeFault → List ℕ
+    → Type 0
+AnswersResuming want extent contents (Err (resume.State fault)) input =
     ExplainsState extent input fault
-AnswersResuming want extent old new outcome input =
-    BeginsWith input (λ states air. AnswersAir want states extent old new outcome air)
+AnswersResuming want extent contents outcome input =
+    BeginsWith input (λ states air. AnswersAir want states extent contents outcome air)
 
 -- a read failed: of the state, or of the air file
 abbrev pub IsUnread : Result Report ResumeFault → Type 0
@@ -78,15 +79,12 @@ WhereUnwritten want outcome P = ⊤
 -- input where it is known, however it came. A read fails exactly where the outcome says so, and so
 -- does a write; and then no more is called.
 pub record ResumesBy {R W : Type 0}
-    (answers : Extent → Option (List ℕ) → Option (List ℕ) → Result Report ResumeFault → List ℕ
-    → Type 0)
+    (answers : Extent → Contents → Result Report ResumeFault → List ℕ → Type 0)
     (want : Want) (d : Devices R W) (outcome : Result Report ResumeFault) : Type 0 where
   pub bytes : List ℕ
   pub consumed : Consumes (d.remaining d.reader.inner) (d.remaining d.reader_after.inner) bytes
-  pub answer : answers (as_read d) (d.contents d.writer.inner) (d.contents d.writer_after.inner)
-      outcome bytes
-  pub file : IfSome (d.remaining d.reader.inner) (answers whole_input (d.contents d.writer.inner)
-      (d.contents d.writer_after.inner) outcome)
+  pub answer : answers (as_read d) (contents_of d) outcome bytes
+  pub file : IfSome (d.remaining d.reader.inner) (answers whole_input (contents_of d) outcome)
   pub unread : IsUnread outcome ↔ (d.reader_after.failures ≡ 1)
   pub once : d.reader_after.failures ≤ 1
   pub writes : Writes d.writer_after (write_fault want) outcome

@@ -1,10 +1,10 @@
 -- The second half of the headline, over bytes: what has to be met in an air file, so that a message
 -- is printed once; and that it is (this profile).
-use Rattle.std.specs.Prelude.{ℕ, List, Option, Result, OnOk}
+use Rattle.std.specs.Prelude.{ℕ, List, Result, OnOk}
 use Rattle.nx_envelope.specs.Message.{MessageView}
 use Rattle.nx_fec.specs.air_files.AirFile.{Line}
 use Rattle.nx_fec.specs.air_files.Lines.{air_limit, IsAirFile}
-use Rattle.nx_fec.specs.Transfers.{Devices}
+use Rattle.nx_fec.specs.Transfers.{Contents, Devices, contents_of}
 use Rattle.nx_fec.specs.declared.air_files.channel.Channel.{Channel}
 use Rattle.nx_station.specs.reception.Sendings.{Part}
 use Rattle.nx_receiver.specs.air_file_runs.Listen.{HasListened, Listens, events_on}
@@ -27,10 +27,9 @@ pub record IsHeardInTimeOn (channel : Channel) (starts : Starts) (file : List �
 -- Both halves of the headline. The log of the file of these bytes was written. For each message
 -- that is heard in time on a channel, exactly one of its entries on that channel bears its
 -- identity. It is full, has 0 errors, and its text is the message's, letter for letter.
-pub record HasPrintedOnce (starts : Starts) (old new : Option (List ℕ)) (file : List ℕ)
-    : Type 0 where
+pub record HasPrintedOnce (starts : Starts) (contents : Contents) (file : List ℕ) : Type 0 where
   pub report : Report
-  pub listened : HasListened starts old new file report
+  pub listened : HasListened starts contents file report
   pub once : (channel : Channel) (message : MessageView)
       → IsHeardInTimeOn channel starts file message
       → IsPrintedOnce message (copies_on channel listened.copies)
@@ -40,5 +39,4 @@ pub record HasPrintedOnce (starts : Starts) (old new : Option (List ℕ)) (file 
 pub record ListensOnce {R W : Type 0} (starts : Starts) (d : Devices R W)
     (outcome : Result Report ListenFault) : Type 0 where
   pub run : Listens starts d outcome
-  pub once : OnOk outcome (HasPrintedOnce starts (d.contents d.writer.inner)
-      (d.contents d.writer_after.inner) run.bytes)
+  pub once : OnOk outcome (HasPrintedOnce starts (contents_of d) run.bytes)

@@ -1,6 +1,6 @@
 -- A run that listens and goes on from what is saved, and writes no log; and how its listener
 -- stands: nothing is said of the log but that there is one (this profile).
-use Rattle.std.specs.Prelude.{ℕ, List, None, Option, Result, IfOk, ⊤}
+use Rattle.std.specs.Prelude.{ℕ, List, Option, Result, IfOk, ⊤}
 use Rattle.nx_fec.specs.air_files.AirFile.{Line}
 use Rattle.nx_fec.specs.Transfers.{CountedDevice, Extent, Reads, input}
 use Rattle.nx_fec.specs.declared.air_files.line_hearing.HearFault.{HearFault}
@@ -9,7 +9,7 @@ use Rattle.nx_fec.specs.declared.air_files.line_taking.LinesFault.{LinesFault}
 use Rattle.nx_fec.specs.declared.air_files.line_taking.LinesFault.TheVariants as run
 use Rattle.nx_memory.specs.Saved.{SavedStates}
 use Rattle.nx_receiver.specs.air_file_runs.Chain.{HasGoneOn}
-use Rattle.nx_receiver.specs.air_file_runs.Listen.{AnswersUnlogged}
+use Rattle.nx_receiver.specs.air_file_runs.Listen.{AnswersUnlogged, untold}
 use Rattle.nx_receiver.specs.air_file_runs.ListenFrom.{reported}
 use Rattle.nx_receiver.specs.copies.Shares.{Given, Starts, starts_from}
 use Rattle.nx_receiver.specs.declared.air_file_runs.listen_fault.ListenFault.{ListenFault}
@@ -42,7 +42,7 @@ abbrev pub AnswersLeaving : SavedStates → Extent
     → Result (Report × SavedStates) ListenFault → List ℕ → Type 0
 AnswersLeaving saved extent outcome bytes =
     AnswersUnlogged (starts_from saved) extent (reported outcome) bytes
-    × IfOk outcome (λ answer. HasGoneOn saved None None bytes answer.1)
+    × IfOk outcome (λ answer. HasGoneOn saved untold bytes answer.1)
 
 -- such a run, of its reader
 abbrev pub ListensUnlogged : {R : Type 0} → SavedStates → (R → Option (List ℕ)) → CountedDevice R

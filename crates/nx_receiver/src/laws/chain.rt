@@ -13,6 +13,7 @@ ghost use Rattle.nx_memory.specs.Memory.{most_entries, newest_moment};
 ghost use Rattle.nx_memory.specs.declared.memories.entry.MemoryEntry.{MemoryEntry};
 ghost use Rattle.nx_station.specs.reception.PathExample.{example_message};
 ghost use Rattle.nx_sync.specs.Locks.{IsNow, Lock, Now};
+ghost use Rattle.nx_fec.specs.Transfers.{Contents};
 ghost use Rattle.nx_receiver.specs.examples.Again.{saved_long_ago};
 ghost use Rattle.nx_receiver.specs.examples.Channels.{two_channels};
 ghost use Rattle.nx_receiver.specs.laws.ListenOnce.{IsHeardInTimeOn};
@@ -91,10 +92,10 @@ pub fn a_run_goes_on_from_what_is_saved()
         → ((channel : Channel) → Leaves (start_on (starts_from saved) channel)
         (events_on channel lines) (saved_of left channel))
         → (run : Run) × (run.file ≡ file) × (run.log ≡ log) × GoesOn saved run left }
-    ensures listened { (saved : SavedStates) (old new : Option (List ℕ)) (file : List ℕ)
+    ensures listened { (saved : SavedStates) (contents : Contents) (file : List ℕ)
         (report : Report)
-        → HasListened (starts_from saved) old new file report
-        → (left : SavedStates) × HasGoneOn saved old new file left }
+        → HasListened (starts_from saved) contents file report
+        → (left : SavedStates) × HasGoneOn saved contents file left }
     ensures some { (start : Start) (events : List Event)
         → (left : SavedState) × Leaves start events left }
     ensures one { (start : Start) (events : List Event) (left other : SavedState)

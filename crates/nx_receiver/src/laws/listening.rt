@@ -7,6 +7,7 @@ ghost use Rattle.nx_fec.specs.air_files.AirFile.{Line};
 ghost use Rattle.nx_fec.specs.air_files.Lines.{IsAirFile, air_limit};
 ghost use Rattle.nx_fec.specs.declared.air_files.channel.Channel.{Channel};
 ghost use Rattle.nx_fec.specs.declared.air_files.channel.Channel.TheVariants.{Zero};
+ghost use Rattle.nx_fec.specs.Transfers.{Contents};
 ghost use Rattle.nx_station.specs.reception.PathExample.{example_message};
 ghost use Rattle.nx_receiver.specs.air_file_runs.Listen.{AreTaken, HasListenFault, HasLogged, IsLogOf, IsLogOfFile, IsLogOfLines, given_by, moment_after};
 ghost use Rattle.nx_receiver.specs.examples.AirFile.{example_air_file};
@@ -39,8 +40,8 @@ pub fn an_air_file_has_one_outcome()
         → HasListenFault starts (AreTaken starts) bytes other → why ≡ other }
     ensures log { (starts : Starts) (bytes log : List ℕ) (why : ListenFault)
         → IsLogOf starts bytes log → HasListenFault starts (AreTaken starts) bytes why → ⊥ }
-    ensures written { (starts : Starts) (old new : Option (List ℕ)) (bytes : List ℕ)
-        (why : ListenFault) → HasListenFault starts (HasLogged starts old new) bytes why
+    ensures written { (starts : Starts) (contents : Contents) (bytes : List ℕ)
+        (why : ListenFault) → HasListenFault starts (HasLogged starts contents) bytes why
         → HasListenFault starts (AreTaken starts) bytes why }
 {}
 

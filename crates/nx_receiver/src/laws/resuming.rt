@@ -66,11 +66,13 @@ pub fn texts_make_a_chain()
 /// leave.
 pub fn a_run_writes_its_log_or_its_state()
     ensures log { (input old new : List ℕ) (report : Report)
-        → AnswersResuming Log whole_input (Some old) (Some new) (Ok report) input
+        → AnswersResuming Log whole_input (record { before = Some old; after = Some new })
+        (Ok report) input
         → (text air log : List ℕ) × (input ≡ text ++ air) × WritesLog text air log
         × (new ≡ old ++ log) }
     ensures state { (input old new : List ℕ) (report : Report)
-        → AnswersResuming State whole_input (Some old) (Some new) (Ok report) input
+        → AnswersResuming State whole_input (record { before = Some old; after = Some new })
+        (Ok report) input
         → (text air state : List ℕ) × (input ≡ text ++ air) × WritesState text air state
         × (new ≡ old ++ state) }
 {}

@@ -17,17 +17,17 @@ returns-in-Ok-state_text c =
     let starts = starts_from c.args.states.now in
     let run = c.in-Ok.ensures.listens.listens.run in (
       record {
-        answers = moved (λ a b air. AnswersListening starts whole_input a b (Ok c.in-Ok.report)
+        answers = moved (λ held air. AnswersListening starts whole_input held (Ok c.in-Ok.report)
             air) old new read run.file;
         memory = λ error e. cc;
       },
       record {
         left = c.in-Ok.saved;
         sound = c.state_text.ensures.sound;
-        gone = moved (λ a b air. HasGoneOn c.args.states.now a b air c.in-Ok.saved) old new read
+        gone = moved (λ held air. HasGoneOn c.args.states.now held air c.in-Ok.saved) old new read
             (leaves-whole c.args.states.now c.in-Ok.saved _ c.in-Ok.report c.in-Ok.ensures.listens);
-        printed = moved (λ a b air. HasPrintedOnce starts a b air) old new read
-            (printed-once starts _ _ _ c.in-Ok.report run.file.1);
+        printed = moved (HasPrintedOnce starts) old new read
+            (printed-once starts _ _ c.in-Ok.report run.file.1);
         spelled = c.in-Ok-state_text.ensures.text;
       },
     )

@@ -6,7 +6,7 @@ use Rattle.nx_receiver.proofs.lemmas.once.Listen.{printed-once}
 use Rattle.nx_receiver.specs.air_file_runs.Listen.{AnswersListening}
 use Rattle.nx_receiver.specs.laws.ListenOnce.{HasPrintedOnce}
 use Rattle.nx_receiver.specs.copies.Shares.{all_at_zero}
-use Rattle.nx_c.proofs.lemmas.State.{moved}
+use Rattle.nx_c.proofs.lemmas.State.{moved, told}
 use Rattle.nx_c.proofs.receiving.nx_listen.Goals as goal
 use Rattle.nx_c.proofs.receiving.nx_listen.Goals.{in-Ok, in-Err}
 
@@ -20,10 +20,10 @@ returns-clause-once c = λ zero.
     elim c.match-listen.branch [
       | in-Ok w ↦
           let run = subst (λ o. AnswersListening all_at_zero whole_input
-          (Some c.new-writer.result.inner.items) (Some c.listen.new.writer.inner.items) o
+          (told c.new-writer.result.inner.items c.listen.new.writer.inner.items) o
           c.new-2.result.inner.now) w.in-Ok.is c.listen.ensures.listens.run.file in
-          moved (λ a b air. HasPrintedOnce all_at_zero a b air) old new read
-          (printed-once all_at_zero _ _ _ _ run.1)
+          moved (HasPrintedOnce all_at_zero) old new read
+          (printed-once all_at_zero _ _ _ run.1)
       | in-Err w ↦ absurd (w.listen_told-told.ensures.fails
           (ap (λ t. t.status) (sym w.told-is) ∙ done.0))
     ]

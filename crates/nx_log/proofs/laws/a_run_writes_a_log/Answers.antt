@@ -8,8 +8,8 @@ pub returns : goal.returns
 returns c = record {
   printed = open_logged;
   closed = closed_logged;
-  listened = λ starts left_after old new outcome bytes h.
-      wrote_entries starts (read_to (IsAtEnd left_after)) old new outcome bytes h;
-  resumed = λ left_after old new outcome input h.
-      resumed_entries (read_to (IsAtEnd left_after)) old new outcome input h;
+  listened = λ starts left_after contents outcome bytes h.
+      wrote_entries starts (read_to (IsAtEnd left_after)) contents outcome bytes h;
+  resumed = λ left_after contents outcome input h.
+      resumed_entries (read_to (IsAtEnd left_after)) contents outcome input h;
 }

@@ -1,7 +1,7 @@
 -- What a run that listens writes is the log of logged entries.
-use Rattle.std.proofs.Common.{ℕ, List, Option, Result, Ok, Err, inl, inr}
+use Rattle.std.proofs.Common.{ℕ, List, Result, Ok, Err, inl, inr}
 use Rattle.std.specs.Io.KnownBytes.{Appends}
-use Rattle.nx_fec.specs.Transfers.{Extent}
+use Rattle.nx_fec.specs.Transfers.{Contents, Extent}
 use Rattle.nx_fec.specs.air_files.AirFile.{Line}
 use Rattle.nx_receiver.specs.air_file_runs.Listen.{AnswersListening, HasLogged, IsLogOfFile, IsLogOfLines}
 use Rattle.nx_receiver.specs.air_file_runs.Resume.{AnswersResuming}
@@ -30,38 +30,38 @@ file_logged starts bytes lines copies log l = record {
   log = l.spelled;
 }
 
-module _ (starts : Starts) (extent : Extent) (old new : Option (List ℕ))
-  where
-    some : (lines : List Line) → HasLogged starts old new lines → SomeLog (Appends old new)
-    some lines h = (h.0, h.1.copies, lines_logged starts lines h.0 h.1, h.2)
+module _ (starts : Starts) (extent : Extent) (contents : Contents) where
+  some : (lines : List Line) → HasLogged starts contents lines
+      → SomeLog (Appends contents.before contents.after)
+  some lines h = (h.0, h.1.copies, lines_logged starts lines h.0 h.1, h.2)
 
-    pub wrote_entries : (outcome : Result Report ListenFault) (bytes : List ℕ)
-        → AnswersListening starts extent old new outcome bytes → WroteEntries old new outcome
-    wrote_entries (Ok report) bytes h =
-        let l = h.1 in
-        (l.log, l.copies, file_logged starts bytes l.lines l.copies l.log l.heard, l.written)
-    wrote_entries (Err (Memory error)) bytes h = tt
-    wrote_entries (Err Read) bytes h = some h.lines h.here.2
-    wrote_entries (Err (Write written)) bytes h =
-        elim h.2 [
-          | inl stops ↦
-              (h.0, stops.here.copies, lines_logged starts stops.lines h.0 stops.here, h.1)
-          | inr all ↦ (h.0, all.2, file_logged starts bytes all.1 all.2 h.0 all.3, h.1)
-        ]
-    wrote_entries (Err (LineCut line)) bytes h = some h.1.lines h.1.here.1
-    wrote_entries (Err AirTooLong) bytes h = some h.lines h.here.1
-    wrote_entries (Err (LineLong line)) bytes h = some h.lines h.here.1
-    wrote_entries (Err (BadLine line)) bytes h = some h.lines h.here.1
-    wrote_entries (Err (NoMoment line)) bytes h = some h.lines h.here.1
-    wrote_entries (Err (Moment line fault)) bytes h = some h.lines h.here.1
-    wrote_entries (Err (Vital line subject)) bytes h = some h.lines h.here.1
+  pub wrote_entries : (outcome : Result Report ListenFault) (bytes : List ℕ)
+      → AnswersListening starts extent contents outcome bytes → WroteEntries contents outcome
+  wrote_entries (Ok report) bytes h =
+      let l = h.1 in
+      (l.log, l.copies, file_logged starts bytes l.lines l.copies l.log l.heard, l.written)
+  wrote_entries (Err (Memory error)) bytes h = tt
+  wrote_entries (Err Read) bytes h = some h.lines h.here.2
+  wrote_entries (Err (Write written)) bytes h =
+      elim h.2 [
+        | inl stops ↦
+            (h.0, stops.here.copies, lines_logged starts stops.lines h.0 stops.here, h.1)
+        | inr all ↦ (h.0, all.2, file_logged starts bytes all.1 all.2 h.0 all.3, h.1)
+      ]
+  wrote_entries (Err (LineCut line)) bytes h = some h.1.lines h.1.here.1
+  wrote_entries (Err AirTooLong) bytes h = some h.lines h.here.1
+  wrote_entries (Err (LineLong line)) bytes h = some h.lines h.here.1
+  wrote_entries (Err (BadLine line)) bytes h = some h.lines h.here.1
+  wrote_entries (Err (NoMoment line)) bytes h = some h.lines h.here.1
+  wrote_entries (Err (Moment line fault)) bytes h = some h.lines h.here.1
+  wrote_entries (Err (Vital line subject)) bytes h = some h.lines h.here.1
 
-pub resumed_entries : (extent : Extent) (old new : Option (List ℕ))
+pub resumed_entries : (extent : Extent) (contents : Contents)
     (outcome : Result Report ResumeFault) (input : List ℕ)
-    → AnswersResuming Log extent old new outcome input → ResumedEntries old new outcome
-resumed_entries extent old new (Ok report) input h =
-    wrote_entries (starts_from h.states) extent old new (Ok report) h.more h.here.0
-resumed_entries extent old new (Err (resume.Listen fault)) input h =
-    wrote_entries (starts_from h.states) extent old new (Err fault) h.more h.here
-resumed_entries extent old new (Err (resume.State fault)) input h = tt
-resumed_entries extent old new (Err (resume.Write written)) input h = tt
+    → AnswersResuming Log extent contents outcome input → ResumedEntries contents outcome
+resumed_entries extent contents (Ok report) input h =
+    wrote_entries (starts_from h.states) extent contents (Ok report) h.more h.here.0
+resumed_entries extent contents (Err (resume.Listen fault)) input h =
+    wrote_entries (starts_from h.states) extent contents (Err fault) h.more h.here
+resumed_entries extent contents (Err (resume.State fault)) input h = tt
+resumed_entries extent contents (Err (resume.Write written)) input h = tt

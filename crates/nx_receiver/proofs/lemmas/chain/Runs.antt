@@ -1,5 +1,5 @@
 -- What a chain of runs prints, and what it leaves.
-use Rattle.std.proofs.Common.{◌≡◌, ℕ, ◌≤◌, List, [], ◌∷◌, ◌++◌, length, Option, refl, sym, ap, ◌∙◌}
+use Rattle.std.proofs.Common.{◌≡◌, ℕ, ◌≤◌, List, [], ◌∷◌, ◌++◌, length, refl, sym, ap, ◌∙◌}
 use Rattle.std.proofs.Common.{subst, append-nil}
 use Rattle.std.specs.Io.KnownBytes.{Appends}
 use Rattle.nx_code.specs.Lists.{last_of}
@@ -13,6 +13,7 @@ use Rattle.nx_fec.specs.declared.air_files.channel.Channel.{Channel}
 use Rattle.nx_fec.specs.declared.air_files.channel.Channel.TheVariants.{Zero, One, Two}
 use Rattle.nx_fec.proofs.lemmas.lines.LineLaws.{IsAirFile-unique}
 use Rattle.nx_sync.proofs.lemmas.states.StateChanges.{standing_after}
+use Rattle.nx_fec.specs.Transfers.{Contents}
 use Rattle.nx_receiver.specs.air_file_runs.Chain.{AgreeInLast, GoesOn, HasGoneOn, IsChain, Leaves}
 use Rattle.nx_receiver.specs.air_file_runs.Chain.{Run, all_copies, all_events, all_logs, all_printed, copies_in}
 use Rattle.nx_receiver.specs.air_file_runs.Chain.{events_in, files, start_in}
@@ -350,22 +351,21 @@ goes_on saved left file lines printed log h l = (
 )
 
 -- a run that listened to it has gone on, whatever it leaves
-pub gone_on : (saved left : SavedStates) (old new : Option (List ℕ)) (file : List ℕ)
-    (report : Report) → (h : HasListened (starts_from saved) old new file report)
-    → LeavesEach (starts_from saved) h.lines left → HasGoneOn saved old new file left
-gone_on saved left old new file report h l =
+pub gone_on : (saved left : SavedStates) (contents : Contents) (file : List ℕ)
+    (report : Report) → (h : HasListened (starts_from saved) contents file report)
+    → LeavesEach (starts_from saved) h.lines left → HasGoneOn saved contents file left
+gone_on saved left contents file report h l =
     let g = goes_on saved left file h.lines h.copies h.log h.heard l in
     record {
       run = g.0;
       read = g.1;
-      written = subst (Appends old new) (sym g.2) h.written;
-      goes =
-          g.3;
+      written = subst (Appends contents.before contents.after) (sym g.2) h.written;
+      goes = g.3;
     }
 
-pub some_gone_on : (saved : SavedStates) (old new : Option (List ℕ)) (file : List ℕ)
-    (report : Report) → HasListened (starts_from saved) old new file report
-    → (left : SavedStates) × HasGoneOn saved old new file left
-some_gone_on saved old new file report h =
+pub some_gone_on : (saved : SavedStates) (contents : Contents) (file : List ℕ)
+    (report : Report) → HasListened (starts_from saved) contents file report
+    → (left : SavedStates) × HasGoneOn saved contents file left
+some_gone_on saved contents file report h =
     let l = some_left_of_each (starts_from saved) h.lines in
-    (l.0, gone_on saved l.0 old new file report h l.1)
+    (l.0, gone_on saved l.0 contents file report h l.1)

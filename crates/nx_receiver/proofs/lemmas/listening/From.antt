@@ -4,7 +4,7 @@ use Rattle.std.specs.Prelude.{⊤}
 use Rattle.std.specs.Io.KnownBytes.{Appends}
 use Rattle.nx_fec.specs.air_files.AirFile.{Line}
 use Rattle.nx_fec.specs.Transfers.{CountedDevice, Devices, Extent, HasWritten, Reads}
-use Rattle.nx_fec.specs.Transfers.{devices, input}
+use Rattle.nx_fec.specs.Transfers.{contents_of, devices, input}
 use Rattle.nx_fec.proofs.lemmas.devices.TransferLaws.{Ok-not_err, Reads-on, Writes-none}
 use Rattle.nx_fec.specs.declared.air_files.line_taking.LinesFault.TheVariants as run
 use Rattle.nx_fec.specs.air_files.LineRuns.{HasTakenAll, RunsLines, line_run}
@@ -38,7 +38,8 @@ pub gone : (saved left : SavedStates) (first now : Listening) (old mid new : Opt
     → HasWritten old mid given read.written
     → HasClosed (starts_of first) old new (given_by lines) report)
     → ((lines : List Line) (given : List ℕ) → IsListening (starts_of first) now lines given
-    → LeavesEach (starts_of first) lines left) → HasGoneOn saved old new bytes left
+    → LeavesEach (starts_of first) lines left)
+    → HasGoneOn saved (record { before = old; after = new }) bytes left
 gone saved left first now old mid new bytes read report begins h closed leaves =
     let t = h.taken in
     let e = closed h.lines t.given t.stood t.here in
@@ -77,24 +78,23 @@ goes-on remaining contents saved left first now' reader reader_after writer mid 
     begins h closed leaves counted none =
     let d = devices remaining contents reader reader_after writer new in
     let old = contents writer.inner in
-    let now = contents new.inner in
     let heard : (extent : Extent) (bytes : List ℕ) → extent.at_end
     × HasTakenAll (line_run listener_taker first now' old (contents mid.inner)) bytes read
-    → AnswersListening (starts_of first) extent old now (Ok report) bytes
-    × HasGoneOn saved old now bytes left = λ extent bytes k. (
+    → AnswersListening (starts_of first) extent (contents_of d) (Ok report) bytes
+    × HasGoneOn saved (contents_of d) bytes left = λ extent bytes k. (
       (k.0, listened first now' _ _ _ bytes read report k.1 closed counted),
       gone saved left first now' _ _ _ bytes read report begins k.1 closed leaves,
     ) in
     let r : Reads (input remaining reader reader_after) Read (λ fault bytes. ⊤) (Ok report)
-    (λ extent bytes. AnswersListening (starts_of first) extent old now (Ok report) bytes
-    × HasGoneOn saved old now bytes left) =
+    (λ extent bytes. AnswersListening (starts_of first) extent (contents_of d) (Ok report) bytes
+    × HasGoneOn saved (contents_of d) bytes left) =
     Reads-on (input remaining reader reader_after) run.Read Read (Ok read) (Ok report) _ _ h.reads
     heard
     (λ bytes k h. h) (λ e. absurd (Ok-not_err _ _ e)) (λ e. absurd (Ok-not_err _ _ e)) in
     let writes = Writes-none new (λ written. Write written) (Ok report)
     (λ written. Ok-not_err _ _) none in
     let P : Starts → Type 0 = λ starts. (run : Listens starts d (Ok report))
-    × HasGoneOn saved old now run.bytes left in
+    × HasGoneOn saved (contents_of d) run.bytes left in
     let here : P (starts_of first) = (
       record {
         bytes = r.bytes;
@@ -112,7 +112,8 @@ goes-on remaining contents saved left first now' reader reader_after writer mid 
     record {
       listens = record {
         run = there.0;
-        once = printed-once (starts_from saved) old now there.0.bytes report there.0.answer.1;
+        once = printed-once (starts_from saved) (contents_of d) there.0.bytes report
+            there.0.answer.1;
       };
       left = there.1;
     }

@@ -193,7 +193,7 @@ one-closed starts bytes log other a b =
 -- what is the log of the first copies of lines was written in part: so was the log of the lines
 pub logged-some : (starts : Starts) (old new : Option (List ℕ)) (written : ℕ) (lines : List Line)
     (bytes : List ℕ) → BeginsListening starts lines bytes → WroteSome old new bytes written
-    → HasLoggedSome (IsLogOfLines starts lines) old new written
+    → HasLoggedSome (IsLogOfLines starts lines) (record { before = old; after = new }) written
 logged-some starts old new written lines bytes h some =
     let b = h.begun in
     let copies = b.first ++ b.rest in

@@ -1,5 +1,5 @@
 -- An air file has one outcome: one first fault, or a log.
-use Rattle.std.proofs.Common.{◌≡◌, inl, inr, ℕ, ◌+◌, ◌<◌, ◌≤◌, List, [], ◌∷◌, ◌++◌, Option, length}
+use Rattle.std.proofs.Common.{◌≡◌, inl, inr, ℕ, ◌+◌, ◌<◌, ◌≤◌, List, [], ◌∷◌, ◌++◌, length}
 use Rattle.std.proofs.Common.{refl, sym, ap, ◌∙◌, subst, append-nil, append_assoc, arith}
 use Rattle.std.proofs.Common.{length-append}
 use Rattle.std.specs.List.{AllByRecursion}
@@ -17,6 +17,7 @@ use Rattle.nx_fec.proofs.lemmas.lines.LineLaws.{HasFault-unique, IsAirFile-good,
 use Rattle.nx_fec.proofs.lemmas.lines.LineLaws.{reading-unique, regroup, spelling-IsBeginning}
 use Rattle.nx_fec.proofs.lemmas.lines.LineLaws.{spelling-injective, split}
 use Rattle.nx_fec.proofs.lemmas.line_runs.LineRun.{StopsAt-map, file_of-one}
+use Rattle.nx_fec.specs.Transfers.{Contents}
 use Rattle.nx_receiver.specs.Events.{Refuses}
 use Rattle.nx_receiver.specs.air_file_runs.Listen.{AreTaken, HasListenFault, HasLogged, IsLogOf, RefusesAfter}
 use Rattle.nx_receiver.specs.private.Taken.{IsTakenAfter}
@@ -461,18 +462,18 @@ module _ (starts : Starts) where
       StopsAt-map bytes _ _ (λ lines rest more here. (here.0, f lines here.1)) h
 
   -- whatever was written, the lines before a fault were taken
-  pub first_fault-taken : (old new : Option (List ℕ)) (bytes : List ℕ) (why : ListenFault)
-      → HasListenFault starts (HasLogged starts old new) bytes why
+  pub first_fault-taken : (contents : Contents) (bytes : List ℕ) (why : ListenFault)
+      → HasListenFault starts (HasLogged starts contents) bytes why
       → HasListenFault starts (AreTaken starts) bytes why
-  first_fault-taken old new bytes Read h = absurd h.here.0.refused
-  first_fault-taken old new bytes (Write written) h = absurd h.here.0.refused
-  first_fault-taken old new bytes (Memory error) h = absurd h.here.0.refused
-  first_fault-taken old new bytes AirTooLong h = stop-taken bytes _ _ (λ lines l. l.1.taken) h
-  first_fault-taken old new bytes (LineLong line) h = stop-taken bytes _ _ (λ lines l. l.1.taken) h
-  first_fault-taken old new bytes (LineCut line) h = stop-taken bytes _ _ (λ lines l. l.1.taken) h
-  first_fault-taken old new bytes (BadLine line) h = stop-taken bytes _ _ (λ lines l. l.1.taken) h
-  first_fault-taken old new bytes (NoMoment line) h = stop-taken bytes _ _ (λ lines l. l.1.taken) h
-  first_fault-taken old new bytes (Moment line why) h =
+  first_fault-taken contents bytes Read h = absurd h.here.0.refused
+  first_fault-taken contents bytes (Write written) h = absurd h.here.0.refused
+  first_fault-taken contents bytes (Memory error) h = absurd h.here.0.refused
+  first_fault-taken contents bytes AirTooLong h = stop-taken bytes _ _ (λ lines l. l.1.taken) h
+  first_fault-taken contents bytes (LineLong line) h = stop-taken bytes _ _ (λ lines l. l.1.taken) h
+  first_fault-taken contents bytes (LineCut line) h = stop-taken bytes _ _ (λ lines l. l.1.taken) h
+  first_fault-taken contents bytes (BadLine line) h = stop-taken bytes _ _ (λ lines l. l.1.taken) h
+  first_fault-taken contents bytes (NoMoment line) h = stop-taken bytes _ _ (λ lines l. l.1.taken) h
+  first_fault-taken contents bytes (Moment line why) h =
       stop-taken bytes _ _ (λ lines l. l.1.taken) h
-  first_fault-taken old new bytes (Vital line subject) h =
+  first_fault-taken contents bytes (Vital line subject) h =
       stop-taken bytes _ _ (λ lines l. l.1.taken) h

@@ -10,7 +10,7 @@ use Rattle.std.proofs.KnownBytes.{Consumes-nil}
 use Rattle.std.proofs.lemmas.List.{length-map}
 use Rattle.nx_fec.specs.air_files.AirFile.{Line, moment, elements, refuse_station, accept_station}
 use Rattle.nx_fec.specs.air_files.AirFile.{refuse_subject, accept_subject, element_digit, mark_bytes}
-use Rattle.nx_fec.specs.Transfers.{CountedDevice, Devices, Extent, HasWritten, Reads, Writes}
+use Rattle.nx_fec.specs.Transfers.{CountedDevice, Devices, Extent, HasWritten, Reads, Writes, contents_of}
 use Rattle.nx_fec.specs.Transfers.{devices, input, input_of}
 use Rattle.nx_fec.specs.air_files.LineRuns.{ExplainsLines, HasTaken, HasTakenAll, RunsLines, line_run}
 use Rattle.nx_fec.specs.air_files.Lines.{IsLineRefused, air_limit, elements_of, file_of, line_bytes}
@@ -41,7 +41,7 @@ use Rattle.nx_receiver.proofs.lemmas.receiver.Events.{bits_of-more}
 -- what the lines gave was written: their log
 logged : (first now : Listening) (old new : Option (List ℕ)) (lines : List Line)
     → HasTaken StandsFrom first now lines (Appends old new)
-    → HasLogged (starts_of first) old new lines
+    → HasLogged (starts_of first) (record { before = old; after = new }) lines
 logged first now old new lines h = (
   h.given,
   record {
@@ -98,7 +98,8 @@ next-refused starts number lines rest more why h = record {
 pub explains : (extent : Extent) (first now : Listening)
     (old new : Option (List ℕ)) (bytes : List ℕ) (fault : LinesFault LineRefusal)
     → ExplainsLines (line_run listener_taker first now old new) extent (Appends old new) bytes fault
-    → AnswersListening (starts_of first) extent old new (Err (lines_fault fault)) bytes
+    → AnswersListening (starts_of first) extent (record { before = old; after = new })
+    (Err (lines_fault fault)) bytes
 explains extent first now old new bytes run.Read h =
     StopsAt-map bytes _ _ (λ lines rest more p. (p.0, p.1, logged first now old new lines p.2)) h
 explains extent first now old new bytes (run.Line file.TooLong) h =
@@ -185,8 +186,7 @@ as-err {N} {F} a b e = let out : F → Result N F = λ x. Err x in ap out e
 listens-by : {R W : Type 0} (starts : Starts) (d : Devices R W)
     (outcome : Result Report ListenFault)
     → Reads (input_of d) Read (λ fault bytes. ⊤) outcome
-    (λ extent. AnswersListening starts extent (d.contents d.writer.inner)
-    (d.contents d.writer_after.inner) outcome)
+    (λ extent. AnswersListening starts extent (contents_of d) outcome)
     → Writes d.writer_after (λ written. Write written) outcome → Listens starts d outcome
 listens-by starts d outcome r w = record {
   bytes = r.bytes;
@@ -271,7 +271,8 @@ pub listened : (first now : Listening) (old mid new : Option (List ℕ)) (bytes 
     → ((lines : List Line) (given : List ℕ) → IsListening (starts_of first) now lines given
     → HasWritten old mid given read.written
     → HasClosed (starts_of first) old new (given_by lines) report)
-    → report.lines ≡ read.lines → HasListened (starts_of first) old new bytes report
+    → report.lines ≡ read.lines
+    → HasListened (starts_of first) (record { before = old; after = new }) bytes report
 listened first now old mid new bytes read report h closed counted =
     let t = h.taken in
     let e = closed h.lines t.given t.stood t.here in
@@ -302,7 +303,8 @@ part-listened : (first now : Listening) (old mid new : Option (List ℕ)) (bytes
     → ((lines : List Line) (given : List ℕ) → IsListening (starts_of first) now lines given
     → HasWritten old mid given read.written
     → HasClosedSome (starts_of first) old new (given_by lines) written)
-    → HasLoggedSome (IsLogOf (starts_of first) bytes) old new written
+    → HasLoggedSome (IsLogOf (starts_of first) bytes) (record { before = old; after = new })
+    written
 part-listened first now old mid new bytes read written h closed =
     let t = h.taken in
     let e = closed h.lines t.given t.stood t.here in (

@@ -3,7 +3,7 @@
 use Rattle.std.proofs.Common.{ℕ, List, Option, None, Some, IfSome, Result, Ok, Err, subst}
 use Rattle.nx_envelope.specs.Message.{MessageView}
 use Rattle.nx_fec.specs.air_files.AirFile.{Line}
-use Rattle.nx_fec.specs.Transfers.{Devices}
+use Rattle.nx_fec.specs.Transfers.{Contents, Devices}
 use Rattle.nx_fec.proofs.lemmas.lines.LineLaws.{IsAirFile-unique}
 use Rattle.nx_fec.specs.air_files.Lines.{air_limit}
 use Rattle.nx_fec.specs.declared.air_files.channel.Channel.{Channel}
@@ -29,9 +29,9 @@ one-entry starts file log lines copies channel message l h =
     printed_once (start_on starts channel) (events_on channel h.lines) h.parts message h.heard
     (copies_on channel copies) (to_end-on starts (given_by h.lines) copies channel prints)
 
-pub printed-once : (starts : Starts) (old new : Option (List ℕ)) (file : List ℕ) (report : Report)
-    → HasListened starts old new file report → HasPrintedOnce starts old new file
-printed-once starts old new file report h = record {
+pub printed-once : (starts : Starts) (contents : Contents) (file : List ℕ) (report : Report)
+    → HasListened starts contents file report → HasPrintedOnce starts contents file
+printed-once starts contents file report h = record {
   report = report;
   listened = h;
   once = λ channel message k. one-entry starts file h.log h.lines h.copies channel message h.heard
@@ -47,5 +47,5 @@ on-some (Some xs) P Q f h = f xs h
 pub listens-once : {R W : Type 0} (starts : Starts) (d : Devices R W)
     (outcome : Result Report ListenFault) → Listens starts d outcome → ListensOnce starts d outcome
 listens-once starts d (Ok report) h =
-    record { run = h; once = printed-once starts _ _ h.bytes report h.answer.1 }
+    record { run = h; once = printed-once starts _ h.bytes report h.answer.1 }
 listens-once starts d (Err fault) h = record { run = h; once = tt }

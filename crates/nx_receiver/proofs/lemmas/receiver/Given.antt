@@ -19,7 +19,6 @@ use Rattle.nx_receiver.specs.Events.{Setting, Start, first_setting}
 use Rattle.nx_receiver.specs.copies.FoundCopies.{TaggedCopy}
 use Rattle.nx_receiver.specs.copies.Printing.{entries_after, entries_made, entry_made, if_printed}
 use Rattle.nx_receiver.specs.copies.Printing.{is_printed, printed_copies}
-use Rattle.nx_receiver.specs.Receiver.{Receiving}
 use Rattle.nx_receiver.specs.CopyHearing.{CopyHearing, in_force}
 use Rattle.nx_receiver.specs.declared.copy_taker.CopyTag.{CopyTag}
 use Rattle.nx_receiver.specs.declared.copy_taker.Over.{Over}

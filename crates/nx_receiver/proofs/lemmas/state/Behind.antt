@@ -3,7 +3,7 @@ use Rattle.std.proofs.Common.{ℕ, List, ◌++◌, Option, None, Some, IfSome, R
 use Rattle.std.proofs.Common.{refl, sym, ap, ◌∙◌, subst, append-nil}
 use Rattle.std.specs.Io.KnownBytes.{Consumes}
 use Rattle.std.proofs.KnownBytes.{Consumes-trans}
-use Rattle.nx_fec.specs.Transfers.{CountedDevice, Devices, Extent}
+use Rattle.nx_fec.specs.Transfers.{Contents, CountedDevice, Devices, Extent}
 use Rattle.nx_memory.specs.Saved.{SavedStates}
 use Rattle.nx_receiver.specs.air_file_runs.Resume.{AnswersAir, AnswersResuming, ReadStateAlone, Resumes}
 use Rattle.nx_receiver.specs.air_file_runs.Resume.{ResumesBy}
@@ -72,18 +72,18 @@ module _ {R W : Type 0} (remaining : R → Option (List ℕ)) (contents : W → 
 
   resumes-as : (states : SavedStates) (want : Want) (outcome : Outcome)
       → ReadStateAlone remaining old mid states
-      → ((extent : Extent) (a b : Option (List ℕ)) (air text : List ℕ)
+      → ((extent : Extent) (held : Contents) (air text : List ℕ)
       → IsStateBytes text states
-      → AnswersAir want states extent a b outcome air
-      → AnswersResuming want extent a b outcome (text ++ air))
+      → AnswersAir want states extent held outcome air
+      → AnswersResuming want extent held outcome (text ++ air))
       → ResumesBy (AnswersAir want states) want air_part outcome
       → Resumes want whole_run outcome
   resumes-as states want outcome read answers h = record {
     bytes = read.text ++ h.bytes;
     consumed = Consumes-trans _ _ _ _ _ read.consumed h.consumed;
-    answer = answers _ _ _ h.bytes read.text read.stands_for h.answer;
+    answer = answers _ _ h.bytes read.text read.stands_for h.answer;
     file = behind _ _ read.text _ _ read.consumed
-        (λ air k. answers _ _ _ air read.text read.stands_for k) h.file;
+        (λ air k. answers _ _ air read.text read.stands_for k) h.file;
     unread = h.unread;
     once = h.once;
     writes = h.writes;
@@ -96,12 +96,12 @@ module _ {R W : Type 0} (remaining : R → Option (List ℕ)) (contents : W → 
       → Resumes want whole_run outcome
   resumes-behind states want (Ok report) read h =
       resumes-as states want (Ok report) read
-      (λ extent a b air text stands k. begins-with text air states _ stands k) h
+      (λ extent held air text stands k. begins-with text air states _ stands k) h
   resumes-behind states Log (Err (resume.State fault)) read h = absurd (h.answer)
   resumes-behind states State (Err (resume.State fault)) read h = absurd (h.answer)
   resumes-behind states want (Err (resume.Listen fault)) read h =
       resumes-as states want (Err (resume.Listen fault)) read
-      (λ extent a b air text stands k. begins-with text air states _ stands k) h
+      (λ extent held air text stands k. begins-with text air states _ stands k) h
   resumes-behind states want (Err (resume.Write written)) read h =
       resumes-as states want (Err (resume.Write written)) read
-      (λ extent a b air text stands k. begins-with text air states _ stands k) h
+      (λ extent held air text stands k. begins-with text air states _ stands k) h

@@ -39,9 +39,9 @@ module _ {R W : Type 0} (d : Devices R W) (states : SavedStates) where
   logs-all report h = record {
     bytes = h.bytes;
     consumed = h.consumed;
-    answer = (h.answer, printed-once (starts_from states) _ _ h.bytes report h.answer.1);
+    answer = (h.answer, printed-once (starts_from states) _ h.bytes report h.answer.1);
     file = later (d.remaining d.reader.inner) _ _
-        (λ input k. (k, printed-once (starts_from states) _ _ input report k.1)) h.file;
+        (λ input k. (k, printed-once (starts_from states) _ input report k.1)) h.file;
     unread = (
       λ e. absurd (report_read report e),
       λ failed. absurd (Ok-not_err _ _ (h.unread.1 failed)),
