@@ -1,4 +1,4 @@
-# Completion of navtex's words for bash. Which commands there are, and what each takes, is read from navtex's own help.
+# Completion of navtex's arguments for bash. Which commands there are, and what each takes, is read from navtex's own help.
 _navtex() {
     local word=${COMP_WORDS[COMP_CWORD]} program=${COMP_WORDS[0]} choices=
     if ((COMP_CWORD == 1)); then

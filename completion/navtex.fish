@@ -1,4 +1,4 @@
-# Completion of navtex's words for fish. Which commands there are, and what each takes, is read from navtex's own help.
+# Completion of navtex's arguments for fish. Which commands there are, and what each takes, is read from navtex's own help.
 
 # Each command and, behind a tab, what it does.
 function __navtex_commands

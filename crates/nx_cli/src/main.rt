@@ -9,15 +9,15 @@ use nx_program::{SystemFiles, answer};
 use std::process::ExitCode;
 use std::{env, io};
 
-/// The words of the process, of which the first is the program's name.
-fn words_of(rt: &HostRuntime) -> io::Result<Vec<String>> {
+/// The arguments of the process, of which the first is the program's name.
+fn arguments_of(rt: &HostRuntime) -> io::Result<Vec<String>> {
     Ok(env::args(rt)?.collect(rt.alloc())?)
 }
 
 fn main(rt: HostRuntime) -> ExitCode {
     let ended = answer(
         rt.alloc(),
-        words_of(&rt),
+        arguments_of(&rt),
         &mut Counting::new(rt.stdin()),
         &mut Counting::new(rt.stdout()),
         &mut Counting::new(rt.stderr()),

@@ -1,7 +1,8 @@
-//! The program on words and bytes: its output, its fault lines, its exit statuses, and which calls
-//! it makes on devices that fail.
+//! The program on arguments and bytes: its output, its fault lines, its exit statuses, and which
+//! calls it makes on devices that fail.
 
 mod air;
+mod arguments;
 mod channels;
 mod clocked;
 mod copies;
@@ -20,7 +21,6 @@ mod resuming;
 mod shown_locks;
 mod station;
 mod watching;
-mod words;
 
 use devices::{Sink, Source};
 use nx_program::run;
@@ -69,18 +69,18 @@ fn expect_text(rt: &impl Abort, row: &str, found: &[u8], wanted: &[u8]) {
     );
 }
 
-fn run_on(alloc: Global, words: &[&str], input: &[u8]) -> Ended {
-    run_in_pieces(alloc, words, input, usize::MAX)
+fn run_on(alloc: Global, arguments: &[&str], input: &[u8]) -> Ended {
+    run_in_pieces(alloc, arguments, input, usize::MAX)
 }
 
 // What a run left behind that reads and writes at most so many bytes at once.
-fn run_in_pieces(alloc: Global, words: &[&str], input: &[u8], piece: usize) -> Ended {
+fn run_in_pieces(alloc: Global, arguments: &[&str], input: &[u8], piece: usize) -> Ended {
     let mut source = Source::of(input);
     source.piece = piece;
     let mut output = Sink::new(Vec::new(alloc));
     output.piece = piece;
     let mut faults = Sink::new(Vec::new(alloc));
-    let status = run(alloc, words, &mut source, &mut output, &mut faults);
+    let status = run(alloc, arguments, &mut source, &mut output, &mut faults);
     Ended {
         status,
         output: output.taken,
@@ -96,13 +96,13 @@ fn expect_end(
     rt: &impl Abort,
     alloc: Global,
     row: &str,
-    words: &[&str],
+    arguments: &[&str],
     source: &mut Source,
     output: &mut Sink,
     end: End,
 ) {
     let mut faults = Sink::new(Vec::new(alloc));
-    let status = run(alloc, words, source, output, &mut faults);
+    let status = run(alloc, arguments, source, output, &mut faults);
     expect_text(rt, row, &faults.taken, end.1.as_bytes());
     assert!(rt;
         status == end.0,
@@ -112,25 +112,32 @@ fn expect_end(
 }
 
 // What a run writes.
-fn output_of(alloc: Global, words: &[&str], input: &[u8]) -> Vec<u8> {
-    run_on(alloc, words, input).output
+fn output_of(alloc: Global, arguments: &[&str], input: &[u8]) -> Vec<u8> {
+    run_on(alloc, arguments, input).output
 }
 
-// Expects that a run on these words and this input succeeds, writes this and reports no fault.
+// Expects that a run on these arguments and this input succeeds, writes this and reports no fault.
 fn expect_output(
     rt: &impl Abort,
     alloc: Global,
     row: &str,
-    words: &[&str],
+    arguments: &[&str],
     input: &[u8],
     output: &[u8],
 ) {
-    run_on(alloc, words, input).expect(rt, row, 0, output, b"");
+    run_on(alloc, arguments, input).expect(rt, row, 0, output, b"");
 }
 
 // Expects that a run ends so, and writes nothing.
-fn expect_fault(rt: &impl Abort, alloc: Global, row: &str, words: &[&str], input: &[u8], end: End) {
-    run_on(alloc, words, input).expect(rt, row, end.0, b"", end.1.as_bytes());
+fn expect_fault(
+    rt: &impl Abort,
+    alloc: Global,
+    row: &str,
+    arguments: &[&str],
+    input: &[u8],
+    end: End,
+) {
+    run_on(alloc, arguments, input).expect(rt, row, end.0, b"", end.1.as_bytes());
 }
 
 // The file with other elements at this place.

@@ -1,7 +1,7 @@
 pub mod Status
-pub mod LogWords
+pub mod LogArguments
 pub mod Program
 pub mod Report
 pub mod WatchCommand
-pub mod Words
+pub mod Arguments
 pub mod private

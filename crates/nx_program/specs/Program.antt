@@ -28,19 +28,19 @@ use Rattle.nx_station.specs.FileSending.{Sends}
 use Rattle.nx_fec.specs.declared.fault.RunFault.{RunFault}
 use Rattle.nx_fec.specs.declared.fault.RunFault.TheVariants as run
 use Rattle.nx_station.specs.Slots.{HasNoSlot, IsNextSlot}
-use Rattle.nx_program.specs.declared.words.Call.{Call}
-use Rattle.nx_program.specs.declared.words.Call.TheVariants.{Check, Code, Decode, Encode, Listen}
-use Rattle.nx_program.specs.declared.words.Call.TheVariants.{Log as LogCall, Show}
-use Rattle.nx_program.specs.declared.words.Call.TheVariants.{Damage, Locks, Resume, Save, Send}
-use Rattle.nx_program.specs.declared.words.Call.TheVariants.{Slots, Watch}
+use Rattle.nx_program.specs.declared.arguments.Call.{Call}
+use Rattle.nx_program.specs.declared.arguments.Call.TheVariants.{Check, Code, Decode, Encode, Listen}
+use Rattle.nx_program.specs.declared.arguments.Call.TheVariants.{Log as LogCall, Show}
+use Rattle.nx_program.specs.declared.arguments.Call.TheVariants.{Damage, Locks, Resume, Save, Send}
+use Rattle.nx_program.specs.declared.arguments.Call.TheVariants.{Slots, Watch}
 use Rattle.nx_program.specs.declared.fault.CallFault.{CallFault}
 use Rattle.nx_program.specs.declared.fault.CallFault.TheVariants as call
 use Rattle.nx_program.specs.declared.fault.Fault.{Fault}
 use Rattle.nx_program.specs.declared.fault.Fault.TheVariants as fault
 use Rattle.nx_program.specs.Status.{status_of}
 use Rattle.nx_program.specs.WatchCommand.{Beside, IsUnused, WatchesLog}
-use Rattle.nx_program.specs.Words.{AsksForHelp, AsksForVersion, IsRefusedByClap, LacksKind}
-use Rattle.nx_program.specs.Words.{LacksStation, LacksValue, Names}
+use Rattle.nx_program.specs.Arguments.{AsksForHelp, AsksForVersion, IsRefusedByClap, LacksKind}
+use Rattle.nx_program.specs.Arguments.{LacksStation, LacksValue, Names}
 
 -- a device on which no call has failed
 abbrev pub fresh_device : {T : Type 0} → T → CountedDevice T
@@ -144,17 +144,17 @@ PerformsOnStreams (LogCall query form) d outcome =
     Tells (λ why. call.Log why) (RunsOverLog query form d) outcome
 PerformsOnStreams (Watch name moment) d outcome = ⊥
 
--- the words name a call, which had this outcome
-pub record RunsCall {R W : Type 0} (words : List Text) (d : Devices R W)
+-- the arguments name a call, which had this outcome
+pub record RunsCall {R W : Type 0} (arguments : List Text) (d : Devices R W)
     (outcome : Result (Unit {0}) CallFault) : Type 0 where
   pub call : Call
-  pub named : Names words call
+  pub named : Names arguments call
   pub performed : PerformsOnStreams call d outcome
 
--- the words ask for help, and a text was written; which text that is, clap leaves open
-pub record GivesHelp {R W : Type 0} (words : List Text) (d : Devices R W)
+-- the arguments ask for help, and a text was written; which text that is, clap leaves open
+pub record GivesHelp {R W : Type 0} (arguments : List Text) (d : Devices R W)
     (outcome : Result (Unit {0}) CallFault) : Type 0 where
-  pub asked : AsksForHelp words
+  pub asked : AsksForHelp arguments
   pub unread : IsUnread d
   pub written : Tells (λ why. call.Run why)
       (WritesText (λ text. ⊤) d.contents d.writer d.writer_after) outcome
@@ -165,10 +165,10 @@ abbrev pub version_text : List ℕ
 version_text =
     codes "navtex 1.0.0, proved with rattle-kit-13f logic dac8208d650f15bf" ++ newline ∷ []
 
--- the words ask for the version, and its text was written
-pub record GivesVersion {R W : Type 0} (words : List Text) (d : Devices R W)
+-- the arguments ask for the version, and its text was written
+pub record GivesVersion {R W : Type 0} (arguments : List Text) (d : Devices R W)
     (outcome : Result (Unit {0}) CallFault) : Type 0 where
-  pub asked : AsksForVersion words
+  pub asked : AsksForVersion arguments
   pub unread : IsUnread d
   pub written : Tells (λ why. call.Run why)
       (WritesText (λ text. text ≡ version_text) d.contents d.writer d.writer_after) outcome
@@ -178,36 +178,36 @@ pub record LacksMemory {R W : Type 0} (d : Devices R W) (why : CallFault) : Type
   pub untouched : IsUntouched d
   pub memory : why ≡ call.Run (run.Memory alloc_error)
 
--- how the program ends where its words name no watch
+-- how the program ends where its arguments name no watch
 abbrev pub EndsOnStreams : {R W : Type 0} → List Text → Devices R W → Result (Unit {0}) Fault
     → Type 0
-EndsOnStreams words d (Ok done) =
-    RunsCall words d (Ok done)
-    ⊎ (GivesHelp words d (Ok done) ⊎ GivesVersion words d (Ok done))
-EndsOnStreams words d (Err (fault.Words answer)) = IsRefusedByClap words × IsUntouched d
-EndsOnStreams words d (Err fault.NoText) = ⊥
-EndsOnStreams words d (Err fault.Station) = LacksStation words × IsUntouched d
-EndsOnStreams words d (Err fault.Kind) = LacksKind words × IsUntouched d
-EndsOnStreams words d (Err (fault.Value report)) =
-    LacksValue words (string_bytes report) × IsUntouched d
-EndsOnStreams words d (Err (fault.Watch name why)) = ⊥
-EndsOnStreams words d (Err (fault.Call why)) =
-    RunsCall words d (Err why)
-    ⊎ (GivesHelp words d (Err why) ⊎ (GivesVersion words d (Err why) ⊎ LacksMemory d why))
+EndsOnStreams arguments d (Ok done) =
+    RunsCall arguments d (Ok done)
+    ⊎ (GivesHelp arguments d (Ok done) ⊎ GivesVersion arguments d (Ok done))
+EndsOnStreams arguments d (Err (fault.Arguments answer)) = IsRefusedByClap arguments × IsUntouched d
+EndsOnStreams arguments d (Err fault.NoText) = ⊥
+EndsOnStreams arguments d (Err fault.Station) = LacksStation arguments × IsUntouched d
+EndsOnStreams arguments d (Err fault.Kind) = LacksKind arguments × IsUntouched d
+EndsOnStreams arguments d (Err (fault.Value report)) =
+    LacksValue arguments (string_bytes report) × IsUntouched d
+EndsOnStreams arguments d (Err (fault.Watch name why)) = ⊥
+EndsOnStreams arguments d (Err (fault.Call why)) =
+    RunsCall arguments d (Err why)
+    ⊎ (GivesHelp arguments d (Err why) ⊎ (GivesVersion arguments d (Err why) ⊎ LacksMemory d why))
 
--- the words name a watch, which had this outcome
-pub record RunsWatch {R W F D E : Type 0} (words : List Text) (d : Devices R W) (b : Beside F D E)
-    (outcome : Result (Unit {0}) Fault) : Type 0 where
+-- the arguments name a watch, which had this outcome
+pub record RunsWatch {R W F D E : Type 0} (arguments : List Text) (d : Devices R W)
+    (b : Beside F D E) (outcome : Result (Unit {0}) Fault) : Type 0 where
   pub name : Text
   pub moment : ℕ
-  pub named : Names words (Watch name moment)
+  pub named : Names arguments (Watch name moment)
   pub watched : WatchesLog d b name moment outcome
 
 -- how the program ends: as a watch, or with no file and nothing told on standard error
 abbrev pub EndsRun : {R W F D E : Type 0} → List Text → Devices R W → Beside F D E
     → Result (Unit {0}) Fault → Type 0
-EndsRun words d b outcome =
-    RunsWatch words d b outcome ⊎ (IsUnused b × EndsOnStreams words d outcome)
+EndsRun arguments d b outcome =
+    RunsWatch arguments d b outcome ⊎ (IsUnused b × EndsOnStreams arguments d outcome)
 
 -- The call did what its outcome says: a watch on its file, its input, its output and standard
 -- error, and each other call on its input and its output alone.
@@ -219,17 +219,17 @@ Performs call d b (Err (fault.Call why)) = IsUnused b × PerformsOnStreams call 
 Performs call d b (Err _) = ⊥
 
 -- the program ends so on these devices, with this status
-pub record Exits {R W F D E : Type 0} (words : List Text) (d : Devices R W) (b : Beside F D E)
+pub record Exits {R W F D E : Type 0} (arguments : List Text) (d : Devices R W) (b : Beside F D E)
     (status : ℕ) : Type 0 where
   pub outcome : Result (Unit {0}) Fault
-  pub ends : EndsRun words d b outcome
+  pub ends : EndsRun arguments d b outcome
   pub status_is : status ≡ status_of outcome
 
--- the call that the words name succeeded, or they ask for help or for the version, which was
+-- the call that the arguments name succeeded, or they ask for help or for the version, which was
 -- written
 abbrev pub Succeeds : {R W F D E : Type 0} → List Text → Devices R W → Beside F D E → Type 0
-Succeeds words d b = EndsRun words d b (Ok tt)
+Succeeds arguments d b = EndsRun arguments d b (Ok tt)
 
--- the words name a watch
+-- the arguments name a watch
 abbrev pub NamesWatch : List Text → Type 0
-NamesWatch words = (name : Text) × (moment : ℕ) × Names words (Watch name moment)
+NamesWatch arguments = (name : Text) × (moment : ℕ) × Names arguments (Watch name moment)

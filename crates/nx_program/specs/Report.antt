@@ -21,9 +21,10 @@ pub record IsFaultLine (line : List ℕ) : Type 0 where
   pub shown : List ℕ
   pub whole : line ≡ codes "navtex: " ++ shown ++ newline ∷ []
 
--- the text that reports a fault: clap's own answer to the words, the report of a value, or a line
+-- the text that reports a fault: clap's own answer to the arguments, the report of a value, or
+-- a line
 abbrev pub IsFaultText : Fault → List ℕ → Type 0
-IsFaultText (fault.Words answer) text = text ≡ string_bytes answer
+IsFaultText (fault.Arguments answer) text = text ≡ string_bytes answer
 IsFaultText fault.NoText text =
     text ≡ codes "navtex: a word of the command line is not UTF-8" ++ newline ∷ []
 IsFaultText fault.Station text =
@@ -57,26 +58,27 @@ Reports contents old new (Err why) = WritesLast (IsFaultText why) contents old n
 
 -- The program ends so on its devices and on standard error, with this status: standard error stood
 -- so behind the call, and then the fault was reported there.
-pub record Answers {R W F D E : Type 0} (words : List Text) (d : Devices R W) (b : Beside F D E)
+pub record Answers {R W F D E : Type 0} (arguments : List Text) (d : Devices R W) (b : Beside F D E)
     (status : ℕ) : Type 0 where
   pub outcome : Result (Unit {0}) Fault
   pub behind_call : CountedDevice E
-  pub ends : EndsRun words d (with_faults b behind_call) outcome
+  pub ends : EndsRun arguments d (with_faults b behind_call) outcome
   pub reported : Reports b.contents behind_call b.faults_after outcome
   pub status_is : status ≡ status_of outcome
 
--- the fault of words that can't be had for this reason: want of memory, or one of them is no text
-abbrev pub IsWantOfWords : Error → Fault → Type 0
-IsWantOfWords reason why =
+-- the fault of arguments that can't be had for this reason: want of memory, or one of them is no
+-- text
+abbrev pub IsWantOfArguments : Error → Fault → Type 0
+IsWantOfArguments reason why =
     (error_kind reason ≡ OutOfMemory → why ≡ fault.Call (call.Run (run.Memory alloc_error)))
     × (error_kind reason ≢ OutOfMemory → why ≡ fault.NoText)
 
--- the words can't be had for this reason: no device was called, no file opened, and the fault was
--- reported
-pub record LacksWords {R W F D E : Type 0} (reason : Error) (d : Devices R W) (b : Beside F D E)
+-- the arguments can't be had for this reason: no device was called, no file opened, and the fault
+-- was reported
+pub record LacksArguments {R W F D E : Type 0} (reason : Error) (d : Devices R W) (b : Beside F D E)
     (status : ℕ) : Type 0 where
   pub why : Fault
-  pub want : IsWantOfWords reason why
+  pub want : IsWantOfArguments reason why
   pub untouched : IsUntouched d
   pub unopened : b.disk_after ≡ None
   pub reported : Reports b.contents b.faults b.faults_after (Err why)

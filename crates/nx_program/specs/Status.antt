@@ -25,7 +25,8 @@ use Rattle.nx_program.specs.declared.fault.CallFault.TheVariants as call
 use Rattle.nx_program.specs.declared.fault.Fault.{Fault}
 use Rattle.nx_program.specs.declared.fault.Fault.TheVariants as fault
 
--- the status of a fault: 1 for a device or memory, 2 for a bad file, line or value, 64 for words
+-- the status of a fault: 1 for a device or memory, 2 for a bad file, line or value, 64 for
+-- arguments
 abbrev pub run_status : RunFault → ℕ
 run_status run.Read = 1
 run_status (run.Write written) = 1
@@ -83,16 +84,16 @@ call_status (call.Damage why) = damage_status why
 call_status (call.Log why) = log_status why
 call_status call.NoSlot = 2
 
--- the status of a fault in the words
-abbrev pub words_status : ℕ
-words_status = 64
+-- the status of a fault in the arguments
+abbrev pub arguments_status : ℕ
+arguments_status = 64
 
 abbrev pub fault_status : Fault → ℕ
-fault_status (fault.Words answer) = words_status
-fault_status fault.NoText = words_status
-fault_status fault.Station = words_status
-fault_status fault.Kind = words_status
-fault_status (fault.Value report) = words_status
+fault_status (fault.Arguments answer) = arguments_status
+fault_status fault.NoText = arguments_status
+fault_status fault.Station = arguments_status
+fault_status fault.Kind = arguments_status
+fault_status (fault.Value report) = arguments_status
 fault_status (fault.Watch name why) = watch_failure_status why
 fault_status (fault.Call why) = call_status why
 
@@ -100,6 +101,6 @@ abbrev pub status_of : Result (Unit {0}) Fault → ℕ
 status_of (Ok done) = 0
 status_of (Err why) = fault_status why
 
--- the statuses: success, a device or memory, a bad file, line or value, the words
+-- the statuses: success, a device or memory, a bad file, line or value, the arguments
 abbrev pub IsStatus : ℕ → Type 0
-IsStatus status = (status ≡ 0) ⊎ ((status ≡ 1) ⊎ ((status ≡ 2) ⊎ (status ≡ words_status)))
+IsStatus status = (status ≡ 0) ⊎ ((status ≡ 1) ⊎ ((status ≡ 2) ⊎ (status ≡ arguments_status)))

@@ -1,8 +1,8 @@
 //! The command tree of the program, and the texts of its help.
 
 ghost use Rattle.std.specs.Prelude.{IfOk};
-ghost use Rattle.nx_program.specs.Words.{bare_tree, damage_tree, file_tree, navtex, number_rule, slot_tree};
-ghost use Rattle.nx_program.specs.Words.{text_rule};
+ghost use Rattle.nx_program.specs.Arguments.{bare_tree, damage_tree, file_tree, navtex, number_rule, slot_tree};
+ghost use Rattle.nx_program.specs.Arguments.{text_rule};
 ghost use Rattle.nx_program.specs.private.Reading.{AddsRow, AddsRule, IsBuiltAs, IsReadAs};
 ghost use Rattle.nx_program.specs.private.Reading.{row_tree, with_rows};
 
@@ -19,7 +19,7 @@ pub const VERSION: &str = "navtex 1.0.0, proved with rattle-kit-13f logic dac820
 /// What a command takes.
 #[derive(Clone, Copy)]
 enum Takes {
-    /// No argument.
+    /// No value.
     Nothing,
     /// A station and a moment.
     Slot,
@@ -33,7 +33,7 @@ enum Takes {
 
 /// A row of the table of commands: a command's name, what it takes, and what help says of it.
 struct Row {
-    /// The word by which the command line names the command.
+    /// The name of the command on the command line.
     name: &'static str,
     /// What the command takes.
     takes: Takes,
@@ -614,7 +614,7 @@ const COMMANDS: [Row; 14] = [
     LISTEN, WATCH, LOG, SEND, RESUME, SAVE, LOCKS, SLOTS, CHECK, DAMAGE, DECODE, ENCODE, SHOW, CODE,
 ];
 
-/// The command with an argument that is any text.
+/// The command with a value that is any text.
 fn with_text<'a>(
     alloc: Global,
     command: Command<'a>,
@@ -626,7 +626,7 @@ fn with_text<'a>(
     command.arg(Arg::new(alloc, name).required(true).help(help))
 }
 
-/// The command with an argument that is a whole number up to the most.
+/// The command with a value that is a whole number up to the most.
 fn with_number<'a>(
     alloc: Global,
     command: Command<'a>,
@@ -645,12 +645,12 @@ fn with_number<'a>(
 }
 
 /// A command that takes a station and a moment.
-fn slot_command<'a>(alloc: Global, word: &'a str) -> Result<Command<'a>, AllocError>
-    ensures { IfOk result (IsBuiltAs (slot_tree word.entry.now)) }
+fn slot_command<'a>(alloc: Global, name: &'a str) -> Result<Command<'a>, AllocError>
+    ensures { IfOk result (IsBuiltAs (slot_tree name.entry.now)) }
 {
     let command = with_text(
         alloc,
-        Command::new(alloc, word),
+        Command::new(alloc, name),
         "STATION",
         "The station, one letter A to Z",
     )?;
@@ -664,12 +664,12 @@ fn slot_command<'a>(alloc: Global, word: &'a str) -> Result<Command<'a>, AllocEr
 }
 
 /// A command that takes a file and a moment.
-fn file_command<'a>(alloc: Global, word: &'a str) -> Result<Command<'a>, AllocError>
-    ensures { IfOk result (IsBuiltAs (file_tree word.entry.now)) }
+fn file_command<'a>(alloc: Global, name: &'a str) -> Result<Command<'a>, AllocError>
+    ensures { IfOk result (IsBuiltAs (file_tree name.entry.now)) }
 {
     let command = with_text(
         alloc,
-        Command::new(alloc, word),
+        Command::new(alloc, name),
         "FILE",
         "The log: a regular file, which is made where it isn't there",
     )?;
@@ -683,12 +683,12 @@ fn file_command<'a>(alloc: Global, word: &'a str) -> Result<Command<'a>, AllocEr
 }
 
 /// A command that takes a kind of damage and a range of words.
-fn range_command<'a>(alloc: Global, word: &'a str) -> Result<Command<'a>, AllocError>
-    ensures { IfOk result (IsBuiltAs (damage_tree word.entry.now)) }
+fn range_command<'a>(alloc: Global, name: &'a str) -> Result<Command<'a>, AllocError>
+    ensures { IfOk result (IsBuiltAs (damage_tree name.entry.now)) }
 {
     let with_kind = with_text(
         alloc,
-        Command::new(alloc, word),
+        Command::new(alloc, name),
         "KIND",
         "The words that are meant: dx, rx or all",
     )?;

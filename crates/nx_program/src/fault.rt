@@ -24,10 +24,10 @@ use thiserror::Error;
 const DEVICE_OR_MEMORY: u8 = 1;
 /// The exit status for a bad file, line or value.
 const BAD_INPUT: u8 = 2;
-/// The exit status for words that are not understood.
-const BAD_WORDS: u8 = 64;
+/// The exit status for arguments that are not understood.
+const BAD_ARGUMENTS: u8 = 64;
 
-/// The line for words of which one is no text.
+/// The line for arguments of which one is no text.
 const NO_TEXT: &str = "navtex: a word of the command line is not UTF-8\n";
 /// The line for a station that is not one letter A to Z.
 const STATION: &str = "navtex: station must be one letter A to Z\n";
@@ -120,9 +120,9 @@ impl CallFault {
 /// Why a run of the program failed.
 #[derive(Debug, Drop)]
 pub enum Fault<'a> {
-    /// The words are not understood, as this text says.
-    Words(String),
-    /// A word of the command line is no text, so none of them was read.
+    /// The arguments are not understood, as this text says.
+    Arguments(String),
+    /// An argument of the command line is no text, so none of them was read.
     NoText,
     /// The station is not one letter A to Z.
     Station,
@@ -132,7 +132,7 @@ pub enum Fault<'a> {
     Value(String),
     /// The watch of the log of this name failed.
     Watch(FileName<'a>, WatchFailure),
-    /// The call that the words name failed, or the writing of help did.
+    /// The call that the arguments name failed, or the writing of help did.
     Call(CallFault),
 }
 
@@ -141,8 +141,8 @@ impl<'a> Fault<'a> {
         ensures { result ≡ fault_status self.now }
     {
         match self {
-            Fault::Words(_) | Fault::NoText | Fault::Station | Fault::Kind | Fault::Value(_) =>
-                BAD_WORDS,
+            Fault::Arguments(_) | Fault::NoText | Fault::Station | Fault::Kind | Fault::Value(_) =>
+                BAD_ARGUMENTS,
             Fault::Watch(_, why) => why.status(),
             Fault::Call(why) => why.status(),
         }
@@ -166,7 +166,7 @@ impl<'a> Fault<'a> {
         ensures { WritesOne (IsFaultText self.now) E.contents faults.old faults.new }
     {
         let _ = match self {
-            Fault::Words(answer) => write_out(faults, answer.as_bytes()),
+            Fault::Arguments(answer) => write_out(faults, answer.as_bytes()),
             Fault::NoText => write_out(faults, NO_TEXT.as_bytes()),
             Fault::Station => write_out(faults, STATION.as_bytes()),
             Fault::Kind => write_out(faults, KIND.as_bytes()),

@@ -4,7 +4,8 @@ ghost use Rattle.std.specs.Prelude.{◌≡◌};
 
 use std::marker::Model;
 
-/// The name of a file, as it stands among the words of the command line. Its value is its bytes.
+/// The name of a file, as it stands among the arguments of the command line. Its value is its
+/// bytes.
 #[derive(Debug, Drop)]
 pub struct FileName<'a> {
     text: &'a str,

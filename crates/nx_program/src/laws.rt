@@ -3,33 +3,37 @@
 ghost use Rattle.std.specs.Prelude.{◌≡◌, ◌⊎◌, ◌≤◌, ℕ, List, [], ◌∷◌, codes};
 ghost use Rattle.clap.specs.Words.{Text};
 ghost use Rattle.nx_envelope.specs.declared.letter.Letter.{Letter};
-ghost use Rattle.nx_program.specs.Words.{AsksForHelp, AsksForVersion, IsRefused, IsRefusedByClap};
-ghost use Rattle.nx_program.specs.Words.{LacksKind, LacksStation, Names};
-ghost use Rattle.nx_program.specs.declared.words.Call.{Call};
-ghost use Rattle.nx_program.specs.declared.words.Call.TheVariants.{Check, Code, Decode, Encode, Listen, Show};
-ghost use Rattle.nx_program.specs.declared.words.Call.TheVariants.{Damage, Locks, Resume, Save, Send, Slots, Watch};
+ghost use Rattle.nx_program.specs.Arguments.{AsksForHelp, AsksForVersion, IsRefused, IsRefusedByClap};
+ghost use Rattle.nx_program.specs.Arguments.{LacksKind, LacksStation, Names};
+ghost use Rattle.nx_program.specs.declared.arguments.Call.{Call};
+ghost use Rattle.nx_program.specs.declared.arguments.Call.TheVariants.{Check, Code, Decode, Encode, Listen, Show};
+ghost use Rattle.nx_program.specs.declared.arguments.Call.TheVariants.{Damage, Locks, Resume, Save, Send, Slots, Watch};
 ghost use Rattle.nx_station.specs.declared.damaging.DamageKind.{DamageKind};
 ghost use Rattle.nx_station.specs.declared.damaging.DamageKind.TheVariants.{All, Dx};
 
-/// How the words are read: each list of words names one call, asks for help, asks for the version
-/// or is refused, and these exclude each other.
-pub fn words_read_as_one()
-    ensures some { (words : List Text) → ((call : Call) × Names words call)
-        ⊎ (AsksForHelp words ⊎ (AsksForVersion words ⊎ IsRefused words)) }
-    ensures one_call { (words : List Text) (a b : Call) → Names words a → Names words b → a ≡ b }
-    ensures named_not_help { (words : List Text) (call : Call)
-        → Names words call → ¬ AsksForHelp words }
-    ensures named_not_version { (words : List Text) (call : Call)
-        → Names words call → ¬ AsksForVersion words }
-    ensures named_not_refused { (words : List Text) (call : Call)
-        → Names words call → ¬ IsRefused words }
-    ensures help_not_version { (words : List Text) → AsksForHelp words → ¬ AsksForVersion words }
-    ensures help_not_refused { (words : List Text) → AsksForHelp words → ¬ IsRefused words }
-    ensures version_not_refused { (words : List Text) → AsksForVersion words → ¬ IsRefused words }
+/// How the arguments are read: each list of arguments names one call, asks for help, asks for the
+/// version or is refused, and these exclude each other.
+pub fn arguments_read_as_one()
+    ensures some { (arguments : List Text) → ((call : Call) × Names arguments call)
+        ⊎ (AsksForHelp arguments ⊎ (AsksForVersion arguments ⊎ IsRefused arguments)) }
+    ensures one_call { (arguments : List Text) (a b : Call) → Names arguments a → Names arguments b
+        → a ≡ b }
+    ensures named_not_help { (arguments : List Text) (call : Call)
+        → Names arguments call → ¬ AsksForHelp arguments }
+    ensures named_not_version { (arguments : List Text) (call : Call)
+        → Names arguments call → ¬ AsksForVersion arguments }
+    ensures named_not_refused { (arguments : List Text) (call : Call)
+        → Names arguments call → ¬ IsRefused arguments }
+    ensures help_not_version { (arguments : List Text) → AsksForHelp arguments
+        → ¬ AsksForVersion arguments }
+    ensures help_not_refused { (arguments : List Text) → AsksForHelp arguments
+        → ¬ IsRefused arguments }
+    ensures version_not_refused { (arguments : List Text) → AsksForVersion arguments
+        → ¬ IsRefused arguments }
 {}
 
-/// What some words are read as, whatever the program's name.
-pub fn words_in_examples()
+/// What some arguments are read as, whatever the program's name.
+pub fn arguments_in_examples()
     ensures decode { (program : Text) → Names (program ∷ codes "decode" ∷ []) Decode }
     ensures encode { (program : Text) → Names (program ∷ codes "encode" ∷ []) Encode }
     ensures code { (program : Text) → Names (program ∷ codes "code" ∷ []) Code }
@@ -57,21 +61,21 @@ pub fn words_in_examples()
     ensures help_command { (program : Text) → IsRefused (program ∷ codes "help" ∷ []) }
 {}
 
-/// The numbers that words name are in their ranges.
+/// The numbers that arguments name are in their ranges.
 pub fn numbers_are_in_range()
-    ensures send { (words : List Text) (station : Letter) (moment : ℕ)
-        → Names words (Send station moment) → moment ≤ 32503679999 }
-    ensures slots { (words : List Text) (station : Letter) (moment : ℕ)
-        → Names words (Slots station moment) → moment ≤ 32503679999 }
-    ensures watch { (words : List Text) (name : Text) (moment : ℕ)
-        → Names words (Watch name moment) → moment ≤ 32503679999 }
-    ensures from { (words : List Text) (kind : DamageKind) (from count : ℕ)
-        → Names words (Damage kind from count) → from ≤ 4294967295 }
-    ensures count { (words : List Text) (kind : DamageKind) (from count : ℕ)
-        → Names words (Damage kind from count) → count ≤ 4294967295 }
+    ensures send { (arguments : List Text) (station : Letter) (moment : ℕ)
+        → Names arguments (Send station moment) → moment ≤ 32503679999 }
+    ensures slots { (arguments : List Text) (station : Letter) (moment : ℕ)
+        → Names arguments (Slots station moment) → moment ≤ 32503679999 }
+    ensures watch { (arguments : List Text) (name : Text) (moment : ℕ)
+        → Names arguments (Watch name moment) → moment ≤ 32503679999 }
+    ensures from { (arguments : List Text) (kind : DamageKind) (from count : ℕ)
+        → Names arguments (Damage kind from count) → from ≤ 4294967295 }
+    ensures count { (arguments : List Text) (kind : DamageKind) (from count : ℕ)
+        → Names arguments (Damage kind from count) → count ≤ 4294967295 }
 {}
 
-/// What words with a station and a moment are read as, whatever the program's name.
+/// What arguments with a station and a moment are read as, whatever the program's name.
 pub fn slots_in_examples()
     ensures send { (program : Text) (station : Letter) → station.byte ≡ 69
         → Names (program ∷ codes "send" ∷ codes "E" ∷ codes "1735689600" ∷ [])
@@ -89,7 +93,7 @@ pub fn slots_in_examples()
         → IsRefused (program ∷ codes "slots" ∷ codes "E" ∷ codes "now" ∷ []) }
 {}
 
-/// What words with a file and a moment are read as, whatever the program's name.
+/// What arguments with a file and a moment are read as, whatever the program's name.
 pub fn watch_in_examples()
     ensures some { (program : Text)
         → Names (program ∷ codes "watch" ∷ codes "x.log" ∷ codes "1735692000" ∷ [])
@@ -102,7 +106,7 @@ pub fn watch_in_examples()
         → IsRefused (program ∷ codes "watch" ∷ codes "--x" ∷ codes "0" ∷ []) }
 {}
 
-/// What words with a kind of damage and two numbers are read as, whatever the program's name.
+/// What arguments with a kind of damage and two numbers are read as, whatever the program's name.
 pub fn damage_in_examples()
     ensures some { (program : Text)
         → Names (program ∷ codes "damage" ∷ codes "dx" ∷ codes "144" ∷ codes "59" ∷ [])

@@ -1,21 +1,21 @@
-//! The program `navtex` without its process: what its words ask for, done from an input to an
+//! The program `navtex` without its process: what its arguments ask for, done from an input to an
 //! output.
 #![tactic(auto)]
 
+mod arguments;
 mod commands;
 mod fault;
 mod file_name;
 pub mod laws;
+mod log_arguments;
 mod log_command;
 pub mod log_laws;
-mod log_words;
 mod program;
 mod slots;
 mod watch_command;
-mod words;
 
+pub use arguments::Call;
 pub use fault::CallFault;
 pub use file_name::FileName;
 pub use program::{Answered, answer, run};
 pub use watch_command::{LogFiles, NoFile, NoFiles, SystemFiles, WatchFailure};
-pub use words::Call;

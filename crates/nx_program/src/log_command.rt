@@ -1,10 +1,10 @@
 //! The command `log` of the command tree, and the texts of its help.
 
 ghost use Rattle.std.specs.Prelude.{IfOk};
-ghost use Rattle.nx_program.specs.LogWords.{flag_rule, log_tree, option_rule};
+ghost use Rattle.nx_program.specs.LogArguments.{flag_rule, log_tree, option_rule};
 ghost use Rattle.nx_program.specs.private.Reading.{AddsRule, IsBuiltAs};
 
-use crate::log_words::LogOption;
+use crate::log_arguments::LogOption;
 use clap::{Arg, ArgAction, Command};
 use std::alloc::{AllocError, Global};
 
@@ -89,11 +89,11 @@ fn with_flag<'a>(
     )
 }
 
-/// The command `log` with its options, by its word.
-pub fn log_command<'a>(alloc: Global, word: &'a str) -> Result<Command<'a>, AllocError>
-    ensures { IfOk result (IsBuiltAs (log_tree word.entry.now)) }
+/// The command `log` with its options, by its name.
+pub fn log_command<'a>(alloc: Global, name: &'a str) -> Result<Command<'a>, AllocError>
+    ensures { IfOk result (IsBuiltAs (log_tree name.entry.now)) }
 {
-    let with_station = with_option(alloc, Command::new(alloc, word), LogOption::Station)?;
+    let with_station = with_option(alloc, Command::new(alloc, name), LogOption::Station)?;
     let with_subject = with_option(alloc, with_station, LogOption::Subject)?;
     let with_channel = with_option(alloc, with_subject, LogOption::Channel)?;
     let with_since = with_option(alloc, with_channel, LogOption::Since)?;

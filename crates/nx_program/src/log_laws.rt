@@ -1,15 +1,15 @@
-//! What words of `log` are read as.
+//! What arguments of `log` are read as.
 
 ghost use Rattle.std.specs.Prelude.{List, [], ◌∷◌, codes, Some, true};
 ghost use Rattle.clap.specs.Words.{Text};
 ghost use Rattle.nx_fec.specs.declared.air_files.channel.Channel.TheVariants.{One};
 ghost use Rattle.nx_log.specs.declared.writing.form.Form.TheVariants as form;
-ghost use Rattle.nx_program.specs.LogWords.{all_entries, value_report};
-ghost use Rattle.nx_program.specs.Words.{IsRefusedByClap, LacksValue, Names};
-ghost use Rattle.nx_program.specs.declared.log_words.LogOption.TheVariants.{Since, Station};
-ghost use Rattle.nx_program.specs.declared.words.Call.TheVariants.{Log};
+ghost use Rattle.nx_program.specs.LogArguments.{all_entries, value_report};
+ghost use Rattle.nx_program.specs.Arguments.{IsRefusedByClap, LacksValue, Names};
+ghost use Rattle.nx_program.specs.declared.log_arguments.LogOption.TheVariants.{Since, Station};
+ghost use Rattle.nx_program.specs.declared.arguments.Call.TheVariants.{Log};
 
-/// What some words of `log` are read as, whatever the program's name.
+/// What some arguments of `log` are read as, whatever the program's name.
 pub fn log_in_examples()
     ensures all { (program : Text) → Names (program ∷ codes "log" ∷ []) (Log all_entries form.Log) }
     ensures flags { (program : Text)

@@ -3,21 +3,21 @@
 ghost use Rattle.std.specs.Prelude.{◌≡◌, ◌≢◌, ◌⊎◌, IfErr, IfOk, IfSome, List, MatchResult, None, Option, map, string_bytes, ℕ};
 ghost use Rattle.nx_program.specs.Program.{EndsOnStreams, EndsRun, Exits, NamesWatch, Performs, PerformsOnStreams};
 ghost use Rattle.nx_program.specs.Program.{Succeeds, WritesText, fresh_device, version_text};
-ghost use Rattle.nx_program.specs.Report.{Answers, IsFaultLine, IsWantOfWords, LacksWords, WritesOne};
+ghost use Rattle.nx_program.specs.Report.{Answers, IsFaultLine, IsWantOfArguments, LacksArguments, WritesOne};
 ghost use Rattle.nx_program.specs.Status.{IsStatus};
 ghost use Rattle.nx_program.specs.WatchCommand.{beside};
-ghost use Rattle.nx_program.specs.Words.{IsRefused, Names};
-ghost use Rattle.nx_program.specs.private.Reading.{ExplainsWords, IsOnStreams};
+ghost use Rattle.nx_program.specs.Arguments.{IsRefused, Names};
+ghost use Rattle.nx_program.specs.private.Reading.{ExplainsArguments, IsOnStreams};
 ghost use Rattle.clap.specs.Words.{Text};
 ghost use Rattle.nx_fec.specs.Transfers.{CountedDevice, devices};
 ghost use Rattle.nx_fec.specs.texts.TableText.{table_text};
-ghost use Rattle.nx_program.specs.declared.words.Call.{Call};
+ghost use Rattle.nx_program.specs.declared.arguments.Call.{Call};
 
+use crate::arguments::{ArgumentsFault, Call, call_of};
 use crate::commands::VERSION;
 use crate::fault::{CallFault, Fault};
 use crate::slots::print_slot;
 use crate::watch_command::{LogFiles, NoFile, NoFiles, watch_log};
-use crate::words::{Call, WordsFault, call_of};
 use nx_disk::Noted;
 use nx_fec::{Counting, RunFault, decode_run, encode_run, show_run, write_out, write_table};
 use nx_kept::DiskFile;
@@ -31,7 +31,7 @@ use std::fmt::Display;
 use std::io;
 use std::io::{ErrorKind, Read, Write};
 
-/// The exit status of a run that did what the words ask for.
+/// The exit status of a run that did what the arguments ask for.
 const DONE: u8 = 0;
 
 /// Writes the table of the code.
@@ -122,18 +122,18 @@ fn give_version<W: Write>(writer: &mut Counting<W>) -> Result<(), RunFault>
     Ok(())
 }
 
-/// Does what the words ask for that were read so, where they name no watch.
+/// Does what the arguments ask for that were read so, where they name no watch.
 fn obey_on_streams<R: Read, W: Write>(
     alloc: Global,
-    read: Result<Call, WordsFault>,
+    read: Result<Call, ArgumentsFault>,
     reader: &mut Counting<R>,
     writer: &mut Counting<W>,
 ) -> Result<(), Fault<'static>>
     requires reader { reader.old.failures ≡ 0 }
     requires writer { writer.old.failures ≡ 0 }
     requires streams { IfOk read IsOnStreams }
-    ensures { (words : List Text) → IfOk read.entry (Names words)
-        → IfErr read.entry (ExplainsWords words) → EndsOnStreams words
+    ensures { (arguments : List Text) → IfOk read.entry (Names arguments)
+        → IfErr read.entry (ExplainsArguments arguments) → EndsOnStreams arguments
         (devices R.remaining W.contents reader.old reader.new writer.old writer.new)
         result }
 {
@@ -142,26 +142,27 @@ fn obey_on_streams<R: Read, W: Write>(
             perform(alloc, call, reader, writer)?;
             Ok(())
         }
-        Err(WordsFault::Help(help)) => {
+        Err(ArgumentsFault::Help(help)) => {
             give_help(alloc, &help, writer)?;
             Ok(())
         }
-        Err(WordsFault::Version) => {
+        Err(ArgumentsFault::Version) => {
             give_version(writer)?;
             Ok(())
         }
-        Err(WordsFault::Refused(answer)) => Err(Fault::Words(answer.to_string(alloc)?)),
-        Err(WordsFault::Station) => Err(Fault::Station),
-        Err(WordsFault::Kind) => Err(Fault::Kind),
-        Err(WordsFault::Value(report)) => Err(Fault::Value(report)),
-        Err(WordsFault::Memory(want)) => Err(Fault::from(want)),
+        Err(ArgumentsFault::Refused(answer)) => Err(Fault::Arguments(answer.to_string(alloc)?)),
+        Err(ArgumentsFault::Station) => Err(Fault::Station),
+        Err(ArgumentsFault::Kind) => Err(Fault::Kind),
+        Err(ArgumentsFault::Value(report)) => Err(Fault::Value(report)),
+        Err(ArgumentsFault::Memory(want)) => Err(Fault::from(want)),
     }
 }
 
-/// Reads the words and does what they ask for. The log's file is handed back, if one was opened.
+/// Reads the arguments and does what they ask for. The log's file is handed back, if one was
+/// opened.
 fn obey<'a, S: AsStr, R: Read, W: Write, E: Write, F: LogFiles + Drop>(
     alloc: Global,
-    words: &'a [S],
+    arguments: &'a [S],
     reader: &mut Counting<R>,
     writer: &mut Counting<W>,
     faults: &mut Counting<E>,
@@ -170,12 +171,12 @@ fn obey<'a, S: AsStr, R: Read, W: Write, E: Write, F: LogFiles + Drop>(
     requires reader { reader.old.failures ≡ 0 }
     requires writer { writer.old.failures ≡ 0 }
     requires faults { faults.old.failures ≡ 0 }
-    ensures { EndsRun (map S.text words.now)
+    ensures { EndsRun (map S.text arguments.now)
         (devices R.remaining W.contents reader.old reader.new writer.old writer.new)
         (beside files F.gives result.1 F.Disk.DiskFile E.contents faults.old faults.new)
         result.0 }
 {
-    match call_of(alloc, words) {
+    match call_of(alloc, arguments) {
         Ok(Call::Watch { file, moment }) => watch_log(
             alloc, file, moment, files, reader, writer, faults,
         ),
@@ -193,11 +194,11 @@ pub struct Answered<D> {
     pub file: Option<D>,
 }
 
-/// Does what the words ask for, reports a fault, and answers the exit status. After the answer
+/// Does what the arguments ask for, reports a fault, and answers the exit status. After the answer
 /// nothing more is read or written.
 fn exit_status<S: AsStr, R: Read, W: Write, E: Write, F: LogFiles + Drop>(
     alloc: Global,
-    words: &[S],
+    arguments: &[S],
     reader: &mut Counting<R>,
     writer: &mut Counting<W>,
     faults: &mut Counting<E>,
@@ -206,12 +207,12 @@ fn exit_status<S: AsStr, R: Read, W: Write, E: Write, F: LogFiles + Drop>(
     requires reader { reader.old.failures ≡ 0 }
     requires writer { writer.old.failures ≡ 0 }
     requires faults { faults.old.failures ≡ 0 }
-    ensures { Answers (map S.text words.now)
+    ensures { Answers (map S.text arguments.now)
         (devices R.remaining W.contents reader.old reader.new writer.old writer.new)
         (beside files F.gives result.file F.Disk.DiskFile E.contents faults.old faults.new)
         result.status }
 {
-    let (outcome, file) = obey(alloc, words, reader, writer, faults, files);
+    let (outcome, file) = obey(alloc, arguments, reader, writer, faults, files);
     match outcome {
         Ok(()) => Answered { status: DONE, file },
         Err(fault) => Answered {
@@ -221,10 +222,10 @@ fn exit_status<S: AsStr, R: Read, W: Write, E: Write, F: LogFiles + Drop>(
     }
 }
 
-/// The fault of words that can't be had, for this reason: one of them is no text, or memory ran
-/// out.
-fn want_of_words(reason: &io::Error) -> Fault<'static>
-    ensures { IsWantOfWords reason.now result }
+/// The fault of arguments that can't be had, for this reason: one of them is no text, or memory
+/// ran out.
+fn want_of_arguments(reason: &io::Error) -> Fault<'static>
+    ensures { IsWantOfArguments reason.now result }
 {
     match reason.kind() {
         ErrorKind::OutOfMemory => Fault::from(AllocError),
@@ -232,13 +233,13 @@ fn want_of_words(reason: &io::Error) -> Fault<'static>
     }
 }
 
-/// Runs the program from its input to its output, both as they stand: does what its words ask for,
-/// of which the first is the program's name, reports a fault on `faults`, and answers the exit
-/// status. Where the words can't be had, it reports why. After the answer nothing more is read or
-/// written. A watch opens its log by `files`; the open file is handed back.
+/// Runs the program from its input to its output, both as they stand: does what its arguments ask
+/// for, of which the first is the program's name, reports a fault on `faults`, and answers the exit
+/// status. Where the arguments can't be had, it reports why. After the answer nothing more is read
+/// or written. A watch opens its log by `files`; the open file is handed back.
 pub fn answer<R: Read, W: Write, E: Write, F: LogFiles + Drop>(
     alloc: Global,
-    words: io::Result<Vec<String>>,
+    arguments: io::Result<Vec<String>>,
     input: &mut Counting<R>,
     output: &mut Counting<W>,
     faults: &mut Counting<E>,
@@ -249,20 +250,21 @@ pub fn answer<R: Read, W: Write, E: Write, F: LogFiles + Drop>(
     requires faults { faults.old.failures ≡ 0 }
 
     // What was done with input, output and the log, and what was left on standard error, by the
-    // words; or why there were none.
-    ensures exits { MatchResult words
+    // arguments; or why there were none.
+    ensures exits { MatchResult arguments
         (λ given. Answers (map string_bytes given.items)
         (devices R.remaining W.contents input.old input.new output.old output.new)
         (beside files F.gives result.file F.Disk.DiskFile E.contents faults.old faults.new)
         result.status)
-        (λ reason. LacksWords reason
+        (λ reason. LacksArguments reason
         (devices R.remaining W.contents input.old input.new output.old output.new)
         (beside files F.gives result.file F.Disk.DiskFile E.contents faults.old faults.new)
         result.status) }
     ensures status { IsStatus result.status }
 
-    // A success of words that name a call is the success of that call.
-    ensures called { IfOk words (λ given. (call : Call) → Names (map string_bytes given.items) call
+    // A success of arguments that name a call is the success of that call.
+    ensures called { IfOk arguments
+        (λ given. (call : Call) → Names (map string_bytes given.items) call
         → result.status ≡ 0 → Performs call
         (devices R.remaining W.contents input.old input.new output.old output.new)
         (beside files F.gives result.file F.Disk.DiskFile E.contents faults.old faults.new)
@@ -270,27 +272,27 @@ pub fn answer<R: Read, W: Write, E: Write, F: LogFiles + Drop>(
 
     // A success leaves nothing on standard error, but for a watch; and a fault one text, behind
     // what a watch told there: `navtex: `, the fault, and a newline, but for a text of clap on the
-    // words.
-    ensures silent { IfOk words (λ given. (NamesWatch (map string_bytes given.items) → ⊥)
+    // arguments.
+    ensures silent { IfOk arguments (λ given. (NamesWatch (map string_bytes given.items) → ⊥)
         → result.status ≡ 0 → faults.new ≡ faults.old) }
     ensures reported { result.status ≢ 0
         → WritesOne (λ text. result.status ≢ 64 → IsFaultLine text)
         E.contents faults.old faults.new }
 {
-    match words {
-        Ok(words) => exit_status(alloc, words.as_slice(), input, output, faults, files),
+    match arguments {
+        Ok(arguments) => exit_status(alloc, arguments.as_slice(), input, output, faults, files),
         Err(reason) => Answered {
-            status: want_of_words(&reason).report(faults),
+            status: want_of_arguments(&reason).report(faults),
             file: None,
         },
     }
 }
 
-/// Runs the program on its words, of which the first is its name, and answers its exit status. It
-/// has no files, so a watch answers that its log can't be opened.
+/// Runs the program on its arguments, of which the first is its name, and answers its exit status.
+/// It has no files, so a watch answers that its log can't be opened.
 pub fn run<S: AsStr, R: Read + Drop, W: Write + Drop, E: Write + Drop>(
     alloc: Global,
-    words: &[S],
+    arguments: &[S],
     input: R,
     output: W,
     faults: E,
@@ -298,7 +300,7 @@ pub fn run<S: AsStr, R: Read + Drop, W: Write + Drop, E: Write + Drop>(
     // How the program ended, by what its call ensures of the devices.
     ensures exits { (reader : CountedDevice R) × (writer : CountedDevice W)
         × (told : CountedDevice E)
-        × Exits (map S.text words.now)
+        × Exits (map S.text arguments.now)
         (devices R.remaining W.contents (fresh_device input) reader (fresh_device output) writer)
         (beside (record {}) ⟦<NoFiles as LogFiles>⟧.gives None
         ⟦<Noted<NoFile> as DiskFile>⟧ E.contents (fresh_device faults) told)
@@ -308,25 +310,33 @@ pub fn run<S: AsStr, R: Read + Drop, W: Write + Drop, E: Write + Drop>(
     // Success comes only from a call that succeeded, or from help or the version that was written.
     ensures success { result ≡ 0 → (reader : CountedDevice R) × (writer : CountedDevice W)
         × (told : CountedDevice E)
-        × Succeeds (map S.text words.now)
+        × Succeeds (map S.text arguments.now)
         (devices R.remaining W.contents (fresh_device input) reader (fresh_device output) writer)
         (beside (record {}) ⟦<NoFiles as LogFiles>⟧.gives None
         ⟦<Noted<NoFile> as DiskFile>⟧ E.contents (fresh_device faults) told) }
 
-    // A success of words that name a call is the success of that call.
-    ensures called { (call : Call) → Names (map S.text words.now) call → result ≡ 0
+    // A success of arguments that name a call is the success of that call.
+    ensures called { (call : Call) → Names (map S.text arguments.now) call → result ≡ 0
         → (reader : CountedDevice R) × (writer : CountedDevice W) × (told : CountedDevice E)
         × Performs call
         (devices R.remaining W.contents (fresh_device input) reader (fresh_device output) writer)
         (beside (record {}) ⟦<NoFiles as LogFiles>⟧.gives None
         ⟦<Noted<NoFile> as DiskFile>⟧ E.contents (fresh_device faults) told)
         (Ok tt) }
-    ensures words { result ≡ 64 → IsRefused (map S.text words.now) }
-    ensures refused { IsRefused (map S.text words.now)
+    ensures arguments { result ≡ 64 → IsRefused (map S.text arguments.now) }
+    ensures refused { IsRefused (map S.text arguments.now)
         → (result ≡ 64) ⊎ (result ≡ 1) }
 {
     let mut reader = Counting::new(input);
     let mut writer = Counting::new(output);
     let mut lines = Counting::new(faults);
-    exit_status(alloc, words, &mut reader, &mut writer, &mut lines, NoFiles).status
+    exit_status(
+        alloc,
+        arguments,
+        &mut reader,
+        &mut writer,
+        &mut lines,
+        NoFiles,
+    )
+    .status
 }

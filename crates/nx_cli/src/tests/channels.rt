@@ -93,8 +93,8 @@ fn takes_channel_0_alone(rt: HostRuntime) {
         ("decode", b"ZCZC EA01\nTEST\nNNNN\n\n"),
         ("locks", &locks),
     ];
-    for (word, output) in cases {
-        expect_output(&rt, alloc, word, &["navtex", word], &air_file, output);
+    for (command, output) in cases {
+        expect_output(&rt, alloc, command, &["navtex", command], &air_file, output);
     }
 }
 
@@ -105,6 +105,6 @@ fn damages_channel_0_alone(rt: HostRuntime) {
     let lines = damaged.strip_prefix(MOMENT_OF_EA01).expect(&rt, "a moment");
     let both = alternating(&rt, alloc, lines, lines_of_ea01(&rt), false);
     let air_file = made_of(&rt, alloc, &[InTurn(false)]);
-    let words = ["navtex", "damage", "dx", "144", "59"];
-    expect_output(&rt, alloc, "on 0 and 1", &words, &air_file, &both);
+    let arguments = ["navtex", "damage", "dx", "144", "59"];
+    expect_output(&rt, alloc, "on 0 and 1", &arguments, &air_file, &both);
 }

@@ -87,12 +87,19 @@ fn copies_all_else(rt: HostRuntime) {
         (["all", "0", "0"], LINES_OF_ALL_KINDS),
     ];
     for &([kind, from, count], output) in &ROWS {
-        let words = ["navtex", "damage", kind, from, count];
-        expect_output(&rt, rt.alloc(), kind, &words, LINES_OF_ALL_KINDS, output);
+        let arguments = ["navtex", "damage", kind, from, count];
+        expect_output(
+            &rt,
+            rt.alloc(),
+            kind,
+            &arguments,
+            LINES_OF_ALL_KINDS,
+            output,
+        );
     }
 }
 
-// The words of a call that inverts the first element of the file.
+// The arguments of a call that inverts the first element of the file.
 const DAMAGE_FIRST: [&str; 5] = ["navtex", "damage", "all", "0", "1"];
 
 #[test]
@@ -165,7 +172,7 @@ fn refuses_other_kinds(rt: HostRuntime) {
     let alloc = rt.alloc();
     let line = "navtex: kind must be dx, rx or all\n";
     for kind in ["DX", "tx", ""] {
-        let words = ["navtex", "damage", kind, "0", "1"];
-        expect_fault(&rt, alloc, kind, &words, AIR_FILE_OF_A, (64, line));
+        let arguments = ["navtex", "damage", kind, "0", "1"];
+        expect_fault(&rt, alloc, kind, &arguments, AIR_FILE_OF_A, (64, line));
     }
 }

@@ -66,10 +66,18 @@ fn expect_stop_at_write(rt: &impl Abort, alloc: Global, taken: usize) {
     let mut output = Sink::new(Vec::new(alloc));
     output.piece = 1;
     output.fails_at = Some((taken as u64).saturating_add(1));
-    let words = ["navtex", "encode"];
+    let arguments = ["navtex", "encode"];
     let line = format!(in alloc; "navtex: write failed after {taken} bytes\n").expect(rt, "memory");
     let end = (1, line.as_str());
-    expect_end(rt, alloc, "encode", &words, &mut source, &mut output, end);
+    expect_end(
+        rt,
+        alloc,
+        "encode",
+        &arguments,
+        &mut source,
+        &mut output,
+        end,
+    );
     assert!(rt; source.calls == 2, "{taken} bytes: {} reads", source.calls);
     assert!(rt;
         Some(output.calls) == output.fails_at,
@@ -89,13 +97,13 @@ fn stops_at_a_failed_write(rt: HostRuntime) {
     }
 }
 
-// A word of the program, the input, the most bytes that the output takes at once, whether it
+// A command of the program, the input, the most bytes that the output takes at once, whether it
 // forgets them, and the status.
 type OddRow<'a> = (&'a str, &'a [u8], usize, bool, u8);
 
 // Expects that the run ends with the status, where standard error fails at its first call.
 fn expect_status(rt: &impl Abort, alloc: Global, row: OddRow) {
-    let (word, input, piece, discards, wanted) = row;
+    let (command, input, piece, discards, wanted) = row;
     let mut source = Source::of(input);
     source.piece = 1;
     let mut output = Sink::new(Vec::new(alloc));
@@ -103,19 +111,19 @@ fn expect_status(rt: &impl Abort, alloc: Global, row: OddRow) {
     output.discards = discards;
     let mut faults = Sink::new(Vec::new(alloc));
     faults.fails_at = Some(1);
-    let words = ["navtex", word];
-    let status = run(alloc, &words, &mut source, &mut output, &mut faults);
+    let arguments = ["navtex", command];
+    let status = run(alloc, &arguments, &mut source, &mut output, &mut faults);
     let calls = if wanted == 0 { 0 } else { 1 };
     assert!(rt;
         status == wanted,
-        "{word}, {piece}: status {status} in place of {wanted}"
+        "{command}, {piece}: status {status} in place of {wanted}"
     );
     assert!(rt;
         faults.calls == calls,
-        "{word}, {piece}: {} lines",
+        "{command}, {piece}: {} lines",
         faults.calls
     );
-    expect_text(rt, word, &faults.taken, b"");
+    expect_text(rt, command, &faults.taken, b"");
 }
 
 #[test]

@@ -1,4 +1,4 @@
-//! `navtex log` on words and bytes: which entries are asked for, in which form, and what it
+//! `navtex log` on arguments and bytes: which entries are asked for, in which form, and what it
 //! refuses.
 
 use super::{expect_fault, expect_output};
@@ -41,8 +41,15 @@ fn selects_entries(rt: HostRuntime) {
             b"{\"channel\":0,\"characters\":5,\"end\":\"full\",\"errors\":0,\"moment\":1735692000,\"number\":1,\"station\":\"E\",\"subject\":\"A\",\"text\":\"TEST\\n\",\"time\":\"2025-01-01T00:40:00Z\"}\n",
         ),
     ];
-    for &(words, output) in &ROWS {
-        expect_output(&rt, rt.alloc(), words[words.len() - 1], words, BOTH, output);
+    for &(arguments, output) in &ROWS {
+        expect_output(
+            &rt,
+            rt.alloc(),
+            arguments[arguments.len() - 1],
+            arguments,
+            BOTH,
+            output,
+        );
     }
 }
 
@@ -71,7 +78,7 @@ fn refuses_values_and_bytes(rt: HostRuntime) {
             "navtex: line 1 is not of a log\n",
         ),
     ];
-    for &(words, status, line) in &ROWS {
-        expect_fault(&rt, rt.alloc(), line, words, b"TEST\n", (status, line));
+    for &(arguments, status, line) in &ROWS {
+        expect_fault(&rt, rt.alloc(), line, arguments, b"TEST\n", (status, line));
     }
 }

@@ -37,8 +37,8 @@ const WORD_150: usize = 1_071;
 #[test]
 fn refuses_what_is_not_sent(rt: HostRuntime) {
     let alloc = rt.alloc();
-    let words = ["navtex", "damage", "all", "150", "1"];
-    let wrong = output_of(alloc, &words, AIR_FILE_OF_EA01);
+    let arguments = ["navtex", "damage", "all", "150", "1"];
+    let wrong = output_of(alloc, &arguments, AIR_FILE_OF_EA01);
     let unpaired = with_word(&rt, alloc, AIR_FILE_OF_EA01, WORD_150, b"1110001");
     let longer = join(&rt, alloc, &[AIR_FILE_OF_EA01, b"B 1111000\n"]);
     // The first of the faults of strict reading, in this profile's order, and its line.

@@ -32,14 +32,14 @@ fn expect_run(
     rt: &impl Abort,
     alloc: Global,
     row: &str,
-    words: &[&str],
+    arguments: &[&str],
     input: &[u8],
     output: &[u8],
     end: End,
 ) {
     let (status, line) = (end.0, end.1.as_bytes());
-    run_on(alloc, words, input).expect(rt, row, status, output, line);
-    run_in_pieces(alloc, words, input, 1).expect(rt, row, status, output, line);
+    run_on(alloc, arguments, input).expect(rt, row, status, output, line);
+    run_in_pieces(alloc, arguments, input, 1).expect(rt, row, status, output, line);
 }
 
 /// Expects that `resume` writes this log of an input, which comes at once, and `save` this state
@@ -215,8 +215,8 @@ fn writes_the_log_before_a_fault(rt: HostRuntime) {
     let input = join(&rt, alloc, &[NOTHING, AIR_FILE_OF_EA01, b"T 0\n"]);
     let end = (2, "navtex: line 5: moment 0 is before 1735692000\n");
     // No state is written of a run that fails.
-    for (words, output) in [(RESUME, LOG_OF_EA01), (SAVE, b"")] {
-        expect_run(&rt, alloc, words[1], &words, &input, output, end);
+    for (arguments, output) in [(RESUME, LOG_OF_EA01), (SAVE, b"")] {
+        expect_run(&rt, alloc, arguments[1], &arguments, &input, output, end);
     }
 }
 
@@ -287,7 +287,7 @@ fn names_the_line_in_which_a_state_is_cut(rt: HostRuntime) {
 /// Expects that `resume` and `save` over a text that comes again and again end with this line,
 /// behind so many reads, and write nothing.
 fn expect_stop_on_endless(rt: &impl Abort, alloc: Global, text: &[u8], reads: u64, line: &str) {
-    for words in [RESUME, SAVE] {
+    for arguments in [RESUME, SAVE] {
         let mut source = Source::of(text);
         source.endless = true;
         let mut output = Sink::new(Vec::new(alloc));
@@ -296,7 +296,7 @@ fn expect_stop_on_endless(rt: &impl Abort, alloc: Global, text: &[u8], reads: u6
             rt,
             alloc,
             shown(text),
-            &words,
+            &arguments,
             &mut source,
             &mut output,
             end,

@@ -55,8 +55,8 @@ fn tells_the_next_slot(rt: HostRuntime) {
         ("X", "32503679400", "32503679400 2999-12-31 23:50:00\n"),
     ];
     for &(station, moment, line) in &ROWS {
-        let words = ["navtex", "slots", station, moment];
-        expect_output(&rt, rt.alloc(), moment, &words, b"", line.as_bytes());
+        let arguments = ["navtex", "slots", station, moment];
+        expect_output(&rt, rt.alloc(), moment, &arguments, b"", line.as_bytes());
     }
 }
 
@@ -99,12 +99,12 @@ fn names_each_fault_of_a_station(rt: HostRuntime) {
         ("slots", "", "0", 64, NO_LETTER),
     ];
     for &(command, station, moment, status, line) in &ROWS {
-        let words = ["navtex", command, station, moment];
+        let arguments = ["navtex", command, station, moment];
         expect_fault(
             &rt,
             rt.alloc(),
             station,
-            &words,
+            &arguments,
             MESSAGE_FILE,
             (status, line),
         );

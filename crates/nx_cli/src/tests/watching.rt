@@ -40,14 +40,14 @@ fn file_of(rt: &impl Abort, alloc: Global, bytes: &[u8], failing: u64) -> Given 
     }
 }
 
-// The words of a watch of `x.log` from 2025-01-01 00:40:00 on.
-fn words_of_watch(rt: &impl Abort, alloc: Global) -> Vec<String> {
-    let mut words = Vec::new(alloc);
-    for word in ["navtex", "watch", "x.log", "1735692000"] {
-        let word = String::from_str(alloc, word).expect(rt, "memory");
-        words.push(word).expect(rt, "memory");
+// The arguments of a watch of `x.log` from 2025-01-01 00:40:00 on.
+fn arguments_of_watch(rt: &impl Abort, alloc: Global) -> Vec<String> {
+    let mut arguments = Vec::new(alloc);
+    for argument in ["navtex", "watch", "x.log", "1735692000"] {
+        let argument = String::from_str(alloc, argument).expect(rt, "memory");
+        arguments.push(argument).expect(rt, "memory");
     }
-    words
+    arguments
 }
 
 // How a watch ends: the status, what stands on standard error, and on standard output.
@@ -64,9 +64,16 @@ fn expect_watch(
 ) -> Option<TornFile> {
     let mut output = Counting::new(Sink::new(Vec::new(alloc)));
     let mut faults = Counting::new(Sink::new(Vec::new(alloc)));
-    let words = Ok(words_of_watch(rt, alloc));
+    let arguments = Ok(arguments_of_watch(rt, alloc));
     let mut input = Counting::new(source);
-    let ended = answer(alloc, words, &mut input, &mut output, &mut faults, files);
+    let ended = answer(
+        alloc,
+        arguments,
+        &mut input,
+        &mut output,
+        &mut faults,
+        files,
+    );
     expect_text(rt, row, &faults.into_inner().taken, end.1.as_bytes());
     expect_text(rt, row, &output.into_inner().taken, end.2);
     assert!(rt;

@@ -1,5 +1,5 @@
--- How the program reads its words by clap: the command that it builds, and what it makes of clap's
--- answer (this profile).
+-- How the program reads its arguments by clap: the command that it builds, and what it makes of
+-- clap's answer (this profile).
 use Rattle.std.specs.Prelude.{◌≡◌, ◌≢◌, ⊤, ℕ, List, false, fold, codes, string_bytes}
 use Rattle.clap.specs.Words.{App, Row, Rule, Text, app_of, kind_of, with_rule, with_subcommand}
 use Rattle.clap.specs.declared.builder.command.Command.{Command}
@@ -7,21 +7,21 @@ use Rattle.clap.specs.declared.builder.command.Command.TheViews.{out-Command}
 use Rattle.clap.specs.declared.error.Error.{Error}
 use Rattle.clap.specs.declared.error.kind.ErrorKind.TheVariants.{DisplayHelp, DisplayVersion}
 use Rattle.clap.specs.declared.error.kind.ErrorKind.TheVariants.{OutOfMemory}
-use Rattle.nx_program.specs.Words.{AsksForHelp, AsksForVersion, IsRefusal, IsRefusedByClap}
+use Rattle.nx_program.specs.Arguments.{AsksForHelp, AsksForVersion, IsRefusal, IsRefusedByClap}
 use Rattle.nx_envelope.specs.declared.letter.Letter.{Letter}
 use Rattle.nx_station.specs.declared.damaging.DamageKind.{DamageKind}
-use Rattle.nx_program.specs.declared.words.Call.{Call}
-use Rattle.nx_program.specs.declared.words.Call.TheVariants as call
-use Rattle.nx_program.specs.Words.{IsFile, IsKind, IsNumber, IsStation, LacksKind, LacksStation}
-use Rattle.nx_program.specs.LogWords.{log_tree}
-use Rattle.nx_program.specs.Words.{LacksValue, damage_tree, file_tree, plain_tree, slot_tree}
+use Rattle.nx_program.specs.declared.arguments.Call.{Call}
+use Rattle.nx_program.specs.declared.arguments.Call.TheVariants as call
+use Rattle.nx_program.specs.Arguments.{IsFile, IsKind, IsNumber, IsStation, LacksKind, LacksStation}
+use Rattle.nx_program.specs.LogArguments.{log_tree}
+use Rattle.nx_program.specs.Arguments.{LacksValue, damage_tree, file_tree, plain_tree, slot_tree}
 use Rattle.nx_program.specs.declared.commands.Row.{Row as TableRow}
 use Rattle.nx_program.specs.declared.commands.Takes.{Takes}
 use Rattle.nx_program.specs.declared.commands.Takes.TheVariants.{File, Nothing, Query, Range, Slot}
-use Rattle.nx_program.specs.declared.words.WordsFault.{WordsFault}
-use Rattle.nx_program.specs.declared.words.WordsFault.TheVariants.{Help, Kind, Memory, Refused}
-use Rattle.nx_program.specs.declared.words.WordsFault.TheVariants.{Station}
-use Rattle.nx_program.specs.declared.words.WordsFault.TheVariants.{Value, Version}
+use Rattle.nx_program.specs.declared.arguments.ArgumentsFault.{ArgumentsFault}
+use Rattle.nx_program.specs.declared.arguments.ArgumentsFault.TheVariants.{Help, Kind, Memory, Refused}
+use Rattle.nx_program.specs.declared.arguments.ArgumentsFault.TheVariants.{Station}
+use Rattle.nx_program.specs.declared.arguments.ArgumentsFault.TheVariants.{Value, Version}
 
 -- the command is built as this tree says
 pub record IsBuiltAs (app : App) (command : Command) : Type 0 where
@@ -35,17 +35,17 @@ pub record IsReadAs (old new : Command) : Type 0 where
 
 -- the command tree of a command that takes this
 abbrev pub taking_tree : Takes → Text → App
-taking_tree Nothing word = plain_tree word
-taking_tree Slot word = slot_tree word
-taking_tree File word = file_tree word
-taking_tree Range word = damage_tree word
-taking_tree Query word = log_tree word
+taking_tree Nothing name = plain_tree name
+taking_tree Slot name = slot_tree name
+taking_tree File name = file_tree name
+taking_tree Range name = damage_tree name
+taking_tree Query name = log_tree name
 
 -- the command tree of a row of the program's own table
 abbrev pub row_tree : TableRow → App
 row_tree row = taking_tree row.takes row.name.now
 
--- the new command is built as the old one is, with an argument of this rule behind its arguments
+-- the new command is built as the old one is, with a value of this rule behind its values
 abbrev pub AddsRule : Rule → Command → Command → Type 0
 AddsRule rule old new = (app : App) → IsBuiltAs app old → IsBuiltAs (with_rule app rule) new
 
@@ -58,18 +58,18 @@ AddsRow row old new =
 abbrev pub with_rows : App → List TableRow → App
 with_rows = fold (λ (tree : App) (row : TableRow). with_subcommand tree (row_tree row).top)
 
--- why the words name no call
-abbrev pub ExplainsWords : List Text → WordsFault → Type 0
-ExplainsWords words (Help answer) = AsksForHelp words
-ExplainsWords words Version = AsksForVersion words
-ExplainsWords words (Refused answer) = IsRefusedByClap words
-ExplainsWords words Station = LacksStation words
-ExplainsWords words Kind = LacksKind words
-ExplainsWords words (Value report) = LacksValue words (string_bytes report)
-ExplainsWords words (Memory want) = ⊤
+-- why the arguments name no call
+abbrev pub ExplainsArguments : List Text → ArgumentsFault → Type 0
+ExplainsArguments arguments (Help answer) = AsksForHelp arguments
+ExplainsArguments arguments Version = AsksForVersion arguments
+ExplainsArguments arguments (Refused answer) = IsRefusedByClap arguments
+ExplainsArguments arguments Station = LacksStation arguments
+ExplainsArguments arguments Kind = LacksKind arguments
+ExplainsArguments arguments (Value report) = LacksValue arguments (string_bytes report)
+ExplainsArguments arguments (Memory want) = ⊤
 
 -- an answer of clap is help, the version, want of memory, or a refusal
-abbrev pub IsSortedAs : Error → WordsFault → Type 0
+abbrev pub IsSortedAs : Error → ArgumentsFault → Type 0
 IsSortedAs error (Help answer) = (answer ≡ error) × (kind_of error ≡ DisplayHelp)
 IsSortedAs error Version = kind_of error ≡ DisplayVersion
 IsSortedAs error (Refused answer) =
@@ -79,15 +79,15 @@ IsSortedAs error Kind = ⊥
 IsSortedAs error (Value report) = ⊥
 IsSortedAs error (Memory want) = kind_of error ≡ OutOfMemory
 
--- the arguments are not both a station and a moment
+-- the values are not both a station and a moment
 abbrev pub LacksSlot : List Row → Type 0
 LacksSlot rows = (s : Letter) (m : ℕ) → IsStation rows s → IsNumber (codes "MOMENT") rows m → ⊥
 
--- the arguments are not both a file and a moment
+-- the values are not both a file and a moment
 abbrev pub LacksWatch : List Row → Type 0
 LacksWatch rows = (n : Text) (m : ℕ) → IsFile rows n → IsNumber (codes "MOMENT") rows m → ⊥
 
--- the arguments are not all of a kind of damage, the first word and a count of words
+-- the values are not all of a kind of damage, the first word and a count of words
 abbrev pub LacksRange : List Row → Type 0
 LacksRange rows =
     (k : DamageKind) (f c : ℕ) → IsKind rows k → IsNumber (codes "FROM") rows f
@@ -98,11 +98,11 @@ abbrev pub IsOnStreams : Call → Type 0
 IsOnStreams (call.Watch name moment) = ⊥
 IsOnStreams _ = ⊤
 
--- the call is one that takes arguments
-abbrev pub WantsArguments : Call → Type 0
-WantsArguments (call.Send station moment) = ⊤
-WantsArguments (call.Watch name moment) = ⊤
-WantsArguments (call.Slots station moment) = ⊤
-WantsArguments (call.Damage kind from count) = ⊤
-WantsArguments (call.Log query form) = ⊤
-WantsArguments _ = ⊥
+-- the call is one that takes values
+abbrev pub WantsValues : Call → Type 0
+WantsValues (call.Send station moment) = ⊤
+WantsValues (call.Watch name moment) = ⊤
+WantsValues (call.Slots station moment) = ⊤
+WantsValues (call.Damage kind from count) = ⊤
+WantsValues (call.Log query form) = ⊤
+WantsValues _ = ⊥

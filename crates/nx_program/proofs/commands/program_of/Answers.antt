@@ -1,5 +1,5 @@
-use Rattle.nx_program.specs.Words.{bare_tree}
-use Rattle.nx_program.proofs.lemmas.words.BuiltTree.{with_next}
+use Rattle.nx_program.specs.Arguments.{bare_tree}
+use Rattle.nx_program.proofs.lemmas.arguments.BuiltTree.{with_next}
 use Rattle.nx_program.proofs.commands.program_of.Goals as goal
 
 pub loop-row-preserved : goal.loop-row-preserved

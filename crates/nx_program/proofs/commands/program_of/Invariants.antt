@@ -1,5 +1,5 @@
 use Rattle.std.proofs.Common.{take}
-use Rattle.nx_program.specs.Words.{bare_tree}
+use Rattle.nx_program.specs.Arguments.{bare_tree}
 use Rattle.nx_program.specs.private.Reading.{IsBuiltAs, with_rows}
 use Rattle.nx_program.proofs.commands.program_of.Given as goal
 

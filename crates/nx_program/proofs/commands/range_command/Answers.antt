@@ -6,5 +6,5 @@ pub returns : goal.returns
 returns c =
     IfOk-weaker c.with_number-2.result _ _
     (λ r adds. adds _ (c.in_ok-with_first.ensures _
-    (c.in_ok-with_kind.ensures (new_app c.args.word.now)
+    (c.in_ok-with_kind.ensures (new_app c.args.name.now)
     (record { tree = c.new.ensures.app; local = c.new.ensures.local })))) c.with_number-2.ensures

@@ -3,14 +3,14 @@ use Rattle.clap.proofs.OnLiterals.{clap_on_literals}
 use Rattle.clap.specs.Words.{Row, Text}
 use Rattle.clap.specs.declared.error.kind.ErrorKind.TheVariants as kind
 use Rattle.nx_station.specs.declared.damaging.DamageKind.{DamageKind}
-use Rattle.nx_program.specs.Words.{kind_name}
-use Rattle.nx_program.proofs.lemmas.words.GivenArguments.{given}
-use Rattle.nx_program.proofs.lemmas.words.CallArguments.{differ, no_kind, number-of}
-use Rattle.nx_program.proofs.lemmas.words.Words.{invalid_is_refusal, missing_argument_is_refusal}
+use Rattle.nx_program.specs.Arguments.{kind_name}
+use Rattle.nx_program.proofs.lemmas.arguments.GivenValues.{given}
+use Rattle.nx_program.proofs.lemmas.arguments.CallValues.{differ, no_kind, number-of}
+use Rattle.nx_program.proofs.lemmas.arguments.Arguments.{invalid_is_refusal, missing_argument_is_refusal}
 use Rattle.nx_program.proofs.laws.damage_in_examples.Goals as goal
 
-abbrev arguments : Text → Text → Text → List Row
-arguments kind from count =
+abbrev values : Text → Text → Text → List Row
+values kind from count =
     given (codes "KIND") kind ∷ given (codes "FROM") from ∷ given (codes "COUNT") count ∷ []
 
 -- no kind is written in capitals
@@ -18,17 +18,17 @@ no_capitals : (kind : DamageKind) → Some (codes "DX") ≡ Some (kind_name kind
 no_capitals = no_kind (codes "DX") (differ _ _ refl) (differ _ _ refl) (differ _ _ refl)
 
 abbrev some_words : List Row
-some_words = arguments (codes "dx") (codes "144") (codes "59")
+some_words = values (codes "dx") (codes "144") (codes "59")
 
 abbrev all_words : List Row
-all_words = arguments (codes "all") (codes "0") (codes "4294967295")
+all_words = values (codes "all") (codes "0") (codes "4294967295")
 
 pub returns : goal.returns
 unfolding clap_on_literals
 returns c = record {
   some = λ program. record {
     taken = refl;
-    arguments = some_words;
+    values = some_words;
     command = refl;
     given = (
       refl,
@@ -39,7 +39,7 @@ returns c = record {
   };
   widest = λ program. record {
     taken = refl;
-    arguments = all_words;
+    values = all_words;
     command = refl;
     given = (
       refl,
@@ -50,7 +50,7 @@ returns c = record {
   };
   capitals = λ program. record {
     taken = refl;
-    arguments = arguments (codes "DX") (codes "0") (codes "1");
+    values = values (codes "DX") (codes "0") (codes "1");
     entered = refl;
     no_kind = no_capitals;
   };

@@ -2,14 +2,14 @@ use Rattle.std.proofs.Common.{◌≡◌, ℕ, List, [], ◌∷◌, Some, codes, 
 use Rattle.clap.proofs.OnLiterals.{clap_on_literals}
 use Rattle.clap.specs.Words.{Row, Text}
 use Rattle.clap.specs.declared.error.kind.ErrorKind.TheVariants as kind
-use Rattle.nx_program.proofs.lemmas.words.Words.{invalid_is_refusal, missing_argument_is_refusal}
-use Rattle.nx_program.proofs.lemmas.words.CallArguments.{number-of}
-use Rattle.nx_program.proofs.lemmas.words.GivenArguments.{given}
+use Rattle.nx_program.proofs.lemmas.arguments.Arguments.{invalid_is_refusal, missing_argument_is_refusal}
+use Rattle.nx_program.proofs.lemmas.arguments.CallValues.{number-of}
+use Rattle.nx_program.proofs.lemmas.arguments.GivenValues.{given}
 use Rattle.nx_envelope.specs.declared.letter.Letter.{Letter}
 use Rattle.nx_program.proofs.laws.slots_in_examples.Goals as goal
 
-abbrev arguments : Text → Text → List Row
-arguments station moment = given (codes "STATION") station ∷ given (codes "MOMENT") moment ∷ []
+abbrev values : Text → Text → List Row
+values station moment = given (codes "STATION") station ∷ given (codes "MOMENT") moment ∷ []
 
 -- no letter is the small letter e
 no_small_e : (station : Letter) → Some (codes "e") ≡ Some (station.byte ∷ []) → ⊥
@@ -29,32 +29,32 @@ unfolding clap_on_literals
 returns c = record {
   send = λ program station is. record {
     taken = refl;
-    arguments = arguments (codes "E") (codes "1735689600");
+    values = values (codes "E") (codes "1735689600");
     command = refl;
     given = (
       ap (λ (b : ℕ). Some (b ∷ [])) (sym is),
-      number-of (codes "MOMENT") (arguments (codes "E") (codes "1735689600")) (codes "1735689600")
+      number-of (codes "MOMENT") (values (codes "E") (codes "1735689600")) (codes "1735689600")
           refl refl,
     );
   };
   slots = λ program station is. record {
     taken = refl;
-    arguments = arguments (codes "E") (codes "0");
+    values = values (codes "E") (codes "0");
     command = refl;
     given = (
       ap (λ (b : ℕ). Some (b ∷ [])) (sym is),
-      number-of (codes "MOMENT") (arguments (codes "E") (codes "0")) (codes "0") refl refl,
+      number-of (codes "MOMENT") (values (codes "E") (codes "0")) (codes "0") refl refl,
     );
   };
   small_letter = λ program. record {
     taken = refl;
-    arguments = arguments (codes "e") (codes "0");
+    values = values (codes "e") (codes "0");
     entered = inl refl;
     no_letter = no_small_e;
   };
   two_letters = λ program. record {
     taken = refl;
-    arguments = arguments (codes "EA") (codes "0");
+    values = values (codes "EA") (codes "0");
     entered = inr refl;
     no_letter = no_two_letters;
   };

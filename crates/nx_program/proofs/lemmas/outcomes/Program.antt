@@ -1,4 +1,4 @@
--- What the outcome of a run says of its words.
+-- What the outcome of a run says of its arguments.
 use Rattle.std.proofs.Common.{◌≡◌, ◌⊎◌, ℕ, List, Result, Ok, Err, Option, ap, ap₂, inl, inr, refl}
 use Rattle.std.proofs.Common.{subst, sym, ◌∙◌, arith}
 use Rattle.clap.specs.Words.{Text}
@@ -20,7 +20,7 @@ use Rattle.nx_station.specs.declared.fault.DamageFault.TheVariants as damage
 use Rattle.nx_station.specs.declared.fault.EmissionFault.TheVariants as emission
 use Rattle.nx_station.specs.declared.fault.SendRunFault.{SendRunFault}
 use Rattle.nx_station.specs.declared.fault.SendRunFault.TheVariants as send
-use Rattle.nx_program.specs.declared.words.Call.{Call}
+use Rattle.nx_program.specs.declared.arguments.Call.{Call}
 use Rattle.nx_fec.specs.declared.fault.RunFault.{RunFault}
 use Rattle.nx_fec.specs.declared.fault.RunFault.TheVariants as run
 use Rattle.nx_kept.specs.declared.disk.DiskFile.{Ghosts as TellsOfDisk}
@@ -34,15 +34,15 @@ use Rattle.nx_program.specs.declared.watch_command.WatchFailure.TheVariants.{End
 use Rattle.nx_program.specs.Program.{EndsOnStreams, EndsRun, Exits, IsUntouchedByWant, Performs}
 use Rattle.nx_program.specs.Program.{PerformsOnStreams, Succeeds, Tells, fresh_device}
 use Rattle.nx_program.specs.WatchCommand.{Beside, IsUnused, WatchesLog, beside, watch_outcome}
-use Rattle.nx_program.specs.declared.words.Call.TheVariants.{Watch}
+use Rattle.nx_program.specs.declared.arguments.Call.TheVariants.{Watch}
 use Rattle.std.specs.declared.alloc.AllocError.{AllocError}
 use Rattle.nx_program.specs.Status.{IsStatus, call_status, check_status, damage_status}
 use Rattle.nx_program.specs.Status.{fault_status, listen_status, log_status, resume_status}
 use Rattle.nx_program.specs.Status.{run_status, send_status, status_of, watch_failure_status}
 use Rattle.nx_fec.specs.Transfers.{Devices, devices, CountedDevice}
-use Rattle.nx_program.specs.Words.{IsRefused, Names}
-use Rattle.nx_program.proofs.lemmas.words.Words.{help_not_refused, named_not_help, named_not_refused}
-use Rattle.nx_program.proofs.lemmas.words.Words.{named_not_version, named_once, version_not_refused}
+use Rattle.nx_program.specs.Arguments.{IsRefused, Names}
+use Rattle.nx_program.proofs.lemmas.arguments.Arguments.{help_not_refused, named_not_help, named_not_refused}
+use Rattle.nx_program.proofs.lemmas.arguments.Arguments.{named_not_version, named_once, version_not_refused}
 
 -- what was wrapped, with no failed call
 fresh-is : {T : Type 0} (c : CountedDevice T) (device : T) → c.inner ≡ device → c.failures ≡ 0
@@ -52,7 +52,7 @@ fresh-is {T} c device inner none =
     ap₂ make inner none
 
 -- how a run over devices that were wrapped ends, told of fresh ones
-pub exits-fresh : {R W F D E : Type 0} (words : List Text) (remaining : R → Option (List ℕ))
+pub exits-fresh : {R W F D E : Type 0} (arguments : List Text) (remaining : R → Option (List ℕ))
     (contents : W → Option (List ℕ))
     (input : R) (reader reader_after : CountedDevice R) (output : W)
     (writer writer_after : CountedDevice W)
@@ -62,19 +62,19 @@ pub exits-fresh : {R W F D E : Type 0} (words : List Text) (remaining : R → Op
     (status : ℕ)
     → reader.inner ≡ input → reader.failures ≡ 0 → writer.inner ≡ output → writer.failures ≡ 0
     → faults.inner ≡ errors → faults.failures ≡ 0
-    → Exits words (devices remaining contents reader reader_after writer writer_after)
+    → Exits arguments (devices remaining contents reader reader_after writer writer_after)
     (beside files gives disk_after tells told faults faults_after) status
-    → Exits words (devices remaining contents (fresh_device input) reader_after
+    → Exits arguments (devices remaining contents (fresh_device input) reader_after
     (fresh_device output) writer_after)
     (beside files gives disk_after tells told (fresh_device errors) faults_after) status
-exits-fresh {R} {W} {F} {D} {E} words remaining contents input reader reader_after output writer
+exits-fresh {R} {W} {F} {D} {E} arguments remaining contents input reader reader_after output writer
     writer_after files gives disk_after tells told errors faults faults_after
     status input_is unread output_is unwritten errors_is untold exits =
-    let P : Devices R W → Type 0 = λ d. Exits words d
+    let P : Devices R W → Type 0 = λ d. Exits arguments d
     (beside files gives disk_after tells told (fresh_device errors) faults_after) status in
     let on : CountedDevice R → CountedDevice W
     → Devices R W = λ r w. devices remaining contents r reader_after w writer_after in
-    let Q : CountedDevice E → Type 0 = λ e. Exits words (on reader writer)
+    let Q : CountedDevice E → Type 0 = λ e. Exits arguments (on reader writer)
     (beside files gives disk_after tells told e faults_after) status in
     subst P (ap₂ on (fresh-is reader input input_is unread)
     (fresh-is writer output output_is unwritten))
@@ -168,7 +168,7 @@ watch-status (Ended (watch.Back line last given)) = inr refl
 
 pub fault-status : (why : Fault)
     → (fault_status why ≡ 1) ⊎ ((fault_status why ≡ 2) ⊎ (fault_status why ≡ 64))
-fault-status (fault.Words answer) = inr (inr refl)
+fault-status (fault.Arguments answer) = inr (inr refl)
 fault-status fault.NoText = inr (inr refl)
 fault-status fault.Station = inr (inr refl)
 fault-status fault.Kind = inr (inr refl)
@@ -183,37 +183,39 @@ outcome-status (Ok done) = inl refl
 outcome-status (Err why) = inr (fault-status why)
 
 -- a run exits with one of the statuses
-pub status-exits : {R W F D E : Type 0} (words : List Text) (d : Devices R W) (b : Beside F D E)
-    (status : ℕ) → Exits words d b status → IsStatus status
-status-exits words d b status exits =
+pub status-exits : {R W F D E : Type 0} (arguments : List Text) (d : Devices R W) (b : Beside F D E)
+    (status : ℕ) → Exits arguments d b status → IsStatus status
+status-exits arguments d b status exits =
     let P : ℕ → Type 0 = λ n. IsStatus n in
     subst P (sym exits.status_is) (outcome-status exits.outcome)
 
-success-ends : {R W F D E : Type 0} (words : List Text) (d : Devices R W) (b : Beside F D E)
+success-ends : {R W F D E : Type 0} (arguments : List Text) (d : Devices R W) (b : Beside F D E)
     (outcome : Result (Unit {0}) Fault)
-    → EndsRun words d b outcome → status_of outcome ≡ 0 → Succeeds words d b
-success-ends words d b (Ok done) ends zero = ends
-success-ends words d b (Err why) ends zero = elim (fault-status why) [
+    → EndsRun arguments d b outcome → status_of outcome ≡ 0 → Succeeds arguments d b
+success-ends arguments d b (Ok done) ends zero = ends
+success-ends arguments d b (Err why) ends zero = elim (fault-status why) [
   | inl one ↦ absurd (omega arith)
-  | inr other ↦ elim other [ inl two ↦ absurd (omega arith) | inr words ↦ absurd (omega arith) ]
+  | inr other ↦ elim other [ inl two ↦ absurd (omega arith) | inr arguments ↦ absurd (omega arith) ]
 ]
 
 -- status 0 is a success
-pub success-exits : {R W F D E : Type 0} (words : List Text) (d : Devices R W) (b : Beside F D E)
-    (status : ℕ) → Exits words d b status → status ≡ 0 → Succeeds words d b
-success-exits words d b status exits zero =
-    success-ends words d b exits.outcome exits.ends (sym exits.status_is ∙ zero)
+pub success-exits : {R W F D E : Type 0} (arguments : List Text) (d : Devices R W)
+    (b : Beside F D E)
+    (status : ℕ) → Exits arguments d b status → status ≡ 0 → Succeeds arguments d b
+success-exits arguments d b status exits zero =
+    success-ends arguments d b exits.outcome exits.ends (sym exits.status_is ∙ zero)
 
--- a watch doesn't end with the status of words
-watch-words : {R W F D E : Type 0} (d : Devices R W) (b : Beside F D E) (name : Text) (moment : ℕ)
+-- a watch doesn't end with the status of arguments
+watch-arguments : {R W F D E : Type 0} (d : Devices R W) (b : Beside F D E) (name : Text)
+    (moment : ℕ)
     (outcome : Result (Unit {0}) Fault) → WatchesLog d b name moment outcome
     → status_of outcome ≡ 64 → ⊥
-watch-words d b name moment outcome (Err why, gives, opened) is =
+watch-arguments d b name moment outcome (Err why, gives, opened) is =
     elim (watch-status (Unopened why)) [
       | inl one ↦ absurd (let e = sym (ap status_of opened.3) ∙ is in omega (arith, e, one))
       | inr two ↦ absurd (let e = sym (ap status_of opened.3) ∙ is in omega (arith, e, two))
     ]
-watch-words d b name moment outcome (Ok disk, gives, opened) is =
+watch-arguments d b name moment outcome (Ok disk, gives, opened) is =
     go opened.2 (sym (ap status_of opened.4) ∙ is)
   where
     go : (answer : Result WatchReport WatchFault)
@@ -224,60 +226,63 @@ watch-words d b name moment outcome (Ok disk, gives, opened) is =
       | inr two ↦ absurd (omega (arith, e, two))
     ]
 
-words-end : {R W : Type 0} (words : List Text) (d : Devices R W) (outcome : Result (Unit {0}) Fault)
-    → EndsOnStreams words d outcome → status_of outcome ≡ 64 → IsRefused words
-words-end words d (Ok done) ends is = absurd (omega arith)
-words-end words d (Err (fault.Words answer)) ends is = inl ends.0
-words-end words d (Err fault.NoText) ends is = absurd ends
-words-end words d (Err fault.Station) ends is = inr (inl ends.0)
-words-end words d (Err fault.Kind) ends is = inr (inr (inl ends.0))
-words-end words d (Err (fault.Value report)) ends is = inr (inr (inr (_, ends.0)))
-words-end words d (Err (fault.Watch name why)) ends is = absurd ends
-words-end words d (Err (fault.Call why)) ends is = elim (call-status why) [
+arguments-end : {R W : Type 0} (arguments : List Text) (d : Devices R W)
+    (outcome : Result (Unit {0}) Fault)
+    → EndsOnStreams arguments d outcome → status_of outcome ≡ 64 → IsRefused arguments
+arguments-end arguments d (Ok done) ends is = absurd (omega arith)
+arguments-end arguments d (Err (fault.Arguments answer)) ends is = inl ends.0
+arguments-end arguments d (Err fault.NoText) ends is = absurd ends
+arguments-end arguments d (Err fault.Station) ends is = inr (inl ends.0)
+arguments-end arguments d (Err fault.Kind) ends is = inr (inr (inl ends.0))
+arguments-end arguments d (Err (fault.Value report)) ends is = inr (inr (inr (_, ends.0)))
+arguments-end arguments d (Err (fault.Watch name why)) ends is = absurd ends
+arguments-end arguments d (Err (fault.Call why)) ends is = elim (call-status why) [
   | inl one ↦ absurd
       (omega arith)
   | inr two ↦ absurd (omega arith)
 ]
 
--- status 64 is a refusal of the words
-pub words-exit : {R W F D E : Type 0} (words : List Text) (d : Devices R W) (b : Beside F D E)
-    (status : ℕ) → Exits words d b status → status ≡ 64 → IsRefused words
-words-exit words d b status exits is = elim exits.ends [
-  | inl runs ↦ absurd (watch-words d b runs.name runs.moment exits.outcome runs.watched
+-- status 64 is a refusal of the arguments
+pub arguments-exit : {R W F D E : Type 0} (arguments : List Text) (d : Devices R W)
+    (b : Beside F D E)
+    (status : ℕ) → Exits arguments d b status → status ≡ 64 → IsRefused arguments
+arguments-exit arguments d b status exits is = elim exits.ends [
+  | inl runs ↦ absurd (watch-arguments d b runs.name runs.moment exits.outcome runs.watched
       (sym exits.status_is ∙ is))
-  | inr ends ↦ words-end words d exits.outcome ends.1 (sym exits.status_is ∙ is)
+  | inr ends ↦ arguments-end arguments d exits.outcome ends.1 (sym exits.status_is ∙ is)
 ]
 
-refused-ends : {R W : Type 0} (words : List Text) (d : Devices R W)
+refused-ends : {R W : Type 0} (arguments : List Text) (d : Devices R W)
     (outcome : Result (Unit {0}) Fault)
-    → EndsOnStreams words d outcome → IsRefused words
+    → EndsOnStreams arguments d outcome → IsRefused arguments
     → (status_of outcome ≡ 64) ⊎ (status_of outcome ≡ 1)
-refused-ends words d (Ok done) ends refused = elim ends [
-  | inl runs ↦ absurd (named_not_refused words runs.call runs.named refused)
-  | inr (inl help) ↦ absurd (help_not_refused words help.asked refused)
-  | inr (inr version) ↦ absurd (version_not_refused words version.asked refused)
+refused-ends arguments d (Ok done) ends refused = elim ends [
+  | inl runs ↦ absurd (named_not_refused arguments runs.call runs.named refused)
+  | inr (inl help) ↦ absurd (help_not_refused arguments help.asked refused)
+  | inr (inr version) ↦ absurd (version_not_refused arguments version.asked refused)
 ]
-refused-ends words d (Err (fault.Words answer)) ends refused = inl refl
-refused-ends words d (Err fault.NoText) ends refused = absurd ends
-refused-ends words d (Err fault.Station) ends refused = inl refl
-refused-ends words d (Err fault.Kind) ends refused = inl refl
-refused-ends words d (Err (fault.Value report)) ends refused = inl refl
-refused-ends words d (Err (fault.Watch name why)) ends refused = absurd ends
-refused-ends words d (Err (fault.Call why)) ends refused = elim ends [
-  | inl runs ↦ absurd (named_not_refused words runs.call runs.named refused)
-  | inr (inl help) ↦ absurd (help_not_refused words help.asked refused)
-  | inr (inr (inl version)) ↦ absurd (version_not_refused words version.asked refused)
+refused-ends arguments d (Err (fault.Arguments answer)) ends refused = inl refl
+refused-ends arguments d (Err fault.NoText) ends refused = absurd ends
+refused-ends arguments d (Err fault.Station) ends refused = inl refl
+refused-ends arguments d (Err fault.Kind) ends refused = inl refl
+refused-ends arguments d (Err (fault.Value report)) ends refused = inl refl
+refused-ends arguments d (Err (fault.Watch name why)) ends refused = absurd ends
+refused-ends arguments d (Err (fault.Call why)) ends refused = elim ends [
+  | inl runs ↦ absurd (named_not_refused arguments runs.call runs.named refused)
+  | inr (inl help) ↦ absurd (help_not_refused arguments help.asked refused)
+  | inr (inr (inl version)) ↦ absurd (version_not_refused arguments version.asked refused)
   | inr (inr (inr lacks)) ↦ inr (ap call_status lacks.memory)
 ]
 
--- words that are refused end with status 64, or with 1 for want of memory
-pub refused-exits : {R W F D E : Type 0} (words : List Text) (d : Devices R W) (b : Beside F D E)
+-- arguments that are refused end with status 64, or with 1 for want of memory
+pub refused-exits : {R W F D E : Type 0} (arguments : List Text) (d : Devices R W)
+    (b : Beside F D E)
     (status : ℕ)
-    → Exits words d b status
-    → IsRefused words → (status ≡ 64) ⊎ (status ≡ 1)
-refused-exits words d b status exits refused = elim exits.ends [
-  | inl runs ↦ absurd (named_not_refused words (Watch runs.name runs.moment) runs.named refused)
-  | inr ends ↦ elim (refused-ends words d exits.outcome ends.1 refused) [
+    → Exits arguments d b status
+    → IsRefused arguments → (status ≡ 64) ⊎ (status ≡ 1)
+refused-exits arguments d b status exits refused = elim exits.ends [
+  | inl runs ↦ absurd (named_not_refused arguments (Watch runs.name runs.moment) runs.named refused)
+  | inr ends ↦ elim (refused-ends arguments d exits.outcome ends.1 refused) [
     | inl is ↦ inl (exits.status_is ∙ is)
     | inr is ↦ inr (exits.status_is ∙ is)
   ]
@@ -289,19 +294,21 @@ performs-streams : {R W F D E : Type 0} (call : Call) (d : Devices R W) (b : Bes
 performs-streams (Watch name moment) d b unused performed = absurd performed
 performs-streams call d b unused performed = (unused, performed)
 
--- a success of words that name a call is the success of that call
-pub success-named : {R W F D E : Type 0} (words : List Text) (d : Devices R W) (b : Beside F D E)
+-- a success of arguments that name a call is the success of that call
+pub success-named : {R W F D E : Type 0} (arguments : List Text) (d : Devices R W)
+    (b : Beside F D E)
     (call : Call)
-    → Names words call
-    → Succeeds words d b → Performs call d b (Ok tt)
-success-named words d b call named success = elim success [
+    → Names arguments call
+    → Succeeds arguments d b → Performs call d b (Ok tt)
+success-named arguments d b call named success = elim success [
   | inl runs ↦ let P : Call → Type 0 = λ c. Performs c d b (Ok tt) in
-      subst P (named_once words (Watch runs.name runs.moment) call runs.named named) runs.watched
+      subst P (named_once arguments
+      (Watch runs.name runs.moment) call runs.named named) runs.watched
   | inr (unused, inl runs) ↦ let P : Call → Type 0 = λ c. PerformsOnStreams c d (Ok tt) in
       performs-streams call d b unused
-      (subst P (named_once words runs.call call runs.named named) runs.performed)
-  | inr (unused, inr (inl help)) ↦ absurd (named_not_help words call named help.asked)
-  | inr (unused, inr (inr version)) ↦ absurd (named_not_version words call named version.asked)
+      (subst P (named_once arguments runs.call call runs.named named) runs.performed)
+  | inr (unused, inr (inl help)) ↦ absurd (named_not_help arguments call named help.asked)
+  | inr (unused, inr (inr version)) ↦ absurd (named_not_version arguments call named version.asked)
 ]
 
 -- what a run answered is told

@@ -25,8 +25,8 @@ use Rattle.nx_program.specs.Report.{Answers, IsFaultLine, IsFaultText, Reports, 
 use Rattle.nx_program.specs.Status.{fault_status, status_of}
 use Rattle.nx_program.specs.WatchCommand.{Beside, IsUnused, WatchesLog, watch_fault_line}
 use Rattle.nx_program.specs.WatchCommand.{with_faults}
-use Rattle.nx_program.specs.Words.{Names}
-use Rattle.nx_program.specs.declared.words.Call.{Call}
+use Rattle.nx_program.specs.Arguments.{Names}
+use Rattle.nx_program.specs.declared.arguments.Call.{Call}
 use Rattle.nx_program.proofs.lemmas.outcomes.Program.{fault-status, success-exits, success-named}
 
 -- a text that has room is not cut
@@ -35,10 +35,11 @@ unfolding cut_to
 cut_to-fits room text fits = rw (le-leb (length text) room fits) refl
 
 -- how the program ended is part of what it answers
-pub answers-exits : {R W F D E : Type 0} (words : List Text) (d : Devices R W) (b : Beside F D E)
-    (status : ℕ) (answers : Answers words d b status)
-    → Exits words d (with_faults b answers.behind_call) status
-answers-exits words d b status answers = record {
+pub answers-exits : {R W F D E : Type 0} (arguments : List Text) (d : Devices R W)
+    (b : Beside F D E)
+    (status : ℕ) (answers : Answers arguments d b status)
+    → Exits arguments d (with_faults b answers.behind_call) status
+answers-exits arguments d b status answers = record {
   outcome = answers.outcome;
   ends = answers.ends;
   status_is = answers.status_is;
@@ -51,12 +52,12 @@ failed : (why : Fault) → fault_status why ≡ 0 → ⊥
 failed why zero = elim (fault-status why) [
   | inl one ↦ absurd (omega (arith, zero, one))
   | inr (inl two) ↦ absurd (omega (arith, zero, two))
-  | inr (inr words) ↦ absurd (omega (arith, zero, words))
+  | inr (inr arguments) ↦ absurd (omega (arith, zero, arguments))
 ]
 
 -- each fault has a text
 fault-text : (why : Fault) → (text : List ℕ) × IsFaultText why text
-fault-text (fault.Words answer) = (string_bytes answer, refl)
+fault-text (fault.Arguments answer) = (string_bytes answer, refl)
 fault-text fault.NoText = (_, refl)
 fault-text fault.Station = (_, refl)
 fault-text fault.Kind = (_, refl)
@@ -118,10 +119,10 @@ watch-line name (Ended (watch.Back line last given)) =
     (ends-behind (codes " is before ") end
     (ends-behind (decimal last) (codes "\n") (line-of [])))))))
 
--- each fault but one of the words is reported by a line
+-- each fault but one of the arguments is reported by a line
 text-line : (why : Fault) (text : List ℕ) → fault_status why ≢ 64 → IsFaultText why text
     → IsFaultLine text
-text-line (fault.Words answer) text other is = absurd (other refl)
+text-line (fault.Arguments answer) text other is = absurd (other refl)
 text-line fault.NoText text other is = absurd (other refl)
 text-line fault.Station text other is = absurd (other refl)
 text-line fault.Kind text other is = absurd (other refl)
@@ -239,13 +240,13 @@ watch-told : {R W F D E : Type 0} (d : Devices R W) (b : Beside F D E) (name : T
 watch-told d b name moment outcome none (Err why, gives, opened) = nothing-told b none opened.2
 watch-told d b name moment outcome none (Ok disk, gives, opened) = opened.3.told
 
-pub ends-told : {R W F D E : Type 0} (words : List Text) (d : Devices R W) (b : Beside F D E)
-    (outcome : Result (Unit {0}) Fault) → b.faults.failures ≡ 0 → EndsRun words d b outcome
+pub ends-told : {R W F D E : Type 0} (arguments : List Text) (d : Devices R W) (b : Beside F D E)
+    (outcome : Result (Unit {0}) Fault) → b.faults.failures ≡ 0 → EndsRun arguments d b outcome
     → TellsOfLines (b.contents b.faults.inner) (b.contents b.faults_after.inner)
     b.faults_after.failures
-ends-told words d b outcome none (inl runs) =
+ends-told arguments d b outcome none (inl runs) =
     watch-told d b runs.name runs.moment outcome none runs.watched
-ends-told words d b outcome none (inr ends) = nothing-told b none ends.0
+ends-told arguments d b outcome none (inr ends) = nothing-told b none ends.0
 
 -- a fault is one text on standard error, with what was told before
 pub reported-line : {E : Type 0} (contents : E → Option (List ℕ)) (old mid new : CountedDevice E)
@@ -260,35 +261,37 @@ reported-line contents old mid new (Err why) status is told reports not_zero =
     (λ text. status ≢ 64 → IsFaultLine text)
     (λ text is_text other. behind-told (told_of told.0 told.1) text (first_without told.0 told.1)
     (count_without told.0 told.1) refl
-    (text-line why text (λ words. other (is ∙ words)) is_text))
+    (text-line why text (λ arguments. other (is ∙ arguments)) is_text))
     old mid new line.0 line.1 told.2 reports
 
-pub answers-reported : {R W F D E : Type 0} (words : List Text) (d : Devices R W) (b : Beside F D E)
-    (status : ℕ) → b.faults.failures ≡ 0 → Answers words d b status → status ≢ 0
+pub answers-reported : {R W F D E : Type 0} (arguments : List Text) (d : Devices R W)
+    (b : Beside F D E)
+    (status : ℕ) → b.faults.failures ≡ 0 → Answers arguments d b status → status ≢ 0
     → WritesOne (λ text. status ≢ 64 → IsFaultLine text) b.contents b.faults b.faults_after
-answers-reported words d b status none answers not_zero =
+answers-reported arguments d b status none answers not_zero =
     reported-line b.contents b.faults answers.behind_call b.faults_after answers.outcome status
     answers.status_is
-    (ends-told words d (with_faults b answers.behind_call) answers.outcome none answers.ends)
+    (ends-told arguments d (with_faults b answers.behind_call) answers.outcome none answers.ends)
     answers.reported not_zero
 
 -- and a success nothing, but for a watch
-silent-outcome : {R W F D E : Type 0} (words : List Text) (d : Devices R W) (b : Beside F D E)
+silent-outcome : {R W F D E : Type 0} (arguments : List Text) (d : Devices R W) (b : Beside F D E)
     (behind_call : CountedDevice E) (outcome : Result (Unit {0}) Fault)
-    → EndsRun words d (with_faults b behind_call) outcome
+    → EndsRun arguments d (with_faults b behind_call) outcome
     → Reports b.contents behind_call b.faults_after outcome → status_of outcome ≡ 0
-    → (NamesWatch words → ⊥) → b.faults_after ≡ b.faults
-silent-outcome words d b behind_call (Err why) ends reports zero none = absurd (failed why zero)
-silent-outcome words d b behind_call (Ok done) (inl runs) reports zero none =
+    → (NamesWatch arguments → ⊥) → b.faults_after ≡ b.faults
+silent-outcome arguments d b behind_call (Err why) ends reports zero none = absurd (failed why zero)
+silent-outcome arguments d b behind_call (Ok done) (inl runs) reports zero none =
     absurd (none (runs.name, runs.moment, runs.named))
-silent-outcome words d b behind_call (Ok done) (inr ends) reports zero none =
+silent-outcome arguments d b behind_call (Ok done) (inr ends) reports zero none =
     reports ∙ ends.0.untold
 
-pub answers-silent : {R W F D E : Type 0} (words : List Text) (d : Devices R W) (b : Beside F D E)
-    (status : ℕ) → Answers words d b status → (NamesWatch words → ⊥) → status ≡ 0
+pub answers-silent : {R W F D E : Type 0} (arguments : List Text) (d : Devices R W)
+    (b : Beside F D E)
+    (status : ℕ) → Answers arguments d b status → (NamesWatch arguments → ⊥) → status ≡ 0
     → b.faults_after ≡ b.faults
-answers-silent words d b status answers none zero =
-    silent-outcome words d b answers.behind_call answers.outcome answers.ends answers.reported
+answers-silent arguments d b status answers none zero =
+    silent-outcome arguments d b answers.behind_call answers.outcome answers.ends answers.reported
     (sym answers.status_is ∙ zero) none
 
 -- ---- a success is the success of its call
@@ -299,16 +302,17 @@ reported-nothing : {E : Type 0} (contents : E → Option (List ℕ)) (old new : 
 reported-nothing contents old new (Ok done) reports zero = reports
 reported-nothing contents old new (Err why) reports zero = absurd (failed why zero)
 
-pub answers-called : {R W F D E : Type 0} (words : List Text) (d : Devices R W) (b : Beside F D E)
-    (status : ℕ) → Answers words d b status → (call : Call) → Names words call → status ≡ 0
+pub answers-called : {R W F D E : Type 0} (arguments : List Text) (d : Devices R W)
+    (b : Beside F D E)
+    (status : ℕ) → Answers arguments d b status → (call : Call) → Names arguments call → status ≡ 0
     → Performs call d b (Ok tt)
-answers-called {R} {W} {F} {D} {E} words d b status answers call named zero =
-    let exits = answers-exits words d b status answers in
+answers-called {R} {W} {F} {D} {E} arguments d b status answers call named zero =
+    let exits = answers-exits arguments d b status answers in
     let same = reported-nothing b.contents answers.behind_call b.faults_after answers.outcome
     answers.reported (sym answers.status_is ∙ zero) in
     subst (λ (e : CountedDevice E). Performs call d (with_faults b e) (Ok tt)) (sym same)
-    (success-named words d (with_faults b answers.behind_call) call named
-    (success-exits words d (with_faults b answers.behind_call) status exits zero))
+    (success-named arguments d (with_faults b answers.behind_call) call named
+    (success-exits arguments d (with_faults b answers.behind_call) status exits zero))
 
 -- ---- where no log can be opened, no file is handed back
 
@@ -319,10 +323,10 @@ watch-none : {R W F D E : Type 0} (d : Devices R W) (b : Beside F D E) (name : T
 watch-none d b name moment outcome never (Err why, gives, opened) = opened.2.unopened
 watch-none d b name moment outcome never (Ok disk, gives, opened) = absurd (never disk gives)
 
-pub ends-none : {R W F D E : Type 0} (words : List Text) (d : Devices R W) (b : Beside F D E)
+pub ends-none : {R W F D E : Type 0} (arguments : List Text) (d : Devices R W) (b : Beside F D E)
     (outcome : Result (Unit {0}) Fault)
     → ((name : Text) (disk : D) → b.gives b.files name (Ok disk) → ⊥)
-    → EndsRun words d b outcome → b.disk_after ≡ None
-ends-none words d b outcome never (inl runs) =
+    → EndsRun arguments d b outcome → b.disk_after ≡ None
+ends-none arguments d b outcome never (inl runs) =
     watch-none d b runs.name runs.moment outcome (never runs.name) runs.watched
-ends-none words d b outcome never (inr ends) = ends.0.unopened
+ends-none arguments d b outcome never (inr ends) = ends.0.unopened

@@ -16,12 +16,12 @@ use Rattle.nx_log.specs.Times.{IsSince, IsUntil}
 use Rattle.nx_log.specs.declared.writing.form.Form.{Form}
 use Rattle.nx_log.specs.declared.queries.query.Query.{Query}
 use Rattle.nx_memory.proofs.lemmas.Letters.{contains-insert, contains-none}
-use Rattle.nx_program.specs.declared.log_words.LogOption.{LogOption}
-use Rattle.nx_program.specs.declared.log_words.LogOption.TheVariants as option
-use Rattle.nx_program.specs.LogWords.{Asks, IsForm, IsQuery, IsUnfit, NamesChannel}
-use Rattle.nx_program.specs.LogWords.{NamesLetters, form_of, given_to, has_flag}
-use Rattle.nx_program.specs.declared.words.Call.{Call}
-use Rattle.nx_program.proofs.lemmas.words.CallArguments.{IsDecided, differ}
+use Rattle.nx_program.specs.declared.log_arguments.LogOption.{LogOption}
+use Rattle.nx_program.specs.declared.log_arguments.LogOption.TheVariants as option
+use Rattle.nx_program.specs.LogArguments.{Asks, IsForm, IsQuery, IsUnfit, NamesChannel}
+use Rattle.nx_program.specs.LogArguments.{NamesLetters, form_of, given_to, has_flag}
+use Rattle.nx_program.specs.declared.arguments.Call.{Call}
+use Rattle.nx_program.proofs.lemmas.arguments.CallValues.{IsDecided, differ}
 use Rattle.nx_program.proofs.lemmas.Known.{at_most, both, each, same_text}
 use Rattle.nx_program.proofs.lemmas.queries.TimesNamed.{time_known, time_once}
 

@@ -7,5 +7,5 @@ returns c =
     IfOk-weaker c.with_flag-2.result _ _
     (λ r adds. adds _ (c.in_ok-with_good.ensures _
     (c.in_ok-with_until.ensures _ (c.in_ok-with_since.ensures _ (c.in_ok-with_channel.ensures _
-    (c.in_ok-with_subject.ensures _ (c.in_ok-with_station.ensures (new_app c.args.word.now)
+    (c.in_ok-with_subject.ensures _ (c.in_ok-with_station.ensures (new_app c.args.name.now)
     (record { tree = c.new.ensures.app; local = c.new.ensures.local })))))))) c.with_flag-2.ensures

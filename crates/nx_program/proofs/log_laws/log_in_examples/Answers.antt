@@ -15,10 +15,10 @@ use Rattle.nx_code.specs.Reading.{IsCapital}
 use Rattle.nx_envelope.specs.Moment.{IsShownAs}
 use Rattle.nx_log.proofs.lemmas.texts.TimeTexts.{second-long, shown-length}
 use Rattle.nx_log.specs.Times.{IsSince}
-use Rattle.nx_program.specs.LogWords.{NamesLetters}
-use Rattle.nx_program.specs.declared.log_words.LogOption.TheVariants.{Since, Station}
-use Rattle.nx_program.proofs.lemmas.words.GivenArguments.{given}
-use Rattle.nx_program.proofs.lemmas.words.Words.{conflict_is_refusal}
+use Rattle.nx_program.specs.LogArguments.{NamesLetters}
+use Rattle.nx_program.specs.declared.log_arguments.LogOption.TheVariants.{Since, Station}
+use Rattle.nx_program.proofs.lemmas.arguments.GivenValues.{given}
+use Rattle.nx_program.proofs.lemmas.arguments.Arguments.{conflict_is_refusal}
 use Rattle.nx_program.proofs.log_laws.log_in_examples.Goals as goal
 
 -- a flag that was not given, and the rows of both
@@ -83,7 +83,7 @@ unfolding clap_on_literals
 returns c = record {
   all = λ program. record {
     taken = refl;
-    arguments = both_off;
+    values = both_off;
     command = refl;
     given = (
       record { stations = tt; subjects = tt; channel = tt; since = tt; until = tt; good = refl },
@@ -92,7 +92,7 @@ returns c = record {
   };
   flags = λ program. record {
     taken = refl;
-    arguments = given (codes "json") (codes "true") ∷ given (codes "good") (codes "true") ∷ [];
+    values = given (codes "json") (codes "true") ∷ given (codes "good") (codes "true") ∷ [];
     command = refl;
     given = (
       record { stations = tt; subjects = tt; channel = tt; since = tt; until = tt; good = refl },
@@ -101,7 +101,7 @@ returns c = record {
   };
   channel = λ program. record {
     taken = refl;
-    arguments = given (codes "channel") (codes "1") ∷ both_off;
+    values = given (codes "channel") (codes "1") ∷ both_off;
     command = refl;
     given = (
       record { stations = tt; subjects = tt; channel = refl; since = tt; until = tt; good = refl },
@@ -110,7 +110,7 @@ returns c = record {
   };
   since = λ program. record {
     taken = refl;
-    arguments = given (codes "since") (codes "2025-01-01") ∷ both_off;
+    values = given (codes "since") (codes "2025-01-01") ∷ both_off;
     command = refl;
     given = (
       record {
@@ -126,7 +126,7 @@ returns c = record {
   };
   until = λ program. record {
     taken = refl;
-    arguments = given (codes "until") (codes "2025-01-01") ∷ both_off;
+    values = given (codes "until") (codes "2025-01-01") ∷ both_off;
     command = refl;
     given = (
       record {
@@ -142,7 +142,7 @@ returns c = record {
   };
   no_time = λ program. record {
     taken = refl;
-    arguments = given (codes "since") (codes "now") ∷ both_off;
+    values = given (codes "since") (codes "now") ∷ both_off;
     entered = refl;
     reported = record {
       option = Since;
@@ -153,7 +153,7 @@ returns c = record {
   };
   small_letter = λ program. record {
     taken = refl;
-    arguments = given (codes "station") (codes "e") ∷ both_off;
+    values = given (codes "station") (codes "e") ∷ both_off;
     entered = refl;
     reported = record {
       option = Station;

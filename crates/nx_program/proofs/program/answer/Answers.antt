@@ -9,34 +9,36 @@ returns-in-Ok-clause-exits g c = rw (c.in-Ok.is, ← c.as_slice.ensures.value) c
 
 pub returns-in-Ok-clause-called : goal.returns-in-Ok-clause-called
 returns-in-Ok-clause-called g c =
-    let words = map string_bytes c.as_slice.result.now in
+    let arguments = map string_bytes c.as_slice.result.now in
     let d = devices g.R.Read.remaining g.W.Write.contents c.args.input.now c.exit_status.new.reader
     c.args.output.now
     c.exit_status.new.writer in
     let b = beside c.args.files g.F.LogFiles.gives c.exit_status.result.file g.F.Disk.DiskFile
     g.E.Write.contents c.args.faults.now c.exit_status.new.faults in
     rw (c.in-Ok.is, ← c.as_slice.ensures.value)
-    (λ call named is. answers-called words d b c.exit_status.result.status c.exit_status.ensures
+    (λ call named is. answers-called arguments d b c.exit_status.result.status c.exit_status.ensures
     call
     named is)
 
 pub returns-in-Ok-clause-silent : goal.returns-in-Ok-clause-silent
 returns-in-Ok-clause-silent g c =
-    let words = map string_bytes c.as_slice.result.now in
+    let arguments = map string_bytes c.as_slice.result.now in
     let d = devices g.R.Read.remaining g.W.Write.contents c.args.input.now c.exit_status.new.reader
     c.args.output.now
     c.exit_status.new.writer in
     let b = beside c.args.files g.F.LogFiles.gives c.exit_status.result.file g.F.Disk.DiskFile
     g.E.Write.contents c.args.faults.now c.exit_status.new.faults in
     rw (c.in-Ok.is, ← c.as_slice.ensures.value)
-    (λ none is. answers-silent words d b c.exit_status.result.status c.exit_status.ensures none is)
+    (λ none is. answers-silent arguments d b c.exit_status.result.status c.exit_status.ensures none
+    is)
 
 pub returns-in-Ok-clause-reported : goal.returns-in-Ok-clause-reported
 returns-in-Ok-clause-reported g c =
-    let words = map string_bytes c.as_slice.result.now in
+    let arguments = map string_bytes c.as_slice.result.now in
     let d = devices g.R.Read.remaining g.W.Write.contents c.args.input.now c.exit_status.new.reader
     c.args.output.now
     c.exit_status.new.writer in
     let b = beside c.args.files g.F.LogFiles.gives c.exit_status.result.file g.F.Disk.DiskFile
     g.E.Write.contents c.args.faults.now c.exit_status.new.faults in
-    answers-reported words d b c.exit_status.result.status c.requires.faults c.exit_status.ensures
+    answers-reported arguments d b c.exit_status.result.status c.requires.faults
+    c.exit_status.ensures

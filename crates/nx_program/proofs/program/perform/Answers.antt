@@ -11,7 +11,7 @@ use Rattle.nx_receiver.specs.copies.Shares.{all_at_zero}
 use Rattle.nx_receiver.specs.declared.air_file_runs.resume_fault.Want.TheVariants.{Log, State}
 use Rattle.nx_program.specs.Program.{IsUntouchedByWant, PerformsOnStreams, ReadsStateBeforeWant}
 use Rattle.nx_program.specs.declared.fault.CallFault.TheVariants as call
-use Rattle.nx_program.specs.declared.words.Call.{Call}
+use Rattle.nx_program.specs.declared.arguments.Call.{Call}
 use Rattle.nx_program.proofs.lemmas.outcomes.Program.{tells-err, tells-ok, untouched}
 use Rattle.nx_program.proofs.program.perform.Goals as goal
 

@@ -1,6 +1,6 @@
 use Rattle.std.proofs.Common.{◌≡◌, None, map}
 use Rattle.nx_program.proofs.lemmas.outcomes.Program.{exits-fresh, refused-exits, status-exits, success-exits}
-use Rattle.nx_program.proofs.lemmas.outcomes.Program.{success-named, words-exit}
+use Rattle.nx_program.proofs.lemmas.outcomes.Program.{success-named, arguments-exit}
 use Rattle.nx_program.proofs.lemmas.outcomes.Report.{answers-exits, ends-none}
 use Rattle.nx_program.specs.Program.{fresh_device}
 use Rattle.nx_fec.specs.Transfers.{devices}
@@ -8,7 +8,7 @@ use Rattle.nx_program.proofs.program.run.Goals as goal
 
 pub returns : goal.returns
 returns g c =
-    let words = map g.S.AsStr.text c.args.words.now in
+    let arguments = map g.S.AsStr.text c.args.arguments.now in
     let answers = c.exit_status.ensures in
     let left = devices g.R.Read.remaining g.W.Write.contents c.new-reader.result
     c.exit_status.new.reader c.new-writer.result c.exit_status.new.writer in
@@ -17,29 +17,29 @@ returns g c =
     (fresh_device c.args.output) c.exit_status.new.writer in
     let status = c.exit_status.result.status in
     let none : c.exit_status.result.file ≡ None =
-    ends-none words left _ answers.outcome (λ name disk gives. absurd (cc)) answers.ends in
+    ends-none arguments left _ answers.outcome (λ name disk gives. absurd (cc)) answers.ends in
     let exits =
-    exits-fresh words g.R.Read.remaining g.W.Write.contents c.args.input c.new-reader.result
+    exits-fresh arguments g.R.Read.remaining g.W.Write.contents c.args.input c.new-reader.result
     c.exit_status.new.reader c.args.output c.new-writer.result c.exit_status.new.writer
     _ _ c.exit_status.result.file _ g.E.Write.contents c.args.faults c.new-lines.result
     answers.behind_call status
     c.new-reader.ensures.inner c.new-reader.ensures.none c.new-writer.ensures.inner
     c.new-writer.ensures.none c.new-lines.ensures.inner c.new-lines.ensures.none
-    (answers-exits words left _ status answers) in
+    (answers-exits arguments left _ status answers) in
     let ended = rw none at exits in
     let reader = c.exit_status.new.reader in
     let writer = c.exit_status.new.writer in
     record {
       exits = (reader, writer, answers.behind_call, ended);
-      status = status-exits words d _ status ended;
+      status = status-exits arguments d _ status ended;
       success = λ is.
-          (reader, writer, answers.behind_call, success-exits words d _ status ended is);
+          (reader, writer, answers.behind_call, success-exits arguments d _ status ended is);
       called = λ call named is. (
         reader,
         writer,
         answers.behind_call,
-        success-named words d _ call named (success-exits words d _ status ended is),
+        success-named arguments d _ call named (success-exits arguments d _ status ended is),
       );
-      words = λ is. words-exit words d _ status ended is;
-      refused = λ refused. refused-exits words d _ status ended refused;
+      arguments = λ is. arguments-exit arguments d _ status ended is;
+      refused = λ refused. refused-exits arguments d _ status ended refused;
     }

@@ -1,6 +1,6 @@
 use Rattle.std.proofs.lemmas.Result.{IfOk-weaker}
 use Rattle.nx_program.specs.private.Reading.{row_tree}
-use Rattle.nx_program.proofs.lemmas.words.BuiltTree.{built_again, with_one_more}
+use Rattle.nx_program.proofs.lemmas.arguments.BuiltTree.{built_again, with_one_more}
 use Rattle.nx_program.proofs.commands.Row.added_to.Goals as goal
 
 pub returns : goal.returns

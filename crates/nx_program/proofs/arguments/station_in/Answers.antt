@@ -1,0 +1,31 @@
+use Rattle.std.proofs.Common.{◌≡◌, ◌∙◌, [], ◌∷◌, Option, Some, None, Bor, ap, sym, rules}
+use Rattle.std.proofs.Common.{option_map, codes}
+use Rattle.clap.specs.Words.{Text, found_of}
+use Rattle.nx_envelope.specs.declared.letter.Letter.{Letter}
+use Rattle.nx_program.proofs.lemmas.arguments.ValuesRead.{if_none, text-absent, text-none, text-some}
+use Rattle.nx_program.proofs.arguments.station_in.Goals as goal
+
+abbrev alone : Letter → Text
+alone letter = letter.byte ∷ []
+
+pub returns-in_err-get_str-clause-none : goal.returns-in_err-get_str-clause-none
+returns-in_err-get_str-clause-none c =
+    let absent : c.get_str.result ≡ None = search rules in
+    if_none c.from_residual.result _
+    (text-absent alone (codes "STATION") (found_of c.args.values.now)
+    (sym c.get_str.ensures ∙ ap (λ (o : Option (Bor Text)). option_map (λ (s : Bor Text). s.now) o)
+    absent))
+
+pub returns-clause-some : goal.returns-clause-some
+returns-clause-some c =
+    let text : c.get_str.result ≡ Some c.in_ok-get_str.field-0 = search rules in
+    text-some alone (codes "STATION") (found_of c.args.values.now) c.in_ok-get_str.field-0.now
+    (sym c.get_str.ensures ∙ ap (λ (o : Option (Bor Text)). option_map (λ
+    (s : Bor Text). s.now) o) text) c.single_letter.result c.single_letter.ensures.some
+
+pub returns-clause-none : goal.returns-clause-none
+returns-clause-none c =
+    let text : c.get_str.result ≡ Some c.in_ok-get_str.field-0 = search rules in
+    text-none alone (codes "STATION") (found_of c.args.values.now) c.in_ok-get_str.field-0.now
+    (sym c.get_str.ensures ∙ ap (λ (o : Option (Bor Text)). option_map (λ
+    (s : Bor Text). s.now) o) text) c.single_letter.result c.single_letter.ensures.none

@@ -1,0 +1,558 @@
+-- Clap's reading of the program's arguments: the command tree is one of those that clap's clauses
+-- speak of exactly, and a command that it enters is the command of a call.
+use Rattle.std.proofs.Common.{ℕ, codes, ◌≤◌, ◌≡◌, ◌≢◌, ◌∙◌, true, false, List, [], ◌∷◌, Option}
+use Rattle.std.proofs.Common.{Some, None, is_some, ◌⊎◌, IfNone, IfSome, IfOk, IfErr, Result, Ok, Err}
+use Rattle.std.proofs.Common.{option_map, refl, ap, ap₂, inl, inr, sym, subst, Box, Global}
+use Rattle.std.specs.Box.{box_value}
+use Rattle.std.specs.Option.{ok_or}
+use Rattle.clap.specs.Words.{HasKind, Kinds, IsAmong, Row, Text, built, fault_of, is_simple}
+use Rattle.clap.specs.Words.{is_simple_and_free, kind_of, subcommand_of, subcommand_name_of}
+use Rattle.clap.specs.Words.{subcommand_rows, subcommand_rows_of}
+use Rattle.clap.specs.Simple.{argument_words, entered, label_of, names_of}
+use Rattle.clap.specs.Walk.{answers_to, nothing_held, walk}
+use Rattle.clap.specs.Faults.{entered_fault}
+use Rattle.clap.proofs.OnLiterals.{clap_on_literals}
+use Rattle.clap.specs.declared.error.Error.{Error}
+use Rattle.clap.specs.declared.error.kind.ErrorKind.{ErrorKind}
+use Rattle.clap.specs.declared.error.kind.ErrorKind.TheVariants.{DisplayHelp, DisplayVersion}
+use Rattle.clap.specs.declared.error.kind.ErrorKind.TheVariants.{OutOfMemory}
+use Rattle.clap.specs.declared.error.kind.ErrorKind.TheVariants as kind
+use Rattle.clap.specs.declared.parser.matches.ArgMatches.{ArgMatches}
+use Rattle.clap.specs.declared.parser.matches.ArgMatches.TheViews.{out-ArgMatches, out-SubCommand}
+use Rattle.clap.specs.declared.parser.matches.SubCommand.{SubCommand}
+use Rattle.nx_program.specs.declared.arguments.Call.{Call}
+use Rattle.nx_program.specs.declared.arguments.ArgumentsFault.{ArgumentsFault}
+use Rattle.nx_program.specs.declared.arguments.ArgumentsFault.TheVariants.{Help, Refused, Station, Kind}
+use Rattle.nx_program.specs.declared.arguments.ArgumentsFault.TheVariants.{Memory, Value, Version}
+use Rattle.nx_station.specs.declared.damaging.DamageKind.{DamageKind}
+use Rattle.nx_program.specs.Arguments.{AsksForHelp, AsksForVersion, HasValues, IsKind, IsNumber}
+use Rattle.nx_program.specs.Arguments.{IsRefusal, IsRefused, IsStation, LacksKind, LacksStation, LacksValue}
+use Rattle.nx_program.specs.Arguments.{Maker, Names, command_name, entries, navtex, on_file, options}
+use Rattle.nx_program.specs.Arguments.{plain, range, slot}
+use Rattle.nx_program.specs.LogArguments.{IsQuery, value_report}
+use Rattle.nx_program.proofs.lemmas.queries.QueryAsked.{query_not_unfit, query_or_unfit}
+use Rattle.nx_program.specs.private.LogReading.{ExplainsOptions}
+use Rattle.nx_program.specs.private.Reading.{ExplainsArguments, IsSortedAs}
+use Rattle.nx_program.proofs.lemmas.EachFound.{Each, each-map, found_is}
+use Rattle.nx_program.proofs.lemmas.arguments.CallValues.{differ, number_once}
+use Rattle.nx_program.proofs.lemmas.arguments.CommandTable.{HasCall, IsSlotName, IsSound, Makes, entries-sound}
+use Rattle.nx_program.proofs.lemmas.arguments.CommandsTaken.{Gives, leaf, taken-command}
+use Rattle.nx_program.proofs.lemmas.arguments.NumbersGiven.{number-given}
+use Rattle.nx_program.proofs.lemmas.arguments.OneCall.{IsNotCalled, call_or_none, has-kind, has-query, has-station}
+use Rattle.nx_program.proofs.lemmas.arguments.OneCall.{same_call}
+use Rattle.nx_envelope.specs.declared.letter.Letter.{Letter}
+use Rattle.nx_program.specs.declared.arguments.Call.TheVariants.{Damage, Send, Slots, Watch}
+use Rattle.nx_program.proofs.lemmas.arguments.FaultKinds.{HasNoHelp, IsUniform, help-alone, help-no_version}
+use Rattle.nx_program.proofs.lemmas.arguments.FaultKinds.{kinds_cases, level-nil, refusal_is, u-level, u-none}
+use Rattle.nx_program.proofs.lemmas.arguments.FaultKinds.{u-option, version-alone}
+
+pub navtex-is_simple : is_simple navtex ≡ true
+unfolding clap_on_literals
+navtex-is_simple = refl
+
+pub navtex-is_simple_and_free : is_simple_and_free navtex ≡ true
+unfolding clap_on_literals
+navtex-is_simple_and_free = refl
+
+pub explained : (arguments : List Text) (error : Error) (fault : ArgumentsFault)
+    → HasKind (fault_of navtex arguments) error
+    → IsSortedAs error fault → ExplainsArguments arguments fault
+explained arguments error (Help answer) kinds sorts = elim kinds [
+  | inl memory ↦ absurd (let e : OutOfMemory ≡ DisplayHelp = sym memory ∙ sorts.1 in cc)
+  | inr among ↦ let P : ErrorKind → Type 0 = λ k. IsAmong k (fault_of navtex arguments) in
+      subst P sorts.1 among
+]
+explained arguments error Version kinds sorts = elim kinds [
+  | inl memory ↦ absurd (let e : OutOfMemory ≡ DisplayVersion = sym memory ∙ sorts in cc)
+  | inr among ↦ let P : ErrorKind → Type 0 = λ k. IsAmong k (fault_of navtex arguments) in
+      subst P sorts among
+]
+explained arguments error (Refused answer) kinds sorts = elim kinds [
+  | inl memory ↦ absurd (sorts.2 memory)
+  | inr among ↦ (kind_of error, sorts.1, among)
+]
+explained arguments error Station kinds sorts = absurd sorts
+explained arguments error Kind kinds sorts = absurd sorts
+explained arguments error (Value report) kinds sorts = absurd sorts
+explained arguments error (Memory want) kinds sorts = tt
+
+name_at : (b : Option (Box SubCommand Global))
+    → option_map (λ b. (out-SubCommand (box_value b)).name.now) b
+    ≡ option_map (λ p. p.0) (subcommand_rows b)
+name_at None = refl
+name_at (Some b) = refl
+
+-- the name of the command that a parse entered
+pub name_of_rows : (m : ArgMatches)
+    → subcommand_name_of m ≡ option_map (λ p. p.0) (subcommand_rows_of m)
+name_of_rows m = name_at (out-ArgMatches m).subcommand
+
+-- a pair from its parts
+pair_from : {A B : Type 0} (e : Option (A × B)) (a : A) (b : B) → option_map (λ p. p.0) e ≡ Some a
+    → option_map (λ p. p.1) e ≡ Some b → e ≡ Some (a, b)
+pair_from None a b first second = absurd (cc)
+pair_from (Some p) a b first second =
+    let is_a : p.0 ≡ a = cc in
+    let is_b : p.1 ≡ b = cc in
+    ap₂ (λ x y. Some (x, y)) is_a is_b
+
+-- the arguments enter the command that the parse found, with its values
+pub entered_pair : (arguments : List Text) (m : ArgMatches) (name : Text) (values : List Row)
+    → subcommand_rows_of m ≡ subcommand_of navtex arguments
+    → subcommand_name_of m ≡ Some name
+    → option_map (λ p. p.1) (subcommand_rows_of m) ≡ Some values
+    → subcommand_of navtex arguments ≡ Some (name, values)
+entered_pair arguments m name values rows name_is values_are =
+    sym rows ∙ pair_from (subcommand_rows_of m) name values (sym (name_of_rows m) ∙ name_is)
+    values_are
+
+none_among : (kinds : Kinds) (k : ErrorKind) → kinds ≡ [] → IsAmong k kinds → ⊥
+none_among [] k e among = among
+none_among (x ∷ xs) k e among = absurd (cc)
+
+leaf-no_help : (name : Text) (maker : Maker) → HasNoHelp (leaf (name, maker))
+leaf-no_help name (plain call) = refl
+leaf-no_help name (slot make) = refl
+leaf-no_help name (on_file make) = refl
+leaf-no_help name (range make) = refl
+leaf-no_help name (options make) = refl
+
+calls_without_help : Each HasNoHelp (built navtex).subs
+calls_without_help = each-map IsSound HasNoHelp leaf (λ e sound. leaf-no_help e.0 e.1) entries
+    entries-sound
+
+IfSome-weaker : {X : Type 0} (o : Option X) (P Q : X → Type 0) → ((x : X) → P x → Q x) → IfSome o P
+    → IfSome o Q
+IfSome-weaker None P Q weaker some = tt
+IfSome-weaker (Some x) P Q weaker some = weaker x some
+
+u-entered : (stop : Option (Text × List Text)) → IsUniform (entered_fault (built navtex) stop)
+u-entered None = u-none
+u-entered (Some p) =
+    u-option _ _ [] (IfSome-weaker _ _ _ (λ s no. u-level s [] nothing_held p.1 false [] no u-none)
+    (found_is HasNoHelp (λ s. answers_to p.0 (label_of s)) (built navtex).subs calls_without_help))
+    u-none
+
+-- clap's faults of the arguments are all help, all the version, or all refusals
+pub faults_are_uniform : (arguments : List Text) → IsUniform (fault_of navtex arguments)
+faults_are_uniform arguments =
+    let stop = (walk (built navtex).top.rules (names_of (built navtex)) nothing_held
+    (argument_words navtex arguments)).stopped in
+    u-level (built navtex).top (names_of (built navtex)) nothing_held
+    (argument_words navtex arguments)
+    (is_some
+    (entered (built navtex) stop))
+    (entered_fault (built navtex) stop) refl (u-entered stop)
+
+pub help_not_version : (arguments : List Text) → AsksForHelp arguments → AsksForVersion arguments
+    → ⊥
+help_not_version arguments help version =
+    help-no_version (fault_of navtex arguments) (faults_are_uniform arguments) help version
+
+pub help_not_refused : (arguments : List Text) → AsksForHelp arguments → IsRefused arguments → ⊥
+help_not_refused arguments help (inl refused) =
+    help-alone (fault_of navtex arguments) refused.0 (faults_are_uniform arguments) help refused.2
+    (refusal_is refused.0 refused.1)
+help_not_refused arguments help (inr (inl lacks)) =
+    none_among (fault_of navtex arguments) DisplayHelp lacks.taken help
+help_not_refused arguments help (inr (inr (inl lacks))) =
+    none_among (fault_of navtex arguments) DisplayHelp lacks.taken help
+help_not_refused arguments help (inr (inr (inr lacks))) =
+    none_among (fault_of navtex arguments) DisplayHelp lacks.1.taken help
+
+pub version_not_refused : (arguments : List Text) → AsksForVersion arguments → IsRefused arguments
+    → ⊥
+version_not_refused arguments version (inl refused) =
+    version-alone (fault_of navtex arguments) refused.0
+    (faults_are_uniform arguments) version refused.2
+    (refusal_is refused.0 refused.1)
+version_not_refused arguments version (inr (inl lacks)) =
+    none_among (fault_of navtex arguments) DisplayVersion lacks.taken version
+version_not_refused arguments version (inr (inr (inl lacks))) =
+    none_among (fault_of navtex arguments) DisplayVersion lacks.taken version
+version_not_refused arguments version (inr (inr (inr lacks))) =
+    none_among (fault_of navtex arguments) DisplayVersion lacks.1.taken version
+
+pub named_not_help : (arguments : List Text) (call : Call) → Names arguments call
+    → AsksForHelp arguments → ⊥
+named_not_help arguments call named help =
+    none_among (fault_of navtex arguments) DisplayHelp named.taken help
+
+pub named_not_version : (arguments : List Text) (call : Call) → Names arguments call
+    → AsksForVersion arguments → ⊥
+named_not_version arguments call named version =
+    none_among (fault_of navtex arguments) DisplayVersion named.taken version
+
+-- the values with which the arguments enter this command
+entered_once : (arguments : List Text) (a b : Text) (first second : List Row)
+    → subcommand_of navtex arguments ≡ Some (a, first)
+    → subcommand_of navtex arguments ≡ Some (b, second)
+    → (a ≡ b) × (first ≡ second)
+entered_once arguments a b first second one other =
+    let same : Some (a, first) ≡ Some (b, second) = sym one ∙ other in
+    let is : (a, first) ≡ (b, second) = cc in
+    (ap (λ (p : Text × List Row). p.0) is, ap (λ (p : Text × List Row). p.1) is)
+
+named-lacks_station : (arguments : List Text) (call : Call) → Names arguments call
+    → LacksStation arguments → ⊥
+named-lacks_station arguments call named lacks = elim lacks.entered [
+  | inl send ↦ go (codes "send") (inl refl) (entered_once arguments _ _ _ _ named.command send)
+  | inr slots ↦ go (codes "slots") (inr refl) (entered_once arguments _ _ _ _ named.command slots)
+]
+  where
+    go : (name : Text) → IsSlotName name
+        → (command_name call ≡ name) × (named.values ≡ lacks.values) → ⊥
+    go name is same =
+        let P : Text → Type 0 = λ n. IsSlotName n in
+        let station = has-station call named.values (subst P (sym same.0) is) named.given in
+        let Q : List Row → Type 0 = λ rows. IsStation rows station.0 in
+        lacks.no_letter station.0 (subst Q same.1 station.1)
+
+named-lacks_kind : (arguments : List Text) (call : Call) → Names arguments call
+    → LacksKind arguments → ⊥
+named-lacks_kind arguments call named lacks =
+    let same = entered_once arguments _ _ _ _ named.command lacks.entered in
+    let kind = has-kind call named.values same.0 named.given in
+    let Q : List Row → Type 0 = λ rows. IsKind rows kind.0 in
+    lacks.no_kind kind.0 (subst Q same.1 kind.1)
+
+named-lacks_value : (arguments : List Text) (call : Call) (report : Text) → Names arguments call
+    → LacksValue arguments report → ⊥
+named-lacks_value arguments call report named lacks =
+    let same = entered_once arguments _ _ _ _ named.command lacks.entered in
+    let query = has-query call named.values same.0 named.given in
+    let unfit = lacks.reported.unfit in
+    let P : List Row → Type 0 = λ rows. IsQuery rows query.0 in
+    query_not_unfit lacks.values query.0 lacks.reported.option lacks.reported.text
+    (subst P same.1 query.1) unfit
+
+pub named_not_refused : (arguments : List Text) (call : Call) → Names arguments call
+    → IsRefused arguments → ⊥
+named_not_refused arguments call named (inl refused) =
+    none_among (fault_of navtex arguments) refused.0 named.taken refused.2
+named_not_refused arguments call named (inr (inl lacks)) =
+    named-lacks_station arguments call named lacks
+named_not_refused arguments call named (inr (inr (inl lacks))) =
+    named-lacks_kind arguments call named lacks
+named_not_refused arguments call named (inr (inr (inr lacks))) =
+    named-lacks_value arguments call lacks.0 named lacks.1
+
+-- what arguments with no call lack, which clap takes: a station, a kind of damage, or a value that
+-- names something
+pub data Lacks (arguments : List Text) (name : Text) (values : List Row) : Type 0 where
+  a_station : IsSlotName name → LacksStation arguments → Lacks arguments name values
+  a_kind : name ≡ codes "damage" → LacksKind arguments → Lacks arguments name values
+  a_value : name ≡ codes "log" → (report : Text) → LacksValue arguments report
+      → Lacks arguments name values
+
+lacks_value : (arguments : List Text) (name : Text) (values : List Row)
+    → fault_of navtex arguments ≡ []
+    → subcommand_of navtex arguments ≡ Some (name, values)
+    → IsNotCalled name values
+    → Lacks arguments name values
+lacks_value arguments name values taken entered none =
+    let command = taken-command arguments name values taken entered in
+    go command.maker command.makes command.gives
+  where
+    go : (maker : Maker) → Makes name maker → Gives maker values
+        → Lacks arguments name values
+    go (plain call) makes gives = absurd (let has = makes values in none call has.0 has.1)
+    go (slot make) makes gives =
+        let moment = number-given _ _ values gives in
+        a_station makes.0 (record {
+          taken = taken;
+          values = values;
+          entered = elim makes.0 [
+            | inl send ↦ inl (entered ∙ ap (λ (t : Text). Some (t, values)) send)
+            | inr slots ↦ inr (entered ∙ ap (λ (t : Text). Some (t, values)) slots)
+          ];
+          no_letter = λ letter found.
+              let has = makes.1 values letter moment.0 found moment.1 in
+              none (make letter moment.0) has.0 has.1;
+        })
+    go (on_file make) makes gives =
+        let moment = number-given _ _ values gives.1 in
+        let has = makes.1 values gives.0.text moment.0 gives.0.given moment.1 in
+        absurd (none (make gives.0.text moment.0) has.0 has.1)
+    go (range make) makes gives =
+        let from = number-given _ _ values gives.0 in
+        let count = number-given _ _ values gives.1 in
+        a_kind makes.0 (record {
+          taken = taken;
+          values = values;
+          entered = entered ∙ ap (λ (t : Text). Some (t, values)) makes.0;
+          no_kind = λ kind found.
+              let has = makes.1 values kind from.0 count.0 found from.1 count.1 in
+              none (make kind from.0 count.0) has.0 has.1;
+        })
+    go (options make) makes gives = elim (query_or_unfit values) [
+      | inl is ↦ absurd (let has = makes.1 values is.0 _ is.1 refl in
+          none (make is.0 _) has.0 has.1)
+      | inr unfit ↦ a_value makes.0 (value_report unfit.0 unfit.1) (record {
+        taken = taken;
+        values = values;
+        entered = entered ∙ ap (λ (t : Text). Some (t, values)) makes.0;
+        reported = record {
+          option = unfit.0;
+          text = unfit.1;
+          unfit = unfit.2;
+          told = refl;
+        };
+      })
+    ]
+
+-- a call without values has no number among them
+no_numbers : (name : Text) (number : ℕ) → IsNumber name [] number → ⊥
+no_numbers name number is =
+    let bad : None ≡ Some is.text = is.given in
+    absurd (cc)
+
+-- the calls of a command without values have no number among them
+plain_no_number : (call other : Call) (rows : List Row)
+    → ((rows : List Row) → HasCall (command_name call) rows other)
+    → HasValues call rows → (name : Text) (number : ℕ)
+    → ((rows : List Row) → HasValues call rows → IsNumber name rows number) → ⊥
+plain_no_number call other rows makes given name number gives =
+    let same = same_call other call rows (sym (makes rows).0) (makes rows).1 given in
+    let P : Call → Type 0 = λ c. HasValues c [] in
+    no_numbers name number (gives [] (subst P same (makes []).1))
+
+not_watch : (name : Text) → IsSlotName name → name ≡ codes "watch" → ⊥
+not_watch name (inl send) watch = differ _ _ refl (sym send ∙ watch)
+not_watch name (inr slots) watch = differ _ _ refl (sym slots ∙ watch)
+
+not_both : (name : Text) → IsSlotName name → name ≡ codes "damage" → ⊥
+not_both name (inl send) damage = differ _ _ refl (sym send ∙ damage)
+not_both name (inr slots) damage = differ _ _ refl (sym slots ∙ damage)
+
+-- nor is it the name of a log
+not_log : (name : Text) → IsSlotName name → name ≡ codes "log" → ⊥
+not_log name (inl send) log = differ _ _ refl (sym send ∙ log)
+not_log name (inr slots) log = differ _ _ refl (sym slots ∙ log)
+
+-- the moment of a call of a slot is in its range
+moment-bound : (arguments : List Text) (call : Call) (named : Names arguments call) (moment : ℕ)
+    → IsSlotName (command_name call)
+    → ((rows : List Row) → HasValues call rows → IsNumber (codes "MOMENT") rows moment)
+    → moment ≤ 32503679999
+moment-bound arguments call named moment wants gives =
+    let command = taken-command arguments (command_name call) named.values named.taken
+    named.command in
+    go command.maker command.makes command.gives
+  where
+    go : (maker : Maker) → Makes (command_name call) maker → Gives maker named.values
+        → moment ≤ 32503679999
+    go (plain other) makes given = absurd
+        (plain_no_number call other named.values makes named.given (codes "MOMENT") moment gives)
+    go (slot make) makes given =
+        let number = number-given _ _ named.values given in
+        let P : ℕ → Type 0 = λ n. n ≤ 32503679999 in
+        subst P (number_once (codes "MOMENT") named.values number.0 moment number.1
+        (gives named.values named.given)) number.2
+    go (on_file make) makes given = absurd (not_watch _ wants makes.0)
+    go (range make) makes given = absurd (not_both _ wants makes.0)
+    go (options make) makes given = absurd (not_log _ wants makes.0)
+
+pub send-bound : (arguments : List Text) (station : Letter) (moment : ℕ)
+    → Names arguments (Send station moment)
+    → moment ≤ 32503679999
+send-bound arguments station moment named =
+    moment-bound arguments (Send station moment) named moment (inl refl)
+    (λ rows given. given.1)
+
+pub slots-bound : (arguments : List Text) (station : Letter) (moment : ℕ)
+    → Names arguments (Slots station moment)
+    → moment ≤ 32503679999
+slots-bound arguments station moment named =
+    moment-bound arguments (Slots station moment) named moment (inr refl)
+    (λ rows given. given.1)
+
+-- and that of a watch
+pub watch-bound : (arguments : List Text) (name : Text) (moment : ℕ)
+    → Names arguments (Watch name moment)
+    → moment ≤ 32503679999
+watch-bound arguments name moment named =
+    let command = taken-command arguments (codes "watch") named.values named.taken named.command in
+    go command.maker command.makes command.gives
+  where
+    go : (maker : Maker) → Makes (codes "watch") maker → Gives maker named.values
+        → moment ≤ 32503679999
+    go (plain other) makes given = absurd
+        (plain_no_number (Watch name moment) other named.values makes named.given
+        (codes "MOMENT") moment (λ rows has. has.1))
+    go (slot make) makes given = absurd (not_watch _ makes.0 refl)
+    go (on_file make) makes given =
+        let number = number-given _ _ named.values given.1 in
+        let P : ℕ → Type 0 = λ n. n ≤ 32503679999 in
+        subst P (number_once (codes "MOMENT") named.values number.0 moment number.1
+        named.given.1) number.2
+    go (range make) makes given = absurd (differ _ _ refl makes.0)
+    go (options make) makes given = absurd (differ _ _ refl makes.0)
+
+-- and so are the numbers of a call that damages
+pub damage-bounds : (arguments : List Text) (kind : DamageKind) (from count : ℕ)
+    → Names arguments (Damage kind from count)
+    → (from ≤ 4294967295) × (count ≤ 4294967295)
+damage-bounds arguments kind from count named =
+    let command = taken-command arguments (codes "damage") named.values named.taken named.command in
+    go command.maker command.makes command.gives
+  where
+    go : (maker : Maker) → Makes (codes "damage") maker → Gives maker named.values
+        → (from ≤ 4294967295) × (count ≤ 4294967295)
+    go (plain other) makes given = absurd
+        (plain_no_number (Damage kind from count) other named.values makes named.given
+        (codes "FROM") from
+        (λ rows has. has.1))
+    go (slot make) makes given = absurd (not_both _ makes.0 refl)
+    go (options make) makes given = absurd (differ _ _ refl makes.0)
+    go (on_file make) makes given = absurd (differ _ _ refl makes.0)
+    go (range make) makes given =
+        let first = number-given _ _ named.values given.0 in
+        let second = number-given _ _ named.values given.1 in
+        let P : ℕ → Type 0 = λ n. n ≤ 4294967295 in (
+          subst P (number_once (codes "FROM") named.values first.0 from first.1 named.given.1)
+              first.2,
+          subst P (number_once (codes "COUNT") named.values second.0 count second.1
+              named.given.2) second.2,
+        )
+
+-- where clap takes the arguments, they enter a command
+pub taken_enters : (arguments : List Text) → fault_of navtex arguments ≡ []
+    → is_some (subcommand_of navtex arguments) ≡ true
+taken_enters arguments taken =
+    level-nil (built navtex).top (names_of (built navtex)) nothing_held
+    (argument_words navtex arguments) _ _ refl taken
+
+refused_by : (arguments : List Text) (name : Text) (values : List Row) → Lacks arguments name values
+    → IsRefused arguments
+refused_by arguments name values (a_station is lacks) = inr (inl lacks)
+refused_by arguments name values (a_kind is lacks) = inr (inr (inl lacks))
+refused_by arguments name values (a_value is report lacks) = inr (inr (inr (report, lacks)))
+
+named_by : (arguments : List Text) → fault_of navtex arguments ≡ [] → (e : Option (Text × List Row))
+    → subcommand_of navtex arguments ≡ e → is_some e ≡ true
+    → ((call : Call) × Names arguments call) ⊎ IsRefused arguments
+named_by arguments taken None entered some = absurd (cc)
+named_by arguments taken (Some p) entered some = elim (call_or_none p.0 p.1) [
+  | inl call ↦ inl (
+    call.0,
+    record {
+      taken = taken;
+      values = p.1;
+      command = entered ∙ ap (λ (t : Text). Some (t, p.1)) call.1.0;
+      given = call.1.1;
+    },
+  )
+  | inr none ↦ inr (refused_by arguments p.0 p.1 (lacks_value arguments p.0 p.1 taken entered none))
+]
+
+-- each list of arguments names a call, asks for help, asks for the version or is refused
+pub read_as_one : (arguments : List Text)
+    → ((call : Call) × Names arguments call)
+    ⊎ (AsksForHelp arguments ⊎ (AsksForVersion arguments ⊎ IsRefused arguments))
+read_as_one arguments = elim (kinds_cases (fault_of navtex arguments)) [
+  | inl taken ↦ elim (named_by arguments taken (subcommand_of navtex arguments) refl
+      (taken_enters arguments taken)) [
+        | inl named ↦ inl named
+        | inr refused ↦ inr (inr (inr refused))
+      ]
+  | inr (inl help) ↦ inr (inl help)
+  | inr (inr (inl version)) ↦ inr (inr (inl version))
+  | inr (inr (inr refused)) ↦ inr (inr (inr (inl refused)))
+]
+
+-- and it names at most one
+pub named_once : (arguments : List Text) (a b : Call) → Names arguments a → Names arguments b
+    → a ≡ b
+named_once arguments a b first second =
+    let same : Some (command_name a, first.values) ≡ Some (command_name b, second.values) =
+    sym first.command
+    ∙ second.command in
+    let is : (command_name a, first.values) ≡ (command_name b, second.values) = cc in
+    let P : List Row → Type 0 = λ rows. HasValues b rows in
+    same_call a b first.values (ap (λ (q : Text × List Row). q.0) is) first.given
+    (subst P (sym (ap (λ (q : Text × List Row). q.1) is)) second.given)
+
+-- the outcome of reading the arguments, by the call that their command and its values have
+pub outcome-named : (arguments : List Text) (name : Text) (values : List Row) (found : Option Call)
+    (unfit : ArgumentsFault) (outcome : Result Call ArgumentsFault)
+    → fault_of navtex arguments ≡ [] → subcommand_of navtex arguments ≡ Some (name, values)
+    → IfSome found (λ call. (name ≡ command_name call) × HasValues call values)
+    → outcome ≡ ok_or found unfit
+    → IfOk outcome (Names arguments)
+outcome-named arguments name values None unfit outcome taken entered some is = rw is tt
+outcome-named arguments name values (Some call) unfit outcome taken entered some is =
+    rw is (record {
+      taken = taken;
+      values = values;
+      command = entered ∙ ap (λ (t : Text). Some (t, values)) some.0;
+      given = some.1;
+    })
+
+pub outcome-refused : (arguments : List Text) (name : Text) (values : List Row)
+    (found : Option Call)
+    (unfit : ArgumentsFault) (outcome : Result Call ArgumentsFault)
+    → fault_of navtex arguments ≡ [] → subcommand_of navtex arguments ≡ Some (name, values)
+    → name ≢ codes "log"
+    → IfNone found ((call : Call) → name ≢ codes "log" → name ≡ command_name call
+    → HasValues call values → ⊥)
+    → (name ≡ codes "damage" → unfit ≡ Kind) → (name ≢ codes "damage" → unfit ≡ Station)
+    → outcome ≡ ok_or found unfit → IfErr outcome (ExplainsArguments arguments)
+outcome-refused arguments name values
+    (Some call) unfit outcome taken entered other none kind station
+    is =
+    rw is tt
+outcome-refused arguments name values None unfit outcome taken entered other none kind station is =
+    go (lacks_value arguments name values taken entered (λ call. none call other))
+  where
+    go : Lacks arguments name values → IfErr outcome (ExplainsArguments arguments)
+    go (a_station send lacks) = rw (is, station (not_both name send)) lacks
+    go (a_kind damage lacks) = rw (is, kind damage) lacks
+    go (a_value log report lacks) = absurd (other log)
+
+-- the same of the call of the options of `log`
+pub options-named : (arguments : List Text) (values : List Row)
+    (outcome : Result Call ArgumentsFault)
+    → fault_of navtex arguments ≡ [] → subcommand_of navtex arguments ≡ Some (codes "log", values)
+    → IfOk outcome (λ call. (command_name call ≡ codes "log") × HasValues call values)
+    → IfOk outcome (Names arguments)
+options-named arguments values (Ok call) taken entered ok = record {
+  taken = taken;
+  values = values;
+  command = entered ∙ ap (λ (t : Text). Some (t, values)) (sym ok.0);
+  given = ok.1;
+}
+options-named arguments values (Err why) taken entered ok = tt
+
+pub options-refused : (arguments : List Text) (values : List Row)
+    (outcome : Result Call ArgumentsFault)
+    → fault_of navtex arguments ≡ [] → subcommand_of navtex arguments ≡ Some (codes "log", values)
+    → IfErr outcome (ExplainsOptions values) → IfErr outcome (ExplainsArguments arguments)
+options-refused arguments values (Ok call) taken entered err = tt
+options-refused arguments values (Err (Value report)) taken entered err = record {
+  taken = taken;
+  values = values;
+  entered = entered;
+  reported = err;
+}
+options-refused arguments values (Err (Memory want)) taken entered err = tt
+options-refused arguments values (Err (Help answer)) taken entered err = absurd err
+options-refused arguments values (Err Version) taken entered err = absurd err
+options-refused arguments values (Err (Refused answer)) taken entered err = absurd err
+options-refused arguments values (Err Station) taken entered err = absurd err
+options-refused arguments values (Err Kind) taken entered err = absurd err
+
+pub unknown_is_refusal : IsRefusal kind.UnknownArgument
+unknown_is_refusal = (λ e. absurd (cc), λ e. absurd (cc))
+
+pub missing_is_refusal : IsRefusal kind.MissingSubcommand
+missing_is_refusal = (λ e. absurd (cc), λ e. absurd (cc))
+
+pub missing_argument_is_refusal : IsRefusal kind.MissingRequiredArgument
+missing_argument_is_refusal = (λ e. absurd (cc), λ e. absurd (cc))
+
+pub invalid_is_refusal : IsRefusal kind.ValueValidation
+invalid_is_refusal = (λ e. absurd (cc), λ e. absurd (cc))
+
+pub conflict_is_refusal : IsRefusal kind.ArgumentConflict
+conflict_is_refusal = (λ e. absurd (cc), λ e. absurd (cc))

@@ -1,0 +1,44 @@
+-- A command with one more value, one more command or the commands of the program's rows is built
+-- as the tree with these.
+use Rattle.std.proofs.Common.{◌≡◌, ◌∙◌, ◌||◌, ◌+◌, ◌<◌, ℕ, false, List, length, take, get_or, ap}
+use Rattle.std.proofs.Common.{ap₂, sym, subst}
+use Rattle.std.proofs.lemmas.List.Sums.{fold_more}
+use Rattle.clap.specs.Words.{AddsArg, AddsSubcommand, App, Rule, rule_of, with_rule}
+use Rattle.clap.specs.Words.{with_subcommand}
+use Rattle.clap.specs.declared.builder.arg.Arg.{Arg}
+use Rattle.clap.specs.declared.builder.command.Command.{Command}
+use Rattle.nx_program.specs.declared.commands.Row.{Row}
+use Rattle.nx_program.specs.private.Reading.{AddsRow, AddsRule, IsBuiltAs, IsReadAs, row_tree}
+use Rattle.nx_program.specs.private.Reading.{with_rows}
+
+pub rule_added : (rule : Rule) (arg : Arg) (old new : Command) → rule_of arg ≡ rule
+    → arg.global ≡ false → AddsArg old arg new → AddsRule rule old new
+rule_added rule arg old new is own added app built = record {
+  tree = added.shape own ∙ ap₂ with_rule built.tree is;
+  local = added.globals ∙ ap₂ (λ x y. x || y) built.local own;
+}
+
+pub with_one_more : (a b : App) (old sub new : Command) → IsBuiltAs a old → IsBuiltAs b sub
+    → AddsSubcommand old sub new → IsBuiltAs (with_subcommand a b.top) new
+with_one_more a b old sub new built sub_built added = record {
+  tree = added.shape sub_built.local
+      ∙ ap₂ with_subcommand built.tree (ap (λ (x : App). x.top) sub_built.tree);
+  local = added.globals ∙ ap₂ (λ x y. x || y) built.local sub_built.local;
+}
+
+-- a command that reads as one that is built so is built so
+pub built_again : (app : App) (old new : Command) → IsBuiltAs app old → IsReadAs old new
+    → IsBuiltAs app new
+built_again app old new built same = record {
+  tree = same.tree ∙ built.tree;
+  local = same.local ∙ built.local;
+}
+
+-- with the commands of the rows before this one and with that of this one, it has those up to here
+pub with_next : (app : App) (rows : List Row) (i : ℕ) (none : Row) (old new : Command)
+    → i < length rows → IsBuiltAs (with_rows app (take i rows)) old
+    → AddsRow (get_or rows i none) old new → IsBuiltAs (with_rows app (take (i + 1) rows)) new
+with_next app rows i none old new within built adds =
+    let P : App → Type 0 = λ a. IsBuiltAs a new in
+    let add : App → Row → App = λ tree row. with_subcommand tree (row_tree row).top in
+    subst P (sym (fold_more add app rows i none within)) (adds (with_rows app (take i rows)) built)

@@ -1,0 +1,219 @@
+-- What the arguments of the command line name, by clap's own reading of them (this profile).
+use Rattle.std.specs.Prelude.{◌≡◌, ◌≢◌, ◌⊎◌, ◌<◌, ◌∷◌, ◌^◌, ⊤, ℕ, List, [], Some, codes, fold}
+use Rattle.std.specs.Prelude.{true}
+use Rattle.std.specs.Str.Parse.{IsNumeral, digits_value, without_leading_plus}
+use Rattle.clap.specs.Words.{App, IsAmong, Row, Rule, Text, fault_of, first_of, new_app}
+use Rattle.clap.specs.Words.{new_rule, one_of, subcommand_of, with_rule, with_subcommand}
+use Rattle.clap.specs.Simple.{on_top}
+use Rattle.clap.specs.declared.builder.value_parser.ValueParser.TheVariants as parser
+use Rattle.clap.specs.declared.error.kind.ErrorKind.{ErrorKind}
+use Rattle.clap.specs.declared.error.kind.ErrorKind.TheVariants.{DisplayHelp, DisplayVersion}
+use Rattle.nx_envelope.specs.Moment.{last_moment}
+use Rattle.nx_envelope.specs.declared.letter.Letter.{Letter}
+use Rattle.nx_log.specs.declared.writing.form.Form.{Form}
+use Rattle.nx_log.specs.declared.queries.query.Query.{Query}
+use Rattle.nx_program.specs.LogArguments.{IsForm, IsQuery, IsReported, log_tree}
+use Rattle.nx_program.specs.declared.arguments.Call.{Call}
+use Rattle.nx_program.specs.declared.arguments.Call.TheVariants.{Check, Code, Decode, Encode, Listen}
+use Rattle.nx_program.specs.declared.arguments.Call.TheVariants.{Log, Show}
+use Rattle.nx_program.specs.declared.arguments.Call.TheVariants.{Damage, Locks, Resume, Save, Send}
+use Rattle.nx_program.specs.declared.arguments.Call.TheVariants.{Slots, Watch}
+use Rattle.nx_station.specs.declared.damaging.DamageKind.{DamageKind}
+use Rattle.nx_station.specs.declared.damaging.DamageKind.TheVariants.{Dx, Rx, All}
+
+-- the name of the command of a call
+abbrev pub command_name : Call → Text
+command_name Decode = codes "decode"
+command_name Encode = codes "encode"
+command_name Code = codes "code"
+command_name Show = codes "show"
+command_name Check = codes "check"
+command_name Listen = codes "listen"
+command_name (Watch name moment) = codes "watch"
+command_name Resume = codes "resume"
+command_name Save = codes "save"
+command_name Locks = codes "locks"
+command_name (Send station moment) = codes "send"
+command_name (Slots station moment) = codes "slots"
+command_name (Damage kind from count) = codes "damage"
+command_name (Log query form) = codes "log"
+
+-- the name of a kind of damage on the command line
+abbrev pub kind_name : DamageKind → Text
+kind_name Dx = codes "dx"
+kind_name Rx = codes "rx"
+kind_name All = codes "all"
+
+-- a command that takes no value
+abbrev pub plain_tree : Text → App
+plain_tree name = new_app name
+
+-- a value of this name, which is any text and must be given
+abbrev pub text_rule : Text → Rule
+text_rule name = record (new_rule name) { required = true }
+
+-- a value of this name, which is a whole number up to the most and must be given
+abbrev pub number_rule : Text → ℕ → Rule
+number_rule name most =
+    record (new_rule name) { required = true; parser = Some (parser.Unsigned 0 most) }
+
+-- a command that takes a station and a moment, which is at most the last moment
+abbrev pub slot_tree : Text → App
+slot_tree name =
+    let with_station = with_rule (new_app name) (text_rule (codes "STATION")) in
+    with_rule with_station (number_rule (codes "MOMENT") last_moment)
+
+-- a command that takes a file and a moment, which is at most the last moment
+abbrev pub file_tree : Text → App
+file_tree name =
+    let with_file = with_rule (new_app name) (text_rule (codes "FILE")) in
+    with_rule with_file (number_rule (codes "MOMENT") last_moment)
+
+-- the greatest number of 32 bits
+abbrev pub greatest_of_32_bits : ℕ
+greatest_of_32_bits = 4294967295
+
+-- a command that takes a kind of damage, the first word and a count of words, each of 32 bits
+abbrev pub damage_tree : Text → App
+damage_tree name =
+    let with_kind = with_rule (new_app name) (text_rule (codes "KIND")) in
+    let with_first = with_rule with_kind (number_rule (codes "FROM") greatest_of_32_bits) in
+    with_rule with_first (number_rule (codes "COUNT") greatest_of_32_bits)
+
+-- the program without its commands: one of them must be given, unless the version is asked for, and
+-- there is no command `help`
+abbrev pub bare_tree : App
+bare_tree = on_top (λ s. record s {
+  disable_help_subcommand = true;
+  subcommand_required = true;
+  has_version = true;
+}) (new_app (codes "navtex"))
+
+-- What a command takes, and the call that it makes of it. It takes nothing; or a station and a
+-- moment; or a file and a moment; or a kind of damage and two numbers; or the options of a query
+-- and of a form.
+pub data Maker : Type 0 where
+  plain : Call → Maker
+  slot : (Letter → ℕ → Call) → Maker
+  on_file : (Text → ℕ → Call) → Maker
+  range : (DamageKind → ℕ → ℕ → Call) → Maker
+  options : (Query → Form → Call) → Maker
+
+-- the command tree of a command of this name
+abbrev pub tree_of : Text → Maker → App
+tree_of name (plain call) = plain_tree name
+tree_of name (slot make) = slot_tree name
+tree_of name (on_file make) = file_tree name
+tree_of name (range make) = damage_tree name
+tree_of name (options make) = log_tree name
+
+-- a command of the program: its name, and what it takes
+abbrev pub Entry : Type 0
+Entry = Text × Maker
+
+-- the commands of the program, in the order in which help lists them
+abbrev pub entries : List Entry
+entries =
+    (codes "listen", plain Listen) ∷ (codes "watch", on_file Watch) ∷ (codes "log", options Log)
+    ∷ (codes "send", slot Send) ∷ (codes "resume", plain Resume) ∷ (codes "save", plain Save)
+    ∷ (codes "locks", plain Locks) ∷ (codes "slots", slot Slots)
+    ∷ (codes "check", plain Check) ∷ (codes "damage", range Damage)
+    ∷ (codes "decode", plain Decode) ∷ (codes "encode", plain Encode) ∷ (codes "show", plain Show)
+    ∷ (codes "code", plain Code) ∷ []
+
+-- the command tree of the program
+abbrev pub navtex : App
+navtex =
+    fold (λ (tree : App) (e : Entry). with_subcommand tree (tree_of e.0 e.1).top) bare_tree entries
+
+-- the value of STATION is this letter alone
+abbrev pub IsStation : List Row → Letter → Type 0
+IsStation values station = first_of (codes "STATION") values ≡ Some (station.byte ∷ [])
+
+-- the value of FILE is this name, which is any text
+abbrev pub IsFile : List Row → Text → Type 0
+IsFile values name = first_of (codes "FILE") values ≡ Some name
+
+-- the value of KIND names this kind of damage
+abbrev pub IsKind : List Row → DamageKind → Type 0
+IsKind values kind = first_of (codes "KIND") values ≡ Some (kind_name kind)
+
+-- the value of this name is this number: one decimal digit or more, before which a plus may
+-- stand
+pub record IsNumber (name : Text) (values : List Row) (number : ℕ) : Type 0 where
+  pub text : Text
+  pub given : one_of name values ≡ Some text
+  pub numeral : IsNumeral 10 (without_leading_plus text)
+  pub value : number ≡ digits_value 10 (without_leading_plus text)
+  pub fits : number < 2 ^ 64
+
+-- the values are those of the call
+abbrev pub HasValues : Call → List Row → Type 0
+HasValues (Send station moment) values =
+    IsStation values station × IsNumber (codes "MOMENT") values moment
+HasValues (Slots station moment) values =
+    IsStation values station × IsNumber (codes "MOMENT") values moment
+HasValues (Watch name moment) values =
+    IsFile values name × IsNumber (codes "MOMENT") values moment
+HasValues (Damage kind from count) values =
+    IsKind values kind × IsNumber (codes "FROM") values from
+    × IsNumber (codes "COUNT") values count
+HasValues (Log query form) values = IsQuery values query × IsForm values form
+HasValues _ values = ⊤
+
+-- the arguments, of which the first is the program's name, name the call: clap finds no fault in
+-- them and enters the call's command with the call's values
+pub record Names (arguments : List Text) (call : Call) : Type 0 where
+  pub taken : fault_of navtex arguments ≡ []
+  pub values : List Row
+  pub command : subcommand_of navtex arguments ≡ Some (command_name call, values)
+  pub given : HasValues call values
+
+-- clap answers the arguments with help
+abbrev pub AsksForHelp : List Text → Type 0
+AsksForHelp arguments = IsAmong DisplayHelp (fault_of navtex arguments)
+
+-- clap answers the arguments with the version
+abbrev pub AsksForVersion : List Text → Type 0
+AsksForVersion arguments = IsAmong DisplayVersion (fault_of navtex arguments)
+
+-- an answer of this kind is neither help nor the version
+abbrev pub IsRefusal : ErrorKind → Type 0
+IsRefusal kind = (kind ≢ DisplayHelp) × (kind ≢ DisplayVersion)
+
+-- clap refuses the arguments
+abbrev pub IsRefusedByClap : List Text → Type 0
+IsRefusedByClap arguments =
+    (kind : ErrorKind) × IsRefusal kind × IsAmong kind (fault_of navtex arguments)
+
+-- clap takes the arguments, which enter a command that wants a station, and STATION is not one
+-- letter A to Z
+pub record LacksStation (arguments : List Text) : Type 0 where
+  pub taken : fault_of navtex arguments ≡ []
+  pub values : List Row
+  pub entered : (subcommand_of navtex arguments ≡ Some (codes "send", values))
+      ⊎ (subcommand_of navtex arguments ≡ Some (codes "slots", values))
+  pub no_letter : (letter : Letter) → ¬ IsStation values letter
+
+-- clap takes the arguments, which enter the command `damage`, and KIND is none of its kinds
+pub record LacksKind (arguments : List Text) : Type 0 where
+  pub taken : fault_of navtex arguments ≡ []
+  pub values : List Row
+  pub entered : subcommand_of navtex arguments ≡ Some (codes "damage", values)
+  pub no_kind : (kind : DamageKind) → ¬ IsKind values kind
+
+-- clap takes the arguments, which enter the command `log`, and an option was given a text that
+-- names nothing, as this report says
+pub record LacksValue (arguments : List Text) (report : Text) : Type 0 where
+  pub taken : fault_of navtex arguments ≡ []
+  pub values : List Row
+  pub entered : subcommand_of navtex arguments ≡ Some (codes "log", values)
+  pub reported : IsReported values report
+
+-- the arguments are refused, by clap, for their station, for their kind of damage, or for the value
+-- of an option
+abbrev pub IsRefused : List Text → Type 0
+IsRefused arguments =
+    IsRefusedByClap arguments
+    ⊎ (LacksStation arguments
+    ⊎ (LacksKind arguments ⊎ ((report : Text) × LacksValue arguments report)))

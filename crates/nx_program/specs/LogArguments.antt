@@ -1,0 +1,135 @@
+-- What the options of `navtex log` ask for, as clap reads them (this profile).
+use Rattle.std.specs.Prelude.{◌≡◌, ◌∷◌, ◌+◌, ◌++◌, ⊤, ℕ, Bool, List, [], Option, Some, None, codes, true, false}
+use Rattle.std.specs.FinSet as set
+use Rattle.std.specs.Option.{option_map_or}
+use Rattle.std.specs.Ordering.{nat_cmp}
+use Rattle.std.specs.Str.{bytes_eq}
+use Rattle.clap.specs.Words.{App, Row, Rule, Text, first_of, new_app, new_rule, with_rule}
+use Rattle.clap.specs.declared.builder.action.ArgAction.TheVariants.{SetTrue}
+use Rattle.nx_code.specs.Reading.{digit_zero, newline}
+use Rattle.nx_fec.specs.air_files.Channels.{channel_number}
+use Rattle.nx_fec.specs.declared.air_files.channel.Channel.{Channel}
+use Rattle.nx_log.specs.Query.{AreLetters, IsSetOf}
+use Rattle.nx_log.specs.Times.{IsSince, IsUntil}
+use Rattle.nx_log.specs.declared.writing.form.Form.{Form}
+use Rattle.nx_log.specs.declared.writing.form.Form.TheVariants as form
+use Rattle.nx_log.specs.declared.queries.query.Query.{Query}
+use Rattle.nx_program.specs.declared.log_arguments.LogOption.{LogOption}
+use Rattle.nx_program.specs.declared.log_arguments.LogOption.TheVariants.{Channel as OfChannel}
+use Rattle.nx_program.specs.declared.log_arguments.LogOption.TheVariants.{Since, Station, Subject}
+use Rattle.nx_program.specs.declared.log_arguments.LogOption.TheVariants.{Until}
+
+-- the name of an option that has a value
+abbrev pub option_name : LogOption → Text
+option_name Station = codes "station"
+option_name Subject = codes "subject"
+option_name OfChannel = codes "channel"
+option_name Since = codes "since"
+option_name Until = codes "until"
+
+-- what help calls its value
+abbrev pub value_name : LogOption → Text
+value_name Station = codes "LETTERS"
+value_name Subject = codes "LETTERS"
+value_name OfChannel = codes "N"
+value_name Since = codes "TIME"
+value_name Until = codes "TIME"
+
+-- an option with a value, which is any text to clap; it may be left out, and is given at most once
+abbrev pub option_rule : LogOption → Rule
+option_rule option =
+    record (new_rule (option_name option)) { long = Some (option_name option); value_names = 1 }
+
+-- a flag of this name, which may be left out, and is given at most once
+abbrev pub flag_rule : Text → Rule
+flag_rule name = record (new_rule name) { long = Some name; action = Some SetTrue }
+
+-- a command that takes the options of a query and of a form, in the order in which help lists them
+abbrev pub log_tree : Text → App
+log_tree name =
+    let with_station = with_rule (new_app name) (option_rule Station) in
+    let with_subject = with_rule with_station (option_rule Subject) in
+    let with_channel = with_rule with_subject (option_rule OfChannel) in
+    let with_since = with_rule with_channel (option_rule Since) in
+    let with_until = with_rule with_since (option_rule Until) in
+    let with_good = with_rule with_until (flag_rule (codes "good")) in
+    with_rule with_good (flag_rule (codes "json"))
+
+-- the text names these letters and no others
+abbrev pub NamesLetters : Text → set.FinSet nat_cmp → Type 0
+NamesLetters text letters = AreLetters text × IsSetOf text letters
+
+-- the text names this channel: it is its number, one digit
+abbrev pub NamesChannel : Text → Channel → Type 0
+NamesChannel text channel = text ≡ (digit_zero + channel_number channel) ∷ []
+
+-- an option that was not given asks for nothing, and one that was given for what its text names
+abbrev pub Asks : {T : Type 0} → (Text → T → Type 0) → Option Text → Option T → Type 0
+Asks Means None None = ⊤
+Asks Means (Some text) (Some value) = Means text value
+Asks Means given asked = ⊥
+
+-- the text that an option was given, if any
+abbrev pub given_to : LogOption → List Row → Option Text
+given_to option values = first_of (option_name option) values
+
+-- whether the flag of this name was given, for which clap notes the text `true`
+abbrev pub has_flag : Text → List Row → Bool
+has_flag name values =
+    option_map_or (λ text. bytes_eq text (codes "true")) (first_of name values) false
+
+-- a query that asks for all entries
+abbrev pub all_entries : Query
+all_entries = record {
+  stations = None;
+  subjects = None;
+  channel = None;
+  since = None;
+  until = None;
+  good = false;
+}
+
+-- The options ask for this query: for all that they name, and for nothing else.
+pub record IsQuery (values : List Row) (query : Query) : Type 0 where
+  pub stations : Asks NamesLetters (given_to Station values) query.stations
+  pub subjects : Asks NamesLetters (given_to Subject values) query.subjects
+  pub channel : Asks NamesChannel (given_to OfChannel values) query.channel
+  pub since : Asks IsSince (given_to Since values) query.since
+  pub until : Asks IsUntil (given_to Until values) query.until
+  pub good : query.good ≡ has_flag (codes "good") values
+
+-- the form that they ask for
+abbrev pub form_of : Bool → Form
+form_of true = form.Json
+form_of false = form.Log
+
+abbrev pub IsForm : List Row → Form → Type 0
+IsForm values form = form ≡ form_of (has_flag (codes "json") values)
+
+-- as the value of this option, the text names nothing
+abbrev pub NamesNothing : LogOption → Text → Type 0
+NamesNothing Station text = (letters : set.FinSet nat_cmp) → ¬ NamesLetters text letters
+NamesNothing Subject text = (letters : set.FinSet nat_cmp) → ¬ NamesLetters text letters
+NamesNothing OfChannel text = (channel : Channel) → ¬ NamesChannel text channel
+NamesNothing Since text = (moment : ℕ) → ¬ IsSince text moment
+NamesNothing Until text = (moment : ℕ) → ¬ IsUntil text moment
+
+-- the option was given a text that names nothing
+pub record IsUnfit (values : List Row) (option : LogOption) (text : Text) : Type 0 where
+  pub given : given_to option values ≡ Some text
+  pub nothing : NamesNothing option text
+
+-- the text that reports it, as clap reports a wrong value: two lines, with an empty one between
+-- them
+abbrev pub value_report : LogOption → Text → Text
+value_report option text =
+    codes "error: invalid value '" ++ text ++ codes "' for '--" ++ option_name option ++ codes " <"
+    ++ value_name option ++ codes ">'" ++ newline ∷ newline
+    ∷ codes "For more information, try '--help'." ++ newline ∷ []
+
+-- an option was given a text that names nothing, and this is its report
+pub record IsReported (values : List Row) (report : Text) : Type 0 where
+  pub option : LogOption
+  pub text : Text
+  pub unfit : IsUnfit values option text
+  pub told : report ≡ value_report option text

@@ -1,0 +1,313 @@
+//! The arguments of the command line and the call that they name, read by `clap`.
+
+ghost use Rattle.std.specs.Prelude.{◌≡◌, ◌≢◌, ℕ, List, [], ◌∷◌, IfErr, IfNone, IfOk, IfSome};
+ghost use Rattle.std.specs.Prelude.{codes, map};
+ghost use Rattle.clap.specs.Words.{Row, Text, found_of, rows_of};
+ghost use Rattle.nx_program.specs.Arguments.{HasValues, IsFile, IsKind, IsNumber, IsStation, Names, command_name};
+ghost use Rattle.nx_program.specs.Arguments.{kind_name};
+ghost use Rattle.nx_program.specs.private.Reading.{ExplainsArguments, IsSortedAs, LacksRange, LacksSlot};
+ghost use Rattle.nx_program.specs.private.LogReading.{ExplainsOptions};
+ghost use Rattle.nx_program.specs.private.Reading.{LacksWatch, WantsValues};
+ghost use Rattle.nx_program.specs.declared.arguments.Call.{Call};
+ghost use Rattle.nx_station.specs.declared.damaging.DamageKind.{DamageKind};
+ghost use Rattle.nx_program.specs.declared.arguments.ArgumentsFault.TheVariants.{Kind, Memory, Station};
+ghost use Rattle.nx_envelope.specs.declared.letter.Letter.{Letter};
+
+use crate::commands::navtex_command;
+use crate::file_name::FileName;
+use crate::log_arguments::{form_in, query_in, unfit_report};
+use clap::ArgMatches;
+use clap::error::ErrorKind;
+use nx_envelope::Letter;
+use nx_log::{Form, Query};
+use nx_station::DamageKind;
+use std::alloc::{AllocError, Global};
+use std::convert::AsStr;
+
+/// A call of the program, which the arguments of the command line name.
+#[derive(Debug, Drop)]
+pub enum Call<'a> {
+    /// Print the text of an air file.
+    Decode,
+    /// Write a text as an air file.
+    Encode,
+    /// Print the table of the code.
+    Code,
+    /// Print the words of an air file.
+    Show,
+    /// Print the messages of an air file that is exactly an emission.
+    Check,
+    /// Print the log of an air file.
+    Listen,
+    /// Listen to the lines of any bytes, and put each entry into a log that is kept.
+    Watch {
+        /// The log.
+        file: FileName<'a>,
+        /// The moment, in seconds since 1970, at which the watch starts.
+        moment: u64,
+    },
+    /// Print the log of the air file behind a state, from which it goes on.
+    Resume,
+    /// Print the state that listening to the air file behind a state leaves.
+    Save,
+    /// Print the locks of an air file and their running text.
+    Locks,
+    /// Write messages as an air file, to be sent in the station's next slot.
+    Send {
+        /// The station whose messages they are.
+        station: Letter,
+        /// The moment, in seconds since 1970, before which the slot doesn't begin.
+        moment: u64,
+    },
+    /// Print when the station's next slot begins.
+    Slots {
+        /// The station.
+        station: Letter,
+        /// The moment, in seconds since 1970, before which the slot doesn't begin.
+        moment: u64,
+    },
+    /// Copy an air file with the first element of some words inverted.
+    Damage {
+        /// Which of the words are meant.
+        kind: DamageKind,
+        /// The first word, from 0.
+        from: u64,
+        /// How many words the range has from there on.
+        count: u64,
+    },
+    /// Print the entries of a log that a query admits.
+    Log {
+        /// Which entries are asked for.
+        query: Query,
+        /// How they are printed.
+        form: Form,
+    },
+}
+
+/// Why the arguments name no call.
+#[derive(Debug, Drop)]
+pub enum ArgumentsFault {
+    /// The arguments ask for help, which is this text.
+    Help(clap::Error),
+    /// The arguments ask for the version.
+    Version,
+    /// The arguments are not understood, as this text says.
+    Refused(clap::Error),
+    /// The station is not one letter A to Z.
+    Station,
+    /// The kind of damage is none of those that there are.
+    Kind,
+    /// The value of an option names nothing, as this text says.
+    Value(String),
+    /// Memory ran out while the arguments were read.
+    Memory(AllocError),
+}
+
+/// The call that the arguments name, of which the first is the program's name. `Help` and `Version`
+/// where they ask for these, `Refused` where clap doesn't understand them, `Station` and `Kind`
+/// where that value is none, `Value` where an option's value names nothing, and `Memory` where it
+/// ran out.
+pub fn call_of<'a, S: AsStr>(alloc: Global, arguments: &'a [S]) -> Result<Call<'a>, ArgumentsFault>
+    ensures named { IfOk result (Names (map S.text arguments.now)) }
+    ensures refused { IfErr result (ExplainsArguments (map S.text arguments.now)) }
+{
+    let command = navtex_command(alloc)?;
+    let matches = command.try_get_matches_from(arguments)?;
+    let (name, values) = matches.subcommand().unwrap();
+    if name == "log" {
+        return log_call(alloc, values);
+    }
+    Call::of_command(name, values).ok_or(unfit_value(name))
+}
+
+/// Why a command that clap takes names no call: of its values, one at most is any text to clap, and
+/// the program itself checks that one.
+fn unfit_value(name: &str) -> ArgumentsFault
+    ensures kind { name.now ≡ codes "damage" → result ≡ Kind }
+    ensures station { name.now ≢ codes "damage" → result ≡ Station }
+{
+    match name {
+        "damage" => ArgumentsFault::Kind,
+        _ => ArgumentsFault::Station,
+    }
+}
+
+/// The call of the options of `log`. `Value` where the value of one of them names nothing.
+fn log_call<'a>(alloc: Global, values: &ArgMatches) -> Result<Call<'a>, ArgumentsFault>
+    ensures named { IfOk result (λ call. (command_name call ≡ codes "log")
+        × HasValues call (rows_of (found_of values.now))) }
+    ensures refused { IfErr result (ExplainsOptions (rows_of (found_of values.now))) }
+{
+    match query_in(values) {
+        Ok(query) => Ok(Call::Log {
+            query,
+            form: form_in(values),
+        }),
+        Err(option) => Err(ArgumentsFault::Value(unfit_report(alloc, values, option)?)),
+    }
+}
+
+impl<'a> Call<'a> {
+    /// The call of a command that takes no value, by its name.
+    fn without_values(name: &str) -> Option<Call<'a>>
+        ensures some { IfSome result (λ call. (name.now ≡ command_name call)
+            × ((rows : List Row) → HasValues call rows)) }
+        ensures none { IfNone result ((call : Call) → name.now ≡ command_name call
+            → WantsValues call) }
+    {
+        Some(match name {
+            "decode" => Call::Decode,
+            "encode" => Call::Encode,
+            "code" => Call::Code,
+            "show" => Call::Show,
+            "check" => Call::Check,
+            "listen" => Call::Listen,
+            "resume" => Call::Resume,
+            "save" => Call::Save,
+            "locks" => Call::Locks,
+            _ => return None,
+        })
+    }
+
+    /// The call of the command of this name with these values, but for `log`.
+    fn of_command(name: &str, values: &ArgMatches<'a>) -> Option<Call<'a>>
+        ensures some { IfSome result (λ call. (name.now ≡ command_name call)
+            × HasValues call (rows_of (found_of values.now))) }
+        ensures none { IfNone result ((call : Call) → name.now ≢ codes "log"
+            → name.now ≡ command_name call
+            → ¬ HasValues call (rows_of (found_of values.now))) }
+    {
+        match name {
+            "send" => {
+                let (station, moment) = slot_in(values)?;
+                Some(Call::Send { station, moment })
+            }
+            "slots" => {
+                let (station, moment) = slot_in(values)?;
+                Some(Call::Slots { station, moment })
+            }
+            "damage" => {
+                let (kind, from, count) = range_in(values)?;
+                Some(Call::Damage { kind, from, count })
+            }
+            "watch" => {
+                let (file, moment) = watch_in(values)?;
+                Some(Call::Watch { file, moment })
+            }
+            _ => Call::without_values(name),
+        }
+    }
+}
+
+/// The letter that the text is alone, A to Z.
+fn single_letter(text: &str) -> Option<Letter>
+    ensures some { IfSome result (λ letter. text.now ≡ letter.byte ∷ []) }
+    ensures none { IfNone result ((letter : Letter) → text.now ≢ letter.byte ∷ []) }
+{
+    match text.as_bytes() {
+        [byte] => Letter::new(*byte),
+        _ => None,
+    }
+}
+
+/// The value of STATION, where it is one letter A to Z.
+fn station_in(values: &ArgMatches) -> Option<Letter>
+    ensures some { IfSome result (IsStation (rows_of (found_of values.now))) }
+    ensures none { IfNone result ((station : Letter)
+        → ¬ IsStation (rows_of (found_of values.now)) station) }
+{
+    single_letter(values.get_str("STATION")?)
+}
+
+/// The kind of damage that the text names.
+fn kind_by_name(text: &str) -> Option<DamageKind>
+    ensures some { IfSome result (λ kind. text.now ≡ kind_name kind) }
+    ensures none { IfNone result ((kind : DamageKind) → text.now ≢ kind_name kind) }
+{
+    match text {
+        "dx" => Some(DamageKind::Dx),
+        "rx" => Some(DamageKind::Rx),
+        "all" => Some(DamageKind::All),
+        _ => None,
+    }
+}
+
+/// The value of KIND, where it names a kind of damage.
+fn kind_in(values: &ArgMatches) -> Option<DamageKind>
+    ensures some { IfSome result (IsKind (rows_of (found_of values.now))) }
+    ensures none { IfNone result ((kind : DamageKind)
+        → ¬ IsKind (rows_of (found_of values.now)) kind) }
+{
+    kind_by_name(values.get_str("KIND")?)
+}
+
+/// The value of this name, where it is a number.
+fn number_in(values: &ArgMatches, name: &str) -> Option<u64>
+    ensures some { IfSome result (IsNumber name.now (rows_of (found_of values.now))) }
+    ensures none { IfNone result ((number : ℕ)
+        → ¬ IsNumber name.now (rows_of (found_of values.now)) number) }
+{
+    values.get_one(name)
+}
+
+/// The value of FILE.
+fn file_in<'a>(values: &ArgMatches<'a>) -> Option<FileName<'a>>
+    ensures some { IfSome result (IsFile (rows_of (found_of values.now))) }
+    ensures none { IfNone result ((name : Text) → ¬ IsFile (rows_of (found_of values.now)) name) }
+{
+    let name = values.get_str("FILE")?;
+    Some(FileName::new(name))
+}
+
+/// The values of a command that takes a file and a moment.
+fn watch_in<'a>(values: &ArgMatches<'a>) -> Option<(FileName<'a>, u64)>
+    ensures some { IfSome result (λ watch. IsFile (rows_of (found_of values.now)) watch.0
+        × IsNumber (codes "MOMENT") (rows_of (found_of values.now)) watch.1) }
+    ensures none { IfNone result (LacksWatch (rows_of (found_of values.now))) }
+{
+    Some((file_in(values)?, number_in(values, "MOMENT")?))
+}
+
+/// The values of a command that takes a station and a moment.
+fn slot_in(values: &ArgMatches) -> Option<(Letter, u64)>
+    ensures some { IfSome result (λ slot. IsStation (rows_of (found_of values.now)) slot.0
+        × IsNumber (codes "MOMENT") (rows_of (found_of values.now)) slot.1) }
+    ensures none { IfNone result (LacksSlot (rows_of (found_of values.now))) }
+{
+    Some((station_in(values)?, number_in(values, "MOMENT")?))
+}
+
+/// The values of a command that takes a kind of damage and a range of words.
+fn range_in(values: &ArgMatches) -> Option<(DamageKind, u64, u64)>
+    ensures some { IfSome result (λ range. IsKind (rows_of (found_of values.now)) range.0
+        × IsNumber (codes "FROM") (rows_of (found_of values.now)) range.1
+        × IsNumber (codes "COUNT") (rows_of (found_of values.now)) range.2) }
+    ensures none { IfNone result (LacksRange (rows_of (found_of values.now))) }
+{
+    Some((
+        kind_in(values)?,
+        number_in(values, "FROM")?,
+        number_in(values, "COUNT")?,
+    ))
+}
+
+impl From<AllocError> for ArgumentsFault {
+    ghost from_gives = { λ want fault. fault ≡ Memory want };
+
+    fn from(want: AllocError) -> ArgumentsFault {
+        ArgumentsFault::Memory(want)
+    }
+}
+
+impl From<clap::Error> for ArgumentsFault {
+    ghost from_gives = { IsSortedAs };
+
+    fn from(error: clap::Error) -> ArgumentsFault {
+        match error.kind() {
+            ErrorKind::DisplayHelp => ArgumentsFault::Help(error),
+            ErrorKind::DisplayVersion => ArgumentsFault::Version,
+            ErrorKind::OutOfMemory => ArgumentsFault::Memory(AllocError),
+            _ => ArgumentsFault::Refused(error),
+        }
+    }
+}

@@ -1,0 +1,217 @@
+//! What the options of `log` ask for.
+
+ghost use Rattle.std.specs.Prelude.{◌≡◌, IfErr, IfNone, IfOk, IfSome, option_map, string_bytes};
+ghost use Rattle.clap.specs.Words.{found_of, rows_of};
+ghost use Rattle.nx_log.specs.Times.{IsSince, IsUntil};
+ghost use Rattle.nx_program.specs.LogArguments.{Asks, IsForm, IsQuery, IsReported, NamesChannel, NamesLetters};
+ghost use Rattle.nx_program.specs.LogArguments.{given_to, has_flag, option_name};
+ghost use Rattle.nx_program.specs.LogArguments.{value_name as the_value_name, value_report as the_report};
+ghost use Rattle.nx_program.specs.private.LogReading.{IsUnfitAs, IsWrong};
+ghost use Rattle.nx_fec.specs.declared.air_files.channel.Channel.{Channel};
+ghost use Rattle.nx_program.specs.declared.log_arguments.LogOption.TheVariants as option;
+
+use clap::ArgMatches;
+use nx_fec::Channel;
+use nx_log::{Form, Letters, Query, since_of, until_of};
+use std::alloc::{AllocError, Global};
+
+/// An option of `log` that has a value.
+#[derive(Clone, Copy, Debug, PartialEq, Eq)]
+pub enum LogOption {
+    /// The stations whose entries are asked for.
+    Station,
+    /// The subjects.
+    Subject,
+    /// The channel.
+    Channel,
+    /// The first moment.
+    Since,
+    /// The last moment.
+    Until,
+}
+
+impl LogOption {
+    /// The name of the option on the command line.
+    pub fn name(self) -> &'static str
+        ensures { result.now ≡ option_name self }
+    {
+        match self {
+            LogOption::Station => "station",
+            LogOption::Subject => "subject",
+            LogOption::Channel => "channel",
+            LogOption::Since => "since",
+            LogOption::Until => "until",
+        }
+    }
+
+    /// What help calls its value.
+    pub fn value_name(self) -> &'static str
+        ensures { result.now ≡ the_value_name self }
+    {
+        match self {
+            LogOption::Station | LogOption::Subject => "LETTERS",
+            LogOption::Channel => "N",
+            LogOption::Since | LogOption::Until => "TIME",
+        }
+    }
+
+    /// What help says of the option.
+    pub fn help(self) -> &'static str {
+        match self {
+            LogOption::Station => "Entries of these stations alone",
+            LogOption::Subject => "Entries of these subjects alone",
+            LogOption::Channel => "Entries of this channel alone, 0 to 2",
+            LogOption::Since => "Entries of this time and later ones alone",
+            LogOption::Until => "Entries of this time and earlier ones alone",
+        }
+    }
+
+    /// The text that the option was given, if any.
+    fn given_in<'a>(self, values: &ArgMatches<'a>) -> Option<&'a str>
+        ensures { option_map (λ text. text.now) result
+            ≡ given_to self (rows_of (found_of values.now)) }
+    {
+        values.get_str(self.name())
+    }
+
+    /// The text that reports a value of the option that names nothing.
+    fn value_report(self, alloc: Global, text: &str) -> Result<String, AllocError>
+        ensures { IfOk result (λ report. string_bytes report ≡ the_report self text.now) }
+    {
+        let mut report = String::new(alloc);
+        report.push_str("error: invalid value '")?;
+        report.push_str(text)?;
+        report.push_str("' for '--")?;
+        report.push_str(self.name())?;
+        report.push_str(" <")?;
+        report.push_str(self.value_name())?;
+        report.push_str(">'\n\nFor more information, try '--help'.\n")?;
+        Ok(report)
+    }
+}
+
+/// The letters that the option asks for.
+fn letters_in(values: &ArgMatches, option: LogOption) -> Result<Option<Letters>, LogOption>
+    ensures asked { IfOk result
+        (Asks NamesLetters (given_to option (rows_of (found_of values.now)))) }
+    ensures wrong { IfErr result (IsWrong NamesLetters (rows_of (found_of values.now)) option) }
+{
+    match option.given_in(values) {
+        None => Ok(None),
+        Some(text) => match Letters::of(text) {
+            Some(letters) => Ok(Some(letters)),
+            None => Err(option),
+        },
+    }
+}
+
+/// The channel that the text names.
+fn channel_by_digit(text: &str) -> Option<Channel>
+    ensures some { IfSome result (NamesChannel text.now) }
+    ensures none { IfNone result ((channel : Channel) → ¬ NamesChannel text.now channel) }
+{
+    match text {
+        "0" => Some(Channel::Zero),
+        "1" => Some(Channel::One),
+        "2" => Some(Channel::Two),
+        _ => None,
+    }
+}
+
+/// The channel that the option asks for.
+fn channel_in(values: &ArgMatches) -> Result<Option<Channel>, LogOption>
+    ensures asked { IfOk result
+        (Asks NamesChannel (given_to option.Channel (rows_of (found_of values.now)))) }
+    ensures wrong { IfErr result
+        (IsWrong NamesChannel (rows_of (found_of values.now)) option.Channel) }
+{
+    match LogOption::Channel.given_in(values) {
+        None => Ok(None),
+        Some(text) => match channel_by_digit(text) {
+            Some(channel) => Ok(Some(channel)),
+            None => Err(LogOption::Channel),
+        },
+    }
+}
+
+/// The moment since which the option asks for entries.
+fn since_in(values: &ArgMatches) -> Result<Option<u64>, LogOption>
+    ensures asked { IfOk result
+        (Asks IsSince (given_to option.Since (rows_of (found_of values.now)))) }
+    ensures wrong { IfErr result
+        (IsWrong IsSince (rows_of (found_of values.now)) option.Since) }
+{
+    match LogOption::Since.given_in(values) {
+        None => Ok(None),
+        Some(text) => match since_of(text) {
+            Some(moment) => Ok(Some(moment)),
+            None => Err(LogOption::Since),
+        },
+    }
+}
+
+/// The moment until which the option asks for entries.
+fn until_in(values: &ArgMatches) -> Result<Option<u64>, LogOption>
+    ensures asked { IfOk result
+        (Asks IsUntil (given_to option.Until (rows_of (found_of values.now)))) }
+    ensures wrong { IfErr result
+        (IsWrong IsUntil (rows_of (found_of values.now)) option.Until) }
+{
+    match LogOption::Until.given_in(values) {
+        None => Ok(None),
+        Some(text) => match until_of(text) {
+            Some(moment) => Ok(Some(moment)),
+            None => Err(LogOption::Until),
+        },
+    }
+}
+
+/// Whether the flag of this name was given.
+fn is_flagged(values: &ArgMatches, name: &str) -> bool
+    ensures { result ≡ has_flag name.now (rows_of (found_of values.now)) }
+{
+    match values.get_str(name) {
+        Some(text) => text == "true",
+        None => false,
+    }
+}
+
+/// The query that the options ask for. `Err` with an option whose text names nothing.
+pub fn query_in(values: &ArgMatches) -> Result<Query, LogOption>
+    ensures asked { IfOk result (IsQuery (rows_of (found_of values.now))) }
+    ensures unfit { IfErr result (IsUnfitAs (rows_of (found_of values.now))) }
+{
+    Ok(Query {
+        stations: letters_in(values, LogOption::Station)?,
+        subjects: letters_in(values, LogOption::Subject)?,
+        channel: channel_in(values)?,
+        since: since_in(values)?,
+        until: until_in(values)?,
+        good: is_flagged(values, "good"),
+    })
+}
+
+/// The form that the options ask for.
+pub fn form_in(values: &ArgMatches) -> Form
+    ensures { IsForm (rows_of (found_of values.now)) result }
+{
+    if is_flagged(values, "json") {
+        Form::Json
+    } else {
+        Form::Log
+    }
+}
+
+/// The text that reports the value of an option that names nothing.
+pub fn unfit_report(
+    alloc: Global,
+    values: &ArgMatches,
+    option: LogOption,
+) -> Result<String, AllocError>
+    requires { IsUnfitAs (rows_of (found_of values.now)) option }
+    ensures { IfOk result (λ report.
+        IsReported (rows_of (found_of values.now)) (string_bytes report)) }
+{
+    let text = option.given_in(values).unwrap();
+    option.value_report(alloc, text)
+}
