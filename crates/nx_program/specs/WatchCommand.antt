@@ -11,7 +11,7 @@ use Rattle.nx_receiver.specs.copies.Shares.{MarkedCopy}
 use Rattle.nx_disk.specs.declared.file.FileFault.{FileFault}
 use Rattle.nx_disk.specs.declared.file.FileFault.TheVariants as file
 use Rattle.nx_watch.specs.Watch.{AnswersWatch, HasCause, StandsForEntries, WatchDevices}
-use Rattle.nx_watch.specs.Watch.{longest_entry, watch_devices}
+use Rattle.nx_watch.specs.Watch.{longest_entry}
 use Rattle.nx_watch.specs.LineRun.{TellsOfLines}
 use Rattle.nx_watch.specs.declared.watch_fault.WatchFault.{WatchFault}
 use Rattle.nx_watch.specs.declared.watch_fault.WatchFault.TheVariants as watch
@@ -78,9 +78,16 @@ module _ {R W F D E : Type 0} (d : Devices R W) (b : Beside F D E) where
   -- the devices of the watch of a file, told for this first content of it
   abbrev pub devices_of : D → D → List ℕ → WatchDevices D R W E
   devices_of disk disk_after start =
-      watch_devices (b.tells.seen start) (b.tells.may_leave start) b.tells.moment
-      (b.tells.left_since start) disk disk_after d.remaining d.reader d.reader_after d.contents
-      d.writer d.writer_after b.contents b.faults b.faults_after
+      record {
+        tells = b.tells;
+        start = start;
+        disk = disk;
+        disk_after = disk_after;
+        streams = d;
+        told = b.contents;
+        faults = b.faults;
+        faults_after = b.faults_after;
+      }
 
   -- The file was watched from this moment on, with this answer, and stands so now. Something is
   -- said for each first content that explains what it answered. Where it stood for entries, all is
@@ -100,8 +107,7 @@ module _ {R W F D E : Type 0} (d : Devices R W) (b : Beside F D E) where
         → OnlyReads (b.tells.seen start) (b.tells.may_leave start) b.tells.moment
         (b.tells.left_since start) disk disk_after
         × (d.reader_after ≡ d.reader) × (d.writer_after ≡ d.writer) × (b.faults_after ≡ b.faults)
-    pub cause : HasCause b.tells.faults b.tells.has_failed_to_read b.tells.has_failed_to_write
-        answer disk disk_after
+    pub cause : HasCause b.tells answer disk disk_after
     pub explained : (start : List ℕ) → b.tells.explains start disk_after
         → b.tells.explains start disk
     pub told : TellsOfLines (b.contents b.faults.inner) (b.contents b.faults_after.inner)

@@ -1,14 +1,15 @@
 -- A receiver that is left on, and the kept log that is its memory too (this profile).
-use Rattle.std.specs.Prelude.{◌≡◌, ◌⊎◌, ◌↔◌, ℕ, ◌+◌, ◌-◌, ◌<◌, ◌≤◌, ◌^◌, min, true, List, [], ◌∷◌, ◌++◌}
+use Rattle.std.specs.Prelude.{◌≡◌, ◌⊎◌, ◌↔◌, ℕ, ◌+◌, ◌<◌, ◌≤◌, true, List, [], ◌∷◌, ◌++◌}
 use Rattle.std.specs.Prelude.{length, take, drop, Option, Some, Result, Ok, Err, ⊤}
 use Rattle.std.specs.List.{AllZip}
-use Rattle.std.specs.Io.KnownBytes.{Consumes, IsAtEnd}
+use Rattle.std.specs.Io.KnownBytes.{Consumes}
 use Rattle.nx_fec.specs.air_files.AirFile.{Line, moment}
-use Rattle.nx_fec.specs.Transfers.{CountedDevice, count_of}
+use Rattle.nx_fec.specs.Transfers.{CountedDevice, Devices, IsReadOut, count_of}
 use Rattle.nx_fec.specs.declared.air_files.channel.Channel.{Channel}
 use Rattle.nx_fec.specs.declared.air_files.channel.Channel.TheVariants.{Zero, One, Two}
 use Rattle.nx_kept.specs.Disk.{FailedOnce, LeavesOnly}
 use Rattle.nx_kept.specs.Kept.{StandsFor}
+use Rattle.nx_kept.specs.declared.disk.DiskFile.{Ghosts as TellsOfDisk}
 use Rattle.nx_log.specs.Entries.{IsWholeEntry}
 use Rattle.nx_log.specs.Logged.{IsLoggedAs, remembered_on}
 use Rattle.nx_memory.specs.Saved.{SavedState, SavedStates}
@@ -109,22 +110,15 @@ AnswersStop first stop lines copies outcome = ⊥
 
 -- ---- what a watch has at hand
 
--- The file of a watch, its input, its output, and where it tells of lines without effect: as they
--- stand before it and after it, and what they tell of themselves. The file tells it for one first
--- content.
+-- The file of a watch, its input and its output, and where it tells of lines without effect: as
+-- they stand before it and after it, and what they tell of themselves. The file tells it for this
+-- first content, `start`.
 pub record WatchDevices (D R W E : Type 0) : Type 1 where
-  pub seen : D → List ℕ
-  pub may_leave : D → List ℕ → Type 0
-  pub clock : D → ℕ
-  pub left_since : D → ℕ → List ℕ → Type 0
+  pub tells : TellsOfDisk D
+  pub start : List ℕ
   pub disk : D
   pub disk_after : D
-  pub remaining : R → Option (List ℕ)
-  pub reader : CountedDevice R
-  pub reader_after : CountedDevice R
-  pub contents : W → Option (List ℕ)
-  pub writer : CountedDevice W
-  pub writer_after : CountedDevice W
+  pub streams : Devices R W
   pub told : E → Option (List ℕ)
   pub faults : CountedDevice E
   pub faults_after : CountedDevice E
@@ -132,18 +126,19 @@ pub record WatchDevices (D R W E : Type 0) : Type 1 where
 module _ {D R W E : Type 0} (d : WatchDevices D R W E) where
   -- each file that a crash may leave when all is over has this
   abbrev pub LeavesAtLast : (List ℕ → Type 0) → Type 0
-  LeavesAtLast P = (file : List ℕ) → d.may_leave d.disk_after file → P file
+  LeavesAtLast P = (file : List ℕ) → d.tells.may_leave d.start d.disk_after file → P file
 
   -- at each moment a crash leaves a file that has this, or what it could leave before
   abbrev pub LeavesAtAnyMoment : (List ℕ → Type 0) → Type 0
   LeavesAtAnyMoment P =
-      LeavesOnly d.clock d.left_since d.disk d.disk_after (λ file. d.may_leave d.disk file ⊎ P file)
+      LeavesOnly d.tells.moment (d.tells.left_since d.start) d.disk d.disk_after
+      (λ file. d.tells.may_leave d.start d.disk file ⊎ P file)
 
   -- All copies are kept behind the entries, on the disk, and nothing was written.
   pub record KeepsAll (entries copies : List MarkedCopy) : Type 0 where
-    pub found : StandsForEntries (entries ++ copies) (d.seen d.disk_after)
+    pub found : StandsForEntries (entries ++ copies) (d.tells.seen d.start d.disk_after)
     pub left : LeavesAtLast (StandsForEntries (entries ++ copies))
-    pub silent : d.writer_after ≡ d.writer
+    pub silent : d.streams.writer_after ≡ d.streams.writer
 
   -- The disk failed as a copy was put: those before it are kept behind the entries, and it may be
   -- kept too. From it on the copies were written, as the log has them, up to a failed write.
@@ -154,8 +149,8 @@ module _ {D R W E : Type 0} (d : WatchDevices D R W E) where
         ⊎ StandsForEntries (entries ++ take (count + 1) copies) file)
     pub log : List ℕ
     pub spelled : IsLog (drop count copies) log
-    pub written : HasTold (d.contents d.writer.inner) (d.contents d.writer_after.inner)
-        d.writer_after.failures log
+    pub written : HasTold (d.streams.contents d.streams.writer.inner)
+        (d.streams.contents d.streams.writer_after.inner) d.streams.writer_after.failures log
 
   -- A watch that started so over a file that stands for these entries read these lines until it
   -- stopped so. They print these copies; at each moment the file stands for the entries and a
@@ -164,25 +159,25 @@ module _ {D R W E : Type 0} (d : WatchDevices D R W E) where
       (lines : List (Option Line)) (copies : List MarkedCopy)
       : Type 0 where
     pub bytes : List ℕ
-    pub consumed : Consumes (d.remaining d.reader.inner) (d.remaining d.reader_after.inner) bytes
+    pub consumed : Consumes (d.streams.remaining d.streams.reader.inner)
+        (d.streams.remaining d.streams.reader_after.inner) bytes
     pub within : length bytes ≤ most_bytes
-    pub read : HasRead
-        (IsAtEnd (d.remaining d.reader_after.inner) ⊎ (length bytes ≡ most_bytes))
-        starts.moment stop bytes lines
+    pub read : HasRead (IsReadOut d.streams ⊎ (length bytes ≡ most_bytes)) starts.moment stop bytes
+        lines
     pub printed : PrintsUntil stop starts (given_by (acting_lines starts.moment lines)) copies
     pub any_moment : LeavesAtAnyMoment (λ file.
         (count : ℕ) × (count ≤ length copies)
         × StandsForEntries (entries ++ take count copies) file)
-    pub failed_read : (stop ≡ unread) ↔ (d.reader_after.failures ≡ 1)
-    pub failed_write : stop ≡ unwritten → d.writer_after.failures ≡ 1
+    pub failed_read : (stop ≡ unread) ↔ (d.streams.reader_after.failures ≡ 1)
+    pub failed_write : stop ≡ unwritten → d.streams.writer_after.failures ≡ 1
     pub faults_told : HasTold (d.told d.faults.inner) (d.told d.faults_after.inner)
         d.faults_after.failures (told_of starts.moment lines)
 
   -- Only the file was touched. At each moment it stands for the entries.
   pub record HasOpened (entries : List MarkedCopy) : Type 0 where
     pub any_moment : LeavesAtAnyMoment (StandsForEntries entries)
-    pub unread : d.reader_after ≡ d.reader
-    pub unwritten : d.writer_after ≡ d.writer
+    pub unread : d.streams.reader_after ≡ d.streams.reader
+    pub unwritten : d.streams.writer_after ≡ d.streams.writer
     pub untold : d.faults_after ≡ d.faults
 
   -- What a watch answers that started so over a file that stands for these entries, once it was
@@ -206,35 +201,10 @@ module _ {D R W E : Type 0} (d : WatchDevices D R W E) where
       HasOpened entries ⊎ AnswersStarted (starts_at now entries) entries (Err Disk)
   AnswersWatch now entries outcome = AnswersStarted (starts_at now entries) entries outcome
 
--- the devices of a watch, before it and after it, and what they tell of themselves
-abbrev pub watch_devices : {D R W E : Type 0} → (D → List ℕ) → (D → List ℕ → Type 0) → (D → ℕ)
-    → (D → ℕ → List ℕ → Type 0) → D → D → (R → Option (List ℕ)) → CountedDevice R
-    → CountedDevice R → (W → Option (List ℕ)) → CountedDevice W → CountedDevice W
-    → (E → Option (List ℕ)) → CountedDevice E → CountedDevice E → WatchDevices D R W E
-watch_devices seen may_leave clock left_since disk disk_after remaining reader reader_after contents
-    writer writer_after told faults faults_after = record {
-      seen = seen;
-      may_leave = may_leave;
-      clock = clock;
-      left_since = left_since;
-      disk = disk;
-      disk_after = disk_after;
-      remaining = remaining;
-      reader = reader;
-      reader_after = reader_after;
-      contents = contents;
-      writer = writer;
-      writer_after = writer_after;
-      told = told;
-      faults = faults;
-      faults_after = faults_after;
-    }
-
 -- Why a watch answers so: a call of the disk failed, and it was the last one; or none failed.
-abbrev pub HasCause : {D : Type 0} → (D → ℕ) → (D → Type 0) → (D → Type 0)
-    → Result WatchReport WatchFault → D → D → Type 0
-HasCause faults to_read to_write (Err Open) old new =
-    FailedOnce (faults old) (faults new) (to_read new)
-HasCause faults to_read to_write (Err Disk) old new =
-    FailedOnce (faults old) (faults new) (to_write new)
-HasCause faults to_read to_write outcome old new = faults new ≡ faults old
+abbrev pub HasCause : {D : Type 0} → TellsOfDisk D → Result WatchReport WatchFault → D → D → Type 0
+HasCause tells (Err Open) old new =
+    FailedOnce (tells.faults old) (tells.faults new) (tells.has_failed_to_read new)
+HasCause tells (Err Disk) old new =
+    FailedOnce (tells.faults old) (tells.faults new) (tells.has_failed_to_write new)
+HasCause tells outcome old new = tells.faults new ≡ tells.faults old

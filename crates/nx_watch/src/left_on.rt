@@ -1,6 +1,7 @@
 //! A receiver that is left on.
 
 ghost use Rattle.std.specs.Prelude.{◌≡◌, ◌≤◌, ℕ, List, Err};
+ghost use Rattle.nx_fec.specs.Transfers.{devices};
 ghost use Rattle.nx_kept.specs.Disk.{OnlyReads};
 ghost use Rattle.nx_kept.specs.Kept.{IsDamaged, IsKeptLog};
 ghost use Rattle.nx_log.specs.Entries.{IsWholeEntry};
@@ -56,18 +57,11 @@ pub fn watch<D: DiskFile + Drop, R: Read, W: Write, F: Write>(
     ensures watched { (start : List ℕ) (entries : List MarkedCopy) → D.explains start result.1
         → StandsForEntries entries (D.seen start device)
         → AnswersWatch (record {
-          seen = D.seen start;
-          may_leave = D.may_leave start;
-          clock = D.moment;
-          left_since = D.left_since start;
+          tells = D.DiskFile;
+          start = start;
           disk = device;
           disk_after = result.1;
-          remaining = R.remaining;
-          reader = reader.old;
-          reader_after = reader.new;
-          contents = W.contents;
-          writer = writer.old;
-          writer_after = writer.new;
+          streams = devices R.remaining W.contents reader.old reader.new writer.old writer.new;
           told = F.contents;
           faults = faults.old;
           faults_after = faults.new;
@@ -84,8 +78,7 @@ pub fn watch<D: DiskFile + Drop, R: Read, W: Write, F: Write>(
         × (reader.new ≡ reader.old) × (writer.new ≡ writer.old) × (faults.new ≡ faults.old) }
 
     // The disk is blamed only where it failed, and called no more after that.
-    ensures cause { HasCause D.faults D.has_failed_to_read D.has_failed_to_write result.0 device
-        result.1 }
+    ensures cause { HasCause D.DiskFile result.0 device result.1 }
     ensures explained { (start : List ℕ) → D.explains start result.1 → D.explains start device }
 
     // Whatever the file is, some lines were told of on `faults`, and nothing else.

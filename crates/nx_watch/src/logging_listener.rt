@@ -4,7 +4,7 @@ ghost use Rattle.std.specs.Prelude.{◌≡◌, ◌+◌, ◌<◌, ◌≤◌, ℕ,
 ghost use Rattle.std.specs.List.{All, AllZip};
 ghost use Rattle.nx_envelope.specs.Moment.{last_moment};
 ghost use Rattle.nx_fec.specs.air_files.AirFile.{Line, elements};
-ghost use Rattle.nx_fec.specs.Transfers.{CountedDevice, FailsOnce};
+ghost use Rattle.nx_fec.specs.Transfers.{CountedDevice, FailsOnce, devices};
 ghost use Rattle.nx_log.specs.Logged.{IsLoggedAs};
 ghost use Rattle.nx_memory.specs.Selection.{is_vital};
 ghost use Rattle.nx_receiver.specs.Events as events;
@@ -12,12 +12,11 @@ ghost use Rattle.nx_receiver.specs.copies.InTurn.{PrintAllToEnd};
 ghost use Rattle.nx_receiver.specs.air_file_runs.Listen.{given_by};
 ghost use Rattle.nx_receiver.specs.Listener.{HearsGiven, last_copies, moment_in_force, starts_of, then_command, then_elements, then_moment};
 ghost use Rattle.nx_receiver.specs.copies.Shares.{Given, MarkedCopy, Starts};
-ghost use Rattle.nx_watch.specs.Watch.{watch_devices};
 ghost use Rattle.nx_watch.specs.LineRun.{StandsWith, WithWriter, with_writer};
 ghost use Rattle.nx_watch.specs.declared.kept_log.keeper.Keeper.{Keeper as TheKeeper};
 ghost use Rattle.nx_watch.specs.declared.logging_listener.LoggingListener.{LoggingListener as TheLoggingListener};
 ghost use Rattle.nx_watch.specs.LineRun.{TellsOfLines};
-ghost use Rattle.nx_watch.specs.private.Keeping.{HasKept, KeepsWith, disk_of};
+ghost use Rattle.nx_watch.specs.private.Keeping.{HasKept, KeepsWith};
 ghost use Rattle.nx_watch.specs.private.LoggingListener.{HasClosed, HasRun, IsCopyInRange, IsLineInRange, KeepsHeard, KeepsLines};
 
 use crate::kept_log::keeper::Keeper;
@@ -79,11 +78,9 @@ impl<D: DiskFile + Drop> LoggingListener<D> {
         ensures heard { (start : TheLoggingListener D) (first : CountedDevice W) (lines : List Line)
             (part : List Bool) → (starts_of start.listener).moment ≤ last_moment
             → All IsLineInRange lines
-            → KeepsHeard (disk_of D.explains D.seen D.may_leave D.moment D.left_since D.faults
-            D.has_failed_to_write) W.contents start self.old first writer.old
+            → KeepsHeard D.DiskFile W.contents start self.old first writer.old
             (then_elements (given_by lines) channel part)
-            → KeepsHeard (disk_of D.explains D.seen D.may_leave D.moment D.left_since D.faults
-            D.has_failed_to_write) W.contents start self.new first writer.new
+            → KeepsHeard D.DiskFile W.contents start self.new first writer.new
             (then_elements (given_by lines) channel (part ++ take result (drop from packed.now))) }
         ensures some { 0 < result }
         ensures within { from + result ≤ length packed.now }
@@ -108,11 +105,9 @@ impl<D: DiskFile + Drop> LoggingListener<D> {
     ) -> Result<(), WriteFailed>
         requires { writer.old.failures ≡ 0 }
         ensures taken { (start : WithWriter (TheLoggingListener D) W) (lines : List Line)
-            → StandsWith (KeepsLines (disk_of D.explains D.seen D.may_leave D.moment
-            D.left_since D.faults D.has_failed_to_write)) W.contents start
+            → StandsWith (KeepsLines D.DiskFile) W.contents start
             (with_writer self.old writer.old) lines
-            → StandsWith (KeepsLines (disk_of D.explains D.seen D.may_leave D.moment
-            D.left_since D.faults D.has_failed_to_write)) W.contents start
+            → StandsWith (KeepsLines D.DiskFile) W.contents start
             (with_writer self.new writer.new) (lines ++ elements mark packed.now ∷ []) }
         ensures counts { FailsOnce writer.new result }
     {
@@ -132,11 +127,9 @@ impl<D: DiskFile + Drop> LoggingListener<D> {
     pub(crate) fn close<W: Write>(self, writer: &mut Counting<W>) -> Keeper<D>
         requires { writer.old.failures ≤ 1 }
         ensures closed { (start : WithWriter (TheLoggingListener D) W) (lines : List Line)
-            → StandsWith (KeepsLines (disk_of D.explains D.seen D.may_leave D.moment
-            D.left_since D.faults D.has_failed_to_write)) W.contents start
+            → StandsWith (KeepsLines D.DiskFile) W.contents start
             (with_writer self writer.old) lines
-            → HasClosed (disk_of D.explains D.seen D.may_leave D.moment D.left_since D.faults
-            D.has_failed_to_write) W.contents (starts_of start.taker.listener)
+            → HasClosed D.DiskFile W.contents (starts_of start.taker.listener)
             start.taker.keeper result start.writer writer.new lines }
         ensures once { writer.new.failures ≤ 1 }
     {
@@ -175,18 +168,21 @@ impl<D: DiskFile + Drop> LoggingListener<D> {
         ensures runs { first ≡ (starts_of self.listener).moment
             → (starts_of self.listener).moment ≤ last_moment
             → HearsGiven (starts_of self.listener) self.listener [] []
-            → HasKept (disk_of D.explains D.seen D.may_leave D.moment D.left_since D.faults
-            D.has_failed_to_write) self.keeper self.keeper [] []
-            → HasRun (disk_of D.explains D.seen D.may_leave D.moment D.left_since D.faults
-            D.has_failed_to_write) D.has_failed_to_read self
-            (λ content. watch_devices (D.seen content) (D.may_leave content) D.moment
-            (D.left_since content) self.keeper.log.device result.1 R.remaining reader.old reader.new
-            W.contents writer.old writer.new F.contents faults.old faults.new) result.0 result.1 }
+            → HasKept D.DiskFile self.keeper self.keeper [] []
+            → HasRun D.DiskFile self (λ content. record {
+              tells = D.DiskFile;
+              start = content;
+              disk = self.keeper.log.device;
+              disk_after = result.1;
+              streams = devices R.remaining W.contents reader.old reader.new writer.old writer.new;
+              told = F.contents;
+              faults = faults.old;
+              faults_after = faults.new;
+            }) result.0 result.1 }
         ensures told { first ≡ (starts_of self.listener).moment
             → (starts_of self.listener).moment ≤ last_moment
             → HearsGiven (starts_of self.listener) self.listener [] []
-            → HasKept (disk_of D.explains D.seen D.may_leave D.moment D.left_since D.faults
-            D.has_failed_to_write) self.keeper self.keeper [] []
+            → HasKept D.DiskFile self.keeper self.keeper [] []
             → TellsOfLines (F.contents faults.old.inner) (F.contents faults.new.inner)
             faults.new.failures }
     {
@@ -216,10 +212,8 @@ fn keep_last<D: DiskFile + Drop, W: Write>(
         → starts.moment ≤ last_moment → All IsLineInRange lines
         → PrintAllToEnd starts (given_by lines) (copies ++ last_copies last)
         → AllZip IsLoggedAs copies texts
-        → KeepsWith (disk_of D.explains D.seen D.may_leave D.moment D.left_since D.faults
-        D.has_failed_to_write) W.contents start keeper first writer.old texts
-        → HasClosed (disk_of D.explains D.seen D.may_leave D.moment D.left_since D.faults
-        D.has_failed_to_write) W.contents starts start result first writer.new lines }
+        → KeepsWith D.DiskFile W.contents start keeper first writer.old texts
+        → HasClosed D.DiskFile W.contents starts start result first writer.new lines }
     ensures once { writer.new.failures ≤ 1 }
 {
     'entries: loop {
@@ -232,13 +226,11 @@ fn keep_last<D: DiskFile + Drop, W: Write>(
 
 impl<D: DiskFile + Drop> ActingTaker for LoggingListener<D> {
     ghost use Rattle.nx_receiver.specs.Listener.{starts_of};
-    ghost use Rattle.nx_watch.specs.private.Keeping.{disk_of};
     ghost use Rattle.nx_watch.specs.private.LoggingListener.{KeepsLines};
 
     ghost first_moment = { λ logging. (starts_of logging.listener).moment };
 
-    ghost stands = { KeepsLines (disk_of D.explains D.seen D.may_leave D.moment D.left_since
-        D.faults D.has_failed_to_write) };
+    ghost stands = { KeepsLines D.DiskFile };
 
     fn take<W: Write>(
         &mut self,

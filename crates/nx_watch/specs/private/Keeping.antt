@@ -6,33 +6,11 @@ use Rattle.nx_fec.specs.Transfers.{CountedDevice, count_of}
 use Rattle.nx_kept.specs.Disk.{FailedOnce, LeavesOnly}
 use Rattle.nx_kept.specs.Kept.{StandsFor}
 use Rattle.nx_kept.specs.Log.{Keeps}
+use Rattle.nx_kept.specs.declared.disk.DiskFile.{Ghosts as TellsOfDisk}
 use Rattle.nx_log.specs.Entries.{IsWholeEntry}
 use Rattle.nx_watch.specs.Watch.{longest_entry}
 use Rattle.nx_watch.specs.LineRun.{WereGiven}
 use Rattle.nx_watch.specs.declared.kept_log.keeper.Keeper.{Keeper}
-
--- the file of a log, by any first content, and its calls that failed
-pub record DiskOf (D : Type 0) : Type 1 where
-  pub explains : List ℕ → D → Type 0
-  pub seen : List ℕ → D → List ℕ
-  pub may_leave : List ℕ → D → List ℕ → Type 0
-  pub clock : D → ℕ
-  pub left_since : List ℕ → D → ℕ → List ℕ → Type 0
-  pub faults : D → ℕ
-  pub to_write : D → Type 0
-
-abbrev pub disk_of : {D : Type 0} → (List ℕ → D → Type 0) → (List ℕ → D → List ℕ)
-    → (List ℕ → D → List ℕ → Type 0)
-    → (D → ℕ) → (List ℕ → D → ℕ → List ℕ → Type 0) → (D → ℕ) → (D → Type 0) → DiskOf D
-disk_of explains seen may_leave clock left_since faults to_write = record {
-  explains = explains;
-  seen = seen;
-  may_leave = may_leave;
-  clock = clock;
-  left_since = left_since;
-  faults = faults;
-  to_write = to_write;
-}
 
 -- the bytes of a file stand for these texts of entries
 abbrev pub StandsForTexts : List (List ℕ) → List ℕ → Type 0
@@ -43,7 +21,7 @@ abbrev pub StandsForFirst : List (List ℕ) → List (List ℕ) → List ℕ →
 StandsForFirst before texts file =
     (count : ℕ) × (count ≤ length texts) × StandsForTexts (before ++ take count texts) file
 
-module _ {D : Type 0} (disk : DiskOf D) where
+module _ {D : Type 0} (disk : TellsOfDisk D) where
   -- the log kept these texts at the start, where the file had this first content
   abbrev pub KeepsTexts : List ℕ → List (List ℕ) → Keeper D → Type 0
   KeepsTexts content texts keeper =
@@ -52,7 +30,7 @@ module _ {D : Type 0} (disk : DiskOf D) where
   -- from start to now a crash leaves those before, and the first of these
   abbrev pub LeavesFirst : List ℕ → List (List ℕ) → List (List ℕ) → Keeper D → Keeper D → Type 0
   LeavesFirst content before texts start now =
-      LeavesOnly disk.clock (disk.left_since content) start.log.device now.log.device
+      LeavesOnly disk.moment (disk.left_since content) start.log.device now.log.device
       (StandsForFirst before texts)
 
   -- All these texts were put behind those that the log kept at the start, and none was given to a
@@ -75,7 +53,7 @@ module _ {D : Type 0} (disk : DiskOf D) where
     pub fewer : count < length texts
     pub rest : given ≡ concat (drop count texts)
     pub failed : FailedOnce (disk.faults start.log.device) (disk.faults now.log.device)
-        (disk.to_write now.log.device)
+        (disk.has_failed_to_write now.log.device)
     pub explained : (content : List ℕ) → disk.explains content now.log.device
         → disk.explains content start.log.device
     pub left : (content : List ℕ) (before : List (List ℕ)) → KeepsTexts content before start

@@ -4,6 +4,7 @@ use Rattle.std.specs.List.{All, AllZip}
 use Rattle.nx_envelope.specs.Moment.{last_moment}
 use Rattle.nx_fec.specs.air_files.AirFile.{Line, moment}
 use Rattle.nx_fec.specs.Transfers.{CountedDevice}
+use Rattle.nx_kept.specs.declared.disk.DiskFile.{Ghosts as TellsOfDisk}
 use Rattle.nx_log.specs.Logged.{IsLoggedAs}
 use Rattle.nx_receiver.specs.air_file_runs.Listen.{given_by}
 use Rattle.nx_receiver.specs.Listener.{HearsGiven, starts_of}
@@ -14,7 +15,7 @@ use Rattle.nx_watch.specs.declared.kept_log.keeper.Keeper.{Keeper}
 use Rattle.nx_watch.specs.declared.watch_fault.WatchFault.{WatchFault}
 use Rattle.nx_watch.specs.declared.watch_report.WatchReport.{WatchReport}
 use Rattle.nx_watch.specs.declared.logging_listener.LoggingListener.{LoggingListener}
-use Rattle.nx_watch.specs.private.Keeping.{DiskOf, HasKept, KeepsTexts, KeepsWith}
+use Rattle.nx_watch.specs.private.Keeping.{HasKept, KeepsTexts, KeepsWith}
 
 -- the moment of a line, if it says one, is in range
 abbrev pub IsLineInRange : Line → Type 0
@@ -25,7 +26,7 @@ IsLineInRange line = ⊤
 abbrev pub IsCopyInRange : MarkedCopy → Type 0
 IsCopyInRange one = one.copy.moment ≤ last_moment
 
-module _ {D : Type 0} (disk : DiskOf D) where
+module _ {D : Type 0} (disk : TellsOfDisk D) where
   -- Since start it took these lines: it printed copies of them, and kept their entries, and gave
   -- these bytes to a writer.
   pub record KeepsLines (start now : LoggingListener D) (lines : List Line) (given : List ℕ)
@@ -62,12 +63,12 @@ module _ {D : Type 0} (disk : DiskOf D) where
   -- One that had heard and kept nothing ran over its input: with what it had at hand, by each first
   -- content of the file, it answers so of the entries that its log kept. The outcome has its cause,
   -- and the file after it tells of itself what it told before.
-  pub record HasRun {R W E : Type 0} (to_read : D → Type 0) (logging : LoggingListener D)
+  pub record HasRun {R W E : Type 0} (logging : LoggingListener D)
       (at_hand : List ℕ → WatchDevices D R W E) (outcome : Result WatchReport WatchFault)
       (device : D) : Type 0 where
     pub answers : (content : List ℕ) (entries : List MarkedCopy) (texts : List (List ℕ))
         → AllZip IsLoggedAs entries texts → KeepsTexts disk content texts logging.keeper
         → AnswersStarted (at_hand content) (starts_of logging.listener) entries outcome
-    pub cause : HasCause disk.faults to_read disk.to_write outcome logging.keeper.log.device device
+    pub cause : HasCause disk outcome logging.keeper.log.device device
     pub explained : (content : List ℕ) → disk.explains content device
         → disk.explains content logging.keeper.log.device

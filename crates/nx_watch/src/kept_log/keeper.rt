@@ -6,7 +6,7 @@ ghost use Rattle.nx_log.specs.Entries.{IsWholeEntry};
 ghost use Rattle.nx_watch.specs.private.Answering.{answered};
 ghost use Rattle.nx_watch.specs.declared.kept_log.keeper.Keeper.{Keeper as TheKeeper};
 ghost use Rattle.nx_watch.specs.declared.watch_fault.WatchFault.TheVariants.{Disk};
-ghost use Rattle.nx_watch.specs.private.Keeping.{HasKept, KeepsWith, disk_of};
+ghost use Rattle.nx_watch.specs.private.Keeping.{HasKept, KeepsWith};
 
 use crate::kept_log::log_grammar::LogGrammar;
 use crate::lines::line_run::LinesWatched;
@@ -71,10 +71,8 @@ impl<D: DiskFile + Drop> Keeper<D> {
         requires { writer.old.failures ≤ 1 }
         ensures kept { (start : TheKeeper D) (first : CountedDevice W) (texts : List (List ℕ))
             → IsWholeEntry entry.now
-            → KeepsWith (disk_of D.explains D.seen D.may_leave D.moment D.left_since D.faults
-            D.has_failed_to_write) W.contents start self.old first writer.old texts
-            → KeepsWith (disk_of D.explains D.seen D.may_leave D.moment D.left_since D.faults
-            D.has_failed_to_write) W.contents start self.new first writer.new
+            → KeepsWith D.DiskFile W.contents start self.old first writer.old texts
+            → KeepsWith D.DiskFile W.contents start self.new first writer.new
             (texts ++ entry.now ∷ []) }
         ensures once { writer.new.failures ≤ 1 }
     {
@@ -88,10 +86,8 @@ impl<D: DiskFile + Drop> Keeper<D> {
     fn put(&mut self, entry: &[u8]) -> bool
         ensures { (start : TheKeeper D) (texts : List (List ℕ)) (given : List ℕ)
             → IsWholeEntry entry.now
-            → HasKept (disk_of D.explains D.seen D.may_leave D.moment D.left_since D.faults
-            D.has_failed_to_write) start self.old texts given
-            → HasKept (disk_of D.explains D.seen D.may_leave D.moment D.left_since D.faults
-            D.has_failed_to_write) start self.new (texts ++ entry.now ∷ [])
+            → HasKept D.DiskFile start self.old texts given
+            → HasKept D.DiskFile start self.new (texts ++ entry.now ∷ [])
             (given ++ (if result then [] else entry.now)) }
     {
         if self.has_failed {

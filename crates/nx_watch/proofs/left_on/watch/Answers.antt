@@ -10,10 +10,10 @@ use Rattle.nx_watch.specs.declared.watch_report.WatchReport.{WatchReport}
 use Rattle.nx_watch.specs.declared.watch_fault.WatchFault.{WatchFault}
 use Rattle.nx_watch.specs.declared.watch_fault.WatchFault.TheVariants.{Damaged, Memory}
 use Rattle.nx_receiver.specs.copies.Shares.{Starts, starts_from}
-use Rattle.nx_watch.specs.Watch.{AnswersStarted, AnswersWatch, HasCause, HasOpened, starts_at, watch_devices}
-use Rattle.nx_watch.specs.private.Keeping.{HasKept, disk_of}
+use Rattle.nx_watch.specs.Watch.{AnswersStarted, HasCause, starts_at}
+use Rattle.nx_watch.specs.private.Keeping.{HasKept}
 use Rattle.nx_watch.proofs.lemmas.log.Keeping.{fresh-keeper, keeps-stands, kept-none}
-use Rattle.nx_watch.proofs.lemmas.log.Opening.{answers-opening, answers-watch, cause-behind, cause-opening, damage-named, entries-of, has-opened, not-damaged, same-texts, started-before}
+use Rattle.nx_watch.proofs.lemmas.log.Opening.{answers-opening, answers-watch, cause-behind, cause-opening, damage-named, entries-of, has-opened, not-damaged, same-texts, started-before, started-so}
 use Rattle.nx_watch.proofs.lemmas.log.Remembering.{took-all}
 use Rattle.nx_watch.proofs.lemmas.lines.Run.{nothing}
 use Rattle.nx_watch.proofs.left_on.watch.Goals as goal
@@ -32,18 +32,13 @@ same-fault fault line e = cc
 
 pub returns-in-Err-clause-watched : goal.returns-in-Err-clause-watched
 returns-in-Err-clause-watched g c = λ start entries ex stands.
-    let d = g.D.DiskFile in
-    let disk = disk_of d.explains d.seen d.may_leave d.moment d.left_since d.faults
-    d.has_failed_to_write in
+    let disk = g.D.DiskFile in
     let fault = c.in-Err.fault in
     let opened = has-opened disk start c.args.device c.in-Err.device g.R.Read.remaining
     c.args.reader.now c.args.reader.now g.W.Write.contents c.args.writer.now c.args.writer.now
     g.F.Write.contents c.args.faults.now c.args.faults.now entries stands.texts stands.each
     (c.in-Err.ensures.any_moment_err start stands.texts ex stands.stands) refl refl refl in
-    subst (λ f. AnswersWatch (watch_devices (d.seen start) (d.may_leave start) d.moment
-    (d.left_since start) c.args.device c.in-Err.device g.R.Read.remaining c.args.reader.now
-    c.args.reader.now g.W.Write.contents c.args.writer.now c.args.writer.now g.F.Write.contents
-    c.args.faults.now c.args.faults.now) c.args.moment entries (Err f)) (sym c.fault_of.ensures)
+    rw c.fault_of.ensures
     (answers-opening _ c.args.moment entries fault opened
     (λ line e. (c.in-Err.ensures.damaged start line ex e).1.not_as_they_are
     (stands.texts, stands.stands)))
@@ -60,33 +55,22 @@ returns-in-Err-clause-foreign g c = λ start ex none.
 
 pub returns-in-Err-clause-cause : goal.returns-in-Err-clause-cause
 returns-in-Err-clause-cause g c =
-    let d = g.D.DiskFile in
-    subst (λ f. HasCause d.faults d.has_failed_to_read d.has_failed_to_write (Err f) c.args.device
-    c.in-Err.device) (sym c.fault_of.ensures)
-    (cause-opening d.faults d.has_failed_to_read d.has_failed_to_write c.in-Err.fault c.args.device
-    c.in-Err.device c.in-Err.ensures.cause)
+    let disk = g.D.DiskFile in
+    subst (λ f. HasCause disk (Err f) c.args.device c.in-Err.device) (sym c.fault_of.ensures)
+    (cause-opening disk c.in-Err.fault c.args.device c.in-Err.device c.in-Err.ensures.cause)
 
 -- ---- memory ran out
 
 pub returns-in_default-clause-watched : goal.returns-in_default-clause-watched
 returns-in_default-clause-watched g c = λ start entries ex stands.
-    let d = g.D.DiskFile in
-    let disk = disk_of d.explains d.seen d.may_leave d.moment d.left_since d.faults
-    d.has_failed_to_write in
+    let disk = g.D.DiskFile in
     let log = c.in-Ok.log in
-    let explained = subst (d.explains start) c.answer.ensures.device ex in
+    let explained = subst (disk.explains start) c.answer.ensures.device ex in
     let opened = has-opened disk start c.args.device log.device g.R.Read.remaining
     c.args.reader.now c.args.reader.now g.W.Write.contents c.args.writer.now c.args.writer.now
     g.F.Write.contents c.args.faults.now c.args.faults.now entries stands.texts stands.each
     (c.in-Ok.ensures.any_moment start stands.texts explained stands.stands) refl refl refl in
-    subst (λ o. AnswersWatch (watch_devices (d.seen start) (d.may_leave start) d.moment
-    (d.left_since start) c.args.device c.answer.result.1 g.R.Read.remaining c.args.reader.now
-    c.args.reader.now g.W.Write.contents c.args.writer.now c.args.writer.now g.F.Write.contents
-    c.args.faults.now c.args.faults.now) c.args.moment entries o) (sym (c.answer.ensures.well refl))
-    (subst (λ dev. HasOpened (watch_devices (d.seen start) (d.may_leave start) d.moment
-    (d.left_since start) c.args.device dev g.R.Read.remaining c.args.reader.now
-    c.args.reader.now g.W.Write.contents c.args.writer.now c.args.writer.now g.F.Write.contents
-    c.args.faults.now c.args.faults.now) entries) (sym c.answer.ensures.device) opened)
+    rw (c.answer.ensures.well refl, c.answer.ensures.device) opened
 
 pub returns-in_default-clause-damaged : goal.returns-in_default-clause-damaged
 returns-in_default-clause-damaged g c = λ start line ex e.
@@ -94,8 +78,8 @@ returns-in_default-clause-damaged g c = λ start line ex e.
 
 pub returns-in_default-clause-foreign : goal.returns-in_default-clause-foreign
 returns-in_default-clause-foreign g c = λ start ex none.
-    let d = g.D.DiskFile in
-    let o = c.in-Ok.ensures.opened start (subst (d.explains start) c.answer.ensures.device ex) in
+    let disk = g.D.DiskFile in
+    let o = c.in-Ok.ensures.opened start (subst (disk.explains start) c.answer.ensures.device ex) in
     absurd (none (
       o.records,
       record {
@@ -109,15 +93,14 @@ returns-in_default-clause-foreign g c = λ start ex none.
 
 pub returns-in_default-clause-cause : goal.returns-in_default-clause-cause
 returns-in_default-clause-cause g c =
-    let d = g.D.DiskFile in
-    subst (λ o. HasCause d.faults d.has_failed_to_read d.has_failed_to_write o c.args.device
-    c.answer.result.1) (sym (c.answer.ensures.well refl))
-    (ap d.faults c.answer.ensures.device ∙ c.in-Ok.ensures.faults)
+    let disk = g.D.DiskFile in
+    subst (λ o. HasCause disk o c.args.device c.answer.result.1) (sym (c.answer.ensures.well refl))
+    (ap disk.faults c.answer.ensures.device ∙ c.in-Ok.ensures.faults)
 
 pub returns-in_default-clause-explained : goal.returns-in_default-clause-explained
 returns-in_default-clause-explained g c = λ start ex.
-    let d = g.D.DiskFile in
-    c.in-Ok.ensures.explained start (subst (d.explains start) c.answer.ensures.device ex)
+    let disk = g.D.DiskFile in
+    c.in-Ok.ensures.explained start (subst (disk.explains start) c.answer.ensures.device ex)
 
 -- ---- it was started
 
@@ -126,13 +109,9 @@ begins : (g : _) → (c : After-run g)
     → (c.unwrap_or-first.result ≡ (starts_of c.in-Ok-starting.listener).moment)
     × ((starts_of c.in-Ok-starting.listener).moment ≤ last_moment)
     × HearsGiven (starts_of c.in-Ok-starting.listener) c.in-Ok-starting.listener [] []
-    × HasKept (disk_of g.D.DiskFile.explains g.D.DiskFile.seen g.D.DiskFile.may_leave
-    g.D.DiskFile.moment g.D.DiskFile.left_since g.D.DiskFile.faults
-    g.D.DiskFile.has_failed_to_write) (fresh-keeper c.in-Ok.log) (fresh-keeper c.in-Ok.log) [] []
+    × HasKept g.D.DiskFile (fresh-keeper c.in-Ok.log) (fresh-keeper c.in-Ok.log) [] []
 begins g c =
-    let d = g.D.DiskFile in
-    let disk = disk_of d.explains d.seen d.may_leave d.moment d.left_since d.faults
-    d.has_failed_to_write in
+    let disk = g.D.DiskFile in
     let listener = c.in-Ok-starting.listener in
     let start = c.in-Ok-starting.ensures.start in (
       c.unwrap_or-first.ensures ∙ ap (λ o. unwrap_or o 0) c.newest.ensures
@@ -146,18 +125,16 @@ begins g c =
 
 pub returns-clause-watched : goal.returns-clause-watched
 returns-clause-watched g c = λ start entries ex stands.
-    let d = g.D.DiskFile in
-    let disk = disk_of d.explains d.seen d.may_leave d.moment d.left_since d.faults
-    d.has_failed_to_write in
+    let disk = g.D.DiskFile in
     let log = c.in-Ok.log in
     let b = begins g (goal.at.returns-clause-watched g c).After-run in
     let run = c.run.ensures.runs b.0 b.1 b.2 b.3 in
     let explained = run.explained start ex in
     let o = c.in-Ok.ensures.opened start explained in
-    let same = same-texts stands.texts o.records o.front o.tail (d.seen start c.args.device)
+    let same = same-texts stands.texts o.records o.front o.tail (disk.seen start c.args.device)
     stands.stands o.kept o.end o.split in
     let each = subst (AllZip IsLoggedAs entries) same stands.each in
-    let keeps : Keeps (d.seen start) (d.may_leave start) IsWholeEntry o.records log =
+    let keeps : Keeps (disk.seen start) (disk.may_leave start) IsWholeEntry o.records log =
     record { front = o.front; kept = o.kept; at_rest = o.at_rest } in
     let saved = c.saved_at-saved.ensures entries
     (took-all c.new-memory.result c.open.new.taker entries o.records c.new-memory.ensures each
@@ -178,17 +155,14 @@ returns-clause-watched g c = λ start entries ex stands.
       split = o.split;
     }))
     (λ file left. keeps-stands disk start o.records (fresh-keeper log) keeps file left)
-    (subst (λ s. AnswersStarted (watch_devices (d.seen start) (d.may_leave start) d.moment
-    (d.left_since start) log.device c.run.result.1 g.R.Read.remaining c.args.reader.now
-    c.run.new.reader g.W.Write.contents c.args.writer.now c.run.new.writer g.F.Write.contents
-    c.args.faults.now c.run.new.faults) s entries c.run.result.0) starts answer))
+    (started-so _ entries c.run.result.0 starts answer))
 
 pub returns-clause-cause : goal.returns-clause-cause
 returns-clause-cause g c =
-    let d = g.D.DiskFile in
+    let disk = g.D.DiskFile in
     let b = begins g (goal.at.returns-clause-cause g c).After-run in
-    cause-behind d.faults d.has_failed_to_read d.has_failed_to_write c.run.result.0 c.args.device
-    c.in-Ok.log.device c.run.result.1 c.in-Ok.ensures.faults
+    cause-behind disk c.run.result.0 c.args.device c.in-Ok.log.device c.run.result.1
+    c.in-Ok.ensures.faults
     (c.run.ensures.runs b.0 b.1 b.2 b.3).cause
 
 pub returns-clause-explained : goal.returns-clause-explained
@@ -198,13 +172,13 @@ returns-clause-explained g c = λ start ex.
 
 pub returns-clause-damaged : goal.returns-clause-damaged
 returns-clause-damaged g c = λ start line ex e.
-    let d = g.D.DiskFile in
+    let disk = g.D.DiskFile in
     let log = c.in-Ok.log in
     let b = begins g (goal.at.returns-clause-damaged g c).After-run in
     let run = c.run.ensures.runs b.0 b.1 b.2 b.3 in
     let o = c.in-Ok.ensures.opened start (run.explained start ex) in
     let found = entries-of o.records o.front o.kept in
-    let keeps : Keeps (d.seen start) (d.may_leave start) IsWholeEntry o.records log =
+    let keeps : Keeps (disk.seen start) (disk.may_leave start) IsWholeEntry o.records log =
     record { front = o.front; kept = o.kept; at_rest = o.at_rest } in
     let answer = run.answers start found.0 o.records found.1 keeps in
     absurd (not-damaged _ found.0 (starts_of c.in-Ok-starting.listener) line

@@ -7,9 +7,10 @@ use Rattle.std.specs.Io.KnownBytes.{Consumes, IsAtEnd}
 use Rattle.std.proofs.lemmas.List.Elements.{All-nil}
 use Rattle.nx_envelope.specs.Moment.{last_moment}
 use Rattle.nx_fec.specs.air_files.AirFile.{Line}
-use Rattle.nx_fec.specs.Transfers.{CountedDevice}
+use Rattle.nx_fec.specs.Transfers.{CountedDevice, devices}
 use Rattle.nx_kept.specs.Disk.{LeavesOnly}
 use Rattle.nx_kept.specs.Kept.{closed_gate}
+use Rattle.nx_kept.specs.declared.disk.DiskFile.{Ghosts as TellsOfDisk}
 use Rattle.nx_kept.proofs.lemmas.Stages.{weaker}
 use Rattle.nx_log.specs.Logged.{IsLoggedAs}
 use Rattle.nx_receiver.specs.air_file_runs.Listen.{given_by}
@@ -18,13 +19,13 @@ use Rattle.nx_receiver.specs.copies.Log.{IsLog}
 use Rattle.nx_receiver.specs.copies.Shares.{MarkedCopy, Starts}
 use Rattle.nx_watch.specs.Acting.{acting_lines, most_bytes}
 use Rattle.nx_watch.specs.Watch.{AnswersStarted, AnswersStop, HasCause, HasRead, HasWatched, KeepsAll, KeepsSome, LeavesAtAnyMoment}
-use Rattle.nx_watch.specs.Watch.{PrintsUntil, StandsForEntries, Stop, WatchDevices, at_end, back, unread, unwritten, watch_devices}
+use Rattle.nx_watch.specs.Watch.{PrintsUntil, StandsForEntries, Stop, WatchDevices, at_end, back, unread, unwritten}
 use Rattle.nx_watch.specs.LineRun.{HasTold, WereGiven, told_of}
 use Rattle.nx_watch.specs.declared.kept_log.keeper.Keeper.{Keeper}
 use Rattle.nx_watch.specs.declared.watch_report.WatchReport.{WatchReport}
 use Rattle.nx_watch.specs.declared.watch_fault.WatchFault.{WatchFault}
 use Rattle.nx_watch.specs.declared.watch_fault.WatchFault.TheVariants as fault
-use Rattle.nx_watch.specs.private.Keeping.{AllKept, DiskOf, HasKept, HasKeptSo, KeepsTexts, SomeKept, StandsForFirst, StandsForTexts}
+use Rattle.nx_watch.specs.private.Keeping.{AllKept, HasKept, HasKeptSo, KeepsTexts, SomeKept, StandsForFirst, StandsForTexts}
 use Rattle.nx_watch.specs.private.LoggingListener.{HasRun, IsLineInRange, KeepsLines}
 use Rattle.nx_watch.specs.declared.logging_listener.LoggingListener.{LoggingListener}
 use Rattle.nx_watch.proofs.lemmas.log.Keeping.{keeps-stands}
@@ -87,16 +88,23 @@ all-entries entries copies texts more file h k stands = record {
 
 -- ---- the answer
 
-module _ {D R W E : Type 0} (disk : DiskOf D) (content : List ℕ) (start : Keeper D)
+module _ {D R W E : Type 0} (disk : TellsOfDisk D) (content : List ℕ) (start : Keeper D)
     (remaining : R → Option (List ℕ)) (reader reader_after : CountedDevice R)
     (contents : W → Option (List ℕ)) (writer writer_after : CountedDevice W)
     (told : E → Option (List ℕ)) (faults faults_after : CountedDevice E)
   where
     abbrev pub at-hand : D → WatchDevices D R W E
     at-hand after =
-        watch_devices (disk.seen content) (disk.may_leave content) disk.clock
-        (disk.left_since content) start.log.device after remaining reader reader_after contents
-        writer writer_after told faults faults_after
+        record {
+          tells = disk;
+          start = content;
+          disk = start.log.device;
+          disk_after = after;
+          streams = devices remaining contents reader reader_after writer writer_after;
+          told = told;
+          faults = faults;
+          faults_after = faults_after;
+        }
 
     all-kept : (entries copies : List MarkedCopy) (texts more : List (List ℕ)) (now : Keeper D)
         (given : List ℕ) → AllZip IsLoggedAs entries texts → AllZip IsLoggedAs copies more
@@ -140,7 +148,7 @@ module _ {D R W E : Type 0} (disk : DiskOf D) (content : List ℕ) (start : Keep
     moments-so : (b : Bool) (more : List (List ℕ)) (now : Keeper D) (given : List ℕ)
         → HasKeptSo disk b start now more given → (texts : List (List ℕ))
         → KeepsTexts disk content texts start
-        → LeavesOnly disk.clock (disk.left_since content) start.log.device now.log.device
+        → LeavesOnly disk.moment (disk.left_since content) start.log.device now.log.device
         (StandsForFirst texts more)
     moments-so false more now given kept texts keeps = kept.any_moment content texts keeps
     moments-so true more now given kept texts keeps = kept.any_moment content texts keeps
@@ -152,7 +160,7 @@ module _ {D R W E : Type 0} (disk : DiskOf D) (content : List ℕ) (start : Keep
         → LeavesAtAnyMoment (at-hand now.log.device) (λ file. (count : ℕ) × (count ≤ length copies)
         × StandsForEntries (entries ++ take count copies) file)
     moments-of entries copies texts more now given each zip keeps kept =
-        weaker disk.clock (disk.left_since content) (disk.may_leave content) _
+        weaker disk.moment (disk.left_since content) (disk.may_leave content) _
         (StandsForFirst texts more) start.log.device now.log.device
         (moments-so now.has_failed more now given kept texts keeps)
         (λ file s. inr (
@@ -188,20 +196,20 @@ module _ {D R W E : Type 0} (disk : DiskOf D) (content : List ℕ) (start : Keep
 
 -- ---- why it answers so
 
-module _ {D : Type 0} (disk : DiskOf D) (to_read : D → Type 0) where
+module _ {D : Type 0} (disk : TellsOfDisk D) where
   pub cause-of : (start now : Keeper D) (more : List (List ℕ)) (given : List ℕ)
       (outcome : Result WatchReport WatchFault) → HasKept disk start now more given
       → (now.has_failed ≡ true → outcome ≡ Err fault.Disk)
       → (now.has_failed ≡ false → AllKept disk start now more given
-      → HasCause disk.faults to_read disk.to_write outcome start.log.device now.log.device)
-      → HasCause disk.faults to_read disk.to_write outcome start.log.device now.log.device
+      → HasCause disk outcome start.log.device now.log.device)
+      → HasCause disk outcome start.log.device now.log.device
   cause-of start now more given outcome kept failed well = so now.has_failed refl kept
     where
       so : (b : Bool) → now.has_failed ≡ b → HasKeptSo disk b start now more given
-          → HasCause disk.faults to_read disk.to_write outcome start.log.device now.log.device
+          → HasCause disk outcome start.log.device now.log.device
       so false is k = well is k
       so true is k =
-          subst (λ o. HasCause disk.faults to_read disk.to_write o start.log.device now.log.device)
+          subst (λ o. HasCause disk o start.log.device now.log.device)
           (sym (failed is)) k.failed
 
   pub explained-of : (start now : Keeper D) (more : List (List ℕ)) (given : List ℕ)
@@ -235,7 +243,7 @@ pub unwritten-apart : unwritten ≡ unread → ⊥
 unwritten-apart e = cc
 
 -- before the first line
-pub stands-first : {D : Type 0} (disk : DiskOf D) (logging : LoggingListener D)
+pub stands-first : {D : Type 0} (disk : TellsOfDisk D) (logging : LoggingListener D)
     → (starts_of logging.listener).moment ≤ last_moment
     → HearsGiven (starts_of logging.listener) logging.listener [] []
     → HasKept disk logging.keeper logging.keeper [] []
@@ -251,35 +259,35 @@ stands-first disk logging range heard kept = record {
 }
 
 -- where a watch answers how it stopped, the disk isn't blamed
-stop-cause : {D : Type 0} (faults : D → ℕ) (to_read to_write : D → Type 0) (old new : D)
+stop-cause : {D : Type 0} (disk : TellsOfDisk D) (old new : D)
     (first : ℕ) (stop : Stop) (lines : List (Option Line)) (copies : List MarkedCopy)
     (outcome : Result WatchReport WatchFault) → AnswersStop first stop lines copies outcome
-    → faults new ≡ faults old → HasCause faults to_read to_write outcome old new
-stop-cause faults to_read to_write old new first stop lines copies (Ok report) h well = well
-stop-cause faults to_read to_write old new first stop lines copies (Err fault.Read) h well = well
-stop-cause faults to_read to_write old new first stop lines copies (Err fault.Memory) h well = well
-stop-cause faults to_read to_write old new first stop lines copies (Err (fault.Damaged line)) h
+    → disk.faults new ≡ disk.faults old → HasCause disk outcome old new
+stop-cause disk old new first stop lines copies (Ok report) h well = well
+stop-cause disk old new first stop lines copies (Err fault.Read) h well = well
+stop-cause disk old new first stop lines copies (Err fault.Memory) h well = well
+stop-cause disk old new first stop lines copies (Err (fault.Damaged line)) h
     well = well
-stop-cause faults to_read to_write old new first stop lines copies
+stop-cause disk old new first stop lines copies
     (Err (fault.Back line last given)) h well = well
-stop-cause faults to_read to_write old new first at_end lines copies (Err fault.Open) h well =
+stop-cause disk old new first at_end lines copies (Err fault.Open) h well =
     absurd h
-stop-cause faults to_read to_write old new first (back l m n) lines copies (Err fault.Open) h well =
+stop-cause disk old new first (back l m n) lines copies (Err fault.Open) h well =
     absurd h
-stop-cause faults to_read to_write old new first unread lines copies (Err fault.Open) h well =
+stop-cause disk old new first unread lines copies (Err fault.Open) h well =
     absurd h
-stop-cause faults to_read to_write old new first unwritten lines copies (Err fault.Open) h well =
+stop-cause disk old new first unwritten lines copies (Err fault.Open) h well =
     absurd h
-stop-cause faults to_read to_write old new first at_end lines copies (Err fault.Disk) h well =
+stop-cause disk old new first at_end lines copies (Err fault.Disk) h well =
     absurd h
-stop-cause faults to_read to_write old new first (back l m n) lines copies (Err fault.Disk) h well =
+stop-cause disk old new first (back l m n) lines copies (Err fault.Disk) h well =
     absurd h
-stop-cause faults to_read to_write old new first unread lines copies (Err fault.Disk) h well =
+stop-cause disk old new first unread lines copies (Err fault.Disk) h well =
     absurd h
-stop-cause faults to_read to_write old new first unwritten lines copies (Err fault.Disk) h well =
+stop-cause disk old new first unwritten lines copies (Err fault.Disk) h well =
     absurd h
 
-module _ {D R W E : Type 0} (disk : DiskOf D) (logging : LoggingListener D) (first : ℕ)
+module _ {D R W E : Type 0} (disk : TellsOfDisk D) (logging : LoggingListener D) (first : ℕ)
     (remaining : R → Option (List ℕ)) (reader reader_after : CountedDevice R)
     (contents : W → Option (List ℕ)) (writer writer_after : CountedDevice W)
     (told : E → Option (List ℕ)) (faults faults_after : CountedDevice E)
@@ -308,9 +316,16 @@ module _ {D R W E : Type 0} (disk : DiskOf D) (logging : LoggingListener D) (fir
 
     abbrev at-hand-with : D → List ℕ → WatchDevices D R W E
     at-hand-with device content =
-        watch_devices (disk.seen content) (disk.may_leave content) disk.clock
-        (disk.left_since content) logging.keeper.log.device device remaining reader reader_after
-        contents writer writer_after told faults faults_after
+        record {
+          tells = disk;
+          start = content;
+          disk = logging.keeper.log.device;
+          disk_after = device;
+          streams = devices remaining contents reader reader_after writer writer_after;
+          told = told;
+          faults = faults;
+          faults_after = faults_after;
+        }
 
     answers-stopped : (stop : Stop) (now : Keeper D) (h : HasStopped stop now)
         (outcome : Result WatchReport WatchFault) → first ≡ (starts_of logging.listener).moment
@@ -343,25 +358,25 @@ module _ {D R W E : Type 0} (disk : DiskOf D) (logging : LoggingListener D) (fir
         (λ w all. subst (λ f. AnswersStop f stop h.lines h.copies outcome) is (well w all))
 
     -- what such a run answers, whose device is that of its keeper
-    pub has-run : (to_read : D → Type 0) (stop : Stop) (now : Keeper D) (h : HasStopped stop now)
+    pub has-run : (stop : Stop) (now : Keeper D) (h : HasStopped stop now)
         (outcome : Result WatchReport WatchFault) (device : D)
         → first ≡ (starts_of logging.listener).moment → device ≡ now.log.device
         → (now.has_failed ≡ true → outcome ≡ Err fault.Disk)
         → (now.has_failed ≡ false → AllKept disk logging.keeper now h.texts h.given
         → AnswersStop first stop h.lines h.copies outcome)
-        → HasRun disk to_read logging (at-hand-with device) outcome device
-    has-run to_read stop now h outcome device is same failed well =
-        subst (λ (d : D). HasRun disk to_read logging (at-hand-with d) outcome d) (sym same)
+        → HasRun disk logging (at-hand-with device) outcome device
+    has-run stop now h outcome device is same failed well =
+        subst (λ (d : D). HasRun disk logging (at-hand-with d) outcome d) (sym same)
         (record {
           answers = answers-stopped stop now h outcome is failed well;
-          cause = cause-of disk to_read logging.keeper now h.texts h.given outcome h.kept failed
-              (λ w all. stop-cause disk.faults to_read disk.to_write logging.keeper.log.device
+          cause = cause-of disk logging.keeper now h.texts h.given outcome h.kept failed
+              (λ w all. stop-cause disk logging.keeper.log.device
               now.log.device first stop h.lines h.copies outcome (well w all) all.well);
-          explained = explained-of disk to_read logging.keeper now h.texts h.given h.kept;
+          explained = explained-of disk logging.keeper now h.texts h.given h.kept;
         })
 
 -- a writer whose write failed was given bytes, so not all was kept
-pub wrote-some : {D W : Type 0} {disk : DiskOf D} {contents : W → Option (List ℕ)}
+pub wrote-some : {D W : Type 0} {disk : TellsOfDisk D} {contents : W → Option (List ℕ)}
     (start now : Keeper D) (more : List (List ℕ)) (given : List ℕ) (before after : CountedDevice W)
     → before.failures ≡ 0 → after.failures ≡ 1 → WereGiven contents before after given
     → AllKept disk start now more given → ⊥

@@ -14,8 +14,9 @@ use Rattle.nx_receiver.proofs.lemmas.listening.Listener.{counts-on}
 use Rattle.nx_watch.specs.Watch.{longest_entry}
 use Rattle.nx_watch.specs.LineRun.{HasTold, WereGiven}
 use Rattle.nx_watch.specs.private.Entries.{entry_some}
-use Rattle.nx_watch.specs.private.Keeping.{AllKept, DiskOf, HasKept, HasKeptSo, KeepsTexts, LeavesFirst, SomeKept, StandsForFirst, StandsForTexts}
+use Rattle.nx_watch.specs.private.Keeping.{AllKept, HasKept, HasKeptSo, KeepsTexts, LeavesFirst, SomeKept, StandsForFirst, StandsForTexts}
 use Rattle.nx_kept.specs.declared.log.KeptLog.{KeptLog}
+use Rattle.nx_kept.specs.declared.disk.DiskFile.{Ghosts as TellsOfDisk}
 use Rattle.nx_watch.specs.declared.kept_log.keeper.Keeper.{Keeper}
 use Rattle.nx_watch.specs.declared.kept_log.log_grammar.LogGrammar.{LogGrammar}
 
@@ -63,7 +64,7 @@ put-more before texts entry file (inl h) =
 put-more before texts entry file (inr h) =
     (length texts + 1, omega (arith, one-more texts entry), one-over before texts entry file h)
 
-module _ {D : Type 0} (disk : DiskOf D) where
+module _ {D : Type 0} (disk : TellsOfDisk D) where
   -- what is kept is left
   pub keeps-stands : (content : List ℕ) (texts : List (List ℕ)) (keeper : Keeper D)
       → KeepsTexts disk content texts keeper → (file : List ℕ)
@@ -79,7 +80,7 @@ module _ {D : Type 0} (disk : DiskOf D) where
   -- a keeper that was given nothing
   pub kept-none : (keeper : Keeper D) → keeper.has_failed ≡ false → keeper.put ≡ 0
       → ((content file : List ℕ)
-      → disk.left_since content keeper.log.device (disk.clock keeper.log.device) file
+      → disk.left_since content keeper.log.device (disk.moment keeper.log.device) file
       → disk.may_leave content keeper.log.device file)
       → HasKept disk keeper keeper [] []
   kept-none keeper well none only_now = subst (λ b. HasKeptSo disk b keeper keeper [] []) (sym well)
@@ -99,7 +100,7 @@ module _ {D : Type 0} (disk : DiskOf D) where
     where
       here : (content : List ℕ) (before : List (List ℕ)) → KeepsTexts disk content before keeper
           → (file : List ℕ)
-          → disk.left_since content keeper.log.device (disk.clock keeper.log.device) file
+          → disk.left_since content keeper.log.device (disk.moment keeper.log.device) file
           → StandsForFirst before [] file
       here content before k file left = (
         0,
@@ -111,17 +112,17 @@ module _ {D : Type 0} (disk : DiskOf D) where
   -- one entry more was put, or its put failed: what a crash leaves meanwhile
   moments-more : (start old now : Keeper D) (texts : List (List ℕ)) (entry given : List ℕ)
       → ((content : List ℕ) (records : List (List ℕ)) → KeepsTexts disk content records old
-      → LeavesOnly disk.clock (disk.left_since content) old.log.device now.log.device
+      → LeavesOnly disk.moment (disk.left_since content) old.log.device now.log.device
       (WithOrWithout IsWholeEntry longest_entry records entry))
       → AllKept disk start old texts given
       → (content : List ℕ) (before : List (List ℕ)) → KeepsTexts disk content before start
       → LeavesFirst disk content before (texts ++ entry ∷ []) start now
   moments-more start old now texts entry given moments all content before k =
-      joined disk.clock (disk.left_since content) (disk.may_leave content)
+      joined disk.moment (disk.left_since content) (disk.may_leave content)
       (StandsForFirst before (texts ++ entry ∷ []))
       (WithOrWithout IsWholeEntry longest_entry (before ++ texts) entry)
       start.log.device old.log.device now.log.device
-      (weaker disk.clock (disk.left_since content) (disk.may_leave content)
+      (weaker disk.moment (disk.left_since content) (disk.may_leave content)
       (StandsForFirst before (texts ++ entry ∷ [])) (StandsForFirst before texts)
       start.log.device old.log.device (all.any_moment content before k)
       (first-of-more before texts entry))
@@ -136,7 +137,7 @@ module _ {D : Type 0} (disk : DiskOf D) where
       → ((content : List ℕ) (records : List (List ℕ)) → KeepsTexts disk content records old
       → KeepsTexts disk content (records ++ entry ∷ []) now)
       → ((content : List ℕ) (records : List (List ℕ)) → KeepsTexts disk content records old
-      → LeavesOnly disk.clock (disk.left_since content) old.log.device now.log.device
+      → LeavesOnly disk.moment (disk.left_since content) old.log.device now.log.device
       (WithOrWithout IsWholeEntry longest_entry records entry))
       → AllKept disk start old texts given
       → HasKept disk start now (texts ++ entry ∷ []) (given ++ [])
@@ -157,13 +158,13 @@ module _ {D : Type 0} (disk : DiskOf D) where
   pub put-failed : (start old now : Keeper D) (texts : List (List ℕ)) (entry given : List ℕ)
       → now.has_failed ≡ true
       → FailedOnce (disk.faults old.log.device) (disk.faults now.log.device)
-      (disk.to_write now.log.device)
+      (disk.has_failed_to_write now.log.device)
       → ((content : List ℕ) → disk.explains content now.log.device
       → disk.explains content old.log.device)
-      → ((content : List ℕ) (t : ℕ) (file : List ℕ) → t ≤ disk.clock now.log.device
+      → ((content : List ℕ) (t : ℕ) (file : List ℕ) → t ≤ disk.moment now.log.device
       → disk.may_leave content now.log.device file → disk.left_since content now.log.device t file)
       → ((content : List ℕ) (records : List (List ℕ)) → KeepsTexts disk content records old
-      → LeavesOnly disk.clock (disk.left_since content) old.log.device now.log.device
+      → LeavesOnly disk.moment (disk.left_since content) old.log.device now.log.device
       (WithOrWithout IsWholeEntry longest_entry records entry))
       → AllKept disk start old texts given
       → HasKept disk start now (texts ++ entry ∷ []) (given ++ entry)
@@ -181,7 +182,7 @@ module _ {D : Type 0} (disk : DiskOf D) where
             let run = moments content (before ++ texts) (all.kept content before k) in
             ⊎_elim (λ h. inl (all-of before texts entry file h))
             (λ h. inr (one-over before texts entry file h))
-            (run.each file (counts_now content (disk.clock old.log.device) file run.later left));
+            (run.each file (counts_now content (disk.moment old.log.device) file run.later left));
         any_moment = moments-more start old now texts entry given moments all;
       })
 
@@ -206,7 +207,7 @@ module _ {D : Type 0} (disk : DiskOf D) where
             (sym (take-append-le (h.count + 1) texts (entry ∷ []) fewer)) s))
             (h.left content before k file left);
         any_moment = λ content before k.
-            weaker disk.clock (disk.left_since content) (disk.may_leave content)
+            weaker disk.moment (disk.left_since content) (disk.may_leave content)
             (StandsForFirst before (texts ++ entry ∷ [])) (StandsForFirst before texts)
             start.log.device now.log.device (h.any_moment content before k)
             (first-of-more before texts entry);

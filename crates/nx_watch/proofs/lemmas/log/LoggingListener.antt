@@ -13,6 +13,7 @@ use Rattle.nx_fec.specs.air_files.AirFile.{refuse_subject, accept_subject}
 use Rattle.nx_fec.specs.air_files.Channels.{channel_of, same_channel}
 use Rattle.nx_fec.specs.Transfers.{CountedDevice}
 use Rattle.nx_fec.specs.declared.air_files.channel.Channel.{Channel}
+use Rattle.nx_kept.specs.declared.disk.DiskFile.{Ghosts as TellsOfDisk}
 use Rattle.nx_log.specs.Entries.{IsWholeEntry}
 use Rattle.nx_log.specs.Logged.{IsLogged, IsLoggedAs}
 use Rattle.nx_log.proofs.lemmas.printed.Moments.{AreInRange, IsInRange, end_logged, given_logged}
@@ -34,7 +35,7 @@ use Rattle.nx_receiver.proofs.lemmas.listening.Listener.{given_by-one}
 use Rattle.nx_watch.proofs.lemmas.log.Heard.{none-heard}
 use Rattle.nx_watch.specs.Acting.{in_force, moments_said}
 use Rattle.nx_watch.specs.LineRun.{StandsWith, WithWriter, with_writer}
-use Rattle.nx_watch.specs.private.Keeping.{DiskOf, HasKept, KeepsWith}
+use Rattle.nx_watch.specs.private.Keeping.{HasKept, KeepsWith}
 use Rattle.nx_watch.specs.private.LoggingListener.{IsCopyInRange, IsLineInRange, KeepsHeard, KeepsLines}
 use Rattle.nx_watch.specs.declared.logging_listener.LoggingListener.{LoggingListener}
 
@@ -169,7 +170,7 @@ pub log-of : (copies : List MarkedCopy) (texts : List (List ℕ)) → AllZip IsL
     → IsLog copies (concat texts)
 log-of copies texts h = record { entries = texts; each = each-entry copies texts h; joined = refl }
 
-module _ {D W : Type 0} (disk : DiskOf D) (contents : W → Option (List ℕ)) where
+module _ {D W : Type 0} (disk : TellsOfDisk D) (contents : W → Option (List ℕ)) where
   -- one line more, which brings no copies
   pub next-line : (start : WithWriter (LoggingListener D) W) (old new : LoggingListener D)
       (writer : CountedDevice W) (lines : List Line) (line : Line)

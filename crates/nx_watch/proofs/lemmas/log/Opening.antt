@@ -4,10 +4,11 @@ use Rattle.std.proofs.Common.{◌∷◌, ◌++◌, length, take, Option, Result,
 use Rattle.std.proofs.Common.{append-nil, arith}
 use Rattle.std.specs.List.{AllZip}
 use Rattle.nx_fec.specs.air_files.AirFile.{Line}
-use Rattle.nx_fec.specs.Transfers.{CountedDevice}
+use Rattle.nx_fec.specs.Transfers.{CountedDevice, devices}
 use Rattle.nx_kept.specs.Disk.{LeavesOnly}
 use Rattle.nx_kept.specs.Kept.{IsBehindOpenGates, IsTail}
 use Rattle.nx_kept.specs.Open as opening
+use Rattle.nx_kept.specs.declared.disk.DiskFile.{Ghosts as TellsOfDisk}
 use Rattle.nx_kept.specs.declared.fault.OpenFault.{OpenFault}
 use Rattle.nx_kept.specs.declared.fault.OpenFault.TheVariants as why
 use Rattle.nx_kept.proofs.lemmas.KeptLaws.{one_list}
@@ -16,13 +17,13 @@ use Rattle.nx_log.specs.Entries.{IsWholeEntry}
 use Rattle.nx_log.specs.Logged.{IsLoggedAs}
 use Rattle.nx_receiver.specs.copies.Shares.{MarkedCopy, Starts}
 use Rattle.nx_watch.specs.Watch.{AnswersStarted, AnswersStop, AnswersWatch, HasCause, HasOpened, StandsForEntries, Stop}
-use Rattle.nx_watch.specs.Watch.{WatchDevices, at_end, back, longest_entry, starts_at, unread, unwritten, watch_devices}
+use Rattle.nx_watch.specs.Watch.{WatchDevices, at_end, back, longest_entry, starts_at, unread, unwritten}
 use Rattle.nx_watch.specs.declared.watch_report.WatchReport.{WatchReport}
 use Rattle.nx_watch.specs.declared.watch_fault.WatchFault.{WatchFault}
 use Rattle.nx_watch.specs.declared.watch_fault.WatchFault.TheVariants.{Open, Damaged, Disk, Memory, Read, Back}
 use Rattle.nx_watch.specs.private.Answering.{fault_answered}
 use Rattle.nx_watch.specs.private.Entries.{entry_one, entry_some}
-use Rattle.nx_watch.specs.private.Keeping.{DiskOf, StandsForTexts}
+use Rattle.nx_watch.specs.private.Keeping.{StandsForTexts}
 
 -- ---- records and entries
 
@@ -44,21 +45,28 @@ same-texts texts records front tail file stands kept end split =
 
 -- ---- an opening that failed
 
-module _ {D R W E : Type 0} (disk : DiskOf D) (content : List ℕ) (old new : D)
+module _ {D R W E : Type 0} (disk : TellsOfDisk D) (content : List ℕ) (old new : D)
     (remaining : R → Option (List ℕ)) (reader reader_after : CountedDevice R)
     (contents : W → Option (List ℕ)) (writer writer_after : CountedDevice W)
     (told : E → Option (List ℕ)) (faults faults_after : CountedDevice E)
   where
     pub has-opened : (entries : List MarkedCopy) (texts : List (List ℕ))
         → AllZip IsLoggedAs entries texts
-        → LeavesOnly disk.clock (disk.left_since content) old new
+        → LeavesOnly disk.moment (disk.left_since content) old new
         (λ c. disk.may_leave content old c ⊎ StandsForTexts texts c)
         → reader_after ≡ reader → writer_after ≡ writer → faults_after ≡ faults
-        → HasOpened (watch_devices (disk.seen content) (disk.may_leave content) disk.clock
-        (disk.left_since content) old new remaining reader reader_after contents writer writer_after
-        told faults faults_after) entries
+        → HasOpened (record {
+          tells = disk;
+          start = content;
+          disk = old;
+          disk_after = new;
+          streams = devices remaining contents reader reader_after writer writer_after;
+          told = told;
+          faults = faults;
+          faults_after = faults_after;
+        }) entries
     has-opened entries texts each moments r w f = record {
-      any_moment = weaker disk.clock (disk.left_since content) (disk.may_leave content) _ _ old new
+      any_moment = weaker disk.moment (disk.left_since content) (disk.may_leave content) _ _ old new
           moments (λ c h. ⊎_elim (λ left. inl left)
           (λ s. inr (record { texts = texts; each = each; stands = s })) h);
       unread = r;
@@ -75,14 +83,13 @@ answers-opening d now entries why.Disk h whole = inl h
 answers-opening d now entries (why.Damaged line) h whole = whole line refl
 answers-opening d now entries why.Memory h whole = h
 
-pub cause-opening : {D : Type 0} (faults : D → ℕ) (to_read to_write : D → Type 0)
-    (fault : OpenFault) (old new : D)
-    → opening.HasCause faults to_read to_write fault old new
-    → HasCause faults to_read to_write (Err (fault_answered fault)) old new
-cause-opening faults to_read to_write why.Read old new h = h
-cause-opening faults to_read to_write why.Disk old new h = h
-cause-opening faults to_read to_write (why.Damaged line) old new h = h
-cause-opening faults to_read to_write why.Memory old new h = ap faults h
+pub cause-opening : {D : Type 0} (disk : TellsOfDisk D) (fault : OpenFault) (old new : D)
+    → opening.HasCause disk.faults disk.has_failed_to_read disk.has_failed_to_write fault old new
+    → HasCause disk (Err (fault_answered fault)) old new
+cause-opening disk why.Read old new h = h
+cause-opening disk why.Disk old new h = h
+cause-opening disk (why.Damaged line) old new h = h
+cause-opening disk why.Memory old new h = ap disk.faults h
 
 -- the answer names the damage that the opening names
 pub damage-named : (fault : OpenFault) (line : ℕ)
@@ -93,19 +100,18 @@ damage-named (why.Damaged other) line e = cc
 damage-named why.Memory line e = cc
 
 -- why a watch answers so that was opened without a fault
-pub cause-behind : {D : Type 0} (faults : D → ℕ) (to_read to_write : D → Type 0)
-    (outcome : Result WatchReport WatchFault) (old mid new : D) → faults mid ≡ faults old
-    → HasCause faults to_read to_write outcome mid new
-    → HasCause faults to_read to_write outcome old new
-cause-behind faults to_read to_write (Ok report) old mid new same h = h ∙ same
-cause-behind faults to_read to_write (Err Open) old mid new same h =
+pub cause-behind : {D : Type 0} (disk : TellsOfDisk D) (outcome : Result WatchReport WatchFault)
+    (old mid new : D) → disk.faults mid ≡ disk.faults old → HasCause disk outcome mid new
+    → HasCause disk outcome old new
+cause-behind disk (Ok report) old mid new same h = h ∙ same
+cause-behind disk (Err Open) old mid new same h =
     record { once = h.once ∙ ap suc same; last = h.last }
-cause-behind faults to_read to_write (Err Disk) old mid new same h =
+cause-behind disk (Err Disk) old mid new same h =
     record { once = h.once ∙ ap suc same; last = h.last }
-cause-behind faults to_read to_write (Err (Damaged line)) old mid new same h = h ∙ same
-cause-behind faults to_read to_write (Err Memory) old mid new same h = h ∙ same
-cause-behind faults to_read to_write (Err Read) old mid new same h = h ∙ same
-cause-behind faults to_read to_write (Err (Back line last given)) old mid new same h = h ∙ same
+cause-behind disk (Err (Damaged line)) old mid new same h = h ∙ same
+cause-behind disk (Err Memory) old mid new same h = h ∙ same
+cause-behind disk (Err Read) old mid new same h = h ∙ same
+cause-behind disk (Err (Back line last given)) old mid new same h = h ∙ same
 
 -- ---- a watch that was started
 
@@ -162,21 +168,34 @@ module _ {D R W E : Type 0} (d : WatchDevices D R W E) (entries : List MarkedCop
       other : err Memory ≡ err Disk → ⊥
       other e = cc
 
+-- a watch that started so started as this says
+pub started-so : {D R W E : Type 0} (d : WatchDevices D R W E) (entries : List MarkedCopy)
+    (outcome : Result WatchReport WatchFault) {starts same : Starts} → starts ≡ same
+    → AnswersStarted d starts entries outcome → AnswersStarted d same entries outcome
+started-so d entries outcome is answer =
+    subst (λ s. AnswersStarted d s entries outcome) is answer
+
 -- what was answered of the open log is answered of the file before it was opened
-module _ {D R W E : Type 0} (disk : DiskOf D) (content : List ℕ) (old mid new : D)
+module _ {D R W E : Type 0} (disk : TellsOfDisk D) (content : List ℕ) (old mid new : D)
     (remaining : R → Option (List ℕ)) (reader reader_after : CountedDevice R)
     (contents : W → Option (List ℕ)) (writer writer_after : CountedDevice W)
     (told : E → Option (List ℕ)) (faults faults_after : CountedDevice E)
   where
     abbrev devices-from : D → WatchDevices D R W E
-    devices-from from =
-        watch_devices (disk.seen content) (disk.may_leave content) disk.clock
-        (disk.left_since content) from new remaining reader reader_after contents writer
-        writer_after told faults faults_after
+    devices-from from = record {
+      tells = disk;
+      start = content;
+      disk = from;
+      disk_after = new;
+      streams = devices remaining contents reader reader_after writer writer_after;
+      told = told;
+      faults = faults;
+      faults_after = faults_after;
+    }
 
     pub started-before : (starts : Starts) (entries : List MarkedCopy) (texts : List (List ℕ))
         (outcome : Result WatchReport WatchFault) → AllZip IsLoggedAs entries texts
-        → LeavesOnly disk.clock (disk.left_since content) old mid
+        → LeavesOnly disk.moment (disk.left_since content) old mid
         (λ c. disk.may_leave content old c ⊎ StandsForTexts texts c)
         → ((c : List ℕ) → disk.may_leave content mid c → StandsForTexts texts c)
         → AnswersStarted (devices-from mid) starts entries outcome
@@ -193,8 +212,9 @@ module _ {D R W E : Type 0} (disk : DiskOf D) (content : List ℕ) (old mid new 
             read = w.read;
             printed = w.printed;
             any_moment =
-                joined disk.clock (disk.left_since content) (disk.may_leave content) _ _ old mid new
-                (weaker disk.clock (disk.left_since content) (disk.may_leave content) _ _ old mid
+                joined disk.moment (disk.left_since content) (disk.may_leave content) _ _ old mid
+                new
+                (weaker disk.moment (disk.left_since content) (disk.may_leave content) _ _ old mid
                 opened (λ c o. ⊎_elim (λ left. inl left) (λ s. inr (none c s)) o))
                 w.any_moment
                 (λ c o. ⊎_elim (λ left. inr (none c (rests c left))) (λ s. inr s) o);

@@ -8,7 +8,7 @@ use Rattle.nx_receiver.specs.copies.InTurn.{PrintAllToEnd}
 use Rattle.nx_receiver.specs.air_file_runs.Listen.{given_by}
 use Rattle.nx_receiver.specs.Listener.{last_copies}
 use Rattle.nx_receiver.specs.copies.Shares.{MarkedCopy, Starts}
-use Rattle.nx_watch.specs.private.Keeping.{KeepsWith, disk_of}
+use Rattle.nx_watch.specs.private.Keeping.{KeepsWith}
 use Rattle.nx_watch.specs.private.LoggingListener.{IsCopyInRange, IsLineInRange}
 use Rattle.nx_watch.specs.declared.kept_log.keeper.Keeper.{Keeper}
 use Rattle.nx_watch.proofs.logging_listener.keep_last.Given as goal
@@ -23,15 +23,11 @@ invariant-entries g l = record {
       → starts.moment ≤ last_moment → All IsLineInRange lines
       → PrintAllToEnd starts (given_by lines) (copies ++ last_copies l.fn.last)
       → AllZip IsLoggedAs copies texts
-      → KeepsWith (disk_of g.D.DiskFile.explains g.D.DiskFile.seen g.D.DiskFile.may_leave
-      g.D.DiskFile.moment g.D.DiskFile.left_since g.D.DiskFile.faults
-      g.D.DiskFile.has_failed_to_write) g.W.Write.contents start l.fn.keeper first l.fn.writer texts
+      → KeepsWith g.D.DiskFile g.W.Write.contents start l.fn.keeper first l.fn.writer texts
       → (done : List MarkedCopy) × (more : List (List ℕ))
       × PrintAllToEnd starts (given_by lines) (done ++ last_copies l.last)
       × AllZip IsLoggedAs done more
-      × KeepsWith (disk_of g.D.DiskFile.explains g.D.DiskFile.seen g.D.DiskFile.may_leave
-      g.D.DiskFile.moment g.D.DiskFile.left_since g.D.DiskFile.faults
-      g.D.DiskFile.has_failed_to_write) g.W.Write.contents start l.keeper first l.writer more;
+      × KeepsWith g.D.DiskFile g.W.Write.contents start l.keeper first l.writer more;
 }
 
 abbrev pub decreases-entries : goal.decreases-entries

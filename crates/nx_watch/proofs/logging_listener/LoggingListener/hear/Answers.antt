@@ -3,16 +3,13 @@ use Rattle.std.proofs.lemmas.List.{take_all}
 use Rattle.nx_receiver.specs.air_file_runs.Listen.{given_by}
 use Rattle.nx_receiver.specs.Listener.{then_elements}
 use Rattle.nx_receiver.proofs.lemmas.listening.Listener.{elements-next}
-use Rattle.nx_watch.specs.private.Keeping.{disk_of}
 use Rattle.nx_watch.specs.private.LoggingListener.{KeepsHeard}
 use Rattle.nx_watch.proofs.lemmas.log.LoggingListener.{line-heard, none-yet}
 use Rattle.nx_watch.proofs.logging_listener.LoggingListener.hear.Goals as goal
 
 pub loop-at-init : goal.loop-at-init
 loop-at-init g c =
-    let d = g.D.DiskFile in
-    let disk = disk_of d.explains d.seen d.may_leave d.moment d.left_since d.faults
-    d.has_failed_to_write in
+    let disk = g.D.DiskFile in
     record {
       once = omega (arith, c.requires);
       within = omega arith;
@@ -23,9 +20,7 @@ loop-at-init g c =
 
 pub loop-at-preserved : goal.loop-at-preserved
 loop-at-preserved g c =
-    let d = g.D.DiskFile in
-    let disk = disk_of d.explains d.seen d.may_leave d.moment d.left_since d.faults
-    d.has_failed_to_write in
+    let disk = g.D.DiskFile in
     let bits = c.args.packed.now in
     record {
       once = c.hear_next-at.ensures.once;
@@ -41,9 +36,7 @@ loop-at-preserved g c =
 
 pub returns-then-failures-gt0-clause-taken : goal.returns-then-failures-gt0-clause-taken
 returns-then-failures-gt0-clause-taken g c = λ start lines h.
-    let d = g.D.DiskFile in
-    let disk = disk_of d.explains d.seen d.may_leave d.moment d.left_since d.faults
-    d.has_failed_to_write in
+    let disk = g.D.DiskFile in
     let bits = c.args.packed.now in
     let all : take c.loop-at.at bits ≡ bits = take_all c.loop-at.at bits (search rules) in
     line-heard disk g.W.Write.contents start c.args.self.now c.loop-at.self c.args.writer.now
@@ -54,9 +47,7 @@ returns-then-failures-gt0-clause-taken g c = λ start lines h.
 
 pub returns-else-failures-gt0-clause-taken : goal.returns-else-failures-gt0-clause-taken
 returns-else-failures-gt0-clause-taken g c = λ start lines h.
-    let d = g.D.DiskFile in
-    let disk = disk_of d.explains d.seen d.may_leave d.moment d.left_since d.faults
-    d.has_failed_to_write in
+    let disk = g.D.DiskFile in
     let bits = c.args.packed.now in
     let all : take c.loop-at.at bits ≡ bits = take_all c.loop-at.at bits (search rules) in
     line-heard disk g.W.Write.contents start c.args.self.now c.loop-at.self c.args.writer.now

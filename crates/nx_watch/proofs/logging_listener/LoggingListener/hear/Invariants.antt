@@ -3,7 +3,6 @@ use Rattle.nx_fec.specs.air_files.AirFile.{Line}
 use Rattle.nx_receiver.specs.air_file_runs.Listen.{given_by}
 use Rattle.nx_receiver.specs.Listener.{then_elements}
 use Rattle.nx_watch.specs.LineRun.{StandsWith, WithWriter, with_writer}
-use Rattle.nx_watch.specs.private.Keeping.{disk_of}
 use Rattle.nx_watch.specs.private.LoggingListener.{KeepsHeard, KeepsLines}
 use Rattle.nx_watch.specs.declared.logging_listener.LoggingListener.{LoggingListener}
 use Rattle.nx_watch.proofs.logging_listener.LoggingListener.hear.Given as goal
@@ -14,13 +13,9 @@ invariant-loop-at g l = record {
   once : l.writer.failures ≤ 1;
   within : l.at ≤ length l.packed;
   heard : (start : WithWriter (LoggingListener g.row.D.Denot) g.row.W.Denot) (lines : List Line)
-      → StandsWith (KeepsLines (disk_of g.D.DiskFile.explains g.D.DiskFile.seen
-      g.D.DiskFile.may_leave g.D.DiskFile.moment g.D.DiskFile.left_since g.D.DiskFile.faults
-      g.D.DiskFile.has_failed_to_write)) g.W.Write.contents start
+      → StandsWith (KeepsLines g.D.DiskFile) g.W.Write.contents start
       (with_writer l.fn.self l.fn.writer) lines
-      → KeepsHeard (disk_of g.D.DiskFile.explains g.D.DiskFile.seen g.D.DiskFile.may_leave
-      g.D.DiskFile.moment g.D.DiskFile.left_since g.D.DiskFile.faults
-      g.D.DiskFile.has_failed_to_write) g.W.Write.contents start.taker l.self start.writer l.writer
+      → KeepsHeard g.D.DiskFile g.W.Write.contents start.taker l.self start.writer l.writer
       (then_elements (given_by lines) l.channel (take l.at l.packed));
 }
 

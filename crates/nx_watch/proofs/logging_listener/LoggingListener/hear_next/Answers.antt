@@ -1,16 +1,14 @@
 use Rattle.std.proofs.Common.{drop, refl, subst, sym, take, true}
 use Rattle.nx_receiver.specs.air_file_runs.Listen.{given_by}
 use Rattle.nx_receiver.specs.Listener.{IsSpelled, starts_of}
-use Rattle.nx_watch.specs.private.Keeping.{disk_of}
 use Rattle.nx_watch.proofs.lemmas.log.LoggingListener.{lines_are, none-more, none-spelled, one-more}
 use Rattle.nx_watch.proofs.logging_listener.LoggingListener.hear_next.Goals as goal
 
 pub returns-then-not-is_spelled-clause-heard : goal.returns-then-not-is_spelled-clause-heard
 returns-then-not-is_spelled-clause-heard g c = λ start first lines part range within h.
-    let d = g.D.DiskFile in
+    let disk = g.D.DiskFile in
     let out = c.hear_spelled-count.ensures.heard in
-    none-more (disk_of d.explains d.seen d.may_leave d.moment d.left_since d.faults
-    d.has_failed_to_write) g.W.Write.contents start c.args.self.now _ first c.args.writer.now
+    none-more disk g.W.Write.contents start c.args.self.now _ first c.args.writer.now
     (given_by lines) c.args.channel part (take c.hear_spelled-count.result.0
     (drop c.args.from c.args.packed.now)) out.0 refl
     (none-spelled c.args.channel c.hear_spelled-count.result.1 out.0 _ c.if-not-is_spelled.true
@@ -19,10 +17,9 @@ returns-then-not-is_spelled-clause-heard g c = λ start first lines part range w
 
 pub returns-clause-heard : goal.returns-clause-heard
 returns-clause-heard g c = λ start first lines part range within h.
-    let d = g.D.DiskFile in
+    let disk = g.D.DiskFile in
     let out = c.hear_spelled-count.ensures.heard in
-    one-more (disk_of d.explains d.seen d.may_leave d.moment d.left_since d.faults
-    d.has_failed_to_write) g.W.Write.contents start c.args.self.now _ first c.args.writer.now
+    one-more disk g.W.Write.contents start c.args.self.now _ first c.args.writer.now
     c.keep.new.writer (given_by lines) c.args.channel part (take c.hear_spelled-count.result.0
     (drop c.args.from c.args.packed.now)) out.0 c.deref.result.now range (lines_are lines within)
     (subst (IsSpelled c.args.channel true out.0) (sym c.deref.ensures.0)

@@ -14,7 +14,7 @@ use Rattle.nx_watch.specs.private.LoggingListener.{KeepsLines}
 use Rattle.nx_watch.specs.declared.lines.line_run.LinesWatched.{LinesWatched}
 use Rattle.nx_watch.specs.declared.lines.line_run.WatchEnd.{WatchEnd}
 use Rattle.nx_watch.specs.declared.lines.line_run.WatchEnd.TheVariants.{Read, Back, Write}
-use Rattle.nx_watch.specs.private.Keeping.{HasKept, disk_of}
+use Rattle.nx_watch.specs.private.Keeping.{HasKept}
 use Rattle.nx_watch.proofs.lemmas.log.Finish.{back-apart, back-written, end-apart, end-written, has-run, stands-first, unread-written, unwritten-apart, wrote-some, zip-length}
 use Rattle.nx_watch.proofs.lemmas.lines.Run.{acting-cut, acting-idle, ends-idle, tells-some}
 use Rattle.nx_watch.proofs.logging_listener.LoggingListener.run.Goals as goal
@@ -38,16 +38,14 @@ apart-Write e = cc
 
 pub returns-in-Ok-clause-runs : goal.returns-in-Ok-clause-runs
 returns-in-Ok-clause-runs g c = λ is range heard kept.
-    let d = g.D.DiskFile in
-    let disk = disk_of d.explains d.seen d.may_leave d.moment d.left_since d.faults
-    d.has_failed_to_write in
+    let disk = g.D.DiskFile in
     let self = c.args.self in
     let start = with_writer self c.args.writer.now in
     let w = c.in-Ok.ensures.watched self (sym is) (stands-first disk self range heard kept) in
     let closed = c.close.ensures.closed start (acting_lines c.args.first w.3.1) w.3.4.stood in
     has-run disk self c.args.first g.R.Read.remaining c.args.reader.now c.watch_lines.new.reader
     g.W.Write.contents c.args.writer.now c.close.new.writer g.F.Write.contents c.args.faults.now
-    c.watch_lines.new.faults d.has_failed_to_read at_end c.close.result (record {
+    c.watch_lines.new.faults at_end c.close.result (record {
       lines = w.3.1 ++ cut_line w.3.2;
       copies = closed.copies;
       texts = closed.texts;
@@ -78,9 +76,7 @@ returns-in-Ok-clause-runs g c = λ is range heard kept.
 
 pub returns-in-Back-clause-runs : goal.returns-in-Back-clause-runs
 returns-in-Back-clause-runs g c = λ is range heard kept.
-    let d = g.D.DiskFile in
-    let disk = disk_of d.explains d.seen d.may_leave d.moment d.left_since d.faults
-    d.has_failed_to_write in
+    let disk = g.D.DiskFile in
     let self = c.args.self in
     let start = with_writer self c.args.writer.now in
     let lines-read = c.watch_lines.new in
@@ -101,7 +97,7 @@ returns-in-Back-clause-runs g c = λ is range heard kept.
     let lines = ended.0 ++ Some (moment c.in-Back.given) ∷ [] in
     has-run disk self c.args.first g.R.Read.remaining c.args.reader.now lines-read.reader
     g.W.Write.contents c.args.writer.now c.close-in-Back.new.writer g.F.Write.contents
-    c.args.faults.now lines-read.faults d.has_failed_to_read stop c.close-in-Back.result (record {
+    c.args.faults.now lines-read.faults stop c.close-in-Back.result (record {
       lines = lines;
       copies = closed.copies;
       texts = closed.texts;
@@ -137,9 +133,7 @@ returns-in-Back-clause-runs g c = λ is range heard kept.
 
 pub returns-in-Read-clause-runs : goal.returns-in-Read-clause-runs
 returns-in-Read-clause-runs g c = λ is range heard kept.
-    let d = g.D.DiskFile in
-    let disk = disk_of d.explains d.seen d.may_leave d.moment d.left_since d.faults
-    d.has_failed_to_write in
+    let disk = g.D.DiskFile in
     let self = c.args.self in
     let start = with_writer self c.args.writer.now in
     let lines-read = c.watch_lines.new in
@@ -158,7 +152,7 @@ returns-in-Read-clause-runs g c = λ is range heard kept.
     let stood = ended.3.stood in
     has-run disk self c.args.first g.R.Read.remaining c.args.reader.now lines-read.reader
     g.W.Write.contents c.args.writer.now lines-read.writer g.F.Write.contents c.args.faults.now
-    lines-read.faults d.has_failed_to_read unread c.into_keeper.result (record {
+    lines-read.faults unread c.into_keeper.result (record {
       lines = ended.0;
       copies = stood.1.copies;
       texts = stood.1.texts;
@@ -183,9 +177,7 @@ returns-in-Read-clause-runs g c = λ is range heard kept.
 
 pub returns-in-Write-clause-runs : goal.returns-in-Write-clause-runs
 returns-in-Write-clause-runs g c = λ is range heard kept.
-    let d = g.D.DiskFile in
-    let disk = disk_of d.explains d.seen d.may_leave d.moment d.left_since d.faults
-    d.has_failed_to_write in
+    let disk = g.D.DiskFile in
     let self = c.args.self in
     let start = with_writer self c.args.writer.now in
     let lines-read = c.watch_lines.new in
@@ -206,7 +198,7 @@ returns-in-Write-clause-runs g c = λ is range heard kept.
     let unwritten_one = c.watch_lines.ensures.unwritten.0 (c.in-Err.is ∙ ap Err c.in-Write.is) in
     has-run disk self c.args.first g.R.Read.remaining c.args.reader.now lines-read.reader
     g.W.Write.contents c.args.writer.now lines-read.writer g.F.Write.contents c.args.faults.now
-    lines-read.faults d.has_failed_to_read unwritten keeper (record {
+    lines-read.faults unwritten keeper (record {
       lines = ended.0 ++ Some ended.1 ∷ [];
       copies = stood.1.copies;
       texts = stood.1.texts;
@@ -237,15 +229,11 @@ tells : (g : _) → (c : After-watch_lines g)
     → c.args.first ≡ (starts_of c.args.self.listener).moment
     → (starts_of c.args.self.listener).moment ≤ last_moment
     → HearsGiven (starts_of c.args.self.listener) c.args.self.listener [] []
-    → HasKept (disk_of g.D.DiskFile.explains g.D.DiskFile.seen g.D.DiskFile.may_leave
-    g.D.DiskFile.moment g.D.DiskFile.left_since g.D.DiskFile.faults
-    g.D.DiskFile.has_failed_to_write) c.args.self.keeper c.args.self.keeper [] []
+    → HasKept g.D.DiskFile c.args.self.keeper c.args.self.keeper [] []
     → TellsOfLines (g.F.Write.contents c.args.faults.now.inner)
     (g.F.Write.contents c.watch_lines.new.faults.inner) c.watch_lines.new.faults.failures
 tells g c is range heard kept =
-    let d = g.D.DiskFile in
-    let disk = disk_of d.explains d.seen d.may_leave d.moment d.left_since d.faults
-    d.has_failed_to_write in
+    let disk = g.D.DiskFile in
     let lines-read = c.watch_lines.new in
     let w = c.watch_lines.ensures.watched c.args.self (sym is)
     (stands-first disk c.args.self range heard kept) in

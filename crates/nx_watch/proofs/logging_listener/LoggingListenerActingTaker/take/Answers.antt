@@ -7,16 +7,13 @@ use Rattle.nx_receiver.specs.air_file_runs.Listen.{given_by}
 use Rattle.nx_receiver.specs.Listener.{starts_of}
 use Rattle.nx_receiver.proofs.lemmas.listening.Lines.{said, said-elements}
 use Rattle.nx_watch.specs.LineRun.{MayAct, StandsWith, with_writer}
-use Rattle.nx_watch.specs.private.Keeping.{disk_of}
 use Rattle.nx_watch.specs.private.LoggingListener.{KeepsLines}
 use Rattle.nx_watch.proofs.lemmas.log.LoggingListener.{force-le, next-command, next-line, with_listener}
 use Rattle.nx_watch.proofs.logging_listener.LoggingListenerActingTaker.take.Goals as goal
 
 pub returns-in-Elements-clause-taken : goal.returns-in-Elements-clause-taken
 returns-in-Elements-clause-taken g c = λ start lines line latest may h.
-    let d = g.D.DiskFile in
-    let disk = disk_of d.explains d.seen d.may_leave d.moment d.left_since d.faults
-    d.has_failed_to_write in
+    let disk = g.D.DiskFile in
     let mark = c.in-Elements.mark in
     subst (λ l. StandsWith (KeepsLines disk) g.W.Write.contents start
     (with_writer c.hear.new.self c.hear.new.writer) (lines ++ l ∷ []))
@@ -25,9 +22,7 @@ returns-in-Elements-clause-taken g c = λ start lines line latest may h.
 
 pub returns-in-Moment-clause-taken : goal.returns-in-Moment-clause-taken
 returns-in-Moment-clause-taken g c = λ start lines line latest may h.
-    let d = g.D.DiskFile in
-    let disk = disk_of d.explains d.seen d.may_leave d.moment d.left_since d.faults
-    d.has_failed_to_write in
+    let disk = g.D.DiskFile in
     let n = c.in-Moment.moment in
     let is = said _ _ _ _ line latest c.latest.ensures c.in-Some.is c.in-Moment.is in
     let starts = starts_of start.taker.listener in
@@ -42,9 +37,7 @@ returns-in-Moment-clause-taken g c = λ start lines line latest may h.
 
 pub returns-in-RefuseStation-clause-taken : goal.returns-in-RefuseStation-clause-taken
 returns-in-RefuseStation-clause-taken g c = λ start lines line latest may h.
-    let d = g.D.DiskFile in
-    let disk = disk_of d.explains d.seen d.may_leave d.moment d.left_since d.faults
-    d.has_failed_to_write in
+    let disk = g.D.DiskFile in
     let mark = c.in-RefuseStation.mark in
     let byte = c.in-RefuseStation.byte in
     let is = said _ _ _ _ line latest c.latest.ensures c.in-Some.is c.in-RefuseStation.is in
@@ -57,9 +50,7 @@ returns-in-RefuseStation-clause-taken g c = λ start lines line latest may h.
 
 pub returns-in-AcceptStation-clause-taken : goal.returns-in-AcceptStation-clause-taken
 returns-in-AcceptStation-clause-taken g c = λ start lines line latest may h.
-    let d = g.D.DiskFile in
-    let disk = disk_of d.explains d.seen d.may_leave d.moment d.left_since d.faults
-    d.has_failed_to_write in
+    let disk = g.D.DiskFile in
     let mark = c.in-AcceptStation.mark in
     let byte = c.in-AcceptStation.byte in
     let is = said _ _ _ _ line latest c.latest.ensures c.in-Some.is c.in-AcceptStation.is in
@@ -72,9 +63,7 @@ returns-in-AcceptStation-clause-taken g c = λ start lines line latest may h.
 
 pub returns-in-RefuseSubject-clause-taken : goal.returns-in-RefuseSubject-clause-taken
 returns-in-RefuseSubject-clause-taken g c = λ start lines line latest may h.
-    let d = g.D.DiskFile in
-    let disk = disk_of d.explains d.seen d.may_leave d.moment d.left_since d.faults
-    d.has_failed_to_write in
+    let disk = g.D.DiskFile in
     let mark = c.in-RefuseSubject.mark in
     let byte = c.in-RefuseSubject.byte in
     let is = said _ _ _ _ line latest c.latest.ensures c.in-Some.is c.in-RefuseSubject.is in
@@ -90,9 +79,7 @@ returns-in-RefuseSubject-clause-taken g c = λ start lines line latest may h.
 
 pub returns-in-AcceptSubject-clause-taken : goal.returns-in-AcceptSubject-clause-taken
 returns-in-AcceptSubject-clause-taken g c = λ start lines line latest may h.
-    let d = g.D.DiskFile in
-    let disk = disk_of d.explains d.seen d.may_leave d.moment d.left_since d.faults
-    d.has_failed_to_write in
+    let disk = g.D.DiskFile in
     let mark = c.in-AcceptSubject.mark in
     let byte = c.in-AcceptSubject.byte in
     let is = said _ _ _ _ line latest c.latest.ensures c.in-Some.is c.in-AcceptSubject.is in

@@ -1,13 +1,11 @@
 use Rattle.std.proofs.Common.{◌++◌, ◌∷◌, [], cond, append-nil, subst}
-use Rattle.nx_watch.specs.private.Keeping.{HasKept, disk_of}
+use Rattle.nx_watch.specs.private.Keeping.{HasKept}
 use Rattle.nx_watch.proofs.lemmas.log.Keeping.{given-more}
 use Rattle.nx_watch.proofs.kept_log.keeper.Keeper.keep.Goals as goal
 
 pub returns-then-put-clause-kept : goal.returns-then-put-clause-kept
 returns-then-put-clause-kept g c = λ start first texts is h.
-    let d = g.D.DiskFile in
-    let disk = disk_of d.explains d.seen d.may_leave d.moment d.left_since d.faults
-    d.has_failed_to_write in
+    let disk = g.D.DiskFile in
     let kept = c.put.ensures start texts h.0 is h.1 in
     let same = subst (λ b. HasKept disk start c.put.new.self (texts ++ c.args.entry.now ∷ [])
     (h.0 ++ cond b [] c.args.entry.now)) c.if-put.true kept in (
@@ -19,9 +17,7 @@ returns-then-put-clause-kept g c = λ start first texts is h.
 
 pub returns-clause-kept : goal.returns-clause-kept
 returns-clause-kept g c = λ start first texts is h.
-    let d = g.D.DiskFile in
-    let disk = disk_of d.explains d.seen d.may_leave d.moment d.left_since d.faults
-    d.has_failed_to_write in
+    let disk = g.D.DiskFile in
     let kept = c.put.ensures start texts h.0 is h.1 in
     let more = subst (λ b. HasKept disk start c.put.new.self (texts ++ c.args.entry.now ∷ [])
     (h.0 ++ cond b [] c.args.entry.now)) c.if-put.false kept in (

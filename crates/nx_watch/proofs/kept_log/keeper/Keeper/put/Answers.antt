@@ -1,13 +1,11 @@
 use Rattle.std.proofs.Common.{◌++◌, ◌∷◌, [], refl, subst, sym}
-use Rattle.nx_watch.specs.private.Keeping.{HasKeptSo, disk_of}
+use Rattle.nx_watch.specs.private.Keeping.{HasKeptSo}
 use Rattle.nx_watch.proofs.lemmas.log.Keeping.{kept-more, put-failed, put-kept}
 use Rattle.nx_watch.proofs.kept_log.keeper.Keeper.put.Goals as goal
 
 pub returns-then-self : goal.returns-then-self
 returns-then-self g c = λ start texts given is h.
-    let d = g.D.DiskFile in
-    let disk = disk_of d.explains d.seen d.may_leave d.moment d.left_since d.faults
-    d.has_failed_to_write in
+    let disk = g.D.DiskFile in
     let old = c.args.self.now in
     subst (λ b. HasKeptSo disk b start old (texts ++ c.args.entry.now ∷ [])
     (given ++ c.args.entry.now))
@@ -17,9 +15,7 @@ returns-then-self g c = λ start texts given is h.
 
 pub returns-in-Ok : goal.returns-in-Ok
 returns-in-Ok g c = λ start texts given is h.
-    let d = g.D.DiskFile in
-    let disk = disk_of d.explains d.seen d.may_leave d.moment d.left_since d.faults
-    d.has_failed_to_write in
+    let disk = g.D.DiskFile in
     let old = c.args.self.now in
     put-kept disk start old _ texts c.args.entry.now given c.if-self.false
     c.saturating_add-self.ensures c.in-Ok.ensures.faults.ok c.put.ensures.explained
@@ -29,9 +25,7 @@ returns-in-Ok g c = λ start texts given is h.
 
 pub returns-in-Err : goal.returns-in-Err
 returns-in-Err g c = λ start texts given is h.
-    let d = g.D.DiskFile in
-    let disk = disk_of d.explains d.seen d.may_leave d.moment d.left_since d.faults
-    d.has_failed_to_write in
+    let disk = g.D.DiskFile in
     let old = c.args.self.now in
     put-failed disk start old _ texts c.args.entry.now given refl
     c.in-Err.ensures.faults.err c.put.ensures.explained
