@@ -25,7 +25,7 @@ use crate::windows_after::{
     windows_after,
 };
 use crate::word_synchroniser::WordSynchroniser;
-use nx_code::{ELEMENTS, PACKED, Word, check_bits, elements_at};
+use nx_code::{ELEMENTS, PACKED, Word, elements_at};
 use std::alloc::{AllocError, Global};
 use std::marker::Model;
 
@@ -268,9 +268,7 @@ impl Synchroniser {
             self.track = Some(Track { filled, ..track });
             return Step::NOTHING;
         }
-        let word = last_word(self.recent);
-        self.marks.push(!check_bits(word));
-        let (next, step) = track.complete(word, self.marks.loses_lock());
+        let (next, step) = track.complete(last_word(self.recent), &mut self.marks);
         self.track = next;
         step
     }

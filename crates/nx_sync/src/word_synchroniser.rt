@@ -18,7 +18,7 @@ use crate::phasing::PHASING_1;
 use crate::step::{Role, Step};
 use crate::track::Track;
 use crate::windows_after::{next_word_window, window_after_words};
-use nx_code::{Word, check_bits};
+use nx_code::Word;
 use std::marker::Model;
 
 /// How many bytes the fields take (on the target of this toolchain).
@@ -137,9 +137,8 @@ impl WordSynchroniser {
             unreachable!();
         };
         self.recent = next_word_window(self.recent, word);
-        self.marks.push(!check_bits(word));
         // A word that brings a change gives the lock up.
-        let (next, step) = track.complete(word, self.marks.loses_lock());
+        let (next, step) = track.complete(word, &mut self.marks);
         self.track = next;
         step
     }
