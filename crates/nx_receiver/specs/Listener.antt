@@ -1,7 +1,7 @@
 -- Three receivers that hear elements as they come, one for each channel: what they were given, and
 -- what they printed (this profile).
-use Rattle.std.specs.Prelude.{◌≡◌, ℕ, ◌-◌, ◌^◌, ◌≤◌, Bool, true, false, List, [], ◌∷◌, ◌++◌, length}
-use Rattle.std.specs.Prelude.{map, min, IfSome}
+use Rattle.std.specs.Prelude.{◌≡◌, ℕ, ◌≤◌, Bool, true, false, List, [], ◌∷◌, ◌++◌, length}
+use Rattle.std.specs.Prelude.{map, IfSome}
 use Rattle.std.specs.List.{flat_map}
 use Rattle.nx_fec.specs.Transfers.{count_of}
 use Rattle.nx_envelope.specs.Moment.{last_moment}

@@ -120,16 +120,14 @@ impl LockReader {
     }
 
     /// Ends the text; the reader is then as new, for the next lock, but for the copy that stood
-    /// open, which can be taken then. Whether there is one.
-    pub(crate) fn close(&mut self) -> bool
+    /// open, which can be taken then.
+    pub(crate) fn close(&mut self)
         ensures closes { (first : Role) (words : ℕ → ℕ) (n : ℕ) → ReadsLock self.old first words n
             → ClosesHeld (text_after first words n) self.new.finder }
         ensures as_new { (first : Role) (words : ℕ → ℕ) → ReadsLock self.new first words 0 }
-        ensures ready { result ≡ is_ready self.new.finder }
     {
         self.printer = LockPrinter::new();
         self.finder.close();
-        self.finder.identity().is_some()
     }
 
     /// Ends the text, as the lock or the bits end, and answers the copy that stands open; the

@@ -1,10 +1,7 @@
 -- The text of more positions.
 use Rattle.std.proofs.Common.{◌≡◌, ℕ, List, [], ◌∷◌, ◌++◌, Option, Some, None, inl, inr, refl, sym}
-use Rattle.std.proofs.Common.{ap, ◌∙◌, append_assoc, append-nil, unwrap_or, ◌+◌, ◌<◌, length, map}
-use Rattle.std.proofs.Common.{take, get_or}
+use Rattle.std.proofs.Common.{ap, ◌∙◌, append_assoc, append-nil, unwrap_or}
 use Rattle.std.specs.Option.{option_to_list}
-use Rattle.std.proofs.lemmas.List.{take_more, map-append}
-use Rattle.nx_code.specs.Classes.{reception_of_class}
 use Rattle.nx_code.specs.Reading.{Reception, IsShiftAfter, SetsNone, byte_of, shift_set}
 use Rattle.nx_code.specs.Reading.{shift_after, shift_after_all, text}
 use Rattle.nx_code.specs.declared.shifts.Shift.{Shift}

@@ -1,6 +1,6 @@
 -- Emission (ITU-R M.625, collective mode B: each position is sent in two words, and the RX word
 -- comes five slots after the DX word, so that four words lie between).
-use Rattle.std.specs.Prelude.{◌≡◌, ℕ, ◌+◌, ◌-◌, ◌*◌, ◌/◌, ◌%◌, ◌<◌, ◌≤◌, ◌==◌, nat_lt, if◌then◌else◌, Bool, List, ◌++◌, length, map, replicate, slice_index, slice_index_or, EachIndex}
+use Rattle.std.specs.Prelude.{◌≡◌, ℕ, ◌+◌, ◌-◌, ◌*◌, ◌/◌, ◌%◌, ◌<◌, ◌==◌, nat_lt, if◌then◌else◌, Bool, List, ◌++◌, length, map, replicate, slice_index, slice_index_or, EachIndex}
 use Rattle.std.specs.List.{flat_map, range_with_len}
 use Rattle.nx_code.specs.Word.{elements, word_numbers}
 use Rattle.nx_code.specs.Table.{traffic_word, phasing_1, phasing_2, IsCombination}

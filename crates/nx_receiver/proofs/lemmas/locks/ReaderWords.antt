@@ -1,6 +1,6 @@
 -- The words of a lock: the third last of the DX words before an RX word is the word five before it;
 -- and what one word more adds to the positions.
-use Rattle.std.proofs.Common.{◌≡◌, ℕ, false, is_some, Option, zero, suc, ◌+◌, ◌-◌, ◌*◌, ◌<◌, ◌≤◌}
+use Rattle.std.proofs.Common.{◌≡◌, ℕ, false, Option, zero, suc, ◌+◌, ◌-◌, ◌*◌, ◌<◌, ◌≤◌}
 use Rattle.std.proofs.Common.{cond, List, [], ◌∷◌, ◌++◌, length, get_or, inl, inr, refl, sym, ap}
 use Rattle.std.proofs.Common.{◌∙◌, subst, add-one, append_assoc, append-nil, length-append, arith}
 use Rattle.std.proofs.lemmas.Bool.{cases_lt}
@@ -10,11 +10,10 @@ use Rattle.std.specs.Option.{option_to_list}
 use Rattle.nx_code.specs.Reading.{Reception, byte_of, shift_after, shift_after_all, text}
 use Rattle.nx_code.specs.declared.shifts.Shift.TheVariants.{Letters}
 use Rattle.nx_code.proofs.lemmas.Reading.{reading_push}
-use Rattle.nx_envelope.specs.Finder.{ClosesNone, HoldsCopy, StandsAfter, held_identity, is_ready_copy}
+use Rattle.nx_envelope.specs.Finder.{ClosesNone, HoldsCopy, StandsAfter}
 use Rattle.nx_envelope.specs.declared.found.HeldCopy.{HeldCopy}
 use Rattle.nx_envelope.specs.declared.found.HeldCopy.TheVariants as held
 use Rattle.nx_envelope.proofs.lemmas.finder.Hearing.{closes_none}
-use Rattle.nx_envelope.proofs.lemmas.copies.OneOpenCopy.{open_headers-nil}
 use Rattle.nx_fec.specs.emissions.Pairing.{Counted, IsLatest, nothing, counts_as, pairing, third_last}
 use Rattle.nx_fec.specs.emissions.Pairing.{five_before}
 use Rattle.nx_fec.proofs.lemmas.emissions.Pairing.{third_last-early, third_last-late}
@@ -292,11 +291,3 @@ pub not_open : (copy : HeldCopy) (kept text : List ℕ) → is_open copy ≡ fal
 not_open held.Nothing kept text e h = closes_none text h
 not_open (held.Open identity fresh) kept text e h = cc
 not_open (held.Ready identity how) kept text e h = closes_none text h
-
--- before any text, a copy that is held can be taken
-pub held_ready : (copy : HeldCopy) (kept : List ℕ) → HoldsCopy copy kept []
-    → is_some (held_identity copy) ≡ is_ready_copy copy
-held_ready held.Nothing kept h = refl
-held_ready (held.Open identity fresh) kept h =
-    let none = sym open_headers-nil ∙ h.stands_open in cc
-held_ready (held.Ready identity how) kept h = refl

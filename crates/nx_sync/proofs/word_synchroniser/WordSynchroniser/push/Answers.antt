@@ -12,7 +12,8 @@ use Rattle.nx_sync.proofs.word_synchroniser.WordSynchroniser.push.Goals as goal
 -- what is held after the word
 abbrev after : goal.After-next-1 → Held
 after c =
-    held_at_words c.next_word_window-self-inside.result c.complete-next.result.0 c.complete-next.new.marks
+    held_at_words c.next_word_window-self-inside.result c.complete-next.result.0
+    c.complete-next.new.marks
 
 -- the word, by its number, is complete at the window that it ends
 completes : (c : goal.After-next-1) → Completes
