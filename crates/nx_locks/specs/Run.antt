@@ -1,14 +1,14 @@
 -- A run that shows the locks of an air file on channel 0: the report of its lines, and its first
 -- fault (this profile). It reads the file as a run that listens does, with the same faults, which
 -- are those of all channels.
-use Rattle.std.specs.Prelude.{◌≡◌, ◌⊎◌, ℕ, ◌+◌, ◌≤◌, Bool, List, ◌++◌, length, map, Option}
+use Rattle.std.specs.Prelude.{◌≡◌, ◌⊎◌, ℕ, ◌+◌, ◌≤◌, Bool, List, ◌++◌, length, map}
 use Rattle.std.specs.Prelude.{Result, Ok, Err, ⊤}
 use Rattle.std.specs.Io.KnownBytes.{Appends}
 use Rattle.nx_fec.specs.air_files.AirFile.{Line}
 use Rattle.nx_fec.specs.air_files.Lines.{StopsAt, air_limit}
 use Rattle.nx_fec.specs.air_files.Lines.{IsAirFile, file_of}
 use Rattle.nx_fec.specs.declared.air_files.channel.Channel.TheVariants.{Zero}
-use Rattle.nx_fec.specs.Transfers.{Devices, Extent, Transfers, line_by_line}
+use Rattle.nx_fec.specs.Transfers.{Contents, Devices, Extent, Transfers, contents_of, line_by_line}
 use Rattle.nx_receiver.specs.Events.{elements_among, first_setting, settings}
 use Rattle.nx_receiver.specs.air_file_runs.Listen.{AreTaken, HasListenFault, HasLoggedSome, events_on}
 use Rattle.nx_receiver.specs.air_file_runs.Listen.{moment_after}
@@ -48,19 +48,18 @@ abbrev pub IsReportOf : List ℕ → List ℕ → Type 0
 IsReportOf file bytes = (lines : List Line) × IsReportOfFile file lines bytes
 
 -- the report so far of these lines was written
-pub record HasShown (old new : Option (List ℕ)) (lines : List Line) : Type 0 where
+pub record HasShown (contents : Contents) (lines : List Line) : Type 0 where
   pub bytes : List ℕ
   pub report : IsReportOfLines lines bytes
-  pub written : Appends old new bytes
+  pub written : Appends contents.before contents.after bytes
 
 -- the report of the whole file was written, and the answer counts its lines, its elements on
 -- channel 0, its locks, and the headers in their texts
-pub record HasShownAll (old new : Option (List ℕ)) (file : List ℕ) (answer : LocksReport)
-    : Type 0 where
+pub record HasShownAll (contents : Contents) (file : List ℕ) (answer : LocksReport) : Type 0 where
   pub lines : List Line
   pub bytes : List ℕ
   pub report : IsReportOfFile file lines bytes
-  pub written : Appends old new bytes
+  pub written : Appends contents.before contents.after bytes
   pub lines_counted : answer.lines ≡ length lines
   pub elements_counted : answer.elements ≡ length (elements_on_0 lines)
   pub locks_counted : answer.locks ≡ length report.report.locks + now_locks report.report.now
@@ -74,34 +73,29 @@ pub record HasShownAll (old new : Option (List ℕ)) (file : List ℕ) (answer :
 -- write the first bytes of a report are written: of some of the lines that were read, from the
 -- first on, or of the whole file, closed, if it had ended. A want of memory says nothing of the
 -- bytes. Each other fault is the first of the file; `LineCut` comes only where the file ends.
-abbrev pub ExplainsShowing : Extent → Option (List ℕ) → Option (List ℕ) → List ℕ → ListenFault
-    → Type 0
-ExplainsShowing extent old new bytes (Memory error) = ⊤
-ExplainsShowing extent old new bytes Read =
+abbrev pub ExplainsShowing : Extent → Contents → List ℕ → ListenFault → Type 0
+ExplainsShowing extent contents bytes (Memory error) = ⊤
+ExplainsShowing extent contents bytes Read =
     StopsAt bytes (λ lines rest more.
-    (length (file_of lines ++ rest) ≤ air_limit) × extent.is_left more × HasShown old new lines)
-ExplainsShowing extent old new bytes (Write written) =
+    (length (file_of lines ++ rest) ≤ air_limit) × extent.is_left more × HasShown contents lines)
+ExplainsShowing extent contents bytes (Write written) =
     StopsAt bytes (λ lines rest more.
-    HasLoggedSome (IsReportOfLines lines) (record { before = old; after = new }) written)
-    ⊎ (extent.at_end
-    × HasLoggedSome (IsReportOf bytes) (record { before = old; after = new }) written)
-ExplainsShowing extent old new bytes (LineCut line) =
-    extent.at_end × HasListenFault all_at_zero (HasShown old new) bytes (LineCut line)
-ExplainsShowing extent old new bytes fault =
-    HasListenFault all_at_zero (HasShown old new) bytes fault
+    HasLoggedSome (IsReportOfLines lines) contents written)
+    ⊎ (extent.at_end × HasLoggedSome (IsReportOf bytes) contents written)
+ExplainsShowing extent contents bytes (LineCut line) =
+    extent.at_end × HasListenFault all_at_zero (HasShown contents) bytes (LineCut line)
+ExplainsShowing extent contents bytes fault =
+    HasListenFault all_at_zero (HasShown contents) bytes fault
 
 -- what such a run answers of bytes of this extent: counts, where the report of the file was
 -- written; or a fault
-abbrev pub AnswersShowing : Extent → Option (List ℕ) → Option (List ℕ)
-    → Result LocksReport ListenFault → List ℕ → Type 0
-AnswersShowing extent old new (Ok answer) bytes =
-    extent.at_end × HasShownAll old new bytes answer
-AnswersShowing extent old new (Err fault) bytes =
-    ExplainsShowing extent old new bytes fault
+abbrev pub AnswersShowing : Extent → Contents → Result LocksReport ListenFault → List ℕ → Type 0
+AnswersShowing extent contents (Ok answer) bytes =
+    extent.at_end × HasShownAll contents bytes answer
+AnswersShowing extent contents (Err fault) bytes = ExplainsShowing extent contents bytes fault
 
 -- A run that shows locks: it answers so to the bytes that it read, and to the whole file, however
 -- it came. It writes what the lines that it read give before each further read.
 abbrev pub ShowsLocks : {R W : Type 0} → Devices R W → Result LocksReport ListenFault → Type 0
 ShowsLocks d outcome = Transfers (line_by_line Read (λ written. Write written)) d outcome
-    (λ extent. AnswersShowing extent (d.contents d.writer.inner) (d.contents d.writer_after.inner)
-    outcome)
+    (λ extent. AnswersShowing extent (contents_of d) outcome)

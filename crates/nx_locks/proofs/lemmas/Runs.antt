@@ -47,7 +47,8 @@ use Rattle.nx_receiver.proofs.lemmas.receiver.Events.{bits_of-more}
 
 -- what the lines gave was written: their report so far
 shown : (first now : Showing) (old new : Option (List ℕ)) (lines : List Line)
-    → HasTaken StandsFrom first now lines (Appends old new) → HasShown old new lines
+    → HasTaken StandsFrom first now lines (Appends old new)
+    → HasShown (record { before = old; after = new }) lines
 shown first now old new lines h =
     record { bytes = h.given; report = begins-report now lines h.given h.stood; written = h.here }
 
@@ -145,7 +146,8 @@ not-too_many lines rest more number h =
 explains : (extent : Extent) (first now : Showing)
     (old new : Option (List ℕ)) (bytes : List ℕ) (fault : LinesFault ReportRefusal)
     → ExplainsLines (line_run report_taker first now old new) extent (Appends old new) bytes fault
-    → ExplainsShowing extent old new bytes (lines_fault (as_lines_fault fault))
+    → ExplainsShowing extent (record { before = old; after = new }) bytes
+    (lines_fault (as_lines_fault fault))
 explains extent first now old new bytes run.Read h =
     StopsAt-map bytes _ _ (λ lines rest more p. (p.0, p.1, shown first now old new lines p.2)) h
 explains extent first now old new bytes (run.Line file.TooLong) h =
@@ -227,7 +229,8 @@ shown_all : (first now : Showing) (old mid new : Option (List ℕ)) (bytes : Lis
     → HasTakenAll (line_run report_taker first now old mid) bytes read
     → ((lines : List Line) (given : List ℕ) → IsShowing now lines given
     → HasWritten old mid given read.written → HasClosed old new lines report)
-    → report.lines ≡ read.lines → HasShownAll old new bytes report
+    → report.lines ≡ read.lines
+    → HasShownAll (record { before = old; after = new }) bytes report
 shown_all first now old mid new bytes read report h closed counted =
     let t = h.taken in
     let e = closed h.lines t.given t.stood t.here in
