@@ -87,7 +87,7 @@ impl Printer {
     }
 
     /// Takes the next position by its class, as `print_class` does, and appends the byte that it
-    /// prints, if any, to those of at most three others.
+    /// prints, if any, to those of at most three positions before it.
     #[inline(always)]
     pub fn print_behind(&mut self, class: u8, printed: &mut FourPrinted)
         requires class { class < 34 }

@@ -1,6 +1,6 @@
 //! The text of one lock, read from its words, and what is counted of it. What runs for each word
 //! or for some at once is inlined always. What begins anew for the next lock never is, so that no
-//! loop over words has a place for a text of 4,100.
+//! loop over words has a place for a text of 4,100 characters.
 
 ghost use Rattle.std.specs.Prelude.{◌≡◌, ◌+◌, ◌≤◌, ◌==◌, ◌++◌, ℕ, List, false, length, not, slice_index, take, if◌then◌else◌, IsTrue};
 ghost use Rattle.arrayvec.specs.ArrayVec.{array_vec_len};

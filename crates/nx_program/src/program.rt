@@ -233,8 +233,8 @@ fn want_of_arguments(reason: &io::Error) -> Fault<'static>
     }
 }
 
-/// Runs the program from its input to its output, both as they stand: does what its arguments ask
-/// for, of which the first is the program's name, reports a fault on `faults`, and answers the exit
+/// Runs the program from its input to its output, both as they stand. Does what its arguments ask
+/// for, of which the first is the program's name. Reports a fault on `faults`, and answers the exit
 /// status. Where the arguments can't be had, it reports why. After the answer nothing more is read
 /// or written. A watch opens its log by `files`; the open file is handed back.
 pub fn answer<R: Read, W: Write, E: Write, F: LogFiles + Drop>(
@@ -270,7 +270,7 @@ pub fn answer<R: Read, W: Write, E: Write, F: LogFiles + Drop>(
         (beside files F.gives result.file F.Disk.DiskFile E.contents faults.old faults.new)
         (Ok tt)) }
 
-    // A success leaves nothing on standard error, but for a watch; and a fault one text, behind
+    // A success leaves nothing on standard error, but for a watch. A fault leaves one text, behind
     // what a watch told there: `navtex: `, the fault, and a newline, but for a text of clap on the
     // arguments.
     ensures silent { IfOk arguments (λ given. (NamesWatch (map string_bytes given.items) → ⊥)

@@ -15,7 +15,8 @@ pub record PrintsLock (printer : LockPrinter) (first : Role) (words : ℕ → �
   pub latest : IsLatest printer.diversity (dx_words first words n)
   pub shift : printer.printer ≡ shift_after_all (positions first words n) Letters
 
--- the printer stands after so many words more, and these bytes are what they print
+-- after the first n words and `count` more the printer stands so, and these bytes are what the
+-- `count` words print
 pub record HasPrintedWords (printer : LockPrinter) (first : Role) (words : ℕ → ℕ) (n count : ℕ)
     (bytes : List ℕ) : Type 0 where
   pub stands : PrintsLock printer first words (n + count)

@@ -114,8 +114,8 @@ impl CopyHearer {
             .hear(&mut self.taker, packed.numbers(), from, left)
     }
 
-    /// The copy that can be taken, where one can. Where the lock is over with it, that is left; no
-    /// copy stands open then.
+    /// The copy that can be taken, where one can. Where the lock is over with it, the lock has
+    /// still to be left; no copy stands open then.
     pub(crate) fn take_copy(&mut self) -> Option<Found>
         ensures taken { (first : Setting) (h : List Bool) (s : List Setting)
             (copies : List TaggedCopy) (is_lock_over : Bool)

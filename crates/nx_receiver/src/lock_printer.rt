@@ -76,7 +76,7 @@ impl LockPrinter {
     }
 
     /// Takes the next two words of the lock, a DX word and an RX word, and appends the byte that
-    /// they print, if they print one, to those of at most three other pairs.
+    /// they print, if they print one, to those of at most three pairs before them.
     #[inline(always)]
     fn print_pair(&mut self, dx: Word, rx: Word, printed: &mut FourPrinted)
         requires { printed.old.count < 4 }

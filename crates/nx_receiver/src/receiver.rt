@@ -383,7 +383,8 @@ impl<M: Recall> Receiver<M> {
     }
 
     /// Ends the text where the lock alone is over: the copy that stood open, if one did, can be
-    /// taken then. Whether the lock is over with the copy, and is to be left behind it.
+    /// taken then. Answers whether the lock is over together with the copy: it has to be left once
+    /// the copy was handed out.
     #[inline(always)]
     fn close_lock(&mut self, over: Over) -> bool
         ensures stands { (start : Start) (history : List Event) (log : List TaggedCopy)
@@ -424,8 +425,8 @@ impl<M: Recall> Receiver<M> {
         self.finish(over).is_some()
     }
 
-    /// Takes the copy that can be taken, where one can, and judges it: its entry where it is
-    /// printed.
+    /// Takes the copy that can be taken, where one can, and judges it. Answers its entry where it
+    /// is printed.
     fn take_ready(&mut self) -> Option<Entry>
         ensures stands { (start : Start) (history : List Event) (log : List TaggedCopy)
             (is_lock_over : Bool)
@@ -444,8 +445,8 @@ impl<M: Recall> Receiver<M> {
         print_copy(found, self.hearer.tag(), &mut self.memory)
     }
 
-    /// Judges the copy that can be taken, where one can: its head where it is printed. The copy
-    /// stays with the hearer.
+    /// Judges the copy that can be taken, where one can. Answers its head where it is printed. The
+    /// copy stays with the hearer.
     fn judge_ready(&mut self) -> Option<FoundHead>
         ensures stands { (start : Start) (history : List Event) (log : List TaggedCopy)
             (is_lock_over : Bool)

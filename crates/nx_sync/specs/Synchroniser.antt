@@ -45,10 +45,10 @@ has_dx_phasing_1 [] = false
 has_dx_phasing_1 (dx ∷ []) = dx == phasing_1
 has_dx_phasing_1 (dx ∷ rx ∷ words) = (dx == phasing_1) || has_dx_phasing_1 words
 
--- Whether surely none of these words, which come next, brings a change: a lock stands between two
--- words, and the first of them is a DX word; neither one of the DX words among them nor one of the
--- two before them is phasing signal 1; and where all of them were wrong, there would still be fewer
--- wrong words than lose the lock.
+-- Whether surely none of these words, which come next, brings a change. A lock stands between two
+-- words, and the first of them is a DX word. Neither one of the DX words among them nor one of the
+-- two before them is phasing signal 1. And were all of them wrong, fewer words would be wrong than
+-- lose the lock.
 abbrev pub keeps_lock : Held → List ℕ → Bool
 keeps_lock held words =
     awaits_free_dx held.track && not (has_dx_phasing_1 words)

@@ -7,8 +7,8 @@ use Rattle.nx_sync.specs.declared.step.Step.{Step}
 use Rattle.nx_sync.specs.Steps.{AreQuietWords, IsLastStep, LimitStands}
 use Rattle.nx_sync.specs.Synchroniser.{Held, StandsAfter}
 
--- These words may be taken at once: as many DX words as RX words, by turns, at least one of each
--- and at most four.
+-- So many words may be taken at once: two, four, six or eight. They are DX and RX by turns where
+-- the first is a DX word.
 pub record ArePairs (words : List ℕ) : Type 0 where
   pub some : 0 < length words
   pub few : length words ≤ 8

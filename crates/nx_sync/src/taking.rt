@@ -17,10 +17,11 @@ use crate::synchroniser::Synchroniser;
 use crate::word_synchroniser::WordSynchroniser;
 use nx_code::{ELEMENTS, WORDS_AT_ONCE, Word};
 
-/// How many words are heard at once where eight aren't left, and where six aren't. These numbers
-/// and eight are even, so that the roles stay in step (this project's own).
+/// How many words are heard at once where eight aren't left. Such a number is even, so that the
+/// roles stay in step (this project's own).
 const SIX_WORDS: usize = 6;
 
+/// How many are heard at once where neither eight nor six were.
 const TWO_WORDS: usize = 2;
 
 /// Takes what the elements bring that a synchroniser hears, in order.
@@ -31,8 +32,9 @@ pub trait StepTaker {
     /// It has room for what so many elements bring.
     ghost can_take: { Self → ℕ → Type 0 };
 
-    /// A synchroniser that held the first and this taker heard these elements, and hold and are
-    /// that then; with the last of them this is over, and nothing was with one before it.
+    /// In `hears old before bits new after over`, a synchroniser that held `old`, and the taker
+    /// `before`, heard these elements. The one then holds `new`, and the other is `after`. With the
+    /// last element `over` is over, and nothing was with one before it.
     ghost hears: { Held → Self → List Bool → Held → Self → Option Self.Over → Type 0 };
 
     /// Takes what so many elements bring: the last one this step, and those before it nothing.
@@ -222,10 +224,10 @@ impl WordSynchroniser {
         (heard, None)
     }
 
-    /// Hears the next eight words of these elements at once, or six, where they are there and
-    /// neither the lock nor anything for the taker is over with them; else as many by twos and
-    /// ones. Before an RX word it hears that word alone, so that eights begin with the DX word
-    /// behind it.
+    /// Hears the next eight words of these elements at once, or six where eight aren't there. It
+    /// does so where neither the lock nor anything for the taker is over with them. Else it hears
+    /// as many by twos and ones. Before an RX word it hears that word alone, so that eights begin
+    /// with the DX word behind it.
     #[inline(always)]
     fn hear_some<T: StepTaker>(
         &mut self,

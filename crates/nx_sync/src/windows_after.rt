@@ -69,8 +69,8 @@ pub(crate) fn next_word_window(window: u32, word: Word) -> u32
     (window >> 7) + (u32::from(word.number()) << 21)
 }
 
-/// The window after more words, which is what the rule gives for their elements. Each word is one
-/// of 128, of which the clause `small` alone speaks; nothing runs for it.
+/// The window after more words, which is what the rule gives for their elements. The clause `small`
+/// says that each word is one of 128; nothing runs for it.
 #[inline(always)]
 pub(crate) fn window_after_words(window: u32, words: &[Word]) -> u32
     requires window { window < 2 ^ pattern_elements }

@@ -111,8 +111,8 @@ AnswersStop first stop lines copies outcome = ⊥
 -- ---- what a watch has at hand
 
 -- The file of a watch, its input and its output, and where it tells of lines without effect: as
--- they stand before it and after it, and what they tell of themselves. The file tells it for this
--- first content, `start`.
+-- they stand before it and after it, and what they tell of themselves. What the file tells is told
+-- for `start`, its first content.
 pub record WatchDevices (D R W E : Type 0) : Type 1 where
   pub tells : TellsOfDisk D
   pub start : List ℕ
@@ -190,8 +190,8 @@ module _ {D R W E : Type 0} (d : WatchDevices D R W E) where
       × ((KeepsAll entries copies × AnswersStop starts.moment stop lines copies outcome)
       ⊎ (KeepsSome entries copies × (outcome ≡ Err Disk)))
 
-  -- What a watch answers that started at this moment over a file that stands for these entries:
-  -- which is never damaged. Where the file couldn't be opened, or memory ran out, only the file was
+  -- What a watch answers that started at this moment over a file that stands for these entries.
+  -- Such a file is never damaged. Where it couldn't be opened, or memory ran out, only the file was
   -- touched.
   abbrev pub AnswersWatch : ℕ → List MarkedCopy → Result WatchReport WatchFault → Type 0
   AnswersWatch now entries (Err Open) = HasOpened entries

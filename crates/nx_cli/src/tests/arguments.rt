@@ -13,8 +13,8 @@ use std::alloc::Global;
 use std::io::{Error, ErrorKind};
 use std::process::Abort;
 
-// Expects that the arguments are answered with this status and, from its beginning on, this text in
-// clap's words: help on standard output, a refusal on standard error.
+// Expects that the arguments are answered with this status and, from its beginning on, this text of
+// clap's: help on standard output, a refusal on standard error.
 fn expect_answer(rt: &impl Abort, alloc: Global, arguments: &[&str], status: u8, text: &str) {
     let ended = run_on(alloc, arguments, AIR_FILE_OF_A);
     let (answer, other) = if status == 0 {

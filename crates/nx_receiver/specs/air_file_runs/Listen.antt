@@ -191,23 +191,22 @@ AnswersListening starts extent contents (Err Read) bytes = StopsAt bytes (λ lin
 AnswersListening starts extent contents (Err (Write written)) bytes =
     (log : List ℕ) × WroteSome contents.before contents.after log written
     × (StopsAt bytes (λ lines rest more. IsLogOfLines starts lines log)
-    ⊎ (extent.at_end × (lines : List Line) × (copies : List MarkedCopy)
-    × IsLogOfFile starts bytes lines copies log))
+    ⊎ (extent.at_end × IsLogOf starts bytes log))
 AnswersListening starts extent contents (Err (LineCut line)) bytes =
     extent.at_end × HasListenFault starts (HasLogged starts contents) bytes (LineCut line)
 AnswersListening starts extent contents (Err fault) bytes =
     HasListenFault starts (HasLogged starts contents) bytes fault
 
 -- nothing is known of what a writer held and holds
-abbrev pub untold : Contents
-untold = record { before = None; after = None }
+abbrev pub unknown_contents : Contents
+unknown_contents = record { before = None; after = None }
 
 -- What such a run answers whose log isn't written: no write fails, and nothing is known of the log
 -- but that there is one.
 abbrev pub AnswersUnlogged : Starts → Extent → Result Report ListenFault → List ℕ → Type 0
 AnswersUnlogged starts extent (Err (Write written)) bytes = ⊥
 AnswersUnlogged starts extent outcome bytes =
-    AnswersListening starts extent untold outcome bytes
+    AnswersListening starts extent unknown_contents outcome bytes
 
 -- A run that listens, with this start. It answers so to the bytes that it read, and to the whole
 -- file, however it came. Where a read fails, the log of the whole lines before it was written

@@ -8,7 +8,7 @@ use Rattle.nx_fec.specs.Transfers.{Contents, CountedDevice, Devices, Extent, Wri
 use Rattle.nx_fec.specs.Transfers.{as_read, contents_of, whole_input}
 use Rattle.nx_memory.specs.Saved.{AreSavedStates, SavedStates}
 use Rattle.nx_receiver.specs.air_file_runs.Chain.{HasGoneOn, IsChain, Run, all_logs, files}
-use Rattle.nx_receiver.specs.air_file_runs.Listen.{AnswersListening, AnswersUnlogged, IsLogOf, untold}
+use Rattle.nx_receiver.specs.air_file_runs.Listen.{AnswersListening, AnswersUnlogged, IsLogOf, unknown_contents}
 use Rattle.nx_receiver.specs.laws.ListenOnce.{HasPrintedOnce}
 use Rattle.nx_receiver.specs.copies.Shares.{starts_from}
 use Rattle.nx_receiver.specs.air_file_runs.State.{BeginsWith, ExplainsState, IsStateBytes, state_bytes}
@@ -25,7 +25,7 @@ use Rattle.nx_receiver.specs.declared.air_file_runs.state_fault.StateFault.TheVa
 pub record HasLeft (holds : List ℕ → Type 0) (states : SavedStates) (air : List ℕ) : Type 0 where
   pub left : SavedStates
   pub sound : AreSavedStates left
-  pub gone : HasGoneOn states untold air left
+  pub gone : HasGoneOn states unknown_contents air left
   pub here : holds (state_bytes left)
 
 -- What a run answers that goes on from these states over bytes of this extent of an air file. Where

@@ -9,7 +9,7 @@ use Rattle.nx_fec.specs.declared.air_files.line_taking.LinesFault.{LinesFault}
 use Rattle.nx_fec.specs.declared.air_files.line_taking.LinesFault.TheVariants as run
 use Rattle.nx_memory.specs.Saved.{SavedStates}
 use Rattle.nx_receiver.specs.air_file_runs.Chain.{HasGoneOn}
-use Rattle.nx_receiver.specs.air_file_runs.Listen.{AnswersUnlogged, untold}
+use Rattle.nx_receiver.specs.air_file_runs.Listen.{AnswersUnlogged, unknown_contents}
 use Rattle.nx_receiver.specs.air_file_runs.ListenFrom.{reported}
 use Rattle.nx_receiver.specs.copies.Shares.{Given, Starts, starts_from}
 use Rattle.nx_receiver.specs.declared.air_file_runs.listen_fault.ListenFault.{ListenFault}
@@ -42,7 +42,7 @@ abbrev pub AnswersLeaving : SavedStates → Extent
     → Result (Report × SavedStates) ListenFault → List ℕ → Type 0
 AnswersLeaving saved extent outcome bytes =
     AnswersUnlogged (starts_from saved) extent (reported outcome) bytes
-    × IfOk outcome (λ answer. HasGoneOn saved untold bytes answer.1)
+    × IfOk outcome (λ answer. HasGoneOn saved unknown_contents bytes answer.1)
 
 -- such a run, of its reader
 abbrev pub ListensUnlogged : {R : Type 0} → SavedStates → (R → Option (List ℕ)) → CountedDevice R

@@ -1,6 +1,5 @@
 -- The words of a lock: limits, roles, marks, and what ends it.
 pub mod Computed
-pub mod EightWords
 pub mod MarkBits
 pub mod Marks
 pub mod PartWords
@@ -10,3 +9,4 @@ pub mod TakenSteps
 pub mod WholeWords
 pub mod WordLimits
 pub mod WordLists
+pub mod WordsAtOnce

@@ -46,7 +46,8 @@ module _ (starts : Starts) (extent : Extent) (contents : Contents) where
       elim h.2 [
         | inl stops ↦
             (h.0, stops.here.copies, lines_logged starts stops.lines h.0 stops.here, h.1)
-        | inr all ↦ (h.0, all.2, file_logged starts bytes all.1 all.2 h.0 all.3, h.1)
+        | inr all ↦
+            (h.0, all.1.1, file_logged starts bytes all.1.0 all.1.1 h.0 all.1.2, h.1)
       ]
   wrote_entries (Err (LineCut line)) bytes h = some h.1.lines h.1.here.1
   wrote_entries (Err AirTooLong) bytes h = some h.lines h.here.1

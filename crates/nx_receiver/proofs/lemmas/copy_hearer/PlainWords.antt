@@ -18,7 +18,7 @@ use Rattle.nx_sync.specs.Words.{whole_words}
 use Rattle.nx_sync.specs.declared.step.Role.{Role}
 use Rattle.nx_sync.specs.declared.step.Role.TheVariants.{Dx}
 use Rattle.nx_sync.specs.declared.step.Step.{Step}
-use Rattle.nx_sync.proofs.lemmas.words.EightWords.{quiet_first, quiet_rest}
+use Rattle.nx_sync.proofs.lemmas.words.WordsAtOnce.{quiet_first, quiet_rest}
 use Rattle.nx_sync.proofs.lemmas.states.KeptPast.{word_at-more, first_role-more}
 use Rattle.nx_code.proofs.lemmas.Packed.{length-elements}
 use Rattle.nx_sync.proofs.lemmas.states.StateChanges.{one_more, standing_after}

@@ -340,7 +340,7 @@ listens-part remaining contents first now reader reader_after writer mid new rea
     (Reads-on (input remaining reader reader_after) run.Read Read (Ok read) (Err (Write written)) _
     _ h.reads
     (λ extent bytes k. let p = part-listened first now _ _ _ bytes read written k.1 closed in
-    (p.0, p.2, inr (k.0, p.1.0, p.1.1, p.1.2)))
+    (p.0, p.2, inr (k.0, p.1)))
     (λ bytes k h. tt) (λ e. absurd (write-not_read written e))
     (λ e. absurd (Ok-not_err _ _ e)))
     (record { failed = (λ w. one, λ k. (written, refl)); once = omega (arith, one) })

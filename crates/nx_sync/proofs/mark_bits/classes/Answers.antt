@@ -1,5 +1,5 @@
 use Rattle.std.proofs.Common.{ℕ, List, ◌<◌, slice_index, subst, arith}
-use Rattle.nx_sync.proofs.lemmas.words.EightWords.{judged, wrong_ones-eight}
+use Rattle.nx_sync.proofs.lemmas.words.WordsAtOnce.{judged, wrong_ones-eight}
 use Rattle.nx_sync.proofs.mark_bits.classes.Goals as goal
 
 pub returns : goal.returns

@@ -3,7 +3,7 @@ use Rattle.std.proofs.lemmas.Bool.{cases_lt}
 use Rattle.std.proofs.lemmas.Grind.{get_or_default_zero}
 use Rattle.nx_sync.specs.private.Eight.{window_after_words}
 use Rattle.nx_sync.specs.private.Windows.{next_word_window}
-use Rattle.nx_sync.proofs.lemmas.words.EightWords.{window_after_eight, window_after_words-more}
+use Rattle.nx_sync.proofs.lemmas.words.WordsAtOnce.{window_after_eight, window_after_words-more}
 use Rattle.nx_sync.proofs.windows_after.window_after_words.Goals as goal
 
 pub returns-then-words-eq-WORDS_AT_ONCE-clause-value :

@@ -53,9 +53,9 @@ fn hunts_packed_elements(rt: HostRuntime) {
     }
 }
 
-/// Eight words of phasing after P2 P1 P2 P1 are heard at once, and two. Not so after one more word,
-/// since the next one is an RX word then; nor with a DX word among them that is P1; nor after such
-/// a one, as long as it may end the lock.
+/// Eight words of phasing after P2 P1 P2 P1 are heard at once, and so are two. They are not after
+/// one more word, since an RX word comes next then. Nor are they where a DX word among them is P1.
+/// Nor are they after such a word, as long as it may end the lock.
 #[test]
 fn hears_words_at_once(rt: HostRuntime) {
     let mut sync = Synchroniser::new(rt.alloc()).expect(&rt, "memory");

@@ -4,7 +4,7 @@ use Rattle.circular_buffer.specs.Buffer.{keep_last}
 use Rattle.nx_code.specs.Word.{is_wrong}
 use Rattle.nx_sync.specs.Words.{marked_words}
 use Rattle.nx_sync.specs.private.Eight.{marks_after_words}
-use Rattle.nx_sync.proofs.lemmas.words.EightWords.{marks_after_words-more, wrong_by}
+use Rattle.nx_sync.proofs.lemmas.words.WordsAtOnce.{marks_after_words-more, wrong_by}
 use Rattle.nx_sync.proofs.mark_bits.Marks.push_words.Goals as goal
 
 pub loop-place-init : goal.loop-place-init

@@ -2,7 +2,7 @@ use Rattle.std.proofs.Common.{◌≡◌, ◌<◌, ◌*◌, ◌/◌, ◌^◌, ◌
 use Rattle.nx_sync.specs.Synchroniser.{Held, StandsAfter}
 use Rattle.nx_sync.specs.private.Calls.{held_at_words}
 use Rattle.nx_sync.specs.private.Eight.{after_words}
-use Rattle.nx_sync.proofs.lemmas.words.EightWords.{WordsHeard, words_heard}
+use Rattle.nx_sync.proofs.lemmas.words.WordsAtOnce.{WordsHeard, words_heard}
 use Rattle.nx_sync.proofs.word_synchroniser.WordSynchroniser.push_words.Goals as goal
 
 heard : (c : goal.After-self-1) (h : List Bool) → StandsAfter c.args.self.now h
