@@ -207,13 +207,13 @@ impl StepTaker for LockTaker {
     }
 
     #[inline(always)]
-    fn take_words(&mut self, words: &[Word]) -> bool {
+    fn take_words(&mut self, words: &[Word]) -> usize {
         if !self.reader.hear_words(words, &mut self.shown) {
-            return false;
+            return 0;
         }
         let elements = (ELEMENTS * words.len()) as u64;
         self.elements = self.elements.saturating_add(elements);
-        true
+        words.len()
     }
 
     ghost none = { λ held taker. hears_none held taker };

@@ -121,7 +121,7 @@ impl StepTaker for CopyTaker {
     }
 
     #[inline(always)]
-    fn take_words(&mut self, words: &[Word]) -> bool {
+    fn take_words(&mut self, words: &[Word]) -> usize {
         self.reader.hear_words(words)
     }
 

@@ -2,15 +2,15 @@
 //! inlined always, since its answers would go through memory otherwise. What hands a copy out is
 //! not inlined, so that no loop over words has a place for a text of 4,100.
 
-ghost use Rattle.std.specs.Prelude.{◌≡◌, ◌↔◌, ◌+◌, ℕ, false, length, IsNone, IsTrue, MatchOption};
+ghost use Rattle.std.specs.Prelude.{◌≡◌, ◌↔◌, ◌+◌, ◌%◌, ◌≤◌, ℕ, false, length, take, IsNone, IsTrue, MatchOption};
 ghost use Rattle.nx_sync.specs.Taking.{ArePairs};
 ghost use Rattle.nx_sync.specs.Words.{role_of};
 ghost use Rattle.nx_sync.specs.declared.step.Role.{Role};
 ghost use Rattle.nx_envelope.specs.Copies.{Copy};
 ghost use Rattle.nx_envelope.specs.Finder.{Closes, ClosesHeld, ClosesNone, HasReady, is_over, is_ready};
 ghost use Rattle.nx_envelope.specs.Found.{IsFound};
-ghost use Rattle.nx_receiver.specs.private.LockReader.{HearsWord, PrintsPlain, ReadsLock, is_open};
-ghost use Rattle.nx_receiver.specs.copies.LockText.{AreNext, text_after};
+ghost use Rattle.nx_receiver.specs.private.LockReader.{HearsWord, ReadsLock, ReadsPlain, is_open};
+ghost use Rattle.nx_receiver.specs.copies.LockText.{text_after};
 
 use crate::lock_printer::LockPrinter;
 use nx_code::Word;
@@ -77,19 +77,48 @@ impl LockReader {
         }
     }
 
-    /// Hears the next words of the lock at once, DX and RX by turns, where surely none of them
-    /// begins or ends a copy: `true` where it did. Else nothing changed, and they have to be heard
-    /// one by one.
+    /// Hears the first of the next words of the lock at once, DX and RX by turns: those before the
+    /// pair that may begin or end a copy, all of them where none does. Says how many these are.
+    /// Where they are none, nothing changed.
     #[inline(always)]
-    pub(crate) fn hear_words(&mut self, words: &[Word]) -> bool
+    pub(crate) fn hear_words(&mut self, words: &[Word]) -> usize
         requires { ArePairs words.now }
-        ensures stands { IsTrue result → (first : Role) (before : ℕ → ℕ) (n : ℕ)
-            → ReadsLock self.old first before n → AreNext first before n words.now
-            → ReadsLock self.new first before (n + length words.now) }
-        ensures brings { IsTrue result → (first : Role) (before : ℕ → ℕ) (n : ℕ)
-            → ReadsLock self.old first before n → AreNext first before n words.now
-            → PrintsPlain (text_after first before n)
-            (text_after first before (n + length words.now)) }
+        ensures within { result ≤ length words.now }
+        ensures even { result % 2 ≡ 0 }
+        ensures plain { ReadsPlain self.old self.new (take result words.now) }
+        ensures same { result ≡ 0 → self.new ≡ self.old }
+    {
+        if self.hear_plain(words) {
+            return words.len();
+        }
+        self.hear_plain_pairs(words)
+    }
+
+    /// Hears these words pair by pair, up to the one that may begin or end a copy.
+    #[inline(never)]
+    fn hear_plain_pairs(&mut self, words: &[Word]) -> usize
+        requires { ArePairs words.now }
+        ensures within { result ≤ length words.now }
+        ensures even { result % 2 ≡ 0 }
+        ensures plain { ReadsPlain self.old self.new (take result words.now) }
+        ensures same { result ≡ 0 → self.new ≡ self.old }
+    {
+        let mut heard = 0;
+        while heard < words.len() {
+            if !self.hear_plain(&words[heard..heard + 2]) {
+                return heard;
+            }
+            heard += 2;
+        }
+        heard
+    }
+
+    /// Hears the next words of the lock at once, DX and RX by turns, where surely none of them
+    /// begins or ends a copy: `true` where it did. Else nothing changed.
+    #[inline(always)]
+    fn hear_plain(&mut self, words: &[Word]) -> bool
+        requires { ArePairs words.now }
+        ensures plain { IsTrue result → ReadsPlain self.old self.new words.now }
         ensures same { result ≡ false → self.new ≡ self.old }
     {
         // Copied field by field: as one number of four bytes it would have to be cut apart.

@@ -1,5 +1,5 @@
 //! How packed elements are heard for a taker. What comes next, a hunt, a part of a word, one word,
-//! or two, six or eight of them at once, is decided here alone, and what the synchroniser holds
+//! or some of them at once, is decided here alone, and what the synchroniser holds
 //! meanwhile. What runs for each word is inlined always, since its answers would go through memory
 //! otherwise.
 
@@ -9,7 +9,7 @@ ghost use Rattle.nx_code.specs.Packed.{packed_elements, packed_part};
 ghost use Rattle.nx_code.specs.Word.{elements, word_elements};
 ghost use Rattle.nx_sync.specs.Synchroniser.{Held, is_between_words, is_hunting};
 ghost use Rattle.nx_sync.specs.Taking.{ArePairs, BringsStep, BringsWords, IsTaken};
-ghost use Rattle.nx_sync.specs.private.Taking.{HasPart, TakesSome};
+ghost use Rattle.nx_sync.specs.private.Taking.{HasPart, TakesQuiet, TakesSome};
 
 use crate::packed::{element, word_in, words_in};
 use crate::step::Step;
@@ -46,17 +46,19 @@ pub trait StepTaker {
             → BringsStep old new bits step → hears old self.old bits new self.new result }
         ensures can { (more : ℕ) → can_take self.old (count + more) → can_take self.new more };
 
-    /// Takes words of a lock that bring no change, DX and RX by turns, at once, where surely
-    /// nothing is over with any of them: `true` where it did. Else nothing changed, and they have
-    /// to be taken one by one.
-    fn take_words(&mut self, words: &[Word]) -> bool
+    /// Takes the first of these words of a lock at once, DX and RX by turns, where none of them
+    /// brings a change and surely nothing is over with any. Says how many it took, in whole pairs.
+    /// Where it took none, nothing changed. The next word has to be taken alone then.
+    fn take_words(&mut self, words: &[Word]) -> usize
         requires pairs { ArePairs words.now }
         requires can { can_take self.old (word_elements * length words.now) }
-        ensures hears { IsTrue result → (old new : Held) → BringsWords old new words.now
-            → hears old self.old (flat_map elements words.now) new self.new None }
-        ensures can { (more : ℕ) → can_take self.old (word_elements * length words.now + more)
+        ensures within { result ≤ length words.now }
+        ensures even { result % 2 ≡ 0 }
+        ensures hears { 0 < result → (old new : Held) → BringsWords old new (take result words.now)
+            → hears old self.old (flat_map elements (take result words.now)) new self.new None }
+        ensures can { (more : ℕ) → can_take self.old (word_elements * result + more)
             → can_take self.new more }
-        ensures same { result ≡ false → self.new ≡ self.old };
+        ensures same { result ≡ 0 → self.new ≡ self.old };
 
     /// No elements bring nothing.
     ghost none: { (held : Held) (taker : Self) → hears held taker [] held taker None };
@@ -224,10 +226,8 @@ impl WordSynchroniser {
         (heard, None)
     }
 
-    /// Hears the next eight words of these elements at once, or six where eight aren't there. It
-    /// does so where neither the lock nor anything for the taker is over with them. Else it hears
-    /// as many by twos and ones. Before an RX word it hears that word alone, so that eights begin
-    /// with the DX word behind it.
+    /// Hears as many of the next words of these elements at once as it can, and where a word behind
+    /// them may bring something, that one alone.
     #[inline(always)]
     fn hear_some<T: StepTaker>(
         &mut self,
@@ -243,79 +243,70 @@ impl WordSynchroniser {
         ensures takes { TakesSome T.hears T.can_take self.old taker.old numbers.now from count
             self.new taker.new result }
     {
-        if count >= ELEMENTS * WORDS_AT_ONCE {
-            if self.hear_at_once(taker, numbers, from, WORDS_AT_ONCE) {
-                return (ELEMENTS * WORDS_AT_ONCE, None);
-            }
-        } else if count >= ELEMENTS * SIX_WORDS {
-            if self.hear_at_once(taker, numbers, from, SIX_WORDS) {
-                return (ELEMENTS * SIX_WORDS, None);
-            }
+        let (heard, is_all) = self.hear_words(taker, numbers, from, count);
+        if is_all {
+            return (heard, None);
         }
-        let few = if self.awaits_dx() {
-            ELEMENTS * WORDS_AT_ONCE
-        } else {
-            ELEMENTS
-        };
-        self.hear_few(taker, numbers, from, count.min(few))
+        let over = self.hear_word(taker, numbers, from + heard);
+        (heard + ELEMENTS, over)
     }
 
-    /// Hears whole words of these elements as `hear` does, but by twos and ones alone.
-    #[inline(always)]
-    fn hear_few<T: StepTaker>(
-        &mut self,
-        taker: &mut T,
-        numbers: &[u64],
-        from: usize,
-        count: usize,
-    ) -> (usize, Option<T::Over>)
-        requires limit { IsTrue (is_between_words self.old) }
-        requires some { 7 ≤ count }
-        requires part { HasPart numbers.now from count }
-        requires can { T.can_take taker.old count }
-        ensures takes { TakesSome T.hears T.can_take self.old taker.old numbers.now from count
-            self.new taker.new result }
-    {
-        let mut heard = 0;
-        while count - heard >= ELEMENTS {
-            let (part, over) = self.hear_word(taker, numbers, from + heard, count - heard);
-            heard += part;
-            if over.is_some() | !self.is_between_words() {
-                return (heard, over);
-            }
-        }
-        (heard, None)
-    }
-
-    /// Hears the next two words of these elements at once, where they are there and neither the
-    /// lock nor anything for the taker is over with them, else the next word.
+    /// Hears the next word of these elements.
     #[inline(always)]
     fn hear_word<T: StepTaker>(
         &mut self,
         taker: &mut T,
         numbers: &[u64],
         from: usize,
-        count: usize,
-    ) -> (usize, Option<T::Over>)
+    ) -> Option<T::Over>
         requires limit { IsTrue (is_between_words self.old) }
-        requires some { 7 ≤ count }
-        requires room { from + count ≤ packed_elements * length numbers.now }
-        requires can { T.can_take taker.old count }
-        ensures takes { TakesSome T.hears T.can_take self.old taker.old numbers.now from count
-            self.new taker.new result }
+        requires room { from + 7 ≤ packed_elements * length numbers.now }
+        requires can { T.can_take taker.old 7 }
+        ensures taken { IsTaken T.hears T.can_take self.old taker.old
+            (packed_part numbers.now from 7) self.new taker.new result }
     {
-        if count >= ELEMENTS * TWO_WORDS {
-            if self.hear_at_once(taker, numbers, from, TWO_WORDS) {
-                return (ELEMENTS * TWO_WORDS, None);
-            }
-        }
         let step = self.push(word_in(numbers, from));
-        (ELEMENTS, taker.take(ELEMENTS, step))
+        taker.take(ELEMENTS, step)
     }
 
-    /// Hears the next words of these elements at once, so many, DX and RX by turns, where neither
-    /// the lock nor anything for the taker is over with them: `true` where it did. Else nothing
-    /// changed.
+    /// Hears the first of the next eight words of these elements at once, of six where eight aren't
+    /// there, or of two: those with which neither the lock nor anything for the taker is over. Says
+    /// how many elements that were, and whether all of these words were heard. Before an RX word it
+    /// hears none, so that eights begin with the DX word behind it.
+    #[inline(always)]
+    fn hear_words<T: StepTaker>(
+        &mut self,
+        taker: &mut T,
+        numbers: &[u64],
+        from: usize,
+        count: usize,
+    ) -> (usize, bool)
+        requires limit { IsTrue (is_between_words self.old) }
+        requires some { 7 ≤ count }
+        requires part { HasPart numbers.now from count }
+        requires can { T.can_take taker.old count }
+        ensures takes { TakesQuiet T.hears T.can_take self.old taker.old numbers.now from count
+            self.new taker.new result }
+        ensures limit { IsTrue (is_between_words self.new) }
+    {
+        if !self.awaits_dx() {
+            return (0, false);
+        }
+        if count >= ELEMENTS * WORDS_AT_ONCE {
+            return self.hear_at_once(taker, numbers, from, WORDS_AT_ONCE);
+        }
+        if count >= ELEMENTS * SIX_WORDS {
+            return self.hear_at_once(taker, numbers, from, SIX_WORDS);
+        }
+        if count >= ELEMENTS * TWO_WORDS {
+            return self.hear_at_once(taker, numbers, from, TWO_WORDS);
+        }
+        (0, false)
+    }
+
+    /// Hears the first of the next words of these elements at once, of so many, DX and RX by turns:
+    /// those with which neither the lock nor anything for the taker is over. Says how many elements
+    /// that were, and whether all of these words were heard.
     #[inline(always)]
     fn hear_at_once<T: StepTaker>(
         &mut self,
@@ -323,28 +314,31 @@ impl WordSynchroniser {
         numbers: &[u64],
         from: usize,
         count: usize,
-    ) -> bool
+    ) -> (usize, bool)
         requires limit { IsTrue (is_between_words self.old) }
         requires some { 0 < count }
         requires few { count ≤ 8 }
         requires even { count % 2 ≡ 0 }
         requires room { from + word_elements * count ≤ packed_elements * length numbers.now }
         requires can { T.can_take taker.old (word_elements * count) }
-        ensures taken { IsTrue result → IsTaken T.hears T.can_take self.old taker.old
-            (packed_part numbers.now from (word_elements * count)) self.new taker.new None }
+        ensures takes { TakesQuiet T.hears T.can_take self.old taker.old numbers.now from
+            (word_elements * count) self.new taker.new result }
         ensures limit { IsTrue (is_between_words self.new) }
-        ensures same { result ≡ false → self.new ≡ self.old }
-        ensures same_taker { result ≡ false → taker.new ≡ taker.old }
     {
         let eight = words_in(numbers, from, count);
         let words = &eight[..count];
         if !self.keeps_lock(words) {
-            return false;
+            return (0, false);
         }
-        if !taker.take_words(words) {
-            return false;
+        let heard = taker.take_words(words);
+        if heard == 0 {
+            return (0, false);
         }
-        self.push_words(words);
-        true
+        if heard == count {
+            self.push_words(words);
+            return (ELEMENTS * count, true);
+        }
+        self.push_words(&words[..heard]);
+        (ELEMENTS * heard, false)
     }
 }

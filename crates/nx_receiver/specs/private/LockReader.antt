@@ -2,7 +2,7 @@
 -- stands (ITU-R M.625, mode B, and M.476 for what is printed). That each lock has a text of its
 -- own, from letters, is this profile's. `first` is the role of word 0 of the lock, and `words`
 -- gives each word's number.
-use Rattle.std.specs.Prelude.{◌≡◌, ◌⊎◌, ℕ, Bool, true, false, ◌+◌, ◌*◌, List, [], ◌∷◌, ◌++◌}
+use Rattle.std.specs.Prelude.{◌≡◌, ◌⊎◌, ℕ, Bool, true, false, ◌+◌, ◌*◌, List, [], ◌∷◌, ◌++◌, length}
 use Rattle.nx_code.specs.Reading.{shift_after_all}
 use Rattle.nx_code.specs.declared.shifts.Shift.TheVariants.{Letters}
 use Rattle.nx_fec.specs.emissions.Pairing.{IsLatest}
@@ -14,7 +14,7 @@ use Rattle.nx_envelope.specs.declared.found.HeldCopy.TheVariants as held
 use Rattle.nx_envelope.specs.declared.found.TextEvent.{TextEvent}
 use Rattle.nx_envelope.specs.declared.found.TextEvent.TheVariants.{Nothing}
 use Rattle.nx_receiver.specs.CopyHearing.{LockReading}
-use Rattle.nx_receiver.specs.copies.LockText.{dx_words, positions, text_after}
+use Rattle.nx_receiver.specs.copies.LockText.{AreNext, dx_words, positions, text_after}
 
 -- the place of word k of the lock at t: the index of its last bit
 abbrev pub word_place : ℕ → ℕ → ℕ
@@ -55,3 +55,11 @@ pub record PrintsPlain (before after : List ℕ) : Type 0 where
   pub bytes : List ℕ
   pub grows : after ≡ before ++ bytes
   pub nothing : BringNothing before bytes
+
+-- The reader heard these words, after whichever it stood, and none of them begins or ends a copy.
+pub record ReadsPlain (old new : LockReading) (next : List ℕ) : Type 0 where
+  pub stands : (first : Role) (words : ℕ → ℕ) (n : ℕ) → ReadsLock old first words n
+      → AreNext first words n next → ReadsLock new first words (n + length next)
+  pub brings : (first : Role) (words : ℕ → ℕ) (n : ℕ) → ReadsLock old first words n
+      → AreNext first words n next
+      → PrintsPlain (text_after first words n) (text_after first words (n + length next))

@@ -31,7 +31,7 @@ pub record PlainHeard (kept text bytes : List ℕ) (identity : Identity) : Type 
   pub holds : HoldsOpen false (kept ++ bytes) (text ++ bytes) identity
   pub brings : BringNothing text bytes
 
-first_more : (text bytes : List ℕ) (b : ℕ) → Keeps text b → BringNothing (text ++ b ∷ []) bytes
+pub first_more : (text bytes : List ℕ) (b : ℕ) → Keeps text b → BringNothing (text ++ b ∷ []) bytes
     → BringNothing text (b ∷ bytes)
 first_more text bytes b now later zero lt = rw (append-nil text) now
 first_more text bytes b now later (suc k) lt =

@@ -32,7 +32,7 @@ use Rattle.nx_receiver.specs.copies.FoundCopies.{FoundCopy, ended_in, ended_so_f
 use Rattle.nx_receiver.specs.copies.FoundCopies.{past_copies, standing_text, TaggedCopy, tag}
 use Rattle.nx_receiver.specs.copies.LockText.{PlacedByte, bytes_of, lock_text, text_by}
 use Rattle.nx_receiver.specs.CopyHearing.{LockReading, CopyHearing, in_force}
-use Rattle.nx_receiver.specs.private.LockReader.{PrintsPlain, ReadsLock}
+use Rattle.nx_receiver.specs.private.LockReader.{ReadsLock, ReadsPlain}
 use Rattle.nx_receiver.specs.copies.LockText.{AreNext, text_after}
 use Rattle.nx_receiver.specs.private.CopyHearer.{HasEnded, HasTag, HearsBits, ReadsNow, ReadsOver}
 use Rattle.nx_receiver.specs.private.CopyTaker.{Hears, hearer_of}
@@ -264,20 +264,14 @@ none_ended first h more s later some copies locks newer now next was is many bef
     length-nil [] e = refl
     length-nil (x ∷ xs) e = absurd (omega arith)
 
--- a reader that heard so many words, of which none begins or ends a copy
-pub record ReadsPlain (old new : LockReading) (next : List ℕ) (count : ℕ) : Type 0 where
-  pub stands : (first : Role) (words : ℕ → ℕ) (n : ℕ) → ReadsLock old first words n
-      → AreNext first words n next → ReadsLock new first words (n + count)
-  pub brings : (first : Role) (words : ℕ → ℕ) (n : ℕ) → ReadsLock old first words n
-      → AreNext first words n next
-      → PrintsPlain (text_after first words n) (text_after first words (n + count))
-
--- So many words come after these elements.
+-- These words come after these elements.
 module _ (first : Setting) (h : List Bool) (s : List Setting) (old : CopyHearing)
-    (reader : LockReading) (next : List ℕ) (count : ℕ) (some : 0 < count)
-    (size : length next ≡ count) (quiet : AreQuietWords h Dx next)
-    (reads : ReadsPlain old.reader reader next count)
+    (reader : LockReading) (next : List ℕ) (some : 0 < length next)
+    (quiet : AreQuietWords h Dx next) (reads : ReadsPlain old.reader reader next)
     (many : length s ≡ length h) where
+  abbrev count : ℕ
+  count = length next
+
   abbrev more : List Bool
   more = flat_map elements next
 
@@ -321,14 +315,14 @@ module _ (first : Setting) (h : List Bool) (s : List Setting) (old : CopyHearing
       let heard : t + 7 * m ≤ length h = omega (arith, limit) in
       let was : whole_words h t ≡ m = omega (arith, limit) in
       let is : m + count ≡ whole_words h' t =
-      omega (arith, limit, size, long next, length-append h more) in
+      omega (arith, limit, long next, length-append h more) in
       let role : Role = first_role h' t in
       let words : ℕ → ℕ = word_of_lock h' t in
       let text : List PlacedByte = lock_text h t m in
       let at : ReadsLock old.reader role words m = reads-more old.reader h more t m here heard
       (subst (ReadsLock old.reader (first_role h t) (word_of_lock h t)) was stood) in
       let all : AreNext role words m next =
-      record { dx = still.role (omega (arith, some, size)); are = still.are } in
+      record { dx = still.role some; are = still.are } in
       let plain = reads.brings role words m at all in
       let grows = text_by-grows role words t m (m + count) (omega arith) in
       let same : text_by role words t m ≡ text = lock_text-more h more t m here heard in
@@ -378,19 +372,18 @@ module _ (first : Setting) (h : List Bool) (s : List Setting) (old : CopyHearing
 
 words_heard : (first : Setting) (old : CopyTaker) (before after : Held) (reader : LockReading)
     (next : List ℕ) (h : List Bool) (s : List Setting) (copies : List TaggedCopy)
-    → (count : ℕ) → 0 < count → length next ≡ count → ReadsPlain old.reader reader next count
-    → BringsWords before after next
+    → 0 < length next → ReadsPlain old.reader reader next → BringsWords before after next
     → HearerStands first (hearer_of before old) h s copies
     → HearsBits first (hearer_of before old) (hearer_of after (record old { reader = reader })) h s
     copies (flat_map elements next) None
-words_heard first old before after reader next h s copies count some size reads brings w =
+words_heard first old before after reader next h s copies some reads brings w =
     let hearer = hearer_of before old in
     let o = w.reads in
     let more : List Bool = flat_map elements next in
     let quiet = brings.quiet h w.synchroniser in
     let later : ReadsOver first reader old.tag (h ++ more) (s ++ all_in_force hearer more) copies =
     subst (ReadsOver first reader old.tag (h ++ more) (s ++ all_in_force hearer more)) (sym o.ended)
-    (words_now first h s hearer reader next count some size quiet reads o.many o.locks o.now
+    (words_now first h s hearer reader next some quiet reads o.many o.locks o.now
     o.stands (brings.limit h w.synchroniser) o.reads o.has_tag) in
     record {
       brings = record { synchroniser = brings.stands h w.synchroniser; reads = later };
@@ -400,13 +393,12 @@ words_heard first old before after reader next h s copies count some size reads 
     }
 
 pub plain_taken : (old : CopyTaker) (reader : LockReading) (next : List ℕ) (before after : Held)
-    → (count : ℕ) → 0 < count → length next ≡ count → ReadsPlain old.reader reader next count
-    → BringsWords before after next
+    → 0 < length next → ReadsPlain old.reader reader next → BringsWords before after next
     → Hears before old (flat_map elements next) after (record old { reader = reader }) None
-plain_taken old reader next before after count some size reads brings = record {
+plain_taken old reader next before after some reads brings = record {
   hears = record {
     hears = λ first h s copies w. words_heard first old before after reader next h s copies
-        count some size reads brings w;
+        some reads brings w;
   };
   force = refl;
   kept = as_it_was refl;

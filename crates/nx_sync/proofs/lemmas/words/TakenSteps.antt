@@ -1,5 +1,5 @@
 -- What a taker is given of packed elements: that of some, and of those after them.
-use Rattle.std.proofs.Common.{◌≡◌, ℕ, zero, suc, ◌+◌, ◌-◌, ◌*◌, ◌<◌, ◌≤◌, Bool, List, [], ◌∷◌, ◌++◌}
+use Rattle.std.proofs.Common.{◌≡◌, ℕ, zero, suc, ◌+◌, ◌-◌, ◌*◌, ◌<◌, ◌≤◌, Bool, true, false, List, [], ◌∷◌, ◌++◌}
 use Rattle.std.proofs.Common.{length, take, drop, Option, None, refl, sym, ap, ◌∙◌, subst}
 use Rattle.std.proofs.Common.{arith, length-append, take-take, take_all}
 use Rattle.std.proofs.lemmas.List.{length-take-le}
@@ -12,7 +12,7 @@ use Rattle.nx_code.proofs.lemmas.Packed.{length-elements}
 use Rattle.nx_sync.specs.Steps.{HuntsThrough, IsLastStep, IsStep, IsWordStep, step}
 use Rattle.nx_sync.specs.Synchroniser.{Held, StandsAfter}
 use Rattle.nx_sync.specs.Taking.{BringsStep, IsTaken}
-use Rattle.nx_sync.specs.private.Taking.{TakesSome}
+use Rattle.nx_sync.specs.private.Taking.{TakesQuiet, TakesSome}
 use Rattle.nx_sync.specs.declared.step.Step.{Step}
 use Rattle.nx_sync.proofs.lemmas.hunting.PackedParts.{first_part, length-part, part_of_part}
 
@@ -49,14 +49,26 @@ module _ {T O : Type 0} (hears : Held → T → List Bool → Held → T → Opt
             (is ∙ sym (first_part numbers from count n within)) t;
       }
 
-  -- some of the first ones of these were taken
-  pub takes_among : {old new : Held} {u v : T} {numbers : List ℕ} {from count n : ℕ}
-      {heard : ℕ × Option O} → TakesSome hears can_take old u numbers from n new v heard → 0 < n
-      → n ≤ count → TakesSome hears can_take old u numbers from count new v heard
-  takes_among {numbers = numbers} {from} {count} {n} {heard} s some within =
-      let k = heard.0 in
-      takes_part s.taken (first_part numbers from n k s.within) (s.some some)
-      (omega (arith, s.within, within))
+  -- where nothing is over with the first ones, others can be taken behind them
+  pub quiet_taken : {old new : Held} {u v : T} {numbers : List ℕ} {from count : ℕ}
+      {heard : ℕ × Bool} → TakesQuiet hears can_take old u numbers from count new v heard
+      → Takes old u numbers from count heard.0 new v
+  quiet_taken {old} {new} {u} {v} {numbers} {from} {count} {heard} q = record {
+    within = q.within;
+    taken = subst (λ l. IsTaken hears can_take old u l new v None)
+        (sym (first_part numbers from count heard.0 q.within)) q.taken;
+  }
+
+  -- of fewer elements too
+  pub quiet_among : {old new : Held} {u v : T} {numbers : List ℕ} {from count n : ℕ}
+      {heard : ℕ × Bool} → TakesQuiet hears can_take old u numbers from n new v heard → n ≤ count
+      → TakesQuiet hears can_take old u numbers from count new v heard
+  quiet_among {numbers = numbers} {from} {count} {n} {heard} q within = record {
+    within = omega (arith, q.within, within);
+    some = q.some;
+    left = λ no. omega (arith, q.left no, within);
+    taken = q.taken;
+  }
 
   module _ (none : (held : Held) (taker : T) → hears held taker [] held taker None)
       (both : (old mid new : Held) (first between last : T) (xs ys : List Bool) (over : Option O)
@@ -75,6 +87,17 @@ module _ {T O : Type 0} (hears : Held → T → List Bool → Held → T → Opt
       taken = both old mid new u v w xs ys over first.taken second.taken;
       room = λ more can. second.room more (first.room (length ys + more)
           (subst (can_take u) (omega (arith, length-append xs ys)) can));
+    }
+
+    -- no words of these are heard at once
+    pub quiet_none : (held : Held) (taker : T) (numbers : List ℕ) (from count : ℕ) → 7 ≤ count
+        → TakesQuiet hears can_take held taker numbers from count held taker (0, false)
+    quiet_none held taker numbers from count some = record {
+      within = omega arith;
+      some = λ is. absurd (let same : false ≡ true = is in cc);
+      left = λ no. some;
+      taken = subst (λ l. IsTaken hears can_take held taker l held taker None)
+          (sym (first_part numbers from 0 0 (omega arith))) (none_taken held taker);
     }
 
     pub takes_none : (held : Held) (taker : T) (numbers : List ℕ) (from count : ℕ)

@@ -3,11 +3,12 @@
 use Rattle.std.proofs.Common.{◌≡◌, ℕ, zero, suc, ◌+◌, ◌-◌, ◌*◌, ◌/◌, ◌^◌, ◌<◌, ◌≤◌, ◌==◌}
 use Rattle.std.proofs.Common.{nat_le, List, [], ◌∷◌, ◌++◌, length, take, get_or, Bool, true}
 use Rattle.std.proofs.Common.{false, not, ◌&&◌, ◌||◌, cond, count_by, refl, sym, ap, ap₂, subst}
-use Rattle.std.proofs.Common.{subst₂, ◌∙◌, arith, Option, Some, None, append_assoc, append-nil}
+use Rattle.std.proofs.Common.{subst₂, ◌∙◌, arith, IsTrue, Option, Some, None, append_assoc, append-nil}
 use Rattle.std.specs.Prelude.{slice_index}
 use Rattle.std.specs.List.{flat_map}
-use Rattle.std.proofs.lemmas.Bool.{eqb-true, ne_eqb, eq-eqb, lt-leb, leb-true}
+use Rattle.std.proofs.lemmas.Bool.{eqb-true, ne_eqb, eq-eqb, lt-leb, leb-true, or_from}
 use Rattle.std.proofs.lemmas.Grind.{get_or_default_zero}
+use Rattle.std.proofs.lemmas.List.{length-take-le}
 use Rattle.std.proofs.lemmas.List.Sums.{sum_by_push, sum_by-take-drop}
 use Rattle.circular_buffer.specs.Buffer.{keep_last}
 use Rattle.nx_code.specs.Table.{phasing_1}
@@ -179,6 +180,28 @@ or_false : (a b : Bool) → (a || b) ≡ false → (a ≡ false) × (b ≡ false
 or_false false false h = (refl, refl)
 or_false false true h = absurd (cc)
 or_false true b h = absurd (cc)
+
+-- where none of these words brings a change, none of the first of them does
+has_none_first : (n : ℕ) (words : List ℕ) → has_dx_phasing_1 words ≡ false
+    → has_dx_phasing_1 (take n words) ≡ false
+unfolding has_dx_phasing_1
+has_none_first zero words free = refl
+has_none_first (suc n) [] free = refl
+has_none_first (suc zero) (dx ∷ []) free = free
+has_none_first (suc (suc n)) (dx ∷ []) free = free
+has_none_first (suc zero) (dx ∷ rx ∷ words) free =
+    (or_false (dx == phasing_1) (has_dx_phasing_1 words) free).0
+has_none_first (suc (suc n)) (dx ∷ rx ∷ words) free =
+    let parts = or_false (dx == phasing_1) (has_dx_phasing_1 words) free in
+    or_from (dx == phasing_1) (has_dx_phasing_1 (take n words)) parts.0
+    (has_none_first n words parts.1)
+
+pub keeps_first : (held : Held) (words : List ℕ) (n : ℕ) → n ≤ length words
+    → IsTrue (keeps_lock held words) → IsTrue (keeps_lock held (take n words))
+keeps_first held words n within keeps =
+    let size : length (take n words) ≡ n = length-take-le n words within in
+    let free = has_none_first n words in
+    grind (arith, keeps, size, within, free)
 
 -- Pairs of words, of whose DX words none is phasing signal 1, leave the track as it is.
 dx_then_rx : (a b : ℕ) → (a == phasing_1) ≡ false
