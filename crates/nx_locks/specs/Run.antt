@@ -1,12 +1,12 @@
 -- A run that shows the locks of an air file on channel 0: the report of its lines, and its first
 -- fault (this profile). It reads the file as a run that listens does, with the same faults, which
 -- are those of all channels.
-use Rattle.std.specs.Prelude.{◌≡◌, ◌⊎◌, ℕ, ◌+◌, ◌≤◌, Bool, List, ◌++◌, length, map}
+use Rattle.std.specs.Prelude.{◌≡◌, ◌⊎◌, ℕ, ◌+◌, Bool, List, length, map}
 use Rattle.std.specs.Prelude.{Result, Ok, Err, ⊤}
 use Rattle.std.specs.Io.KnownBytes.{Appends}
 use Rattle.nx_fec.specs.air_files.AirFile.{Line}
-use Rattle.nx_fec.specs.air_files.Lines.{StopsAt, air_limit}
-use Rattle.nx_fec.specs.air_files.Lines.{IsAirFile, file_of}
+use Rattle.nx_fec.specs.air_files.LineRuns.{HasReadFault}
+use Rattle.nx_fec.specs.air_files.Lines.{IsAirFile, StopsAt, air_limit}
 use Rattle.nx_fec.specs.declared.air_files.channel.Channel.TheVariants.{Zero}
 use Rattle.nx_fec.specs.Transfers.{Contents, Devices, Extent, Transfers, contents_of, line_by_line}
 use Rattle.nx_receiver.specs.Events.{elements_among, first_setting, settings}
@@ -75,9 +75,7 @@ pub record HasShownAll (contents : Contents) (file : List ℕ) (answer : LocksRe
 -- bytes. Each other fault is the first of the file; `LineCut` comes only where the file ends.
 abbrev pub ExplainsShowing : Extent → Contents → List ℕ → ListenFault → Type 0
 ExplainsShowing extent contents bytes (Memory error) = ⊤
-ExplainsShowing extent contents bytes Read =
-    StopsAt bytes (λ lines rest more.
-    (length (file_of lines ++ rest) ≤ air_limit) × extent.is_left more × HasShown contents lines)
+ExplainsShowing extent contents bytes Read = HasReadFault extent (HasShown contents) bytes
 ExplainsShowing extent contents bytes (Write written) =
     StopsAt bytes (λ lines rest more.
     HasLoggedSome (IsReportOfLines lines) contents written)

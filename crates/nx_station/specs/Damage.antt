@@ -1,5 +1,5 @@
 -- What damaging an air file on purpose does to it (this profile).
-use Rattle.std.specs.Prelude.{◌≡◌, ℕ, ◌+◌, ◌-◌, ◌/◌, ◌%◌, ◌≤◌, ◌==◌, ◌&&◌, not, nat_lt, if◌then◌else◌, Bool, true, List, [], ◌∷◌, ◌++◌, length, Result, Ok, Err}
+use Rattle.std.specs.Prelude.{◌≡◌, ℕ, ◌+◌, ◌-◌, ◌/◌, ◌%◌, ◌==◌, ◌&&◌, not, nat_lt, if◌then◌else◌, Bool, true, List, [], ◌∷◌, ◌++◌, length, Result, Ok, Err}
 use Rattle.std.specs.List.{flat_map}
 use Rattle.std.specs.Io.KnownBytes.{Appends}
 use Rattle.nx_code.specs.Word.{value_of, word_elements}
@@ -7,8 +7,8 @@ use Rattle.nx_fec.specs.air_files.AirFile.{Line, elements}
 use Rattle.nx_fec.specs.air_files.Channels.{channel_of}
 use Rattle.nx_fec.specs.Transfers.{Contents, Devices, Extent, Transfers, WroteSome, contents_of}
 use Rattle.nx_fec.specs.Transfers.{line_by_line}
-use Rattle.nx_fec.specs.air_files.LineRuns.{IsPlaced}
-use Rattle.nx_fec.specs.air_files.Lines.{StopsAt, air_limit, IsAirFile, IsCause, elements_on, file_of}
+use Rattle.nx_fec.specs.air_files.LineRuns.{HasFaultAfter, HasReadFault, IsPlaced}
+use Rattle.nx_fec.specs.air_files.Lines.{StopsAt, air_limit, IsAirFile, elements_on, file_of}
 use Rattle.nx_fec.specs.emissions.Emission.{is_dx_slot}
 use Rattle.nx_fec.specs.declared.air_files.channel.Channel.{Channel}
 use Rattle.nx_fec.specs.declared.air_files.channel.Channel.TheVariants.{Zero}
@@ -87,22 +87,22 @@ pub record IsDamaged (damage : Damage) (limit : ℕ) (air written : List ℕ) (c
   pub whole : written ≡ damaged_file damage lines
   pub counted : count ≡ inverted_count damage 0 (flat_map (elements_on Zero) lines)
 
+-- these lines were written, damaged
+abbrev pub HasDamaged : Damage → Contents → List Line → Type 0
+HasDamaged damage contents lines =
+    Appends contents.before contents.after (damaged_file damage lines)
+
 -- the air file has this fault, its first, and the whole lines before it were written
 abbrev pub StopsFor : Extent → Damage → List ℕ → Contents → LineFault → Type 0
 StopsFor extent damage air contents why =
-    IsPlaced extent.at_end why
-    × StopsAt air (λ lines rest more.
-    IsCause air_limit (length (file_of lines ++ rest)) lines rest more why
-    × Appends contents.before contents.after (damaged_file damage lines))
+    IsPlaced extent.at_end why × HasFaultAfter (HasDamaged damage contents) air why
 
 -- What a fault says of bytes of this extent of the air file. A failed read comes behind whole lines
 -- and the beginning of one more, and leaves what follows. The whole lines before it were written,
 -- as before a fault of the file. A write that failed wrote a part.
 abbrev pub ExplainsDamaging : Extent → Damage → List ℕ → Contents → DamageFault → Type 0
 ExplainsDamaging extent damage air contents Read =
-    StopsAt air (λ lines rest more. (length (file_of lines ++ rest) ≤ air_limit)
-    × extent.is_left more
-    × Appends contents.before contents.after (damaged_file damage lines))
+    HasReadFault extent (HasDamaged damage contents) air
 ExplainsDamaging extent damage air contents AirTooLong =
     StopsFor extent damage air contents file.TooLong
 ExplainsDamaging extent damage air contents (LineLong line) =

@@ -23,18 +23,27 @@ IsPlaced AtEnd (LineLong line) = ⊤
 IsPlaced AtEnd (LineCut line) = AtEnd
 IsPlaced AtEnd (BadLine line) = ⊤
 
+-- A read failed behind whole lines and the beginning of one more, within the limit, and what follows
+-- is left; and this holds of the lines.
+abbrev pub HasReadFault : Extent → (List Line → Type 0) → List ℕ → Type 0
+HasReadFault extent holds bytes = StopsAt bytes (λ lines rest more.
+    (length (file_of lines ++ rest) ≤ air_limit) × extent.is_left more × holds lines)
+
+-- Good lines and the beginning of one more stand before a fault of the file, of which this is the
+-- cause; and this holds of the lines.
+abbrev pub HasFaultAfter : (List Line → Type 0) → List ℕ → LineFault → Type 0
+HasFaultAfter holds bytes why = StopsAt bytes (λ lines rest more.
+    IsCause air_limit (length (file_of lines ++ rest)) lines rest more why × holds lines)
+
 -- What a fault of the lines says of bytes of this extent. The whole lines before it were taken, and
 -- `taken` holds of them: a failed read leaves what follows; a fault of the air file is its first;
 -- or a line was refused.
 abbrev pub StopsLines : {F : Type 0} → (List Line → Line → F → Type 0) → (List Line → Type 0)
     → Extent → List ℕ → HearFault F → Type 0
 StopsLines refuses taken extent bytes hear.Read =
-    StopsAt bytes (λ lines rest more. (length (file_of lines ++ rest) ≤ air_limit)
-    × extent.is_left more × taken lines)
+    HasReadFault extent taken bytes
 StopsLines refuses taken extent bytes (hear.Line why) =
-    IsPlaced extent.at_end why × StopsAt bytes
-    (λ lines rest more. IsCause air_limit (length (file_of lines ++ rest)) lines rest more why
-    × taken lines)
+    IsPlaced extent.at_end why × HasFaultAfter taken bytes why
 StopsLines refuses taken extent bytes (hear.Refused line why) =
     StopsAt bytes (λ lines rest more.
     IsLineRefused (λ before next. refuses before next why) air_limit lines rest more line

@@ -11,8 +11,8 @@ use Rattle.nx_fec.specs.air_files.Channels.{channel_of}
 use Rattle.nx_fec.specs.declared.air_files.channel.Channel.{Channel}
 use Rattle.nx_fec.specs.Transfers.{Contents, Devices, Extent, WroteSome, as_read, contents_of}
 use Rattle.nx_fec.specs.Transfers.{whole_input}
-use Rattle.nx_fec.specs.air_files.Lines.{StopsAt, air_limit, IsAirFile, IsCause, IsLineRefused, elements_of}
-use Rattle.nx_fec.specs.air_files.Lines.{file_of}
+use Rattle.nx_fec.specs.air_files.LineRuns.{HasFaultAfter, HasReadFault}
+use Rattle.nx_fec.specs.air_files.Lines.{StopsAt, air_limit, IsAirFile, IsLineRefused, elements_of}
 use Rattle.nx_fec.specs.declared.air_files.line_taking.LinesFault.{LinesFault}
 use Rattle.nx_fec.specs.declared.air_files.line_taking.LinesFault.TheVariants as run
 use Rattle.nx_fec.specs.declared.fault.LineFault.{LineFault}
@@ -155,12 +155,6 @@ lines_fault (run.Write written) = Write written
 lines_fault (run.Line why) = file_fault why
 lines_fault (run.Refused number why) = refusal_fault number why
 
--- Good lines and the beginning of one more stand before a fault of the file, of which this is the
--- cause; and this holds of the lines.
-abbrev pub HasFaultAfter : (List Line → Type 0) → List ℕ → LineFault → Type 0
-HasFaultAfter holds bytes why = StopsAt bytes (λ lines rest more.
-    IsCause air_limit (length (file_of lines ++ rest)) lines rest more why × holds lines)
-
 -- The first fault of an air file, by its bytes alone: a fault of the file, or the next line is
 -- refused; and this holds of the whole lines before it. Those of devices and of memory are none of
 -- bytes.
@@ -185,13 +179,12 @@ abbrev pub AnswersListening : Starts → Extent → Contents → Result Report L
 AnswersListening starts extent contents (Ok report) bytes =
     extent.at_end × HasListened starts contents bytes report
 AnswersListening starts extent contents (Err (Memory error)) bytes = ⊤
-AnswersListening starts extent contents (Err Read) bytes = StopsAt bytes (λ lines rest more.
-    (length (file_of lines ++ rest) ≤ air_limit) × extent.is_left more
-    × HasLogged starts contents lines)
+AnswersListening starts extent contents (Err Read) bytes =
+    HasReadFault extent (HasLogged starts contents) bytes
 AnswersListening starts extent contents (Err (Write written)) bytes =
-    (log : List ℕ) × WroteSome contents.before contents.after log written
-    × (StopsAt bytes (λ lines rest more. IsLogOfLines starts lines log)
-    ⊎ (extent.at_end × IsLogOf starts bytes log))
+    StopsAt bytes (λ lines rest more.
+    HasLoggedSome (IsLogOfLines starts lines) contents written)
+    ⊎ (extent.at_end × HasLoggedSome (IsLogOf starts bytes) contents written)
 AnswersListening starts extent contents (Err (LineCut line)) bytes =
     extent.at_end × HasListenFault starts (HasLogged starts contents) bytes (LineCut line)
 AnswersListening starts extent contents (Err fault) bytes =

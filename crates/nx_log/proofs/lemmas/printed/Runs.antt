@@ -43,11 +43,14 @@ module _ (starts : Starts) (extent : Extent) (contents : Contents) where
   wrote_entries (Err (Memory error)) bytes h = tt
   wrote_entries (Err Read) bytes h = some h.lines h.here.2
   wrote_entries (Err (Write written)) bytes h =
-      elim h.2 [
+      elim h [
         | inl stops ↦
-            (h.0, stops.here.copies, lines_logged starts stops.lines h.0 stops.here, h.1)
+            let here = stops.here in
+            (here.0, here.1.copies, lines_logged starts stops.lines here.0 here.1, here.2)
         | inr all ↦
-            (h.0, all.1.1, file_logged starts bytes all.1.0 all.1.1 h.0 all.1.2, h.1)
+            let log = all.1.0 in
+            let whole = all.1.1 in
+            (log, whole.1, file_logged starts bytes whole.0 whole.1 log whole.2, all.1.2)
       ]
   wrote_entries (Err (LineCut line)) bytes h = some h.1.lines h.1.here.1
   wrote_entries (Err AirTooLong) bytes h = some h.lines h.here.1

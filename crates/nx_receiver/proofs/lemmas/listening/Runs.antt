@@ -132,20 +132,16 @@ explains extent first now old new bytes (run.Refused line (refusal.Vital subject
           new lines p.1,
     )) h
 explains extent first now old new bytes (run.Write written) h =
-    let l = logged-some (starts_of first) old new written h.lines h.here.given h.here.begun
-    h.here.some in (
-      l.0,
-      l.2,
-      inl (record {
-        lines = h.lines;
-        rest = h.rest;
-        more = h.more;
-        whole = h.whole;
-        each = h.each;
-        part = h.part;
-        here = l.1;
-      }),
-    )
+    inl (record {
+      lines = h.lines;
+      rest = h.rest;
+      more = h.more;
+      whole = h.whole;
+      each = h.each;
+      part = h.part;
+      here = logged-some (starts_of first) old new written h.lines h.here.given h.here.begun
+          h.here.some;
+    })
 
 -- the faults of devices are those of devices
 pub read-back : (fault : LinesFault LineRefusal) → lines_fault fault ≡ Read → fault ≡ run.Read
@@ -339,8 +335,7 @@ listens-part remaining contents first now reader reader_after writer mid new rea
     (Err (Write written))
     (Reads-on (input remaining reader reader_after) run.Read Read (Ok read) (Err (Write written)) _
     _ h.reads
-    (λ extent bytes k. let p = part-listened first now _ _ _ bytes read written k.1 closed in
-    (p.0, p.2, inr (k.0, p.1)))
+    (λ extent bytes k. inr (k.0, part-listened first now _ _ _ bytes read written k.1 closed))
     (λ bytes k h. tt) (λ e. absurd (write-not_read written e))
     (λ e. absurd (Ok-not_err _ _ e)))
     (record { failed = (λ w. one, λ k. (written, refl)); once = omega (arith, one) })
