@@ -13,9 +13,9 @@ use crate::table_indexes::place_of_character;
 /// The newline, which combination 28 prints, and which ends each line of a text.
 pub const NEWLINE: u8 = b'\n';
 
-/// The byte that a combination prints in a shift: a letter or a figure, a newline for combination
-/// 28, a space for 31; None where nothing is printed (M.476 and M.625, conversion tables; that 32
-/// and the figures of D, F, G, H and J print nothing is this profile's).
+/// The byte that a combination prints in a shift (M.476 and M.625, conversion tables): a letter or
+/// a figure, a newline for combination 28, a space for 31. None where nothing is printed; that 32
+/// and the figures of D, F, G, H and J print nothing is this profile's.
 pub fn code_to_char(comb: Comb, shift: Shift) -> Option<u8>
     ensures { result ≡ character_of comb.number shift }
 {

@@ -7,9 +7,9 @@ ghost use Rattle.nx_code.specs.private.Rows.{byte_given};
 
 use crate::words::Word;
 
-/// How many classes there are: 0 for a word of the wrong weight and for a lost position, 1 to 32
-/// for the combination of that number, and 33 for a service signal and for an idle position (this
-/// project's own numbers).
+/// How many classes there are (this project's own numbers). Class 0 is that of a word of the wrong
+/// weight and of a lost position. Classes 1 to 32 are those of the combinations with these numbers.
+/// Class 33 is that of a service signal and of an idle position.
 pub const CLASSES: usize = 34;
 
 /// The class of a word of the wrong weight, of one that wasn't seen, and of a lost position.
@@ -110,8 +110,8 @@ pub fn class_of(word: Word) -> u8
     BY_WORD[usize::from(word.number())]
 }
 
-/// The class of a position, from those of its DX word and of its RX word: what both are, or the one
-/// that isn't 0; else 0 (M.625; that differing signals are lost is this profile's).
+/// The class of a position, from those of its DX word and of its RX word (M.625). It is what both
+/// are, or the one that isn't 0; else 0. That differing signals are lost is this profile's.
 pub fn pair_classes(dx: u8, rx: u8) -> u8
     requires dx { dx < 34 }
     requires rx { rx < 34 }

@@ -34,9 +34,9 @@ pub fn words_are_their_elements()
     ensures bits { (bits : List Bool) → length bits ≡ 7 → elements (number_of bits) ≡ bits }
 {}
 
-/// There are the combinations 1 to 32 and no others: a combination has a row at just these numbers,
-/// its word is that of its signal, and without a row nothing is printed (M.476 and M.625,
-/// conversion tables).
+/// There are the combinations 1 to 32 and no others (M.476 and M.625, conversion tables). A
+/// combination has a row at just these numbers, its word is that of its signal, and without a row
+/// nothing is printed.
 pub fn thirty_two_combinations()
     ensures rows { (number : ℕ) → IsSome (row_of number) ↔ ((1 ≤ number) × (number ≤ 32)) }
     ensures words { (comb : Comb)

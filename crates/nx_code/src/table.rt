@@ -161,9 +161,9 @@ pub fn word_of(signal: Signal) -> Word
     Word::at(row_at(place_of_signal(signal)).word)
 }
 
-/// What stands for a signal in the table's column Letter or Figure, the column of the shift: a
-/// character, a name in capitals, or nothing for a figure that is not printed (M.476 and M.625,
-/// conversion tables; the names are this profile's).
+/// What stands for a signal in the table's column Letter or Figure, the column of the shift (M.476
+/// and M.625, conversion tables). It is a character, a name in capitals, or nothing for a figure
+/// that is not printed. The names are this profile's.
 pub fn cell_of(signal: Signal, shift: Shift) -> &'static [u8]
     ensures { result.now ≡ cell_of_signal signal shift }
 {

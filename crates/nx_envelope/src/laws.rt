@@ -53,8 +53,8 @@ pub fn headers_rise()
 {}
 
 /// A copy ends at the least place, within 4,100 characters of its raw text, where a marker ends,
-/// and is full or cut by which marker it is; it is long exactly where there is none and 4,100
-/// characters stand there; else it has not ended.
+/// and is full or cut by which marker it is. It is long exactly where there is no such place and
+/// 4,100 characters stand there. Else it has not ended.
 pub fn copies_end_at_the_least_marker()
     ensures ended { (raw : List ℕ) (ending : Ending) → (ending_of raw ≡ Some ending)
         ↔ IsEnding raw ending }

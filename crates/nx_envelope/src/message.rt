@@ -82,9 +82,9 @@ ghost use Rattle.nx_envelope.specs.Message.{AreLines, IsMessageLine, IsLineByte,
 impl Message {
     /// The message of an identity and lines, which are looked at in order. Of the first line that
     /// is at fault, `LongLine` where it has more than 69 characters, else `BadCharacter` at the
-    /// first byte that is a newline or not in the code, else `Reserved` where it has `ZCZC` or
-    /// `NNNN`; then `LongText` where all lines with their newlines have more than 4,096 characters;
-    /// and `Memory` where it ran out.
+    /// first byte that is a newline or not in the code. Else `Reserved` where that line has `ZCZC`
+    /// or `NNNN`. Then `LongText` where all lines with their newlines have more than 4,096
+    /// characters; and `Memory` where it ran out.
     pub fn new(alloc: Global, identity: Identity, lines: &[&[u8]]) -> Result<Message, MessageFault>
         ensures identity { IfOk result (λ message. message.identity ≡ identity) }
         ensures lines { IfOk result (λ message. message.lines ≡ map (λ line. line.now) lines.now) }

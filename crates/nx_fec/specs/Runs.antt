@@ -69,9 +69,9 @@ IsOutside Read = ⊤
 IsOutside (Memory error) = ⊤
 IsOutside _ = ⊥
 
--- What a run says of its reader that reads an air file to its end: the elements of its lines are
--- those of the bytes that it read, which are then all, or a fault is theirs. And so it is for the
--- whole file, however it came.
+-- What a run that reads an air file to its end says of its reader. The elements of the file's lines
+-- are those of the bytes that the run read, which are then all, or a fault is theirs. And so it is
+-- for the whole file, however it came.
 abbrev pub ReadsElements : {R : Type 0} → (R → Option (List ℕ)) → CountedDevice R → CountedDevice R
     → Result (Vec Bool) RunFault → Type 0
 ReadsElements remaining old new outcome =
@@ -172,8 +172,8 @@ ReadsWhole remaining old new outcome =
     (AnswersToEnd (λ text bytes. IsWithin file_limit bytes × (text.items ≡ bytes))
     (λ extent bytes fault. ExplainsWhole file_limit bytes fault) outcome)
 
--- The file that a text is encoded as, and how many positions it has: the text is spelled from
--- letters, with four positions of phasing before it and three of the end after it, and the bits of
+-- The file that a text is encoded as, and how many positions it has. The text is spelled from
+-- letters, with four positions of phasing before it and three of the end after it. The bits of
 -- their emission stand in lines.
 pub record IsEncoded (text file : List ℕ) (positions : ℕ) : Type 0 where
   pub numbers : List ℕ
@@ -181,8 +181,8 @@ pub record IsEncoded (text file : List ℕ) (positions : ℕ) : Type 0 where
   pub written : file ≡ file_of (bit_lines (bits_of (emission (framed_positions numbers))))
   pub count : positions ≡ length (framed_positions numbers)
 
--- What a fault of encoding says: the text is too long, or it has a character that isn't in the
--- code, the first at this index, or its file was written in part; or the reader or memory failed.
+-- What a fault of encoding says. The text is too long, or it has a character that isn't in the
+-- code, the first at this index. Or its file was written in part, or the reader or memory failed.
 abbrev pub ExplainsEncoding : Extent → List ℕ → Contents → RunFault → Type 0
 ExplainsEncoding extent bytes contents Read = ⊤
 ExplainsEncoding extent bytes contents (Memory error) = ⊤

@@ -63,10 +63,10 @@ pub fn encode_run<R: Read, W: Write>(
     Ok(positions.len() as u64)
 }
 
-/// Reads an air file to its end, and writes a line for each word of its elements, from slot 0 on:
-/// the slot, its role `DX` or `RX`, the number of the word in two digits of base 16, and the letter
-/// or the name of its signal, or `wrong` where the word has the wrong weight. Answers how many
-/// words there are.
+/// Reads an air file to its end, and writes a line for each word of its elements, from slot 0 on. A
+/// line has the slot, its role `DX` or `RX`, the number of the word in two digits of base 16, and
+/// the letter or the name of its signal. Where the word has the wrong weight, `wrong` stands in
+/// place of the letter or the name. Answers how many words there are.
 ///
 /// The faults of `read_bits` come first; then `Ragged`, where the elements are no whole words; then
 /// `Write`. Nothing is written before all else succeeded. Memory may run out at any growth.

@@ -32,9 +32,9 @@ pub fn words_and_bits()
     ensures sound { (bits : List Bool) → AreWords (words_of bits) }
 {}
 
-/// What is taken of an emission all of whose words arrive, read from slot 0: two idle positions,
-/// whose DX words weren't seen, and then all positions but the last three, whose RX words aren't
-/// sent.
+/// What is taken of an emission all of whose words arrive, read from slot 0. First come two idle
+/// positions, whose DX words weren't seen, and then all positions but the last three, whose RX
+/// words aren't sent.
 pub fn receptions_of_emissions()
     ensures { (positions : List SentPosition) → AreInCode positions → 3 ≤ length positions
         → receptions (emission positions)
@@ -92,9 +92,9 @@ pub fn decoding_of_encoding()
 {}
 
 /// The third last of the DX words before RX word k is word k-5, and unseen where k < 5, whichever
-/// role the first word of a lock has: its first DX word is word 0, or word 1 where it begins with
-/// an RX word. So `Diversity`, which is given the DX words one by one, pairs each RX word with the
-/// word five before it.
+/// role the first word of a lock has. The first DX word of a lock is word 0, or word 1 where the
+/// lock begins with an RX word. So `Diversity`, which is given the DX words one by one, pairs each
+/// RX word with the word five before it.
 pub fn dx_words_of_locks()
     ensures third_last { (words : List ℕ) (first count : ℕ) → first ≤ 1
         → third_last (dx_words words first count) ≡ five_before (slice_index words)

@@ -19,8 +19,8 @@ use crate::selection::Selection;
 use crate::state::saved::Saved;
 
 /// Of all the entries made so far, those among the last 200 make an identity known exactly where
-/// one of them is live: it bears the identity, is less than 66 hours old, and fewer than 200
-/// entries were made after it.
+/// one of them is live. Such an entry bears the identity, is less than 66 hours old, and fewer than
+/// 200 entries were made after it.
 pub fn known_is_live()
     ensures { (identity : Identity) (moment : ℕ) (entries : List MemoryEntry) →
         IsTrue (is_known identity moment (last_of most_entries entries))

@@ -1,6 +1,6 @@
-//! What keeps a receiver from printing each warning again: a selection of stations and subjects
-//! that can't refuse what is vital (ITU-R M.540), and a memory of the last 200 identities entered,
-//! each for 66 hours (this profile).
+//! What keeps a receiver from printing each warning again: a selection and a memory. The selection
+//! of stations and subjects can't refuse what is vital (ITU-R M.540). The memory has the last 200
+//! identities entered, each for 66 hours (this profile).
 #![tactic(auto)]
 
 pub mod laws;

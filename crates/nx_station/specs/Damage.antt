@@ -38,8 +38,8 @@ hits damage word =
     (not (nat_lt word damage.from) && nat_lt (word - damage.from) damage.count)
     && names damage.kind word
 
--- whether the element at this place of all elements of channel 0 is inverted: it is the first of a
--- word that is damaged, where words stand one behind the other from the first element on
+-- Whether the element at this place of all elements of channel 0 is inverted: it is the first of a
+-- word that is damaged. Words stand one behind the other from the first element on.
 abbrev pub inverts : Damage → ℕ → Bool
 inverts damage place = (place % word_elements == 0) && hits damage (place / word_elements)
 

@@ -34,9 +34,9 @@ const ENDS: usize = 3;
 /// How many combinations end a line of text, carriage return and line feed.
 const LINE_END_COMBS: u64 = 2;
 
-/// The emission of messages of one station, at most 4,286 positions (M.540; the counts of phasing
-/// are this profile's): 72 positions of phasing and the first message, 36 of phasing before each
-/// further message, and three of the end.
+/// The emission of messages of one station, at most 4,286 positions (M.540). It has 72 positions of
+/// phasing and the first message, 36 of phasing before each further message, and three of the end.
+/// The counts of phasing are this profile's.
 ///
 /// `NoMessages`, then `MixedStations` where a message is of another station than the first, then
 /// `NoSlot` where that station is Y or Z, then `SlotFull`, all before any memory is taken; then

@@ -78,8 +78,8 @@ pub fn an_emission_has_one_reading()
         → IsMemory one ⊎ (IsMemory other ⊎ (one ≡ other)) }
 {}
 
-/// Checking gives back what was sent: an air file that sending wrote of a message file keeps to the
-/// limit of files that are checked, and is checked wherever it keeps to the limit; the report is
+/// Checking gives back what was sent. An air file that sending wrote of a message file keeps to the
+/// limit of files that are checked, and is checked wherever it keeps to the limit. The report is
 /// the line of the station and then the very bytes that were sent. An air file has one report.
 pub fn checking_gives_back_what_was_sent()
     ensures within { (station from : ℕ) (file air : List ℕ) (sent : Sent)
@@ -97,7 +97,7 @@ pub fn checking_gives_back_what_was_sent()
 
 /// Checking takes channel 0 alone, whatever else stands in the file. Two air files with the same
 /// elements on channel 0 have the same report. So a file that has there the elements of an air file
-/// that sending wrote is checked as that one is: the report is the line of the station and then the
+/// that sending wrote is checked as that one is. The report is the line of the station and then the
 /// very bytes that were sent.
 pub fn checking_takes_channel_0_alone()
     ensures same { (limit most : ℕ) (one other text : List ℕ) (lines more : List Line) (count : ℕ)
@@ -118,9 +118,9 @@ pub fn checking_takes_channel_0_alone()
 {}
 
 /// Damage changes the elements that it names on channel 0 and nothing else, and twice it changes
-/// nothing: over lines, what is damaged again with the same damage is what was there; the elements
-/// of all lines on channel 0 are damaged by their place among them all; those on other channels are
-/// as they were; and each line says what it said, and names the channel that it named.
+/// nothing. Over lines, what is damaged again with the same damage is what was there. The elements
+/// of all lines on channel 0 are damaged by their place among them all, and those on other channels
+/// are as they were. Each line says what it said, and names the channel that it named.
 pub fn damage_undoes_itself()
     ensures twice { (damage : Damage) (lines : List Line)
         → damaged_lines damage 0 (damaged_lines damage 0 lines) ≡ lines }

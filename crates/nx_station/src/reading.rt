@@ -13,14 +13,14 @@ use std::alloc::{AllocError, Global};
 
 /// The messages whose emission has just these elements: one list at most has them. The words are
 /// read as text, and the emission of what was read is compared with all elements, so nothing is
-/// left to chance: a needless shift, a character that prints nothing, or a word that isn't sent
+/// left to chance. A needless shift, a character that prints nothing, or a word that isn't sent
 /// again are refused with the rest.
 ///
 /// `Ragged` where the elements are no whole words; then `WrongWord` with the least slot of a word
-/// of the wrong weight; then `Unpaired` with the least position whose two words are there and are
-/// neither one traffic word twice, nor P2 and then P1, nor P1 twice; then `BadEnvelope` for
-/// everything else. Memory is taken after the first three, and may run out at any growth (M.625,
-/// mode B, and M.540; what is refused, and in which order, is this profile's).
+/// of the wrong weight. Then comes `Unpaired` with the least position whose two words are there and
+/// are neither one traffic word twice, nor P2 and then P1, nor P1 twice. Then comes `BadEnvelope`
+/// for everything else. Memory is taken after the first three, and may run out at any growth
+/// (M.625, mode B, and M.540; what is refused, and in which order, is this profile's).
 pub fn read_emission(alloc: Global, bits: &[bool]) -> Result<Vec<Message>, EmissionFault>
     ensures messages { IfOk result (λ messages. IsEmissionOf messages.items bits.now) }
     ensures fault { IfErr result (ExplainsEmission bits.now) }

@@ -28,8 +28,8 @@ pub struct Sent {
 }
 
 /// Reads a message file whole, and writes the air file of its emission in the station's next slot
-/// from a moment on: a line `T` with the moment at which the slot begins, and the elements in lines
-/// of 490 that name no channel.
+/// from a moment on. The air file is a line `T` with the moment at which the slot begins, and the
+/// elements in lines of 490 that name no channel.
 ///
 /// `Read` and `FileTooLong` come first; then the first fault in the file, `BadLine`, `Text`,
 /// `LineCut` or `Open`; then `Send` with `NoMessages`, `NoSlot` (also where there is no next slot)

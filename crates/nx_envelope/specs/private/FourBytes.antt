@@ -24,9 +24,9 @@ abbrev pub IsUnmarked : ℕ → ℕ → Type 0
 IsUnmarked eight count = (back : List ℕ) → Four (last_four back)
     → four_behind eight count ≡ from_le_bytes w32 (last_four back) → marker_back back ≡ None
 
--- the number is that of the last four bytes of a text, read from its back, and of the four that
--- come next: those that stand behind so many of the eight are the last four of the text so much
--- later
+-- The number is that of the last four bytes of a text, read from its back, and of the four that
+-- come next. Those that stand behind so many of the eight are the last four of the text so much
+-- later.
 pub record IsEight (eight : ℕ) (back bytes : List ℕ) : Type 0 where
   pub old : Four (last_four back)
   pub new : Four bytes

@@ -49,8 +49,8 @@ max_moment_digits = 11
 abbrev pub max_line_elements : ℕ
 max_line_elements = 512
 
--- a moment has no more digits than it may; a line of elements has at least one, and no more than it
--- may, one less where it names its channel; and a letter is one of A to Z
+-- A moment has no more digits than it may, and a letter is one of A to Z. A line of elements has at
+-- least one, and no more than it may, one less where it names its channel.
 abbrev pub IsLine : Line → Type 0
 IsLine (moment n) = n < 10 ^ max_moment_digits
 IsLine (elements mark bits) =

@@ -19,8 +19,8 @@ pub record TakenBytes : Type 0 where
   pub bytes : Vec ℕ
   pub room : ℕ
 
--- what a fault in a piece of an air file says of all bytes up to the end of the piece: it stands
--- whatever comes after them, and it is of memory only where no fault of the file stands in them
+-- What a fault in a piece of an air file says of all bytes up to the end of the piece. It stands
+-- whatever comes after them, and it is of memory only where no fault of the file stands in them.
 abbrev pub ExplainsPiece : ℕ → List ℕ → RunFault → Type 0
 ExplainsPiece limit bytes fault =
     (IsOutside fault → IsFaultless limit bytes)

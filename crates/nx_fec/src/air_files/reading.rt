@@ -28,8 +28,8 @@ const FILE_LIMIT: u64 = 1_048_576;
 /// lines are checked and skipped.
 ///
 /// The fault is the first in the order of the bytes: `LineLong`, `LineCut` or `BadLine`, or
-/// `FileTooLong` where there is a byte past 1,048,576; `Read` where a read failed before any of
-/// them; and `Memory` where it ran out, and no fault stands in the bytes that were read.
+/// `FileTooLong` where there is a byte past 1,048,576. It is `Read` where a read failed before any
+/// of them, and `Memory` where memory ran out and no fault stands in the bytes that were read.
 pub fn read_bits<R: Read>(alloc: Global, reader: &mut Counting<R>) -> Result<Vec<bool>, RunFault>
     requires { reader.old.failures ≡ 0 }
 

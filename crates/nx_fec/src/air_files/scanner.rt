@@ -35,7 +35,7 @@ const NEAR_BYTES: usize = 34;
 /// one more.
 const FAR_BYTES: usize = MAX_LINE_BYTES + 2;
 
-/// Reads the lines of an air file piece by piece: it holds the line that is open, or the one that
+/// Reads the lines of an air file piece by piece. It holds the line that is open, or the one that
 /// the last byte ended, how many lines were ended, and how many more bytes it may take.
 #[derive(Drop)]
 pub struct Scanner {

@@ -44,10 +44,10 @@ pub(crate) fn word_of_slot(bits: &[bool], slot: usize) -> Word
     Word::from_elements(elements)
 }
 
-/// The text of the elements, whose first word is that of slot 0: each RX word is paired with the
-/// word five slots before it, or with a wrong weight where there is none, and read from letters.
-/// `Ragged` exactly where the count is no multiple of seven; `Memory` where it ran out (ITU-R
-/// M.625, mode B; that slot 0 comes first is this profile's).
+/// The text of the elements, whose first word is that of slot 0. Each RX word is paired with the
+/// word five slots before it, or with a wrong weight where there is none, and the pairs are read
+/// from letters. `Ragged` exactly where the count is no multiple of seven; `Memory` where it ran
+/// out (ITU-R M.625, mode B; that slot 0 comes first is this profile's).
 pub fn decode_aligned(alloc: Global, bits: &[bool]) -> Result<Vec<u8>, AlignedFault>
     ensures text { IfOk result (λ text. text.items ≡ aligned_text (words_of bits.now)) }
     ensures whole { OnOk result (AreWhole bits.now) }

@@ -28,7 +28,7 @@ const LINE_POSITIONS: usize = LINE_ELEMENTS / POSITION_ELEMENTS;
 /// How many bytes a number of 64 bits has.
 const NUMBER_BYTES: usize = 8;
 
-/// The places of the elements of a word when each has a byte of its own: times this number element
+/// The places of the elements of a word when each has a byte of its own. Times this number, element
 /// `n`, which stands in place `n`, comes to place `8n`, and to no other multiple of 8.
 const SPREAD: u64 = 0x0002_0408_1020_4081;
 

@@ -43,9 +43,9 @@ impl Position {
     }
 }
 
-/// The word in a slot of the emission of these positions, from slot 0: the DX word of position i
-/// stands in slot 2i and its RX word in slot 2i+5, and idle alpha in the slots 1 and 3. None past
-/// the last slot, which is that of the last DX word.
+/// The word in a slot of the emission of these positions, from slot 0. The DX word of position i
+/// stands in slot 2i and its RX word in slot 2i+5, and idle alpha stands in the slots 1 and 3. None
+/// past the last slot, which is that of the last DX word.
 pub fn word_at(positions: &[Position], slot: usize) -> Option<Word>
     ensures { result ≡ slice_get (emission (map sent_position positions.now)) slot }
 {

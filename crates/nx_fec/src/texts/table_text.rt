@@ -22,11 +22,11 @@ const LINE_BYTES: usize = 23;
 /// Room for all lines.
 const TEXT_BYTES: usize = SIGNALS * LINE_BYTES;
 
-/// Writes the table of the code, a line for each signal: the number of its word in two digits of
-/// base 16, the word's elements as B and Y, and what stands for it in letters and in figures, where
-/// `none` stands for nothing. The combinations 1 to 32 come first, then idle signal alpha, idle
-/// signal beta and signal repetition (M.476 and M.625, conversion tables; the form of the lines is
-/// this profile's). It takes no memory.
+/// Writes the table of the code, a line for each signal. A line has the number of the signal's word
+/// in two digits of base 16, the word's elements as B and Y, and what stands for the signal in
+/// letters and in figures. There `none` stands for nothing. The combinations 1 to 32 come first,
+/// then idle signal alpha, idle signal beta and signal repetition (M.476 and M.625, conversion
+/// tables; the form of the lines is this profile's). It takes no memory.
 ///
 /// Where a write fails, the first `written` bytes of those lines were written.
 pub fn write_table<W: Write>(writer: &mut Counting<W>) -> Result<(), WriteFault>

@@ -70,7 +70,7 @@ impl StateReader {
     }
 
     /// Takes the next line of the text, given without its line feed. `More` where more lines have
-    /// to come, `Done` where it was the last, and the reader is then as new, `Bad` where no text of
+    /// to come. `Done` where it was the last, and the reader is then as new. `Bad` where no text of
     /// a state goes on so, and the reader then stays as it was.
     pub fn line(&mut self, line: &[u8]) -> StateStep
         ensures more { OnMore result (self.new ≡ self.old ++ line.now ∷ []) }

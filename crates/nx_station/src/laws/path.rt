@@ -14,8 +14,8 @@ ghost use Rattle.nx_station.specs.reception.Sendings.{IsCut, IsReceived, IsSendi
 
 /// Of what is received any 64 successive words from the first slot on, and any fewer, have at most
 /// 35 of wrong weight. So have the last 64 words of a lock, up to each word of the first message or
-/// later, whatever words of the lock came before the first slot: `whole` is the word of the lock
-/// that is the first of the first message.
+/// later, whatever words of the lock came before the first slot. Here `whole` is the word of the
+/// lock that is the first of the first message.
 pub fn few_words_are_wrong()
     ensures few { (messages : List MessageView) (positions : List SentPosition) (heard : List ℕ)
         → IsBroadcast messages positions → PassesChannel positions heard
@@ -39,7 +39,7 @@ pub fn few_words_are_wrong()
 {}
 
 /// No DX word that is received from the first slot on is phasing signal 1 before the positions of
-/// the end, so no two in a row are: a word that is damaged has the wrong weight, and so is no
+/// the end, so no two in a row are. A word that is damaged has the wrong weight, and so is no
 /// phasing signal.
 pub fn no_phasing_1_before_the_end()
     ensures { (messages : List MessageView) (positions : List SentPosition) (heard : List ℕ)
@@ -72,7 +72,7 @@ pub fn words_stand_in_the_bits()
 {}
 
 /// Each message of a list stands in the positions of the list, from the place that is counted by
-/// those before it; and the RX of its second digit is sent in the slot that a sending names.
+/// those before it. The RX of its second digit is sent in the slot that a sending names.
 pub fn messages_stand_in_their_emission()
     ensures stands { (messages : List MessageView) (spellings : List (List ℕ)) (i : ℕ)
         (message : MessageView)
@@ -104,9 +104,9 @@ pub fn an_undamaged_emission_is_received()
         → PassesChannel (layout emission.spellings) emission.heard → IsReceived emission }
 {}
 
-/// The definitions at a worked emission, of EA01 with the line TEST: it is received where the first
+/// The definitions at a worked emission, of EA01 with the line TEST. It is received where the first
 /// 96 words of its phasing, two thirds, are damaged or lost in any way, and one word of each
-/// position of the message; where both words of one position are damaged, it isn't.
+/// position of the message. Where both words of one position are damaged, it isn't.
 pub fn an_example_is_received()
     ensures sendable { IsSendable example_emission.messages }
     ensures received { IsReceived example_emission }

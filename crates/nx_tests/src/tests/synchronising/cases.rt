@@ -5,8 +5,8 @@ use super::cases_heard::Run;
 use nx_sync::{Change, Role};
 
 /// Elements; the changes, each with the number of elements heard by then; and the words, in runs of
-/// words that follow on each other with alternating roles: the number of elements heard at the
-/// first one, its role, and the numbers of the words.
+/// words that follow on each other with alternating roles. A run has the number of elements heard
+/// at its first word, the role of that word, and the numbers of the words.
 pub(super) struct Case {
     pub(super) name: &'static str,
     pub(super) bits: &'static str,
