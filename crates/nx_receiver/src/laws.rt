@@ -45,8 +45,8 @@ pub fn a_text_is_read_of_positions()
         ≡ positions (first_role others u) (word_of_lock others u) n }
 {}
 
-/// Locks share nothing: the text of a lock, and so each copy in it, is made of its own bits alone;
-/// each byte of it stands at one of these bits; and the last word of a lock is over before the next
+/// Locks share nothing: the text of a lock, and so each copy in it, is made of its own bits alone,
+/// and each byte of it stands at one of these bits. The last word of a lock is over before the next
 /// lock begins.
 pub fn locks_share_nothing()
     ensures own { (bits others : List Bool) (t n : ℕ)
@@ -109,11 +109,11 @@ pub fn logs_go_on()
         → IsLog (front ++ back) (bytes ++ more) }
 {}
 
-/// A message that is repeated is printed once. After any first list of entries: where all copies of
-/// one identity, one or more and not numbered 00, are good and selected and lie within 66 hours of
-/// each other, no entry of it is live at the first of them, and fewer than 200 entries are made
-/// between it and any later one, the first of them is printed, and no other. After an empty first
-/// list none is live at the first of them, whatever the copies are.
+/// A message that is repeated is printed once. After any first list of entries, take all copies of
+/// one identity, one or more and not numbered 00. Let them be good and selected, and lie within 66
+/// hours of each other. Let no entry of the identity be live at the first of them, and fewer than
+/// 200 entries be made between it and any later one. Then the first of them is printed, and no
+/// other. After an empty first list no entry is live at the first of them, whatever the copies are.
 pub fn repeats_are_printed_once()
     ensures once { (entries : List MemoryEntry) (identity : Identity) (copies : List TaggedCopy)
         (first : TaggedCopy) (repeats : List TaggedCopy)

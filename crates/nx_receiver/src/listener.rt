@@ -107,10 +107,10 @@ impl LastEntries {
 }
 
 impl Listener {
-    /// A listener that has heard nothing, and starts with what is saved: the receiver of each
-    /// channel with the saved entries and the saved selection of the channel, and all three at the
-    /// greatest moment of an entry, or 0 where there is none. Takes all memory that it ever needs,
-    /// and fails where there is none.
+    /// A listener that has heard nothing, and starts with what is saved. The receiver of each
+    /// channel starts with the saved entries and the saved selection of the channel. All three
+    /// start at the greatest moment of an entry, or 0 where there is none. Takes all memory that it
+    /// ever needs, and fails where there is none.
     pub fn starting(alloc: Global, saved: &SavedSet) -> Result<Listener, AllocError>
         ensures heard { IfOk result (λ listener.
             HearsGiven (starts_from saved.now) listener [] []) }

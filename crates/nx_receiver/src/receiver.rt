@@ -213,8 +213,8 @@ impl<M: Recall> Receiver<M> {
     }
 
     /// Hears packed elements from a place on, up to and with the one that ends the first copy that
-    /// is printed, as `feed` does, and spells its entry on a channel in place of what `spelled`
-    /// had: says whether there is one.
+    /// is printed, as `feed` does. Spells the entry of that copy on a channel in place of what
+    /// `spelled` had, and says whether there is one.
     #[inline(always)]
     pub(crate) fn next_spelled(
         &mut self,
@@ -288,7 +288,7 @@ impl<M: Recall> Receiver<M> {
     }
 
     /// Hears elements up to and with the first one with which something is over, all of them where
-    /// nothing is; says how many, and what is over: `finish` or `give` is due then, before anything
+    /// nothing is. Says how many, and what is over. `finish` or `give` is due then, before anything
     /// else is heard.
     #[inline(always)]
     pub(crate) fn hear(&mut self, packed: &PackedElements, from: usize) -> (usize, Option<Over>)

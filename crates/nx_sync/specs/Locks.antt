@@ -41,7 +41,7 @@ pub record Finds (bits : List Bool) (p t : ℕ) : Type 0 where
   pub here : IsPattern bits t
   pub least : (s : ℕ) → p < s → s < t → IsPattern bits s → ⊥
 
--- Word k is the second of two DX words in a row that are phasing signal 1: it is a DX word, at
+-- Word k is the second of two DX words in a row that are phasing signal 1. It is a DX word, at
 -- least word 2, and it and word k - 2 are phasing signal 1. That is the end of an emission (M.625,
 -- mode B).
 pub record IsSecondPhasing1 (first : Role) (words : ℕ → ℕ) (k : ℕ) : Type 0 where
@@ -61,8 +61,8 @@ pub record EndedAt (first : Role) (words : ℕ → ℕ) (w : ℕ) : Type 0 where
   pub here : IsSecondPhasing1 first words (w - words_to_end)
   pub least : (k : ℕ) → k < w - words_to_end → IsSecondPhasing1 first words k → ⊥
 
--- Lost at word w: the least word with as many wrong ones as lose a lock (`losing_count`) among the
--- last 64 words up to it, or among all of them where they are fewer (this profile).
+-- Lost at word w (this profile): the least word up to which as many of the last 64 words are wrong
+-- as lose a lock (`losing_count`). Where there are fewer than 64 up to it, all of them count.
 pub record LostAt (words : ℕ → ℕ) (w : ℕ) : Type 0 where
   pub here : losing_count ≤ wrong_until words w
   pub least : (k : ℕ) → k < w → wrong_until words k < losing_count

@@ -30,9 +30,9 @@ pub record LimitStands (bits : List Bool) : Type 0 where
 abbrev pub step : Option (ℕ × Role) → Option Change → Step
 step word change = record { word = word; change = change }
 
--- What the last of these bits brought, by what stands after them: a lock just found; word k of the
--- lock; a bit inside a word; the word that released the newest past lock; or nothing, while
--- hunting.
+-- What the last of these bits brought, by what stands after them. Where that is a lock, it is the
+-- lock just found, word k of the lock, or a bit inside a word. Where that is a hunt, it is the word
+-- that released the newest past lock, or nothing.
 pub data Brings (bits : List Bool) (s : Step) : List Lock → Now → Type 0 where
   found : {locks : List Lock} {p t : ℕ} → length bits ≡ t → s ≡ step None (Some Locked)
       → Brings bits s locks (locked p t)
@@ -53,9 +53,9 @@ pub record IsStep (bits : List Bool) (s : Step) : Type 0 where
   pub stands : IsNow bits locks now
   pub brings : Brings bits s locks now
 
--- Of these bits, which come after others, n are heard by a hunt: the push of none of them answers
--- that a lock was found, nor anything else, and the push of the next one, if there is one, answers
--- that a lock was found.
+-- Of these bits, which come after others, n are heard by a hunt. The push of none of them answers
+-- that a lock was found, nor anything else. The push of the next one, if there is one, answers that
+-- a lock was found.
 pub record HuntsThrough (before bits : List Bool) (n : ℕ) : Type 0 where
   pub within : n ≤ length bits
   pub quiet : (k : ℕ) → k < n → IsStep (before ++ take (k + 1) bits) (step None None)

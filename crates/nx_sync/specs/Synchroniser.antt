@@ -12,9 +12,9 @@ use Rattle.nx_sync.specs.Words.{marked_words, losing_count, word_of_lock, first_
 use Rattle.nx_sync.specs.Words.{is_dx}
 use Rattle.nx_sync.specs.Locks.{pattern_elements, Lock, Now, hunting, locked, IsNow}
 
--- what contracts see of a synchroniser: the last 28 bits as a number, the oldest in the least
--- place, how many of them were heard, the word that is being filled where a lock stands, and
--- whether each of the last words of the lock was wrong
+-- What contracts see of a synchroniser. Of the bits they see the last 28 as a number, the oldest in
+-- the least place, and how many of them were heard. Of the lock they see the word that is being
+-- filled where one stands, and whether each of its last words was wrong.
 pub record Held : Type 0 where
   pub recent : ℕ
   pub seen : ℕ

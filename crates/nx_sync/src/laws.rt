@@ -30,8 +30,9 @@ pub fn what_stands_is_unique()
 {}
 
 /// More bits don't change what is past: the past locks, where a lock was found, what released it,
-/// and of the words that were heard whole the words, their roles, which of them is the second DX
-/// word in a row that is phasing signal 1, and how many of the last ones are wrong at each.
+/// and the words that were heard whole. Each of these words keeps its role, and whether it is the
+/// second DX word in a row that is phasing signal 1. At each, as many of the last ones are wrong as
+/// before.
 pub fn more_bits_keep_the_past()
     ensures past { (bits more : List Bool) (locks : List Lock) (p : ℕ) → Past bits locks p
         → Past (bits ++ more) locks p }
@@ -127,7 +128,7 @@ pub fn a_good_lock_is_kept()
         → IsLocked bits locks p t }
 {}
 
-/// A hunt locks rightly in 48 phasing words as sent, whatever bits came before them: after 28 of
+/// A hunt locks rightly in 48 phasing words as sent, whatever bits came before them. After 28 of
 /// their bits or more, the search finds the next word limit, and the lock has the limits and roles
 /// of the phasing.
 pub fn a_hunt_locks_in_phasing()
@@ -139,7 +140,7 @@ pub fn a_hunt_locks_in_phasing()
 {}
 
 /// A lock on other word limits than those of 48 phasing words as sent meets only wrong words in
-/// them, so that it is released, at the latest, by the last of as many of these as lose it.
+/// them. So it is released, at the latest, by the last of as many of these as lose it.
 pub fn a_lock_between_limits_is_lost()
     ensures wrong { (earlier : List Bool) (t : ℕ) → IsPattern (earlier ++ phasing 24) t
         → IsBetweenLimits (length earlier) t
@@ -151,7 +152,7 @@ pub fn a_lock_between_limits_is_lost()
 {}
 
 /// A lock on the word limits of 48 phasing words as sent, but with swapped roles, has phasing
-/// signal 1 in its DX words, so that it is released by the seventh of them at the latest.
+/// signal 1 in its DX words. So it is released by the seventh of the 48 words at the latest.
 pub fn a_lock_with_swapped_roles_ends()
     ensures second { (earlier : List Bool) (t k : ℕ) → word_begin t k ≡ length earlier
         → role_of (first_role (earlier ++ phasing 24) t) k ≡ RoleOf.Rx

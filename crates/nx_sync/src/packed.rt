@@ -46,7 +46,7 @@ pub(crate) fn words_in(numbers: &[u64], place: usize, count: usize) -> [Word; WO
 
 /// Whether one of the windows after each of the 64 elements of a number may be a pattern. The first
 /// 18 of these have the last ten elements of the window before, the next 19 have ten others, and so
-/// on: where none of the four tens stands in a pattern, none of the windows is one.
+/// on. Where none of the four tens stands in a pattern, none of the windows is one.
 #[inline(always)]
 fn may_lock_in_blocks(window: u32, number: u64) -> bool
     requires { window < 2 ^ pattern_elements }
@@ -58,9 +58,9 @@ fn may_lock_in_blocks(window: u32, number: u64) -> bool
         | is_block((number >> 47) % 1024)
 }
 
-/// The same by two tens of elements for each window: where one of the four stands in a pattern, the
-/// earlier ones of its windows also have the ten from nine places before it on, and the later ones
-/// those from ten places behind it on.
+/// The same by two tens of elements for each window. Where one of the four stands in a pattern, the
+/// earlier ones of its windows also have the ten from nine places before it on. The later ones also
+/// have those from ten places behind it on.
 #[inline(never)]
 fn may_lock_in_both(window: u32, number: u64) -> bool
     requires { window < 2 ^ pattern_elements }

@@ -50,18 +50,18 @@ pub struct Report {
     pub printed: u64,
 }
 
-/// Listens to an air file of at most 268,435,456 bytes to its end, and writes its log: an entry for
-/// each copy that is printed, all that the lines so far print before each further read. Three
-/// receivers hear it, one for each channel; each starts with an empty memory, at moment 0, and
-/// everything is selected. Their entries stand in the log in the order in which their copies end;
-/// the end of the file closes the channels 0, 1 and 2 in order. All memory is taken before the
-/// first read.
+/// Listens to an air file of at most 268,435,456 bytes to its end, and writes its log. The log has
+/// an entry for each copy that is printed. All that the lines so far print is written before each
+/// further read. Three receivers hear it, one for each channel; each starts with an empty memory,
+/// at moment 0, and everything is selected. Their entries stand in the log in the order in which
+/// their copies end; the end of the file closes the channels 0, 1 and 2 in order. All memory is
+/// taken before the first read.
 ///
 /// Where it answers Ok, each message that is heard in time on a channel of the file has exactly one
-/// entry of that channel in the log, full, with 0 errors and its text letter for letter: a message
-/// not numbered 00 that is selected whenever it is sent, whose sendings all lie within 66 hours and
-/// pass the channel while 200 identities suffice, and of whose identity nothing else is found on
-/// it.
+/// entry of that channel in the log. The entry is full, and has 0 errors and the message's text
+/// letter for letter. A message heard in time is not numbered 00, and is selected whenever it is
+/// sent. Its sendings all lie within 66 hours and pass the channel while 200 identities suffice.
+/// Nothing else of its identity is found on that channel.
 ///
 /// The first fault in the order of the bytes ends the run; the line that has it has no effect.
 /// After a fault of a line, `AirTooLong` and `Read`, the log of the whole lines before it is
@@ -84,16 +84,16 @@ pub fn listen<R: Read, W: Write>(
     Ok(report)
 }
 
-/// Listens as `listen` does, and goes on from what is saved: the receiver of each channel starts
-/// with the saved entries and the saved selection of the channel, and all three at the greatest
+/// Listens as `listen` does, and goes on from what is saved. The receiver of each channel starts
+/// with the saved entries and the saved selection of the channel. All three start at the greatest
 /// moment of an entry, or 0 where there is none. Answers also what it leaves of each channel: the
 /// last 200 of all entries, the saved ones and those that the run made, and what is selected after
 /// the file. A copy that stands open at its end is no part of it. All memory is taken before the
 /// first read.
 ///
 /// Where it answers Ok, each message that is heard in time on a channel of the file has exactly one
-/// entry of that channel in the log, as with `listen`, where no saved entry of its identity on that
-/// channel is live when it is first heard.
+/// entry of that channel in the log, as with `listen`. For this, no saved entry of its identity on
+/// that channel may be live when it is first heard.
 ///
 /// Faults are those of `listen`. After one there is nothing to go on from but what was saved
 /// before.

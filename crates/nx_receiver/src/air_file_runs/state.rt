@@ -25,8 +25,8 @@ const ENDED_LINE: usize = MAX_STATE_LINE + 1;
 /// last line: what stands behind it is left in the reader. Takes no memory.
 ///
 /// The fault is the first of the input: `StateLine` at the line feed of a line that can't stand
-/// there, or at the 17th byte of a line; `StateCut` where the input ends before the line feed of
-/// the line; `Read` where a read failed before any of them.
+/// there, or at the 17th byte of a line. It is `StateCut` where the input ends before the line feed
+/// of the line, and `Read` where a read failed before any of them.
 pub fn read_state<R: Read>(reader: &mut Counting<R>) -> Result<SavedSet, StateFault>
     requires { reader.old.failures ≡ 0 }
 

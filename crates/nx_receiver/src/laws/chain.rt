@@ -35,8 +35,8 @@ ghost use Rattle.nx_receiver.specs.declared.air_file_runs.listening.Report.{Repo
 use nx_memory::Recall;
 
 /// The last 200 entries decide: after two lists of entries that agree in their last 200, the same
-/// copies are printed and the same entries are made, and then they agree in their last 200 again.
-/// So an entry that has fallen out of a memory makes no difference.
+/// copies are printed and the same entries are made. Then they agree in their last 200 again. So an
+/// entry that has fallen out of a memory makes no difference.
 pub fn the_last_entries_decide()
     ensures printed { (one other : List MemoryEntry) (copies : List TaggedCopy)
         → AgreeInLast one other → printed_copies one copies ≡ printed_copies other copies }
@@ -57,7 +57,7 @@ pub fn copies_are_printed_in_turn()
 {}
 
 /// A chain of runs prints on each channel what one run would print that had found their copies,
-/// though each run hunts anew and begins with what the one before it left: it is what the rules of
+/// though each run hunts anew and begins with what the one before it left. It is what the rules of
 /// printing make of all copies of the runs on the channel, in order, after the entries of the
 /// channel that the first run starts with. The logs, one after another, are the log of all that is
 /// printed. The last run leaves of each channel the last 200 of all entries made, and what is
@@ -136,11 +136,11 @@ pub fn a_chain_is_told_by_its_files()
         → (all_logs runs ≡ all_logs others) × (last ≡ end) }
 {}
 
-/// The headline across power-offs. A message that is heard in time on a channel of the runs of a
-/// chain, in whichever of them it is sent, has exactly one entry of that channel in their logs, one
-/// after another. The entry is full, has 0 errors, and its text is the message's, letter for
-/// letter. A chain that begins with nothing has on no channel an entry of it that could be live at
-/// its first copy.
+/// The headline across power-offs. Let a message be heard in time on a channel of the runs of a
+/// chain, in whichever of them it is sent. Then it has exactly one entry of that channel in the
+/// logs of the runs, one after another. The entry is full, has 0 errors, and its text is the
+/// message's, letter for letter. A chain that begins with nothing has on no channel an entry of it
+/// that could be live at its first copy.
 pub fn a_message_heard_over_runs_has_one_entry()
     ensures logged { (first last : SavedStates) (runs : List Run) → IsChain first runs last
         → IsLog (all_printed runs) (all_logs runs) }
@@ -153,7 +153,7 @@ pub fn a_message_heard_over_runs_has_one_entry()
         (all_copies channel runs) }
 {}
 
-/// There is such a chain, of two runs, which begins with nothing: EA01 with the line TEST is heard
+/// There is such a chain, of two runs, which begins with nothing. EA01 with the line TEST is heard
 /// on channel 0, the receiver is switched off and on again, and EA01 is heard four hours after the
 /// first. Its logs are the one entry.
 pub fn there_is_a_chain_with_a_message_heard_in_time()
@@ -162,7 +162,7 @@ pub fn there_is_a_chain_with_a_message_heard_in_time()
     ensures logs { all_logs example_runs ≡ worked_log }
 {}
 
-/// What has to be met can be met where a receiver goes on from an entry of the message: of channel
+/// What has to be met can be met where a receiver goes on from an entry of the message. Of channel
 /// 1 an entry of EA01 is saved, and EA01 is heard there again when the entry is 66 hours old. The
 /// file has a log with that start.
 pub fn there_is_a_message_heard_again_after_66_hours()

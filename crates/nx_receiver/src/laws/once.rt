@@ -18,16 +18,16 @@ ghost use Rattle.nx_receiver.specs.laws.Once.{IsHeardInTime, IsPrintedOnce};
 ghost use Rattle.nx_receiver.specs.laws.Emissions.{HoldsThrough, IsHeaderOf, copies_at, copy_of_sending};
 ghost use Rattle.nx_receiver.specs.examples.Emission.{at_its_slot, damaged_words, heard_elements};
 
-/// Under the channel a lock holds: whatever bits came before, the lock that the last 48 phasing
-/// words before the first message leave stands to the last bit of a received emission, and so to
-/// the RX of the last message's fourth N.
+/// Under the channel a lock holds, whatever bits came before. It is the lock that the last 48
+/// phasing words before the first message leave. It stands to the last bit of a received emission,
+/// and so to the RX of the last message's fourth N.
 pub fn a_received_emission_keeps_its_lock()
     ensures { (earlier : List Bool) (emission : ReceivedEmission) → IsReceived emission
         → HoldsThrough earlier emission.heard }
 {}
 
 /// Under the channel each sending gives exactly one copy that begins with its header, whatever bits
-/// come before it and behind it: it has ended, is full, has 0 errors, and its text is the
+/// come before it and behind it. The copy has ended, is full, has 0 errors, and its text is the
 /// message's, letter for letter.
 pub fn each_sending_gives_one_copy()
     ensures found { (bits : List Bool) (parts : List Part) (sending : Sending) (locks : List Lock)
@@ -40,18 +40,19 @@ pub fn each_sending_gives_one_copy()
         → IsSending parts sending → errors_of (text_of sending.message.lines) ≡ 0 }
 {}
 
-/// A message is printed once, over any list of gaps and received emissions: where it isn't numbered
-/// 00, is selected at each of its sendings, which lie within 66 hours while 200 identities suffice,
-/// and no other copy with its identity is found, exactly one printed copy bears its identity. That
-/// copy is full, has 0 errors, and its text is the message's, letter for letter.
+/// A message is printed once, over any list of gaps and received emissions: exactly one printed
+/// copy bears its identity. That copy is full, has 0 errors, and its text is the message's, letter
+/// for letter. It is so where the message isn't numbered 00, is selected at each of its sendings,
+/// which lie within 66 hours while 200 identities suffice, and no other copy with its identity is
+/// found.
 pub fn a_message_is_printed_once()
     ensures { (start : Start) (events : List Event) (parts : List Part) (message : MessageView)
         (log : List TaggedCopy) → PrintsToEnd start events log
         → IsHeardInTime start events parts message → IsPrintedOnce message log }
 {}
 
-/// What has to be met, so that a message is printed once, can be met: by EA01 with the line TEST,
-/// in the bits of its emission alone, of whose message each DX word is damaged.
+/// What has to be met, so that a message is printed once, can be met. EA01 with the line TEST meets
+/// it, in the bits of its emission alone, of whose message each DX word is damaged.
 pub fn there_is_a_message_heard_in_time()
     ensures { IsHeardInTime at_its_slot (heard_elements damaged_words)
         (example_parts (bits_of (take 96 damaged_words)) []) example_message }

@@ -45,10 +45,10 @@ pub fn an_input_has_one_state()
 {}
 
 /// Runs that each begin with the text that the one before it wrote are a chain, though nothing but
-/// texts is handed on: a chain of runs reads the same files and has the same logs, where it begins
-/// with what the first text stands for; and the last text stands for what it leaves. So all that is
-/// said of the log of a chain holds of the joined logs: on each channel, they are what is printed
-/// of all copies of the runs, in order.
+/// texts is handed on. A chain of runs that begins with what the first text stands for reads the
+/// same files and has the same logs. The last text stands for what that chain leaves. So all that
+/// is said of the log of a chain holds of the joined logs: on each channel, they are what is
+/// printed of all copies of the runs, in order.
 pub fn texts_make_a_chain()
     ensures chain { (first last : List ℕ) (saved : SavedStates) (runs : List TextRun)
         → IsStateBytes first saved → IsTextChain first runs last → HasChain saved runs last }
@@ -60,7 +60,7 @@ pub fn texts_make_a_chain()
         ≡ printed_copies (saved_of saved channel).entries (all_copies channel h.chain) }
 {}
 
-/// What a run that resumes writes of its whole input is such a log: where it answers a report to
+/// What a run that resumes writes of its whole input is such a log. Where it answers a report to
 /// `Want::Log`, the input is the text of a state and an air file, and what it wrote is the log of
 /// the two. And where it answers one to `Want::State`, what it wrote is the text of what they
 /// leave.

@@ -45,8 +45,8 @@ pub fn what_was_sent_is_printed()
         → copies ≡ map (marked Zero) (map (copy_as_sent sent.slot) t.messages) }
 {}
 
-/// What was sent is printed once: each message of an air file that `send` wrote, if it isn't
-/// numbered 00 and alone bears its identity, is heard in time in that file, so what `listen`
+/// What was sent is printed once. Each message of an air file that `send` wrote, if it isn't
+/// numbered 00 and alone bears its identity, is heard in time in that file. So what `listen`
 /// promises of such a message holds of it. And the log of the file has one entry of it, and no
 /// more: full, with 0 errors and its text, letter for letter.
 pub fn what_was_sent_is_printed_once()

@@ -9,16 +9,16 @@ use Rattle.nx_sync.specs.declared.step.Change.TheVariants.{Ended, LostLock}
 use Rattle.nx_code.specs.Table.{phasing_1}
 use Rattle.nx_sync.specs.Words.{losing_count, word_of_lock, first_role, role_of, is_dx, wrong_until}
 
--- Whether word k is the word that releases a lock as Ended: the word three before it is a DX word,
--- at least word 2, and it and the DX word before it, which is word k - 5, are phasing signal 1.
+-- Whether word k is the word that releases a lock as Ended. The word three before it is a DX word,
+-- at least word 2. That word and the DX word before it, which is word k - 5, are phasing signal 1.
 unfoldable pub releases_as_ended : Role → (ℕ → ℕ) → ℕ → Bool
 releases_as_ended first words k =
     nat_le 5 k && is_dx (role_of first (k - 3))
     && (words (k - 3) == phasing_1) && (words (k - 5) == phasing_1)
 
 -- Which change word k would bring to a lock that still stands there, by its words and the role of
--- word 0: Ended where it releases the lock as ended, else LostLock where as many of the
--- last words are wrong as lose a lock.
+-- word 0. It is Ended where it releases the lock as ended, else LostLock where as many of the last
+-- words are wrong as lose a lock.
 unfoldable pub change_at : Role → (ℕ → ℕ) → ℕ → Option Change
 change_at first words k =
     if releases_as_ended first words k
