@@ -23,7 +23,7 @@ pub record Keeps (text : List ℕ) (byte : ℕ) : Type 0 where
   pub still_open : open_headers (text ++ byte ∷ []) ≡ open_headers text
 
 -- the byte completes the header, and with it the one open copy begins
-pub record Begins (text : List ℕ) (byte : ℕ) (header : Header) : Type 0 where
+pub record BeginsCopy (text : List ℕ) (byte : ℕ) (header : Header) : Type 0 where
   pub behind : header.behind ≡ length text + 1
   pub headers : headers (text ++ byte ∷ []) ≡ headers text ++ header ∷ []
   pub ended : ended_copies (text ++ byte ∷ []) ≡ ended_copies text
@@ -41,7 +41,7 @@ pub record Ends (text : List ℕ) (byte : ℕ) (copy : Copy) : Type 0 where
 pub record BringsHeader (text : List ℕ) (byte : ℕ) (identity : Identity) : Type 0 where
   pub header : Header
   pub named : header.identity ≡ identity
-  pub begins : Begins text byte header
+  pub begins : BeginsCopy text byte header
 
 -- a copy ends, and this is it
 pub record BringsCopy (text : List ℕ) (byte : ℕ) (found : Found) : Type 0 where

@@ -10,7 +10,7 @@ use Rattle.std.proofs.lemmas.List.Elements.{filter_map-append, filter-append}
 use Rattle.nx_envelope.specs.private.Backward.{marker_back, ends_in, header_back}
 use Rattle.nx_envelope.specs.Copies.{Ending, Copy, headers, raw_text, ending_of, copy_with}
 use Rattle.nx_envelope.specs.Copies.{ended_copy, ended_copies, is_open, open_headers}
-use Rattle.nx_envelope.specs.Finder.{Keeps, Begins, Ends, is_empty}
+use Rattle.nx_envelope.specs.Finder.{Keeps, BeginsCopy, Ends, is_empty}
 use Rattle.nx_envelope.specs.private.Finding.{found_text}
 use Rattle.nx_envelope.specs.Header.{Header, start_marker}
 use Rattle.nx_envelope.specs.private.Stage.{IsStageOf}
@@ -144,7 +144,7 @@ still_none text b none no_more =
 
 -- no copy is open, and one begins
 pub record Opens (text : List ℕ) (b : ℕ) (header : Header) : Type 0 where
-  pub begins : Begins text b header
+  pub begins : BeginsCopy text b header
   pub one : OneOpen (text ++ b ∷ [])
   pub is : one.header ≡ header
   pub raw : raw_text (text ++ b ∷ []) header ≡ []

@@ -10,7 +10,7 @@ use Rattle.std.proofs.lemmas.List.Elements.{All-nil, All-cons, All-head, All-tai
 use Rattle.nx_code.specs.Reading.{text}
 use Rattle.nx_sync.specs.declared.step.Role.{Role}
 use Rattle.nx_envelope.specs.Copies.{Copy, ended_copies, open_headers}
-use Rattle.nx_envelope.specs.Finder.{Begins, Ends, Keeps, HasReady, Hears, is_over}
+use Rattle.nx_envelope.specs.Finder.{BeginsCopy, Ends, Keeps, HasReady, Hears, is_over}
 use Rattle.nx_envelope.specs.Header.{Header}
 use Rattle.nx_envelope.specs.declared.finder.Finder.{Finder}
 use Rattle.nx_envelope.specs.declared.found.TextEvent.{TextEvent}
@@ -228,7 +228,7 @@ module _ (first : Setting) (settings : List Setting) (text : List PlacedByte) (h
       get_or-pushed [] x d = refl
       get_or-pushed (y ∷ xs) x d = get_or-pushed xs x d
 
-  pub after_header : (header : Header) → Begins (bytes_of text) byte header
+  pub after_header : (header : Header) → BeginsCopy (bytes_of text) byte header
       → AfterWord first later text whole (tag_of (in_force hearer) header.identity) finder false
   unfolding HasTag
   after_header header begins = record {
