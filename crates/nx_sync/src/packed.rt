@@ -13,6 +13,10 @@ use crate::phasing::{is_block, is_lock_window};
 use crate::windows_after::{joined, window_after_number};
 use nx_code::{ELEMENTS, WORDS_AT_ONCE, Word, elements_at, packed_word, words_of};
 
+/// So few elements are looked at window by window at once, which costs less than the tests of
+/// blocks (this project's own).
+const FEW: usize = 16;
+
 /// The element at a place.
 #[inline(always)]
 pub(crate) fn element(numbers: &[u64], place: usize) -> bool
@@ -105,7 +109,7 @@ pub(crate) fn count_before_lock_in(window: u32, number: u64, count: usize) -> us
     requires few { count ≤ packed_elements }
     ensures { IsBeforeLockIn (spec.joined window number) count result }
 {
-    if has_no_lock(window, number) {
+    if count > FEW && has_no_lock(window, number) {
         return count;
     }
     count_by_windows(window, number, count)

@@ -163,7 +163,8 @@ impl Synchroniser {
         if !self.is_locked() {
             return self.hear_hunting(taker, numbers, from, count);
         }
-        if self.is_between_words() && count >= ELEMENTS {
+        // One word alone isn't worth the way to whole words and back.
+        if self.is_between_words() && count >= ELEMENTS * TWO_WORDS {
             let mut words = self.at_words();
             let answer = words.hear(taker, numbers, from, count);
             self.go_on_from(&words);
