@@ -22,7 +22,7 @@ const MARKER_LEN: usize = 4;
 /// Finds the copies of messages in a received text, of which it sees one byte after the other.
 ///
 /// It holds the last four bytes, how far a header has come, and the text of the copy that is open
-/// or can be taken; the bytes of one that has ended stay until the next begins, and nothing reads
+/// or can be taken. The bytes of one that has ended stay until the next begins, and nothing reads
 /// them.
 #[derive(Debug, Drop)]
 pub struct Finder {

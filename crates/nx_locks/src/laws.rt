@@ -19,9 +19,9 @@ pub fn a_file_has_one_report()
         → IsReportOfLines lines other → report ≡ other }
 {}
 
-/// What is printed of channel 0 of an air file stands in its report, with whatever a run starts:
-/// each copy of the log that was heard on channel 0 is one of those in the texts of the locks, and
-/// each of these texts stands in the report.
+/// What is printed of channel 0 of an air file stands in its report, with whatever a run starts.
+/// Each copy of the log that was heard on channel 0 is one of those in the texts of the locks. Each
+/// of these texts stands in the report.
 pub fn a_log_is_found_in_the_report()
     ensures printed { (starts : Starts) (file report log : List ℕ) (lines other : List Line)
         (printed : List MarkedCopy) (copy : TaggedCopy)

@@ -26,9 +26,9 @@ pub struct LocksReport {
     pub copies: u64,
 }
 
-/// Shows the locks of an air file of at most 268,435,456 bytes to its end, and writes their report:
-/// for each lock a line that opens it, its running text, a line that closes it, and an empty line;
-/// and one last line. They are the locks in the elements of channel 0: elements of other channels
+/// Shows the locks of an air file of at most 268,435,456 bytes to its end, and writes their report.
+/// It has for each lock a line that opens it, its running text, a line that closes it, and an empty
+/// line; and one last line. They are the locks in the elements of channel 0: elements of other channels
 /// change nothing. What the lines so far show is written before each further read. All memory is
 /// taken before the first read.
 ///

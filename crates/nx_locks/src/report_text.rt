@@ -14,7 +14,8 @@ use nx_fec::{MAX_ELEMENTS, append};
 use nx_sync::Change;
 
 /// The most bytes that one element brings: a byte of text, a newline, and the lines that close a
-/// lock, with a civil time, a word of at most 5 letters and three numbers of at most 20 digits.
+/// lock. These have a civil time, a word of at most 5 letters and three numbers of at most 20
+/// digits.
 pub(crate) const MAX_STEP: usize = CIVIL_LEN + 94;
 
 /// The most bytes that the elements of a line bring.

@@ -32,9 +32,9 @@ ReadsNow reader bits (hunting p) = IsFresh reader
 ReadsNow reader bits (locked p t) =
     ReadsLock reader (first_role bits t) (word_of_lock bits t) (whole_words bits t)
 
--- After these bits, with the moment in force at each, these bytes are the report so far; the reader
--- stands after the words of the lock that stands; and the locks that began are counted, and the
--- headers of those that are over.
+-- After these bits, with the moment in force at each, these bytes are the report so far. The reader
+-- stands after the words of the lock that stands. The locks that began are counted, and the headers
+-- of those that are over.
 pub record Shows (reader : Reading) (locks_began copies : ℕ) (bits : List Bool) (moments : List ℕ)
     (given : List ℕ) : Type 0 where
   pub locks : List Lock
