@@ -5,12 +5,13 @@ ghost use Rattle.std.specs.Prelude.{◌≡◌, ◌≢◌, ◌+◌, ◌<◌, ◌�
 ghost use Rattle.std.specs.List.{AllByRecursion};
 ghost use Rattle.std.specs.Option.{option_map};
 ghost use Rattle.nx_code.specs.Reading.{newline};
-ghost use Rattle.nx_fec.specs.air_files.AirFile.{IsLine, Line, spelling};
+ghost use Rattle.nx_fec.specs.air_files.AirFile.{IsLine, Line, spelling, with_mark};
 ghost use Rattle.nx_fec.specs.air_files.Lines.{Scans, StopsIn, IsCause, IsAirFile, IsAtByte};
 ghost use Rattle.nx_fec.specs.air_files.Scanner.{elements_kept, kind_kept};
 ghost use Rattle.nx_fec.specs.private.WholeLines.{TakesLine, Waits};
 
 use crate::air_files::bounded_bytes::BoundedBytes;
+use crate::air_files::channel::Channel;
 use crate::air_files::line_feeds::first_feed;
 use crate::air_files::lines::{
     LineKind, MAX_ELEMENTS, digits_behind, moment_front, read_line, unpack,
@@ -25,11 +26,10 @@ use std::mem::size_of;
 /// The most bytes of a line before its end.
 const MAX_LINE_BYTES: usize = 514;
 
-/// A line of so few elements that names no channel is looked for first, in so many bytes of a
-/// piece, with its end.
+/// A line of so few elements is looked for first, in so many bytes of a piece, with its end.
 const NEAR_ELEMENTS: usize = 30;
 
-const NEAR_BYTES: usize = 34;
+const NEAR_BYTES: usize = 35;
 
 /// Any other line of elements is looked for in so many, the most that a line has, with its end, and
 /// one more.
@@ -240,23 +240,35 @@ impl Scanner {
             return 0;
         }
         match piece {
-            [b'B', b' ', digits @ ..] => {
-                let count = self.take_few(piece, digits);
-                if count > 0 {
-                    return count;
-                }
-                self.take_elements(piece)
-            }
             [b'T', b' ', digits @ ..] => self.take_moment(piece, digits),
             _ => self.take_elements(piece),
         }
     }
 
-    /// Takes the line that a piece begins with as `take_whole` does, where it has few elements and
-    /// names no channel; the digits are what follows `B` and a space.
+    /// Takes the line that a piece begins with as `take_whole` does, where it has elements.
     #[inline(always)]
-    fn take_few(&mut self, piece: &[u8], digits: &[u8]) -> usize
-        requires front { piece.now ≡ codes "B " ++ digits.now }
+    fn take_elements(&mut self, piece: &[u8]) -> usize
+        requires empty { self.old.part ≡ [] }
+        requires long { NEAR_BYTES ≤ length piece.now }
+        requires room { NEAR_BYTES ≤ self.old.room }
+        ensures taken { 0 < result → TakesLine self.old self.new piece.now result }
+        ensures none { result ≡ 0 → Waits self.old self.new }
+    {
+        let Some((mark, digits)) = digits_behind(piece) else {
+            return 0;
+        };
+        let count = self.take_few(piece, mark, digits);
+        if count > 0 {
+            return count;
+        }
+        self.take_many(piece, mark, digits)
+    }
+
+    /// Takes the line that a piece begins with as `take_elements` does, where it has few elements,
+    /// by the channel that it names, if it names one, and what follows it and a space.
+    #[inline(always)]
+    fn take_few(&mut self, piece: &[u8], mark: Option<Channel>, digits: &[u8]) -> usize
+        requires front { piece.now ≡ with_mark (codes "B") mark digits.now }
         requires empty { self.old.part ≡ [] }
         requires long { NEAR_BYTES ≤ length piece.now }
         requires room { NEAR_BYTES ≤ self.old.room }
@@ -264,14 +276,14 @@ impl Scanner {
         ensures none { result ≡ 0 → self.new ≡ self.old }
     {
         let (number, count) = pack_near(digits);
-        let end = 2 + count;
-        if count == 0 || count > NEAR_ELEMENTS || piece[end] != NEWLINE {
+        if count == 0 || count > NEAR_ELEMENTS || digits[count] != NEWLINE {
             return 0;
         }
+        let end = piece.len() - digits.len() + count;
         self.kept.clear();
         self.kept.append_front(piece, end);
         self.elements.put(number, count);
-        self.ended = Some(LineKind::Elements(None));
+        self.ended = Some(LineKind::Elements(mark));
         self.lines += 1;
         self.room -= end as u64 + 1;
         end + 1
@@ -302,19 +314,18 @@ impl Scanner {
         end + 1
     }
 
-    /// Takes the line that a piece begins with as `take_whole` does, where it has elements.
+    /// Takes the line that a piece begins with as `take_few` does, whatever number of elements it
+    /// has.
     #[inline(never)]
-    fn take_elements(&mut self, piece: &[u8]) -> usize
-        requires { self.old.part ≡ [] }
+    fn take_many(&mut self, piece: &[u8], mark: Option<Channel>, digits: &[u8]) -> usize
+        requires front { piece.now ≡ with_mark (codes "B") mark digits.now }
+        requires empty { self.old.part ≡ [] }
         ensures taken { 0 < result → TakesLine self.old self.new piece.now result }
         ensures none { result ≡ 0 → Waits self.old self.new }
     {
         if piece.len() < FAR_BYTES || self.room < FAR_BYTES as u64 {
             return 0;
         }
-        let Some((mark, digits)) = digits_behind(piece) else {
-            return 0;
-        };
         self.open();
         let count = self.elements.read_front(digits);
         let end = piece.len() - digits.len() + count;

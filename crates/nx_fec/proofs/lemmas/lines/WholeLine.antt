@@ -44,6 +44,21 @@ pub record Digits (piece : List ℕ) (mark : Option Channel) (digits : List ℕ)
   pub feed : get_or digits count 0 ≡ 10
   pub are : bits ≡ map is_one (take count digits)
 
+mark-short : (mark : Option Channel) → length (mark_bytes mark) ≤ 1
+mark-short None = omega arith
+mark-short (Some channel) = omega arith
+
+-- the digits come behind two bytes, or three where a channel is named
+pub digits-behind-front : (piece : List ℕ) (mark : Option Channel) (digits : List ℕ)
+    → piece ≡ with_mark (codes "B") mark digits
+    → (length digits ≤ length piece) × (length piece ≤ length digits + 3)
+digits-behind-front piece mark digits whole =
+    let size = front-size mark in
+    let few = mark-short mark in
+    let long = length-append (front mark) digits in
+    let all = ap length (whole ∙ front-first mark digits) in
+    (omega (arith, size, long, all), omega (arith, size, few, long, all))
+
 start-front : (piece : List ℕ) (mark : Option Channel) (digits : List ℕ) (start count : ℕ)
     (bits : List Bool) → Digits piece mark digits start count bits → start ≡ length (front mark)
 start-front piece mark digits start count bits h =
