@@ -207,13 +207,13 @@ impl StepTaker for LockTaker {
     }
 
     #[inline(always)]
-    fn take_words(&mut self, words: &[Word]) -> usize {
+    fn take_words(&mut self, words: &[Word]) -> (usize, Option<()>) {
         if !self.reader.hear_words(words, &mut self.shown) {
-            return 0;
+            return (0, None);
         }
         let elements = (ELEMENTS * words.len()) as u64;
         self.elements = self.elements.saturating_add(elements);
-        words.len()
+        (words.len(), None)
     }
 
     ghost none = { λ held taker. hears_none held taker };

@@ -3,7 +3,8 @@
 //! through memory otherwise.
 
 ghost use Rattle.std.specs.Prelude.{◌≡◌};
-ghost use Rattle.nx_receiver.specs.private.CopyTaker.{ReadsStep};
+ghost use Rattle.nx_envelope.specs.Finder.{is_over};
+ghost use Rattle.nx_receiver.specs.private.CopyTaker.{ReadsStep, setting_of, tag_after};
 ghost use Rattle.nx_receiver.specs.private.CopyHearer.{IsFresh, over_with};
 
 use crate::lock_reader::LockReader;
@@ -90,17 +91,29 @@ impl CopyTaker {
         let Some((word, role)) = word else {
             return None;
         };
-        let is_changed = change.is_some();
-        match self.reader.take_word(word, role) {
-            TextEvent::Nothing => Over::of(false, is_changed),
+        let event = self.reader.take_word(word, role);
+        self.meet(event, change.is_some())
+    }
+
+    /// Meets what a word brings to the text of its lock: a header gets what is in force. Answers
+    /// what is over with the word, by whether its lock is.
+    #[inline(always)]
+    fn meet(&mut self, event: TextEvent, is_lock_over: bool) -> Option<Over>
+        ensures tag { self.new ≡ record self.old {
+          tag = tag_after (setting_of self.old) self.old.tag event;
+        } }
+        ensures over { result ≡ over_with (is_over event) is_lock_over }
+    {
+        match event {
+            TextEvent::Nothing => Over::of(false, is_lock_over),
             TextEvent::Header(identity) => {
                 self.tag = CopyTag {
                     moment: self.moment,
                     is_selected: self.selection.admits(&identity),
                 };
-                Over::of(false, is_changed)
+                Over::of(false, is_lock_over)
             }
-            TextEvent::CopyOver => Over::of(true, is_changed),
+            TextEvent::CopyOver => Over::of(true, is_lock_over),
         }
     }
 }
@@ -121,8 +134,9 @@ impl StepTaker for CopyTaker {
     }
 
     #[inline(always)]
-    fn take_words(&mut self, words: &[Word]) -> usize {
-        self.reader.hear_words(words)
+    fn take_words(&mut self, words: &[Word]) -> (usize, Option<Over>) {
+        let (heard, event) = self.reader.hear_words(words);
+        (heard, self.meet(event, false))
     }
 
     ghost none = { heard-none };

@@ -2,14 +2,14 @@
 //! inlined always, since its answers would go through memory otherwise. What hands a copy out is
 //! not inlined, so that no loop over words has a place for a text of 4,100.
 
-ghost use Rattle.std.specs.Prelude.{◌≡◌, ◌↔◌, ◌+◌, ◌%◌, ◌≤◌, ℕ, false, length, take, IsNone, IsTrue, MatchOption};
+ghost use Rattle.std.specs.Prelude.{◌≡◌, ◌↔◌, ◌+◌, ◌%◌, ◌<◌, ◌≤◌, ℕ, false, [], ◌∷◌, length, take, IsNone, IsTrue, MatchOption};
 ghost use Rattle.nx_sync.specs.Taking.{ArePairs};
 ghost use Rattle.nx_sync.specs.Words.{role_of};
 ghost use Rattle.nx_sync.specs.declared.step.Role.{Role};
 ghost use Rattle.nx_envelope.specs.Copies.{Copy};
 ghost use Rattle.nx_envelope.specs.Finder.{Closes, ClosesHeld, ClosesNone, HasReady, is_over, is_ready};
 ghost use Rattle.nx_envelope.specs.Found.{IsFound};
-ghost use Rattle.nx_receiver.specs.private.LockReader.{HearsWord, ReadsLock, ReadsPlain, is_open};
+ghost use Rattle.nx_receiver.specs.private.LockReader.{HearsUpTo, HearsWord, HearsWords, ReadsLock, ReadsPlain, is_open};
 ghost use Rattle.nx_receiver.specs.copies.LockText.{text_after};
 
 use crate::lock_printer::LockPrinter;
@@ -77,40 +77,53 @@ impl LockReader {
         }
     }
 
-    /// Hears the first of the next words of the lock at once, DX and RX by turns: those before the
-    /// pair that may begin or end a copy, all of them where none does. Says how many these are.
-    /// Where they are none, nothing changed.
+    /// Hears the first of the next words of the lock, DX and RX by turns: those up to and with the
+    /// first one that begins or ends a copy, all of them where none does. Says how many these are,
+    /// in whole pairs, and what the last one brings. A copy that it ends can be taken before the
+    /// next word.
     #[inline(always)]
-    pub(crate) fn hear_words(&mut self, words: &[Word]) -> usize
+    pub(crate) fn hear_words(&mut self, words: &[Word]) -> (usize, TextEvent)
         requires { ArePairs words.now }
-        ensures within { result ≤ length words.now }
-        ensures even { result % 2 ≡ 0 }
-        ensures plain { ReadsPlain self.old self.new (take result words.now) }
-        ensures same { result ≡ 0 → self.new ≡ self.old }
+        ensures within { result.0 ≤ length words.now }
+        ensures even { result.0 % 2 ≡ 0 }
+        ensures some { 0 < result.0 }
+        ensures hears { HearsWords self.old self.new (take result.0 words.now) result.1 }
     {
         if self.hear_plain(words) {
-            return words.len();
+            return (words.len(), TextEvent::Nothing);
         }
-        self.hear_plain_pairs(words)
+        self.hear_pairs(words)
     }
 
-    /// Hears these words pair by pair, up to the one that may begin or end a copy.
+    /// Hears words as `hear_words` does, pair by pair.
     #[inline(never)]
-    fn hear_plain_pairs(&mut self, words: &[Word]) -> usize
+    fn hear_pairs(&mut self, words: &[Word]) -> (usize, TextEvent)
         requires { ArePairs words.now }
-        ensures within { result ≤ length words.now }
-        ensures even { result % 2 ≡ 0 }
-        ensures plain { ReadsPlain self.old self.new (take result words.now) }
-        ensures same { result ≡ 0 → self.new ≡ self.old }
+        ensures within { result.0 ≤ length words.now }
+        ensures even { result.0 % 2 ≡ 0 }
+        ensures some { 0 < result.0 }
+        ensures hears { HearsWords self.old self.new (take result.0 words.now) result.1 }
     {
         let mut heard = 0;
         while heard < words.len() {
-            if !self.hear_plain(&words[heard..heard + 2]) {
-                return heard;
-            }
+            let event = self.hear_pair(words[heard], words[heard + 1]);
             heard += 2;
+            match event {
+                TextEvent::Nothing => {}
+                TextEvent::Header(_) | TextEvent::CopyOver => return (heard, event),
+            }
         }
-        heard
+        (heard, TextEvent::Nothing)
+    }
+
+    /// Hears the next two words of the lock, a DX word and an RX word, and answers what the second
+    /// brings. The first brings nothing.
+    #[inline(always)]
+    fn hear_pair(&mut self, dx: Word, rx: Word) -> TextEvent
+        ensures { HearsUpTo self.old self.new (dx ∷ rx ∷ []) result }
+    {
+        self.printer.diversity.hear_dx(dx);
+        self.take_word(rx, Role::Rx)
     }
 
     /// Hears the next words of the lock at once, DX and RX by turns, where surely none of them

@@ -9,7 +9,7 @@ ghost use Rattle.nx_code.specs.Packed.{packed_elements, packed_part};
 ghost use Rattle.nx_code.specs.Word.{elements, word_elements};
 ghost use Rattle.nx_sync.specs.Synchroniser.{Held, is_between_words, is_hunting};
 ghost use Rattle.nx_sync.specs.Taking.{ArePairs, BringsStep, BringsWords, IsTaken};
-ghost use Rattle.nx_sync.specs.private.Taking.{HasPart, TakesQuiet, TakesSome};
+ghost use Rattle.nx_sync.specs.private.Taking.{HasPart, TakesAtOnce, TakesSome};
 
 use crate::packed::{element, word_in, words_in};
 use crate::step::Step;
@@ -46,19 +46,20 @@ pub trait StepTaker {
             → BringsStep old new bits step → hears old self.old bits new self.new result }
         ensures can { (more : ℕ) → can_take self.old (count + more) → can_take self.new more };
 
-    /// Takes the first of these words of a lock at once, DX and RX by turns, where none of them
-    /// brings a change and surely nothing is over with any. Says how many it took, in whole pairs.
-    /// Where it took none, nothing changed. The next word has to be taken alone then.
-    fn take_words(&mut self, words: &[Word]) -> usize
+    /// Takes the first of these words of a lock, DX and RX by turns, where none of them brings a
+    /// change. Says how many it took, in whole pairs, and what is over with the last of these, if
+    /// anything is. Where it took none, nothing changed. The next word has to be taken alone then.
+    fn take_words(&mut self, words: &[Word]) -> (usize, Option<Self::Over>)
         requires pairs { ArePairs words.now }
         requires can { can_take self.old (word_elements * length words.now) }
-        ensures within { result ≤ length words.now }
-        ensures even { result % 2 ≡ 0 }
-        ensures hears { 0 < result → (old new : Held) → BringsWords old new (take result words.now)
-            → hears old self.old (flat_map elements (take result words.now)) new self.new None }
-        ensures can { (more : ℕ) → can_take self.old (word_elements * result + more)
+        ensures within { result.0 ≤ length words.now }
+        ensures even { result.0 % 2 ≡ 0 }
+        ensures hears { 0 < result.0 → (old new : Held)
+            → BringsWords old new (take result.0 words.now) → hears old self.old
+            (flat_map elements (take result.0 words.now)) new self.new result.1 }
+        ensures can { (more : ℕ) → can_take self.old (word_elements * result.0 + more)
             → can_take self.new more }
-        ensures same { result ≡ 0 → self.new ≡ self.old };
+        ensures same { result.0 ≡ 0 → self.new ≡ self.old };
 
     /// No elements bring nothing.
     ghost none: { (held : Held) (taker : Self) → hears held taker [] held taker None };
@@ -227,8 +228,7 @@ impl WordSynchroniser {
         (heard, None)
     }
 
-    /// Hears as many of the next words of these elements at once as it can, and where a word behind
-    /// them may bring something, that one alone.
+    /// Hears some of the next words of these elements at once, where it can, else the next one.
     #[inline(always)]
     fn hear_some<T: StepTaker>(
         &mut self,
@@ -244,12 +244,11 @@ impl WordSynchroniser {
         ensures takes { TakesSome T.hears T.can_take self.old taker.old numbers.now from count
             self.new taker.new result }
     {
-        let (heard, is_all) = self.hear_words(taker, numbers, from, count);
-        if is_all {
-            return (heard, None);
+        let (heard, over) = self.hear_words(taker, numbers, from, count);
+        if heard > 0 {
+            return (heard, over);
         }
-        let over = self.hear_word(taker, numbers, from + heard);
-        (heard + ELEMENTS, over)
+        (ELEMENTS, self.hear_word(taker, numbers, from))
     }
 
     /// Hears the next word of these elements.
@@ -271,9 +270,9 @@ impl WordSynchroniser {
     }
 
     /// Hears the first of the next eight words of these elements at once, of six where eight aren't
-    /// there, or of two: those with which neither the lock nor anything for the taker is over. Says
-    /// how many elements that were, and whether all of these words were heard. Before an RX word it
-    /// hears none, so that eights begin with the DX word behind it.
+    /// there, or of two, where the lock surely stands through them. Says how many elements that
+    /// were, and what is over with the last of them. It may hear none. It does so before an RX
+    /// word, so that eights begin with the DX word behind it.
     #[inline(always)]
     fn hear_words<T: StepTaker>(
         &mut self,
@@ -281,17 +280,16 @@ impl WordSynchroniser {
         numbers: &[u64],
         from: usize,
         count: usize,
-    ) -> (usize, bool)
+    ) -> (usize, Option<T::Over>)
         requires limit { IsTrue (is_between_words self.old) }
-        requires some { 7 ≤ count }
         requires part { HasPart numbers.now from count }
         requires can { T.can_take taker.old count }
-        ensures takes { TakesQuiet T.hears T.can_take self.old taker.old numbers.now from count
+        ensures takes { TakesAtOnce T.hears T.can_take self.old taker.old numbers.now from count
             self.new taker.new result }
         ensures limit { IsTrue (is_between_words self.new) }
     {
         if !self.awaits_dx() {
-            return (0, false);
+            return (0, None);
         }
         if count >= ELEMENTS * WORDS_AT_ONCE {
             return self.hear_at_once(taker, numbers, from, WORDS_AT_ONCE);
@@ -302,12 +300,12 @@ impl WordSynchroniser {
         if count >= ELEMENTS * TWO_WORDS {
             return self.hear_at_once(taker, numbers, from, TWO_WORDS);
         }
-        (0, false)
+        (0, None)
     }
 
-    /// Hears the first of the next words of these elements at once, of so many, DX and RX by turns:
-    /// those with which neither the lock nor anything for the taker is over. Says how many elements
-    /// that were, and whether all of these words were heard.
+    /// Hears the first of the next words of these elements at once, of so many, DX and RX by turns,
+    /// where the lock surely stands through them. Says how many elements that were, and what is
+    /// over with the last of them. It may hear none.
     #[inline(always)]
     fn hear_at_once<T: StepTaker>(
         &mut self,
@@ -315,31 +313,31 @@ impl WordSynchroniser {
         numbers: &[u64],
         from: usize,
         count: usize,
-    ) -> (usize, bool)
+    ) -> (usize, Option<T::Over>)
         requires limit { IsTrue (is_between_words self.old) }
         requires some { 0 < count }
         requires few { count ≤ 8 }
         requires even { count % 2 ≡ 0 }
         requires room { from + word_elements * count ≤ packed_elements * length numbers.now }
         requires can { T.can_take taker.old (word_elements * count) }
-        ensures takes { TakesQuiet T.hears T.can_take self.old taker.old numbers.now from
+        ensures takes { TakesAtOnce T.hears T.can_take self.old taker.old numbers.now from
             (word_elements * count) self.new taker.new result }
         ensures limit { IsTrue (is_between_words self.new) }
     {
         let eight = words_in(numbers, from, count);
         let words = &eight[..count];
         if !self.keeps_lock(words) {
-            return (0, false);
+            return (0, None);
         }
-        let heard = taker.take_words(words);
+        let (heard, over) = taker.take_words(words);
         if heard == 0 {
-            return (0, false);
+            return (0, None);
         }
         if heard == count {
             self.push_words(words);
-            return (ELEMENTS * count, true);
+            return (ELEMENTS * count, over);
         }
         self.push_words(&words[..heard]);
-        (ELEMENTS * heard, false)
+        (ELEMENTS * heard, over)
     }
 }

@@ -7,3 +7,4 @@ pub mod PlainWords
 pub mod Takes
 pub mod Texts
 pub mod Words
+pub mod WordsTaken

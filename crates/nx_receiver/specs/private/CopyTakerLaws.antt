@@ -43,10 +43,12 @@ take_into (x ∷ xs) ys zero h = absurd (omega arith)
 take_into (x ∷ xs) ys (suc k) h = let e : k - length xs ≡ suc k - suc (length xs) = omega arith in
     ap (λ l. x ∷ l) (take_into xs ys k (omega arith) ∙ ap (λ (m : ℕ). xs ++ take m ys) e)
 
--- some elements are heard after others
-hears_on : (first : Setting) (old mid new : CopyHearing) (h : List Bool) (s : List Setting)
+-- some elements are heard after others, with which no copy ended
+pub hears_on : (first : Setting) (old mid new : CopyHearing) (h : List Bool) (s : List Setting)
     (copies : List TaggedCopy) (xs ys : List Bool) (answer : Option Over)
-    → in_force mid ≡ in_force old → HearsBits first old mid h s copies xs None
+    → in_force mid ≡ in_force old
+    → ((k : ℕ) → k + 1 ≤ length xs
+    → HasEnded first (h ++ take k xs) (s ++ all_in_force old (take k xs)) copies)
     → HearsBits first mid new (h ++ xs) (s ++ all_in_force old xs) copies ys answer
     → HearsBits first old new h s copies (xs ++ ys) answer
 hears_on first old mid new h s copies xs ys answer same f g =
@@ -63,7 +65,7 @@ hears_on first old mid new h s copies xs ys answer same f g =
             | inl early ↦
                 let here : take k (xs ++ ys) ≡ take k xs = take-append-le k xs ys (omega arith) in
                 subst (λ (l : List Bool). HasEnded first (h ++ l) (s ++ all_in_force old l) copies)
-                (sym here) (f.none_before k (omega arith))
+                (sym here) (f k (omega arith))
             | inr late ↦
                 let j = k - length xs in
                 let there : take k (xs ++ ys) ≡ xs ++ take j ys = take_into xs ys k late in
@@ -106,7 +108,7 @@ heard-both old mid new first between last xs ys answer f g =
       hears = record {
         hears = λ start h s copies w.
             let here = f.hears.hears start h s copies w in
-            hears_on start a b c h s copies xs ys answer f.force here
+            hears_on start a b c h s copies xs ys answer f.force here.none_before
             (g.hears.hears start (h ++ xs) (s ++ all_in_force a xs) copies here.brings);
       };
       force = g.force ∙ f.force;

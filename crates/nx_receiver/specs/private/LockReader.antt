@@ -6,7 +6,9 @@ use Rattle.std.specs.Prelude.{◌≡◌, ◌⊎◌, ℕ, Bool, true, false, ◌+
 use Rattle.nx_code.specs.Reading.{shift_after_all}
 use Rattle.nx_code.specs.declared.shifts.Shift.TheVariants.{Letters}
 use Rattle.nx_fec.specs.emissions.Pairing.{IsLatest}
+use Rattle.nx_sync.specs.Words.{role_of}
 use Rattle.nx_sync.specs.declared.step.Role.{Role}
+use Rattle.nx_sync.specs.declared.step.Role.TheVariants.{Rx}
 use Rattle.nx_envelope.specs.Finder.{BringNothing, Hears, StandsAfter}
 use Rattle.nx_envelope.specs.declared.finder.Finder.{Finder}
 use Rattle.nx_envelope.specs.declared.found.HeldCopy.{HeldCopy}
@@ -63,3 +65,29 @@ pub record ReadsPlain (old new : LockReading) (next : List ℕ) : Type 0 where
   pub brings : (first : Role) (words : ℕ → ℕ) (n : ℕ) → ReadsLock old first words n
       → AreNext first words n next
       → PrintsPlain (text_after first words n) (text_after first words (n + length next))
+
+-- The reader heard a word of this role, after whichever it stood, and the event is what it brings.
+pub record HearsNext (old new : LockReading) (word : ℕ) (role : Role) (event : TextEvent) : Type 0
+    where
+  pub stands : (first : Role) (words : ℕ → ℕ) (n : ℕ) → ReadsLock old first words n
+      → words n ≡ word → role ≡ role_of first n → ReadsLock new first words (n + 1)
+  pub hears : (first : Role) (words : ℕ → ℕ) (n : ℕ) → ReadsLock old first words n
+      → words n ≡ word → role ≡ role_of first n
+      → HearsWord (text_after first words n) (text_after first words (n + 1)) new.finder event
+
+-- The reader heard these words, DX and RX by turns. None before the last one begins or ends a copy,
+-- and the event is what the last one brings.
+pub record HearsUpTo (old new : LockReading) (words : List ℕ) (event : TextEvent) : Type 0 where
+  pub mid : LockReading
+  pub before : List ℕ
+  pub last : ℕ
+  pub pairs : ℕ
+  pub whole : words ≡ before ++ last ∷ []
+  pub odd : length before ≡ 2 * pairs + 1
+  pub plain : ReadsPlain old mid before
+  pub next : HearsNext mid new last Rx event
+
+-- The reader heard these words, and none of them begins or ends a copy, or the last one alone.
+abbrev pub HearsWords : LockReading → LockReading → List ℕ → TextEvent → Type 0
+HearsWords old new words event =
+    ((event ≡ Nothing) × ReadsPlain old new words) ⊎ HearsUpTo old new words event

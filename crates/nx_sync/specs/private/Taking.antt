@@ -1,8 +1,7 @@
 -- Packed elements that are heard for a taker, for the contracts of the private functions that hear
 -- some of them.
-use Rattle.std.specs.Prelude.{◌≡◌, ℕ, ◌+◌, ◌*◌, ◌^◌, ◌<◌, ◌≤◌, Bool, IsTrue, false, List, length, take, Option, None}
+use Rattle.std.specs.Prelude.{◌≡◌, ℕ, ◌+◌, ◌*◌, ◌^◌, ◌<◌, ◌≤◌, Bool, List, length, take, Option, None}
 use Rattle.nx_code.specs.Packed.{packed_elements, packed_part}
-use Rattle.nx_code.specs.Word.{word_elements}
 use Rattle.nx_sync.specs.Synchroniser.{Held}
 use Rattle.nx_sync.specs.Taking.{IsTaken}
 
@@ -21,13 +20,12 @@ pub record TakesSome {T O : Type 0} (hears : Held → T → List Bool → Held �
   pub taken : IsTaken hears can_take old before (take heard.0 (packed_part numbers from count)) new
       after heard.1
 
--- Of so many packed elements from a place on, the first ones were taken, if any, and nothing is over
--- with them. `heard` says how many that were, and whether no word behind them has to be taken alone.
--- Where one has, there is one.
-pub record TakesQuiet {T O : Type 0} (hears : Held → T → List Bool → Held → T → Option O → Type 0)
+-- Of so many packed elements from a place on, the first ones were taken, or none. `heard` says how
+-- many that were, and what is over with the last of them.
+pub record TakesAtOnce {T O : Type 0} (hears : Held → T → List Bool → Held → T → Option O → Type 0)
     (can_take : T → ℕ → Type 0) (old : Held) (before : T) (numbers : List ℕ) (from count : ℕ)
-    (new : Held) (after : T) (heard : ℕ × Bool) : Type 0 where
+    (new : Held) (after : T) (heard : ℕ × Option O) : Type 0 where
   pub within : heard.0 ≤ count
-  pub some : IsTrue heard.1 → 0 < heard.0
-  pub left : heard.1 ≡ false → heard.0 + word_elements ≤ count
-  pub taken : IsTaken hears can_take old before (packed_part numbers from heard.0) new after None
+  pub taken :
+      IsTaken hears can_take old before (packed_part numbers from heard.0) new after heard.1
+  pub none : heard.0 ≡ 0 → heard.1 ≡ None

@@ -99,13 +99,13 @@ quiet_bits first old h s copies bits (suc n) le quiet o =
     (sym whole) (sym force) after)
 
 -- elements of which the last one brings a step, and those before it nothing
-step_heard : (first : Setting) (old new : CopyTaker) (before after : Held) (bits : List Bool)
+pub step_heard : (first : Setting) (old new : CopyTaker) (before after : Held) (bits : List Bool)
     (h : List Bool) (s : List Setting) (copies : List TaggedCopy) (r : Step) (answer : Option Over)
     → 0 < length bits → StandsAfter after (h ++ bits) → IsLastStep h bits r
-    → ReadsStep old new r answer → HearerStands first (hearer_of before old) h s copies
+    → ReadsStep old new r answer → ReadsOver first old.reader old.tag h s copies
     → HearsBits first (hearer_of before old) (hearer_of after new) h s copies bits answer
 unfolding all_in_force
-step_heard first old new before after bits h s copies r answer some stands is read w =
+step_heard first old new before after bits h s copies r answer some stands is read o =
     let hearer = hearer_of before old in
     let n = length bits - 1 in
     let e : n + 1 ≡ length bits = omega arith in
@@ -123,7 +123,7 @@ step_heard first old new before after bits h s copies r answer some stands is re
     ∙ sym (append_assoc s (all_in_force hearer rest) (setting_of old ∷ [])) in
     let quiet : (k : ℕ) → k < n → IsStep (h ++ take (k + 1) bits) (step None None) =
     λ k lt. is.quiet k (omega (arith, lt, e)) in
-    let before_last = quiet_bits first hearer h s copies bits n (omega arith) quiet w.reads in
+    let before_last = quiet_bits first hearer h s copies bits n (omega arith) quiet o in
     let last = element_over first old new after x (h ++ rest) (s ++ all_in_force hearer rest) copies
     r answer (subst (StandsAfter after) whole stands)
     (subst (λ (l : List Bool). IsStep l r) whole is.last) read before_last in
@@ -133,7 +133,7 @@ step_heard first old new before after bits h s copies r answer some stands is re
       none_before = λ k lt. has_ended first old.reader old.tag (h ++ take k bits)
           (s ++ all_in_force hearer (take k bits)) copies
           (quiet_bits first hearer h s copies bits k (omega arith)
-          (λ j small. quiet j (omega (arith, small, lt, e))) w.reads);
+          (λ j small. quiet j (omega (arith, small, lt, e))) o);
     }
 
 -- what is in force stays where a step is read
@@ -146,7 +146,7 @@ step_force old new r answer read =
     ] refl
 
 -- and the tag goes on
-tag_by : (old new : CopyTaker) (before after : Held) (event : TextEvent)
+pub tag_by : (old new : CopyTaker) (before after : Held) (event : TextEvent)
     → new.tag ≡ tag_after (setting_of old) old.tag event
     → TagGoesOn (hearer_of before old) (hearer_of after new)
 tag_by old new before after events.Nothing e = as_it_was e
@@ -172,7 +172,7 @@ pub step_taken : (old new : CopyTaker) (before after : Held) (bits : List Bool) 
 step_taken old new before after bits r answer some reads brings = record {
   hears = record {
     hears = λ first h s copies w. step_heard first old new before after bits h s copies r answer
-        some (brings.stands h w.synchroniser) (brings.brings h w.synchroniser) reads w;
+        some (brings.stands h w.synchroniser) (brings.brings h w.synchroniser) reads w.reads;
   };
   force = step_force old new r answer reads;
   kept = step_tag old new before after r answer reads;

@@ -370,6 +370,32 @@ module _ (first : Setting) (h : List Bool) (s : List Setting) (old : CopyHearing
       let at : t ≡ limit.t = cc in
       words_over locks p t limit.whole now (omega (arith, limit.limit, at)) stood has_tag
 
+-- no copy has ended with some of these words, and the reader and the tag stand after them
+pub record WordsRead (first : Setting) (hearer : CopyHearing) (reader : LockReading)
+    (h : List Bool) (s : List Setting) (copies : List TaggedCopy) (more : List Bool) : Type 0 where
+  pub reads : ReadsOver first reader hearer.tag (h ++ more) (s ++ all_in_force hearer more) copies
+  pub none_before : (k : ℕ)
+      → HasEnded first (h ++ take k more) (s ++ all_in_force hearer (take k more)) copies
+
+pub words_read : (first : Setting) (old : CopyTaker) (before : Held) (reader : LockReading)
+    (next : List ℕ) (h : List Bool) (s : List Setting) (copies : List TaggedCopy)
+    → 0 < length next → ReadsPlain old.reader reader next → AreQuietWords h Dx next → LimitStands h
+    → ReadsOver first old.reader old.tag h s copies
+    → WordsRead first (hearer_of before old) reader h s copies (flat_map elements next)
+words_read first old before reader next h s copies some reads quiet limit o =
+    let hearer = hearer_of before old in
+    let more : List Bool = flat_map elements next in
+    let later : ReadsOver first reader old.tag (h ++ more) (s ++ all_in_force hearer more) copies =
+    subst (ReadsOver first reader old.tag (h ++ more) (s ++ all_in_force hearer more)) (sym o.ended)
+    (words_now first h s hearer reader next some quiet reads o.many o.locks o.now o.stands limit
+    o.reads o.has_tag) in
+    record {
+      reads = later;
+      none_before = λ k. none_ended first h more s (all_in_force hearer more)
+          (all_in_force hearer (take k more)) copies o.locks later.locks o.now later.now o.stands
+          later.stands o.many o.ended later.ended k;
+    }
+
 words_heard : (first : Setting) (old : CopyTaker) (before after : Held) (reader : LockReading)
     (next : List ℕ) (h : List Bool) (s : List Setting) (copies : List TaggedCopy)
     → 0 < length next → ReadsPlain old.reader reader next → BringsWords before after next
@@ -377,19 +403,11 @@ words_heard : (first : Setting) (old : CopyTaker) (before after : Held) (reader 
     → HearsBits first (hearer_of before old) (hearer_of after (record old { reader = reader })) h s
     copies (flat_map elements next) None
 words_heard first old before after reader next h s copies some reads brings w =
-    let hearer = hearer_of before old in
-    let o = w.reads in
-    let more : List Bool = flat_map elements next in
-    let quiet = brings.quiet h w.synchroniser in
-    let later : ReadsOver first reader old.tag (h ++ more) (s ++ all_in_force hearer more) copies =
-    subst (ReadsOver first reader old.tag (h ++ more) (s ++ all_in_force hearer more)) (sym o.ended)
-    (words_now first h s hearer reader next some quiet reads o.many o.locks o.now
-    o.stands (brings.limit h w.synchroniser) o.reads o.has_tag) in
+    let read = words_read first old before reader next h s copies some reads
+    (brings.quiet h w.synchroniser) (brings.limit h w.synchroniser) w.reads in
     record {
-      brings = record { synchroniser = brings.stands h w.synchroniser; reads = later };
-      none_before = λ k lt. none_ended first h more s (all_in_force hearer more)
-          (all_in_force hearer (take k more)) copies o.locks later.locks o.now later.now o.stands
-          later.stands o.many o.ended later.ended k;
+      brings = record { synchroniser = brings.stands h w.synchroniser; reads = read.reads };
+      none_before = λ k lt. read.none_before k;
     }
 
 pub plain_taken : (old : CopyTaker) (reader : LockReading) (next : List ℕ) (before after : Held)

@@ -1,6 +1,6 @@
 -- What a taker is given of packed elements: that of some, and of those after them.
-use Rattle.std.proofs.Common.{◌≡◌, ℕ, zero, suc, ◌+◌, ◌-◌, ◌*◌, ◌<◌, ◌≤◌, Bool, true, false, List, [], ◌∷◌, ◌++◌}
-use Rattle.std.proofs.Common.{length, take, drop, Option, None, refl, sym, ap, ◌∙◌, subst}
+use Rattle.std.proofs.Common.{◌≡◌, ℕ, zero, suc, ◌+◌, ◌-◌, ◌*◌, ◌<◌, ◌≤◌, Bool, List, [], ◌∷◌, ◌++◌}
+use Rattle.std.proofs.Common.{length, take, drop, Option, None, refl, sym, ap, ◌∙◌, subst, subst₂}
 use Rattle.std.proofs.Common.{arith, length-append, take-take, take_all}
 use Rattle.std.proofs.lemmas.List.{length-take-le}
 use lib.Seq.{take-add}
@@ -12,7 +12,7 @@ use Rattle.nx_code.proofs.lemmas.Packed.{length-elements}
 use Rattle.nx_sync.specs.Steps.{HuntsThrough, IsLastStep, IsStep, IsWordStep, step}
 use Rattle.nx_sync.specs.Synchroniser.{Held, StandsAfter}
 use Rattle.nx_sync.specs.Taking.{BringsStep, IsTaken}
-use Rattle.nx_sync.specs.private.Taking.{TakesQuiet, TakesSome}
+use Rattle.nx_sync.specs.private.Taking.{TakesAtOnce, TakesSome}
 use Rattle.nx_sync.specs.declared.step.Step.{Step}
 use Rattle.nx_sync.proofs.lemmas.hunting.PackedParts.{first_part, length-part, part_of_part}
 
@@ -49,26 +49,23 @@ module _ {T O : Type 0} (hears : Held → T → List Bool → Held → T → Opt
             (is ∙ sym (first_part numbers from count n within)) t;
       }
 
-  -- where nothing is over with the first ones, others can be taken behind them
-  pub quiet_taken : {old new : Held} {u v : T} {numbers : List ℕ} {from count : ℕ}
-      {heard : ℕ × Bool} → TakesQuiet hears can_take old u numbers from count new v heard
-      → Takes old u numbers from count heard.0 new v
-  quiet_taken {old} {new} {u} {v} {numbers} {from} {count} {heard} q = record {
-    within = q.within;
-    taken = subst (λ l. IsTaken hears can_take old u l new v None)
-        (sym (first_part numbers from count heard.0 q.within)) q.taken;
+  -- where none were taken at once, others can be taken
+  pub none_at_once : {old new : Held} {u v : T} {numbers : List ℕ} {from count : ℕ}
+      {heard : ℕ × Option O} → TakesAtOnce hears can_take old u numbers from count new v heard
+      → heard.0 ≡ 0 → Takes old u numbers from count 0 new v
+  none_at_once {old} {new} {u} {v} {numbers} {from} {count} {heard} q none = record {
+    within = omega arith;
+    taken = subst₂ (λ l over. IsTaken hears can_take old u l new v over)
+        (ap (packed_part numbers from) none ∙ sym (first_part numbers from count 0 (omega arith)))
+        (q.none none) q.taken;
   }
 
   -- of fewer elements too
-  pub quiet_among : {old new : Held} {u v : T} {numbers : List ℕ} {from count n : ℕ}
-      {heard : ℕ × Bool} → TakesQuiet hears can_take old u numbers from n new v heard → n ≤ count
-      → TakesQuiet hears can_take old u numbers from count new v heard
-  quiet_among {numbers = numbers} {from} {count} {n} {heard} q within = record {
-    within = omega (arith, q.within, within);
-    some = q.some;
-    left = λ no. omega (arith, q.left no, within);
-    taken = q.taken;
-  }
+  pub at_once_among : {old new : Held} {u v : T} {numbers : List ℕ} {from count n : ℕ}
+      {heard : ℕ × Option O} → TakesAtOnce hears can_take old u numbers from n new v heard
+      → n ≤ count → TakesAtOnce hears can_take old u numbers from count new v heard
+  at_once_among {numbers = numbers} {from} {count} {n} {heard} q within =
+      record { within = omega (arith, q.within, within); taken = q.taken; none = q.none }
 
   module _ (none : (held : Held) (taker : T) → hears held taker [] held taker None)
       (both : (old mid new : Held) (first between last : T) (xs ys : List Bool) (over : Option O)
@@ -89,15 +86,14 @@ module _ {T O : Type 0} (hears : Held → T → List Bool → Held → T → Opt
           (subst (can_take u) (omega (arith, length-append xs ys)) can));
     }
 
-    -- no words of these are heard at once
-    pub quiet_none : (held : Held) (taker : T) (numbers : List ℕ) (from count : ℕ) → 7 ≤ count
-        → TakesQuiet hears can_take held taker numbers from count held taker (0, false)
-    quiet_none held taker numbers from count some = record {
+    -- none are taken at once
+    pub at_once_none : (held : Held) (taker : T) (numbers : List ℕ) (from count : ℕ)
+        → TakesAtOnce hears can_take held taker numbers from count held taker (0, None)
+    at_once_none held taker numbers from count = record {
       within = omega arith;
-      some = λ is. absurd (let same : false ≡ true = is in cc);
-      left = λ no. some;
       taken = subst (λ l. IsTaken hears can_take held taker l held taker None)
           (sym (first_part numbers from 0 0 (omega arith))) (none_taken held taker);
+      none = λ e. refl;
     }
 
     pub takes_none : (held : Held) (taker : T) (numbers : List ℕ) (from count : ℕ)

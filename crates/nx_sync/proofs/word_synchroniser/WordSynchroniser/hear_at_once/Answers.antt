@@ -14,14 +14,14 @@ use Rattle.nx_sync.proofs.word_synchroniser.WordSynchroniser.hear_at_once.Goals 
 
 pub push_words-requires-2-clause-keeps : goal.push_words-requires-2-clause-keeps
 push_words-requires-2-clause-keeps g c =
-    keeps_first c.args.self.now (take c.args.count c.words_in-eight.result) c.take_words-heard.result
+    keeps_first c.args.self.now (take c.args.count c.words_in-eight.result) c.take_words-heard.result.0
     c.take_words-heard.ensures.within (search rules)
 
 pub returns-then-heard-count-clause-takes : goal.returns-then-heard-count-clause-takes
 returns-then-heard-count-clause-takes g c =
     let words : List ℕ = take c.args.count c.words_in-eight.result in
     let size : length words ≡ c.args.count = omega arith in
-    let n = c.take_words-heard.result in
+    let n = c.take_words-heard.result.0 in
     let takes = c.take_words-heard.ensures in
     let many : n ≡ c.args.count = search rules in
     let all : take n words ≡ words = take_all n words (omega (arith, many, size)) in
@@ -32,10 +32,9 @@ returns-then-heard-count-clause-takes g c =
     length-of_words (take n words) ∙ ap (λ l. 7 * length l) all ∙ omega (arith, many, size) in
     record {
       within = omega arith;
-      some = λ yes. omega (arith, c.requires.some);
-      left = λ no. let same : true ≡ false = no in cc;
+      none = λ none. absurd (omega (arith, none, c.requires.some));
       taken = subst (λ bits. IsTaken g.T.StepTaker.hears g.T.StepTaker.can_take c.args.self.now
-          c.args.taker.now bits c.push_words.new.self c.take_words-heard.new.self None) is
+          c.args.taker.now bits c.push_words.new.self c.take_words-heard.new.self c.take_words-heard.result.1) is
           (record {
             taken = takes.hears (omega (arith, many, c.requires.some)) c.args.self.now
                 c.push_words.new.self (subst (BringsWords c.args.self.now c.push_words.new.self)
@@ -55,7 +54,7 @@ pub returns-clause-takes : goal.returns-clause-takes
 returns-clause-takes g c =
     let words : List ℕ = take c.args.count c.words_in-eight.result in
     let size : length words ≡ c.args.count = omega arith in
-    let n = c.take_words-heard.result in
+    let n = c.take_words-heard.result.0 in
     let takes = c.take_words-heard.ensures in
     let some : 0 < n = omega arith in
     let few : n < c.args.count = omega (arith, takes.within, size) in
@@ -67,10 +66,9 @@ returns-clause-takes g c =
     ∙ first_part c.args.numbers.now c.args.from (7 * c.args.count) (7 * n) (omega (arith, few)) in
     record {
       within = omega (arith, few);
-      some = λ is. let same : false ≡ true = is in cc;
-      left = λ no. omega (arith, few);
+      none = λ none. absurd (omega (arith, none, some));
       taken = subst (λ bits. IsTaken g.T.StepTaker.hears g.T.StepTaker.can_take c.args.self.now
-          c.args.taker.now bits c.push_words-2.new.self c.take_words-heard.new.self None) is
+          c.args.taker.now bits c.push_words-2.new.self c.take_words-heard.new.self c.take_words-heard.result.1) is
           (record {
             taken = takes.hears some c.args.self.now c.push_words-2.new.self (record {
               stands = c.push_words-2.ensures.stands;

@@ -1,13 +1,12 @@
-use Rattle.std.proofs.Common.{◌≡◌, ◌-◌, ◌≤◌, ◌%◌, ◌*◌, ◌/◌, length, take}
+use Rattle.std.proofs.Common.{◌≡◌, ◌-◌, ◌≤◌, ◌%◌, length, take}
 use Rattle.nx_receiver.specs.private.LockReader.{ReadsPlain}
-use Rattle.nx_receiver.proofs.lock_reader.LockReader.hear_plain_pairs.Given as goal
+use Rattle.nx_receiver.proofs.lock_reader.LockReader.hear_pairs.Given as goal
 
 abbrev pub invariant-loop-heard : goal.invariant-loop-heard
 invariant-loop-heard l = record {
   within : l.heard ≤ length l.words;
   even : l.heard % 2 ≡ 0;
   plain : ReadsPlain l.fn.self l.self (take l.heard l.words);
-  same : l.heard ≡ 0 → l.self ≡ l.fn.self;
 }
 
 abbrev pub decreases-loop-heard : goal.decreases-loop-heard

@@ -1,0 +1,15 @@
+use Rattle.std.proofs.Common.{refl, ap, sym}
+use Rattle.nx_receiver.specs.CopyHearing.{LockReading}
+use Rattle.nx_receiver.proofs.lemmas.copy_hearer.PlainPairs.{pair_heard}
+use Rattle.nx_receiver.proofs.lock_reader.LockReader.hear_pair.Goals as goal
+
+pub returns : goal.returns
+returns c =
+    let mid : LockReading = record {
+      diversity = c.hear_dx.new.self;
+      printer = c.self.inside.printer.printer;
+      finder = c.self.inside.finder;
+    } in
+    pair_heard {old = c.args.self.now} {mid = mid} (rw (← c.self.view_is) c.hear_dx.ensures.stands)
+    (ap (λ r. r.printer) c.self.view_is) (ap (λ r. r.finder) c.self.view_is)
+    (record { stands = c.take_word.ensures.stands; hears = c.take_word.ensures.hears })
