@@ -107,13 +107,13 @@ tree_of name (on_file make) = file_tree name
 tree_of name (range make) = damage_tree name
 tree_of name (options make) = log_tree name
 
--- a command of the program: its name, and what it takes
-abbrev pub Entry : Type 0
-Entry = Text × Maker
+-- a row of the table of commands: the name of a command, and what it takes
+abbrev pub CommandRow : Type 0
+CommandRow = Text × Maker
 
 -- the commands of the program, in the order in which help lists them
-abbrev pub entries : List Entry
-entries =
+abbrev pub command_rows : List CommandRow
+command_rows =
     (codes "listen", plain Listen) ∷ (codes "watch", on_file Watch) ∷ (codes "log", options Log)
     ∷ (codes "send", slot Send) ∷ (codes "resume", plain Resume) ∷ (codes "save", plain Save)
     ∷ (codes "locks", plain Locks) ∷ (codes "slots", slot Slots)
@@ -124,7 +124,8 @@ entries =
 -- the command tree of the program
 abbrev pub navtex : App
 navtex =
-    fold (λ (tree : App) (e : Entry). with_subcommand tree (tree_of e.0 e.1).top) bare_tree entries
+    fold (λ (tree : App) (row : CommandRow). with_subcommand tree (tree_of row.0 row.1).top)
+    bare_tree command_rows
 
 -- the value of STATION is this letter alone
 abbrev pub IsStation : List Row → Letter → Type 0
@@ -147,12 +148,15 @@ pub record IsNumber (name : Text) (values : List Row) (number : ℕ) : Type 0 wh
   pub value : number ≡ digits_value 10 (without_leading_plus text)
   pub fits : number < 2 ^ 64
 
+-- the values are this station and this moment
+abbrev pub HasStationAndMoment : List Row → Letter → ℕ → Type 0
+HasStationAndMoment values station moment =
+    IsStation values station × IsNumber (codes "MOMENT") values moment
+
 -- the values are those of the call
 abbrev pub HasValues : Call → List Row → Type 0
-HasValues (Send station moment) values =
-    IsStation values station × IsNumber (codes "MOMENT") values moment
-HasValues (Slots station moment) values =
-    IsStation values station × IsNumber (codes "MOMENT") values moment
+HasValues (Send station moment) values = HasStationAndMoment values station moment
+HasValues (Slots station moment) values = HasStationAndMoment values station moment
 HasValues (Watch name moment) values =
     IsFile values name × IsNumber (codes "MOMENT") values moment
 HasValues (Damage kind from count) values =

@@ -27,7 +27,7 @@ use Rattle.nx_program.specs.declared.arguments.ArgumentsFault.TheVariants.{Memor
 use Rattle.nx_station.specs.declared.damaging.DamageKind.{DamageKind}
 use Rattle.nx_program.specs.Arguments.{AsksForHelp, AsksForVersion, HasValues, IsKind, IsNumber}
 use Rattle.nx_program.specs.Arguments.{IsRefusal, IsRefused, IsStation, LacksKind, LacksStation, LacksValue}
-use Rattle.nx_program.specs.Arguments.{Maker, Names, command_name, entries, navtex, on_file, options}
+use Rattle.nx_program.specs.Arguments.{Maker, Names, command_name, command_rows, navtex, on_file, options}
 use Rattle.nx_program.specs.Arguments.{plain, range, slot}
 use Rattle.nx_program.specs.LogArguments.{IsQuery, value_report}
 use Rattle.nx_program.proofs.lemmas.queries.QueryAsked.{query_not_unfit, query_or_unfit}
@@ -35,7 +35,7 @@ use Rattle.nx_program.specs.private.LogReading.{ExplainsOptions}
 use Rattle.nx_program.specs.private.Reading.{ExplainsArguments, IsSortedAs}
 use Rattle.nx_program.proofs.lemmas.EachFound.{Each, each-map, found_is}
 use Rattle.nx_program.proofs.lemmas.arguments.CallValues.{differ, number_once}
-use Rattle.nx_program.proofs.lemmas.arguments.CommandTable.{HasCall, IsSlotName, IsSound, Makes, entries-sound}
+use Rattle.nx_program.proofs.lemmas.arguments.CommandTable.{HasCall, IsSlotName, IsSound, Makes, command_rows-sound}
 use Rattle.nx_program.proofs.lemmas.arguments.CommandsTaken.{Gives, leaf, taken-command}
 use Rattle.nx_program.proofs.lemmas.arguments.NumbersGiven.{number-given}
 use Rattle.nx_program.proofs.lemmas.arguments.OneCall.{IsNotCalled, call_or_none, has-kind, has-query, has-station}
@@ -118,8 +118,8 @@ leaf-no_help name (range make) = refl
 leaf-no_help name (options make) = refl
 
 calls_without_help : Each HasNoHelp (built navtex).subs
-calls_without_help = each-map IsSound HasNoHelp leaf (λ e sound. leaf-no_help e.0 e.1) entries
-    entries-sound
+calls_without_help = each-map IsSound HasNoHelp leaf (λ c sound. leaf-no_help c.0 c.1) command_rows
+    command_rows-sound
 
 IfSome-weaker : {X : Type 0} (o : Option X) (P Q : X → Type 0) → ((x : X) → P x → Q x) → IfSome o P
     → IfSome o Q

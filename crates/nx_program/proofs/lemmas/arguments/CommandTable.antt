@@ -11,14 +11,14 @@ use Rattle.nx_program.specs.LogArguments.{IsForm, IsQuery}
 use Rattle.nx_station.specs.declared.damaging.DamageKind.{DamageKind}
 use Rattle.nx_program.specs.declared.arguments.Call.{Call}
 use Rattle.nx_program.specs.declared.arguments.Call.TheVariants.{Damage, Log, Send, Slots, Watch}
-use Rattle.nx_program.specs.Arguments.{Entry, HasValues, IsFile, IsKind, IsNumber, IsStation, Maker}
-use Rattle.nx_program.specs.Arguments.{command_name, entries, on_file, options, plain, range, slot}
+use Rattle.nx_program.specs.Arguments.{CommandRow, HasValues, IsFile, IsKind, IsNumber, IsStation, Maker}
+use Rattle.nx_program.specs.Arguments.{command_name, command_rows, on_file, options, plain, range, slot}
 use Rattle.nx_program.proofs.lemmas.arguments.CallValues.{file_call, file_call-only, range_call, range_call-only}
 use Rattle.nx_program.proofs.lemmas.arguments.CallValues.{slot_call, slot_call-only}
 use Rattle.nx_program.proofs.lemmas.queries.QueryAsked.{query_call, query_call-only}
 use Rattle.nx_program.proofs.lemmas.EachFound.{Each}
 
--- the call that an entry makes of the values, and the one that the entry under this name makes
+-- the call that a row of the table makes of the values, and the one that the row of this name makes
 abbrev pub made : Maker → List Row → Option Call
 made (plain call) rows = Some call
 made (slot make) rows = slot_call make rows
@@ -26,9 +26,9 @@ made (on_file make) rows = file_call make rows
 made (range make) rows = range_call make rows
 made (options make) rows = query_call make rows
 
-abbrev pub call_in : List Entry → Text → List Row → Option Call
+abbrev pub call_in : List CommandRow → Text → List Row → Option Call
 call_in [] name rows = None
-call_in (e ∷ es) name rows = if bytes_eq e.0 name then made e.1 rows else call_in es name rows
+call_in (c ∷ cs) name rows = if bytes_eq c.0 name then made c.1 rows else call_in cs name rows
 
 -- the name of a call that takes a station and a moment
 abbrev pub IsSlotName : Text → Type 0
@@ -38,7 +38,7 @@ IsSlotName name = (name ≡ codes "send") ⊎ (name ≡ codes "slots")
 abbrev pub HasCall : Text → List Row → Call → Type 0
 HasCall name rows call = (name ≡ command_name call) × HasValues call rows
 
--- the calls that an entry makes have its name, and are given its values
+-- the calls that a row of the table makes have its name, and are given its values
 abbrev pub Makes : Text → Maker → Type 0
 Makes name (plain call) = (rows : List Row) → HasCall name rows call
 Makes name (slot make) =
@@ -57,15 +57,15 @@ Makes name (options make) =
     (name ≡ codes "log") × ((rows : List Row) (q : Query) (f : Form) → IsQuery rows q
     → IsForm rows f → HasCall name rows (make q f))
 
-abbrev pub IsSound : Entry → Type 0
-IsSound e = Makes e.0 e.1
+abbrev pub IsSound : CommandRow → Type 0
+IsSound c = Makes c.0 c.1
 
-pub entries-sound : Each IsSound entries
-entries-sound = search rules
+pub command_rows-sound : Each IsSound command_rows
+command_rows-sound = search rules
 
--- the entry under a call's name makes the call of its values
+-- the row of a call's name makes the call of its values
 pub call_in-only : (call : Call) (rows : List Row) → HasValues call rows
-    → call_in entries (command_name call) rows ≡ Some call
+    → call_in command_rows (command_name call) rows ≡ Some call
 call_in-only (Send station moment) rows given = slot_call-only _ rows station moment given.0 given.1
 call_in-only (Slots station moment) rows given =
     slot_call-only _ rows station moment given.0 given.1

@@ -10,14 +10,14 @@ use Rattle.clap.specs.Simple.{argument_words, built_leaf, entered, filled_from, 
 use Rattle.clap.specs.Simple.{names_of, rows_at}
 use Rattle.clap.specs.Walk.{answers_to, nothing_held, rows_after, walk}
 use Rattle.clap.specs.Faults.{check_fault, entered_fault, level_fault}
-use Rattle.nx_program.proofs.lemmas.arguments.CommandTable.{IsSound, Makes, entries-sound}
+use Rattle.nx_program.proofs.lemmas.arguments.CommandTable.{IsSound, Makes, command_rows-sound}
 use Rattle.nx_program.proofs.lemmas.EachFound.{Each, each-map, found_is}
 use Rattle.nx_program.proofs.lemmas.arguments.NumbersGiven.{GivesNumber, IsNumeric, gets, uses-other, uses-text}
 use Rattle.nx_program.proofs.lemmas.arguments.NumbersGiven.{uses-wanted}
 use Rattle.nx_program.proofs.lemmas.arguments.RowsKept.{UsesWell, or-first, or-second}
 use Rattle.nx_program.proofs.lemmas.arguments.TextsGiven.{GivesText, IsTexted, gets-text, uses-other_number}
 use Rattle.nx_program.proofs.lemmas.arguments.TextsGiven.{uses-wanted_text}
-use Rattle.nx_program.specs.Arguments.{Entry, Maker, entries, navtex, number_rule, on_file, options}
+use Rattle.nx_program.specs.Arguments.{CommandRow, Maker, command_rows, navtex, number_rule, on_file, options}
 use Rattle.nx_program.specs.Arguments.{plain, range, slot, text_rule, tree_of}
 
 -- the values of a command that wants a station and a moment, of one that wants a file and a moment,
@@ -104,7 +104,7 @@ both_wanted false true false e = absurd (cc)
 both_wanted false false true e = absurd (cc)
 both_wanted false false false e = absurd (cc)
 
--- the text and the numbers that the command of an entry is given
+-- the text and the numbers that the command of a row is given
 abbrev pub Gives : Maker → List Row → Type 0
 Gives (plain call) rows = Unit {0}
 Gives (slot make) rows = GivesNumber (codes "MOMENT") 32503679999 rows
@@ -124,9 +124,9 @@ abbrev IsCommandOf : Shape → Type 0
 IsCommandOf s = (arguments : List Text) → level_fault s [] nothing_held arguments false [] ≡ []
     → IsCommand s.name (rows_after s.rules [] arguments)
 
--- the command of an entry, as it is built
-abbrev pub leaf : Entry → Shape
-leaf e = built_leaf (tree_of e.0 e.1).top
+-- the command of a row of the table, as it is built
+abbrev pub leaf : CommandRow → Shape
+leaf c = built_leaf (tree_of c.0 c.1).top
 
 leaf-is : (name : Text) (maker : Maker) → Makes name maker → IsCommandOf (leaf (name, maker))
 leaf-is name (plain call) makes arguments e = record { maker = plain call; makes = makes; gives = tt }
@@ -171,8 +171,8 @@ leaf-is name (range make) makes arguments e =
     }
 
 commands-are : Each IsCommandOf (built navtex).subs
-commands-are = each-map IsSound IsCommandOf leaf (λ e sound. leaf-is e.0 e.1 sound) entries
-    entries-sound
+commands-are = each-map IsSound IsCommandOf leaf (λ c sound. leaf-is c.0 c.1 sound) command_rows
+    command_rows-sound
 
 found-command : (arguments : List Text) (found : Option Shape) → IfSome found IsCommandOf
     → option_map_or (λ s. level_fault s [] nothing_held arguments false []) found [] ≡ []

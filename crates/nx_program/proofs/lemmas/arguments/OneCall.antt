@@ -8,15 +8,15 @@ use Rattle.nx_envelope.specs.declared.letter.Letter.{Letter}
 use Rattle.nx_station.specs.declared.damaging.DamageKind.{DamageKind}
 use Rattle.nx_program.specs.declared.arguments.Call.{Call}
 use Rattle.nx_program.specs.declared.arguments.Call.TheVariants.{Log}
-use Rattle.nx_program.specs.Arguments.{Entry, HasValues, IsKind, IsStation, Maker, command_name}
-use Rattle.nx_program.specs.Arguments.{entries, on_file, options, plain, range, slot}
+use Rattle.nx_program.specs.Arguments.{CommandRow, HasValues, IsKind, IsStation, Maker, command_name}
+use Rattle.nx_program.specs.Arguments.{command_rows, on_file, options, plain, range, slot}
 use Rattle.nx_program.proofs.lemmas.arguments.CallValues.{file_call-is, range_call-is, range_call-kind, slot_call-is}
 use Rattle.nx_program.proofs.lemmas.arguments.CallValues.{slot_call-station}
 use Rattle.nx_log.specs.declared.queries.query.Query.{Query}
 use Rattle.nx_program.specs.LogArguments.{IsQuery}
 use Rattle.nx_program.proofs.lemmas.queries.QueryAsked.{query_call-is, query_call-query}
 use Rattle.nx_program.proofs.lemmas.arguments.CommandTable.{HasCall, IsSlotName, IsSound, Makes, call_in}
-use Rattle.nx_program.proofs.lemmas.arguments.CommandTable.{call_in-only, entries-sound, made}
+use Rattle.nx_program.proofs.lemmas.arguments.CommandTable.{call_in-only, command_rows-sound, made}
 use Rattle.nx_program.proofs.lemmas.EachFound.{Each}
 
 made-is : (name : Text) (maker : Maker) → Makes name maker → (rows : List Row)
@@ -27,23 +27,23 @@ made-is name (on_file make) makes rows = file_call-is make rows (HasCall name ro
 made-is name (range make) makes rows = range_call-is make rows (HasCall name rows) (makes.1 rows)
 made-is name (options make) makes rows = query_call-is make rows (HasCall name rows) (makes.1 rows)
 
-call_in-is : (es : List Entry) → Each IsSound es → (name : Text) (rows : List Row)
-    → IfSome (call_in es name rows) (HasCall name rows)
+call_in-is : (cs : List CommandRow) → Each IsSound cs → (name : Text) (rows : List Row)
+    → IfSome (call_in cs name rows) (HasCall name rows)
 call_in-is [] each name rows = tt
-call_in-is (e ∷ es) each name rows = go (bytes_eq e.0 name) refl (call_in-is es each.1 name rows)
+call_in-is (c ∷ cs) each name rows = go (bytes_eq c.0 name) refl (call_in-is cs each.1 name rows)
   where
-    go : (t : Bool) → bytes_eq e.0 name ≡ t → IfSome (call_in es name rows) (HasCall name rows)
-        → IfSome (if t then made e.1 rows else call_in es name rows) (HasCall name rows)
+    go : (t : Bool) → bytes_eq c.0 name ≡ t → IfSome (call_in cs name rows) (HasCall name rows)
+        → IfSome (if t then made c.1 rows else call_in cs name rows) (HasCall name rows)
     go true same rest =
-        let is : e.0 ≡ name = (bytes_eq-Decides e.0 name).0 same in
-        let P : Text → Type 0 = λ n. IfSome (made e.1 rows) (HasCall n rows) in
-        subst P is (made-is e.0 e.1 each.0 rows)
+        let is : c.0 ≡ name = (bytes_eq-Decides c.0 name).0 same in
+        let P : Text → Type 0 = λ n. IfSome (made c.1 rows) (HasCall n rows) in
+        subst P is (made-is c.0 c.1 each.0 rows)
     go false other rest = rest
 
 only_named : (name : Text) (rows : List Row) (call : Call) → HasCall name rows call
-    → call_in entries name rows ≡ Some call
+    → call_in command_rows name rows ≡ Some call
 only_named name rows call has =
-    let P : Text → Type 0 = λ n. call_in entries n rows ≡ Some call in
+    let P : Text → Type 0 = λ n. call_in command_rows n rows ≡ Some call in
     subst P (sym has.0) (call_in-only call rows has.1)
 
 -- a command and its values have at most one call
@@ -59,7 +59,7 @@ same_call a b rows e given other =
 abbrev pub IsNotCalled : Text → List Row → Type 0
 IsNotCalled name rows = (call : Call) → name ≡ command_name call → HasValues call rows → ⊥
 
-not_called : (name : Text) (rows : List Row) → call_in entries name rows ≡ None
+not_called : (name : Text) (rows : List Row) → call_in command_rows name rows ≡ None
     → IsNotCalled name rows
 not_called name rows none call is given =
     let some : None ≡ Some call = sym none ∙ only_named name rows call (is, given) in
@@ -67,24 +67,24 @@ not_called name rows none call is given =
 
 pub call_or_none : (name : Text) (rows : List Row)
     → ((call : Call) × HasCall name rows call) ⊎ IsNotCalled name rows
-call_or_none name rows = go (call_in entries name rows) refl
-    (call_in-is entries entries-sound name rows)
+call_or_none name rows = go (call_in command_rows name rows) refl
+    (call_in-is command_rows command_rows-sound name rows)
   where
-    go : (o : Option Call) → call_in entries name rows ≡ o → IfSome o (HasCall name rows)
+    go : (o : Option Call) → call_in command_rows name rows ≡ o → IfSome o (HasCall name rows)
         → ((call : Call) × HasCall name rows call) ⊎ IsNotCalled name rows
     go (Some call) e is = inl (call, is)
     go None e is = inr (not_called name rows e)
 
--- a name whose entry makes no call of the values is not called
-pub at_name : (own name : Text) (rows : List Row) → name ≡ own → call_in entries own rows ≡ None
-    → IsNotCalled name rows
+-- a name whose row makes no call of the values is not called
+pub at_name : (own name : Text) (rows : List Row) → name ≡ own
+    → call_in command_rows own rows ≡ None → IsNotCalled name rows
 at_name own name rows is none =
     let P : Text → Type 0 = λ n. IsNotCalled n rows in subst P (sym is) (not_called own rows none)
 
--- what the entry under a call's name makes of its values
+-- what the row of a call's name makes of its values
 made_at : (name : Text) (call : Call) (rows : List Row) → command_name call ≡ name
     → HasValues call rows
-    → call_in entries name rows ≡ Some call
+    → call_in command_rows name rows ≡ Some call
 made_at name call rows is given = only_named name rows call (sym is, given)
 
 -- a call of the name of a slot has a station, and one of the name of damage has a kind
