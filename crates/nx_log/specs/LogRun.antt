@@ -1,9 +1,9 @@
 -- A run over a log: what it reads, what it writes of it, and what it answers (this profile).
-use Rattle.std.specs.Prelude.{◌≡◌, ◌⊎◌, ◌↔◌, ℕ, ◌-◌, ◌^◌, ◌≤◌, List, [], ◌++◌, length, Option}
+use Rattle.std.specs.Prelude.{◌≡◌, ◌⊎◌, ◌↔◌, ℕ, ◌-◌, ◌^◌, ◌≤◌, List, [], ◌++◌, length}
 use Rattle.std.specs.Prelude.{Result, Ok, Err, IsErrOf}
 use Rattle.std.specs.List.{AllZip, concat}
 use Rattle.std.specs.Io.KnownBytes.{Appends, Consumes}
-use Rattle.nx_fec.specs.Transfers.{Devices, IsReadOut, WroteSome}
+use Rattle.nx_fec.specs.Transfers.{Contents, Devices, IsReadOut, WroteSome, contents_of}
 use Rattle.nx_receiver.specs.copies.Shares.{MarkedCopy}
 use Rattle.nx_log.specs.Json.{IsJsonLine}
 use Rattle.nx_log.specs.Logged.{IsLoggedAs}
@@ -39,18 +39,18 @@ pub record BeginWithEntries (bytes : List ℕ) (entries : List MarkedCopy) : Typ
   pub hold : HoldEntries front entries
 
 -- the output of these entries was written
-pub record WroteOutput (query : Query) (form : Form) (old new : Option (List ℕ))
+pub record WroteOutput (query : Query) (form : Form) (contents : Contents)
     (entries : List MarkedCopy) : Type 0 where
   pub output : List ℕ
   pub is_output : IsOutput query form entries output
-  pub written : Appends old new output
+  pub written : Appends contents.before contents.after output
 
 -- a write failed, before which the writer took the first `written` bytes of their output
-pub record WrotePart (query : Query) (form : Form) (old new : Option (List ℕ))
+pub record WrotePart (query : Query) (form : Form) (contents : Contents)
     (entries : List MarkedCopy) (written : ℕ) : Type 0 where
   pub output : List ℕ
   pub is_output : IsOutput query form entries output
-  pub part : WroteSome old new output written
+  pub part : WroteSome contents.before contents.after output written
 
 -- What a run over a log answers of the bytes that it read. At their end, how many of their entries
 -- the query admits, and the output of all was written. After a failed read the output of all whole
@@ -66,19 +66,18 @@ module _ {R W : Type 0} (query : Query) (form : Form) (d : Devices R W) where
   abbrev pub AnswersLogRun : Result ℕ LogFault → List ℕ → Type 0
   AnswersLogRun (Ok count) bytes =
       AreAll bytes × (entries : List MarkedCopy) × HoldEntriesToEnd bytes entries
-      × WroteOutput query form (d.contents d.writer.inner) (d.contents d.writer_after.inner) entries
+      × WroteOutput query form (contents_of d) entries
       × (count ≡ length (admitted query entries))
   AnswersLogRun (Err Read) bytes =
       (entries : List MarkedCopy) × HoldEntries bytes entries
-      × WroteOutput query form (d.contents d.writer.inner) (d.contents d.writer_after.inner) entries
+      × WroteOutput query form (contents_of d) entries
   AnswersLogRun (Err (BadLog line)) bytes =
       (entries : List MarkedCopy)
       × (StopAtLine bytes entries line ⊎ (AreAll bytes × StopAtLineToEnd bytes entries line))
-      × WroteOutput query form (d.contents d.writer.inner) (d.contents d.writer_after.inner) entries
+      × WroteOutput query form (contents_of d) entries
   AnswersLogRun (Err (Write written)) bytes =
       (entries : List MarkedCopy) × BeginWithEntries bytes entries
-      × WrotePart query form (d.contents d.writer.inner) (d.contents d.writer_after.inner) entries
-      written
+      × WrotePart query form (contents_of d) entries written
   AnswersLogRun (Err (Memory error)) bytes =
       (bytes ≡ []) × (d.reader_after ≡ d.reader) × (d.writer_after ≡ d.writer)
 

@@ -84,7 +84,8 @@ impl LogRun {
             (λ _. (IsAtEnd (R.remaining reader.new.inner) ⊎ (length bytes ≡ most_read))
             × IsRunning query.now form old self.new.log (W.contents writer.new.inner)
             self.new.output bytes)
-            (λ fault. EndsRun query.now form old (W.contents writer.new.inner) bytes fault) }
+            (λ fault. EndsRun query.now form
+            (record { before = old; after = W.contents writer.new.inner }) bytes fault) }
         ensures unread { IsErrOf result ReadFailed ↔ (reader.new.failures ≡ 1) }
         ensures once { reader.new.failures ≤ 1 }
         ensures writes { Writes writer.new LogFault.Write result }
@@ -121,7 +122,8 @@ impl LogRun {
             → MatchResult result
             (λ _. IsRunning query.now form old self.new.log (W.contents writer.new.inner)
             self.new.output (bytes ++ piece.now))
-            (λ fault. EndsRun query.now form old (W.contents writer.new.inner)
+            (λ fault. EndsRun query.now form
+            (record { before = old; after = W.contents writer.new.inner })
             (bytes ++ piece.now) fault) }
         ensures reading { OnOk result (IsReading self.new.log) }
         ensures unread { IsErrOf result ReadFailed → ⊥ }
@@ -153,7 +155,8 @@ impl LogRun {
             → MatchResult result
             (λ count. IsRunning query.now form old self.new.log (W.contents writer.new.inner)
             self.new.output (bytes ++ take count piece.now))
-            (λ fault. EndsRun query.now form old (W.contents writer.new.inner)
+            (λ fault. EndsRun query.now form
+            (record { before = old; after = W.contents writer.new.inner })
             (bytes ++ piece.now) fault) }
         ensures some { IfOk result (λ count. 0 < count) }
         ensures within { IfOk result (λ count. count ≤ length piece.now) }
@@ -183,8 +186,10 @@ impl LogRun {
             → IsRunning query form old self.old.log (W.contents writer.old.inner) self.old.output
             bytes
             → MatchResult result
-            (λ count. HasRunOver query form old (W.contents writer.new.inner) bytes count)
-            (λ fault. EndsRunAtEnd query form old (W.contents writer.new.inner) bytes fault) }
+            (λ count. HasRunOver query form
+            (record { before = old; after = W.contents writer.new.inner }) bytes count)
+            (λ fault. EndsRunAtEnd query form
+            (record { before = old; after = W.contents writer.new.inner }) bytes fault) }
         ensures unread { IsErrOf result ReadFailed → ⊥ }
         ensures writes { Writes writer.new LogFault.Write result }
     {

@@ -1,5 +1,6 @@
 -- How a run over a log stands, and how it ends.
 use Rattle.std.specs.Prelude.{◌≡◌, ℕ, ◌-◌, ◌^◌, List, length, min, Option}
+use Rattle.nx_fec.specs.Transfers.{Contents}
 use Rattle.nx_fec.specs.air_files.LineRuns.{HasGiven}
 use Rattle.nx_receiver.specs.copies.Shares.{MarkedCopy}
 use Rattle.nx_log.specs.LogReading.{LogReading}
@@ -35,32 +36,32 @@ pub record IsRunning (query : Query) (form : Form) (old : Option (List ℕ)) (lo
   pub given : HasGivenOutput query form old new output entries
 
 -- the run ends so with this fault in the bytes, before their end
-abbrev pub EndsRun : Query → Form → Option (List ℕ) → Option (List ℕ) → List ℕ → LogFault → Type 0
-EndsRun query form old new bytes Read =
-    (entries : List MarkedCopy) × HoldEntries bytes entries × WroteOutput query form old new entries
-EndsRun query form old new bytes (Write written) =
+abbrev pub EndsRun : Query → Form → Contents → List ℕ → LogFault → Type 0
+EndsRun query form contents bytes Read =
+    (entries : List MarkedCopy) × HoldEntries bytes entries
+    × WroteOutput query form contents entries
+EndsRun query form contents bytes (Write written) =
     (entries : List MarkedCopy) × BeginWithEntries bytes entries
-    × WrotePart query form old new entries written
-EndsRun query form old new bytes (BadLog line) =
+    × WrotePart query form contents entries written
+EndsRun query form contents bytes (BadLog line) =
     (entries : List MarkedCopy) × StopAt bytes entries (record { line = line })
-    × WroteOutput query form old new entries
-EndsRun query form old new bytes fault = ⊥
+    × WroteOutput query form contents entries
+EndsRun query form contents bytes fault = ⊥
 
 -- the run ends so with a fault at the end of the bytes
-abbrev pub EndsRunAtEnd : Query → Form → Option (List ℕ) → Option (List ℕ) → List ℕ → LogFault
-    → Type 0
-EndsRunAtEnd query form old new bytes (Write written) =
+abbrev pub EndsRunAtEnd : Query → Form → Contents → List ℕ → LogFault → Type 0
+EndsRunAtEnd query form contents bytes (Write written) =
     (entries : List MarkedCopy) × BeginWithEntries bytes entries
-    × WrotePart query form old new entries written
-EndsRunAtEnd query form old new bytes (BadLog line) =
+    × WrotePart query form contents entries written
+EndsRunAtEnd query form contents bytes (BadLog line) =
     (entries : List MarkedCopy) × EndEarlyAt bytes entries (record { line = line })
-    × WroteOutput query form old new entries
-EndsRunAtEnd query form old new bytes fault = ⊥
+    × WroteOutput query form contents entries
+EndsRunAtEnd query form contents bytes fault = ⊥
 
 -- all bytes are of a log, the output of their entries was written, and those admitted are counted
-pub record HasRunOver (query : Query) (form : Form) (old new : Option (List ℕ)) (bytes : List ℕ)
+pub record HasRunOver (query : Query) (form : Form) (contents : Contents) (bytes : List ℕ)
     (count : ℕ) : Type 0 where
   pub entries : List MarkedCopy
   pub hold : HoldEntriesToEnd bytes entries
-  pub wrote : WroteOutput query form old new entries
+  pub wrote : WroteOutput query form contents entries
   pub counted : count ≡ min (length (admitted query entries)) (2 ^ 64 - 1)

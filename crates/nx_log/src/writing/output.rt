@@ -61,7 +61,8 @@ impl Output {
             → MatchResult result
             (λ _. HasGivenOutput query.now form old (W.contents writer.new.inner) self.new
             (entries ++ one ∷ []))
-            (λ fault. WrotePart query.now form old (W.contents writer.new.inner)
+            (λ fault. WrotePart query.now form
+            (record { before = old; after = W.contents writer.new.inner })
             (entries ++ one ∷ []) fault.written) }
         ensures counts { FailsOnce writer.new result }
     {
@@ -84,8 +85,10 @@ impl Output {
             → HasGivenOutput query form old (W.contents writer.old.inner) self.old entries
             → MatchResult result
             (λ _. HasGivenOutput query form old (W.contents writer.new.inner) self.new entries
-            × WroteOutput query form old (W.contents writer.new.inner) entries)
-            (λ fault. WrotePart query form old (W.contents writer.new.inner) entries
+            × WroteOutput query form
+            (record { before = old; after = W.contents writer.new.inner }) entries)
+            (λ fault. WrotePart query form
+            (record { before = old; after = W.contents writer.new.inner }) entries
             fault.written) }
         ensures counts { FailsOnce writer.new result }
     {

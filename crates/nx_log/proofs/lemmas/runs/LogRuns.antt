@@ -9,7 +9,7 @@ use Rattle.std.proofs.lemmas.List.Folds.{concat-append}
 use Rattle.std.proofs.lemmas.List.Sums.{count_by-le-length, length-filter}
 use Rattle.nx_fec.specs.air_files.LineRuns.{HasGiven}
 use Rattle.nx_code.specs.Reading.{newline}
-use Rattle.nx_fec.specs.Transfers.{Devices, WroteSome}
+use Rattle.nx_fec.specs.Transfers.{Devices, WroteSome, contents_of}
 use Rattle.nx_fec.specs.declared.fault.WriteFault.{WriteFault}
 use Rattle.nx_receiver.specs.copies.Shares.{MarkedCopy}
 use Rattle.nx_log.specs.LogReading.{LogReading}
@@ -121,7 +121,8 @@ pub given-more : {R : Type 0} (r : Result R WriteFault) (query : Query) (form : 
     → MatchResult r (λ _. HasGiven old new after.batch (h.bytes ++ text))
     (λ fault. WroteSome old new (h.bytes ++ text) fault.written)
     → MatchResult r (λ _. HasGivenOutput query form old new after (entries ++ one ∷ []))
-    (λ fault. WrotePart query form old new (entries ++ one ∷ []) fault.written)
+    (λ fault. WrotePart query form (record { before = old; after = new }) (entries ++ one ∷ [])
+    fault.written)
 given-more r query form old now new before after entries one text h sure is count gave =
     let all = output-more query form entries one h.bytes text h.is_output sure is in
     let longer : length (admitted query (entries ++ one ∷ [])) ≡ length (admitted query entries)
@@ -131,7 +132,8 @@ given-more r query form old now new before after entries one text h sure is coun
     match-map r (λ _. HasGiven old new after.batch (h.bytes ++ text))
     (λ _. HasGivenOutput query form old new after (entries ++ one ∷ []))
     (λ fault. WroteSome old new (h.bytes ++ text) fault.written)
-    (λ fault. WrotePart query form old new (entries ++ one ∷ []) fault.written)
+    (λ fault. WrotePart query form (record { before = old; after = new }) (entries ++ one ∷ [])
+    fault.written)
     (λ a k. record {
       bytes = h.bytes ++ text;
       is_output = all;
@@ -149,8 +151,9 @@ pub given-sent : {R : Type 0} (r : Result R WriteFault) (query : Query) (form : 
     (λ fault. WroteSome old new h.bytes fault.written)
     → OnOk r (after.batch.bytes ≡ [])
     → MatchResult r
-    (λ _. HasGivenOutput query form old new after entries × WroteOutput query form old new entries)
-    (λ fault. WrotePart query form old new entries fault.written)
+    (λ _. HasGivenOutput query form old new after entries
+    × WroteOutput query form (record { before = old; after = new }) entries)
+    (λ fault. WrotePart query form (record { before = old; after = new }) entries fault.written)
 given-sent (Ok a) query form old now new before after entries h count k none =
     let same : k.done ≡ h.bytes = sym (k.whole ∙ ap (λ l. k.done ++ l) none ∙ append-nil k.done) in (
       record { bytes = h.bytes; is_output = h.is_output; given = k; counted = count ∙ h.counted },
@@ -280,8 +283,7 @@ count-exact query entries rest bytes count within read is =
 
 module _ {R W : Type 0} (query : Query) (form : Form) (d : Devices R W) (bytes : List ℕ)
     (within : length bytes ≤ most_read) where
-  pub ends-answer : (fault : LogFault)
-      → EndsRun query form (d.contents d.writer.inner) (d.contents d.writer_after.inner) bytes fault
+  pub ends-answer : (fault : LogFault) → EndsRun query form (contents_of d) bytes fault
       → AnswersLogRun query form d (Err fault) bytes
   ends-answer Read h = h
   ends-answer (Write written) h = h
@@ -290,10 +292,8 @@ module _ {R W : Type 0} (query : Query) (form : Form) (d : Devices R W) (bytes :
 
   pub finished-answer : (outcome : Result ℕ LogFault) → AreAll query form d bytes
       → MatchResult outcome
-      (λ count. HasRunOver query form (d.contents d.writer.inner) (d.contents d.writer_after.inner)
-      bytes count)
-      (λ fault. EndsRunAtEnd query form (d.contents d.writer.inner)
-      (d.contents d.writer_after.inner) bytes fault)
+      (λ count. HasRunOver query form (contents_of d) bytes count)
+      (λ fault. EndsRunAtEnd query form (contents_of d) bytes fault)
       → AnswersLogRun query form d outcome bytes
   finished-answer (Ok count) all h = (
     all,

@@ -8,8 +8,9 @@ use Rattle.nx_log.proofs.log_runs.LogRun.take_piece.Goals as goal
 pub returns-in_err-at-clause-taken : goal.returns-in_err-at-clause-taken
 returns-in_err-at-clause-taken g c = λ old bytes h.
     let p = err_from_is_err_and c.from_residual.result c.from_residual.ensures.1 in
-    rw p.1 (rw p.2 (subst (λ l. EndsRun c.args.query.now c.args.form old
-    (g.W.Write.contents c.take_entry.new.writer.inner) l c.in_err-at.field-0.0)
+    rw p.1 (rw p.2 (subst (λ l. EndsRun c.args.query.now c.args.form
+    (record { before = old; after = g.W.Write.contents c.take_entry.new.writer.inner }) l
+    c.in_err-at.field-0.0)
     (piece-whole bytes c.args.piece.now c.loop-at.at)
     (c.in_err-at.ensures.taken old (bytes ++ take c.loop-at.at c.args.piece.now)
     (c.loop-at.invariant.taken old bytes h))))
