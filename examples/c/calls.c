@@ -163,12 +163,12 @@ static int rooms(void) {
     return 0;
 }
 
-int main(int count, char **words) {
+int main(int count, char **arguments) {
     static const struct {
         const char *name;
         call *one;
     } plain[] = {{"listen", nx_listen}, {"check", nx_check}, {"decode", nx_decode}, {"encode", nx_encode}};
-    const char *name = count > 1 ? words[1] : "";
+    const char *name = count > 1 ? arguments[1] : "";
     for (size_t at = 0; count == 2 && at < sizeof plain / sizeof *plain; at++)
         if (strcmp(name, plain[at].name) == 0)
             return run(plain[at].one);
@@ -177,11 +177,11 @@ int main(int count, char **words) {
     if (count == 2 && strcmp(name, "rooms") == 0)
         return rooms();
     if (count == 4 && strcmp(name, "resume") == 0)
-        return resume(words[2], words[3]);
+        return resume(arguments[2], arguments[3]);
     if (count == 4 && strcmp(name, "send") == 0)
-        return send((uint8_t)words[2][0], strtoull(words[3], NULL, 10));
+        return send((uint8_t)arguments[2][0], strtoull(arguments[3], NULL, 10));
     if (count == 4 && strcmp(name, "slot") == 0) {
-        printf("%" PRIu64 "\n", nx_slot((uint8_t)words[2][0], strtoull(words[3], NULL, 10)));
+        printf("%" PRIu64 "\n", nx_slot((uint8_t)arguments[2][0], strtoull(arguments[3], NULL, 10)));
         return 0;
     }
     stop("which call?");

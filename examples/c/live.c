@@ -1,6 +1,6 @@
 /* Hears elements as they come: each 0 or 1 of the standard input is one, of channel 0, and other
  * bytes are passed over. Writes each entry as soon as its message is over. The moment is the
- * clock's, or the first word. */
+ * clock's, or the first argument. */
 #include "navtex.h"
 #include <stdio.h>
 #include <stdlib.h>
@@ -21,15 +21,15 @@ static void write_out(const uint8_t *log, size_t written) {
     fflush(stdout);
 }
 
-int main(int words, char **word) {
+int main(int argument_count, char **arguments) {
     struct nx_receiver receiver = {0};
     uint8_t bytes[64], log[NX_MAX_ENTRY];
     size_t heard, written;
-    uint64_t now = words > 1 ? strtoull(word[1], NULL, 10) : (uint64_t)time(NULL);
+    uint64_t now = argument_count > 1 ? strtoull(arguments[1], NULL, 10) : (uint64_t)time(NULL);
     uint32_t status = nx_open(&receiver, now);
     for (ssize_t count; status == NX_DONE && (count = read(0, bytes, sizeof bytes)) > 0;) {
         size_t length = elements_of(bytes, (size_t)count);
-        if (words == 1) /* a clock that went back changes nothing */
+        if (argument_count == 1) /* a clock that went back changes nothing */
             nx_set_moment(&receiver, (uint64_t)time(NULL));
         for (size_t at = 0; status == NX_DONE && at < length; at += heard) {
             status = nx_hear(&receiver, 0, bytes + at, length - at, &heard, log, sizeof log, &written);

@@ -335,23 +335,23 @@ static int fail(void) {
 }
 #endif
 
-int main(int count, char **words) {
-    const char *name = count > 1 ? words[1] : "";
+int main(int count, char **arguments) {
+    const char *name = count > 1 ? arguments[1] : "";
     if (count == 3 && strcmp(name, "hear") == 0)
-        return hear_file(strtoul(words[2], NULL, 10));
+        return hear_file(strtoul(arguments[2], NULL, 10));
     if (count == 4 && strcmp(name, "resume") == 0)
-        return resume(words[2], words[3], 7);
+        return resume(arguments[2], arguments[3], 7);
     if (count == 2 && strcmp(name, "entries") == 0)
         return entries();
     if (count == 2 && strcmp(name, "refusals") == 0)
         return refusals();
     if (count == 4 && strcmp(name, "speed") == 0)
-        return speed(strtoul(words[2], NULL, 10), strtoul(words[3], NULL, 10));
+        return speed(strtoul(arguments[2], NULL, 10), strtoul(arguments[3], NULL, 10));
 #ifdef FAIL
     if (count == 2 && strcmp(name, "fail") == 0)
         return fail();
     if (count == 3 && strcmp(name, "days") == 0)
-        return days(strtoul(words[2], NULL, 10));
+        return days(strtoul(arguments[2], NULL, 10));
 #endif
     fprintf(stderr, "stream: which trial?\n");
     return 64;
