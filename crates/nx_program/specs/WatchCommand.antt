@@ -85,8 +85,8 @@ module _ {R W F D E : Type 0} (d : Devices R W) (b : Beside F D E) where
         disk_after = disk_after;
         streams = d;
         told = b.contents;
-        faults = b.faults;
-        faults_after = b.faults_after;
+        notices = b.faults;
+        notices_after = b.faults_after;
       }
 
   -- The file was watched from this moment on, with this answer, and stands so now. Something is

@@ -110,9 +110,9 @@ AnswersStop first stop lines copies outcome = ⊥
 
 -- ---- what a watch has at hand
 
--- The file of a watch, its input and its output, and where it tells of lines without effect: as
--- they stand before it and after it, and what they tell of themselves. What the file tells is told
--- for `start`, its first content.
+-- The file of a watch, its input and its output, and its notices, where it tells of lines without
+-- effect: as they stand before it and after it, and what they tell of themselves. What the file
+-- tells is told for `start`, its first content.
 pub record WatchDevices (D R W E : Type 0) : Type 1 where
   pub tells : TellsOfDisk D
   pub start : List ℕ
@@ -120,8 +120,8 @@ pub record WatchDevices (D R W E : Type 0) : Type 1 where
   pub disk_after : D
   pub streams : Devices R W
   pub told : E → Option (List ℕ)
-  pub faults : CountedDevice E
-  pub faults_after : CountedDevice E
+  pub notices : CountedDevice E
+  pub notices_after : CountedDevice E
 
 module _ {D R W E : Type 0} (d : WatchDevices D R W E) where
   -- each file that a crash may leave when all is over has this
@@ -170,15 +170,15 @@ module _ {D R W E : Type 0} (d : WatchDevices D R W E) where
         × StandsForEntries (entries ++ take count copies) file)
     pub failed_read : (stop ≡ unread) ↔ (d.streams.reader_after.failures ≡ 1)
     pub failed_write : stop ≡ unwritten → d.streams.writer_after.failures ≡ 1
-    pub faults_told : HasTold (d.told d.faults.inner) (d.told d.faults_after.inner)
-        d.faults_after.failures (told_of starts.moment lines)
+    pub notices_told : HasTold (d.told d.notices.inner) (d.told d.notices_after.inner)
+        d.notices_after.failures (told_of starts.moment lines)
 
   -- Only the file was touched. At each moment it stands for the entries.
   pub record HasOpened (entries : List MarkedCopy) : Type 0 where
     pub any_moment : LeavesAtAnyMoment (StandsForEntries entries)
     pub unread : d.streams.reader_after ≡ d.streams.reader
     pub unwritten : d.streams.writer_after ≡ d.streams.writer
-    pub untold : d.faults_after ≡ d.faults
+    pub untold : d.notices_after ≡ d.notices
 
   -- What a watch answers that started so over a file that stands for these entries, once it was
   -- opened. All copies are kept, and how it stopped is answered. Or the disk failed as a copy was

@@ -29,7 +29,7 @@ use std::io::{Read, Write};
 /// before each further read. Three receivers hear them, one for each channel. They start at
 /// `moment`, in whole seconds since 1970-01-01 00:00:00 UTC, with what is remembered of the log
 /// then; everything is selected. The end of the input closes the channels 0, 1 and 2 in order, and
-/// so does a moment that ends the watch. Lines without effect are told of on `faults`: the first
+/// so does a moment that ends the watch. Lines without effect are told of on `notices`: the first
 /// before the next read, and their number at the end. A failed write there is passed over. Memory
 /// is taken before the first read, and not later. Hands the file back.
 ///
@@ -48,11 +48,11 @@ pub fn watch<D: DiskFile + Drop, R: Read, W: Write, F: Write>(
     device: D,
     reader: &mut Counting<R>,
     writer: &mut Counting<W>,
-    faults: &mut Counting<F>,
+    notices: &mut Counting<F>,
 ) -> (Result<WatchReport, WatchFault>, D)
     requires reader { reader.old.failures ≡ 0 }
     requires writer { writer.old.failures ≡ 0 }
-    requires faults { faults.old.failures ≡ 0 }
+    requires notices { notices.old.failures ≡ 0 }
 
     ensures watched { (start : List ℕ) (entries : List MarkedCopy) → D.explains start result.1
         → StandsForEntries entries (D.seen start device)
@@ -63,8 +63,8 @@ pub fn watch<D: DiskFile + Drop, R: Read, W: Write, F: Write>(
           disk_after = result.1;
           streams = devices R.remaining W.contents reader.old reader.new writer.old writer.new;
           told = F.contents;
-          faults = faults.old;
-          faults_after = faults.new;
+          notices = notices.old;
+          notices_after = notices.new;
         }) moment entries result.0 }
 
     // A file that is no kept log is refused at the line of the damage. It is only read, and nothing
@@ -75,15 +75,15 @@ pub fn watch<D: DiskFile + Drop, R: Read, W: Write, F: Write>(
     ensures foreign { (start : List ℕ) → D.explains start result.1
         → (IsKeptLog IsWholeEntry longest_entry (D.seen start device) → ⊥)
         → OnlyReads (D.seen start) (D.may_leave start) D.moment (D.left_since start) device result.1
-        × (reader.new ≡ reader.old) × (writer.new ≡ writer.old) × (faults.new ≡ faults.old) }
+        × (reader.new ≡ reader.old) × (writer.new ≡ writer.old) × (notices.new ≡ notices.old) }
 
     // The disk is blamed only where it failed, and called no more after that.
     ensures cause { HasCause D.DiskFile result.0 device result.1 }
     ensures explained { (start : List ℕ) → D.explains start result.1 → D.explains start device }
 
-    // Whatever the file is, some lines were told of on `faults`, and nothing else.
-    ensures told { TellsOfLines (F.contents faults.old.inner) (F.contents faults.new.inner)
-        faults.new.failures }
+    // Whatever the file is, some lines were told of on `notices`, and nothing else.
+    ensures told { TellsOfLines (F.contents notices.old.inner) (F.contents notices.new.inner)
+        notices.new.failures }
 {
     let mut memory = LogMemory::new();
     let log = match KeptLog::open(alloc, device, LogGrammar, &mut memory) {
@@ -105,7 +105,7 @@ pub fn watch<D: DiskFile + Drop, R: Read, W: Write, F: Write>(
         keeper,
         entry: ArrayVec::new(),
     };
-    logging.run(first, reader, writer, faults)
+    logging.run(first, reader, writer, notices)
 }
 
 /// Why a watch can't begin.

@@ -160,11 +160,11 @@ impl<D: DiskFile + Drop> LoggingListener<D> {
         first: u64,
         reader: &mut Counting<R>,
         writer: &mut Counting<W>,
-        faults: &mut Counting<F>,
+        notices: &mut Counting<F>,
     ) -> (Result<WatchReport, WatchFault>, D)
         requires reader { reader.old.failures ≡ 0 }
         requires writer { writer.old.failures ≡ 0 }
-        requires faults { faults.old.failures ≡ 0 }
+        requires notices { notices.old.failures ≡ 0 }
         ensures runs { first ≡ (starts_of self.listener).moment
             → (starts_of self.listener).moment ≤ last_moment
             → HearsGiven (starts_of self.listener) self.listener [] []
@@ -176,17 +176,17 @@ impl<D: DiskFile + Drop> LoggingListener<D> {
               disk_after = result.1;
               streams = devices R.remaining W.contents reader.old reader.new writer.old writer.new;
               told = F.contents;
-              faults = faults.old;
-              faults_after = faults.new;
+              notices = notices.old;
+              notices_after = notices.new;
             }) result.0 result.1 }
         ensures told { first ≡ (starts_of self.listener).moment
             → (starts_of self.listener).moment ≤ last_moment
             → HearsGiven (starts_of self.listener) self.listener [] []
             → HasKept D.DiskFile self.keeper self.keeper [] []
-            → TellsOfLines (F.contents faults.old.inner) (F.contents faults.new.inner)
-            faults.new.failures }
+            → TellsOfLines (F.contents notices.old.inner) (F.contents notices.new.inner)
+            notices.new.failures }
     {
-        match watch_lines(reader, writer, faults, &mut self, first, MOST_BYTES) {
+        match watch_lines(reader, writer, notices, &mut self, first, MOST_BYTES) {
             Ok(counts) => self.close(writer).answer(Ok(counts)),
             Err(end) => match end {
                 WatchEnd::Back { line, last, given } => self

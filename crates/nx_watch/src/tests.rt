@@ -98,13 +98,13 @@ fn run_up_to(alloc: Global, first: u64, source: Source, limit: u64) -> Outcome
     requires { limit ≤ 9223372036854775807 }
 {
     let mut reader = Counting::new(source);
-    let mut faults = Counting::new(Vec::new(alloc));
+    let mut notices = Counting::new(Vec::new(alloc));
     let mut writer = Counting::new(Vec::new(alloc));
     let mut counter = Counter { taken: 0 };
     let answer = watch_lines(
         &mut reader,
         &mut writer,
-        &mut faults,
+        &mut notices,
         &mut counter,
         first,
         limit,
@@ -112,7 +112,7 @@ fn run_up_to(alloc: Global, first: u64, source: Source, limit: u64) -> Outcome
     Outcome {
         answer,
         acted: counter.taken,
-        told: faults.into_inner(),
+        told: notices.into_inner(),
     }
 }
 

@@ -33,20 +33,20 @@ struct Watched {
 /// A watch of a file that starts at a moment.
 fn watch_file(alloc: Global, file: TornFile, moment: u64, input: &[u8]) -> Watched {
     let mut writer = Counting::new(Vec::new(alloc));
-    let mut faults = Counting::new(Vec::new(alloc));
+    let mut notices = Counting::new(Vec::new(alloc));
     let (answer, device) = watch(
         alloc,
         moment,
         Noted::new(file),
         &mut Counting::new(input),
         &mut writer,
-        &mut faults,
+        &mut notices,
     );
     Watched {
         answer,
         file: device.into_file(),
         written: writer.into_inner(),
-        told: faults.into_inner(),
+        told: notices.into_inner(),
     }
 }
 

@@ -82,14 +82,14 @@ pub enum WatchEnd {
 pub fn watch_lines<R: Read, W: Write, F: Write, T: ActingTaker>(
     reader: &mut Counting<R>,
     writer: &mut Counting<W>,
-    faults: &mut Counting<F>,
+    notices: &mut Counting<F>,
     taker: &mut T,
     first: u64,
     limit: u64,
 ) -> Result<LinesWatched, WatchEnd>
     requires reader { reader.old.failures ≡ 0 }
     requires writer { writer.old.failures ≡ 0 }
-    requires faults { faults.old.failures ≡ 0 }
+    requires notices { notices.old.failures ≡ 0 }
     requires limit { limit ≤ most_bytes }
     ensures watched { (start : T) → T.first_moment start ≡ first → T.stands start taker.old [] []
         → (bytes : List ℕ)
@@ -101,8 +101,8 @@ pub fn watch_lines<R: Read, W: Write, F: Write, T: ActingTaker>(
           now = with_writer taker.new writer.new;
           first = first;
           AtEnd = IsAtEnd (R.remaining reader.new.inner) ⊎ (length bytes ≡ limit);
-          tells = λ lines. HasTold (F.contents faults.old.inner) (F.contents faults.new.inner)
-              faults.new.failures (told_of first lines);
+          tells = λ lines. HasTold (F.contents notices.old.inner) (F.contents notices.new.inner)
+              notices.new.failures (told_of first lines);
         }) result bytes }
     ensures unread { IsErrOf result ReadFailed ↔ (reader.new.failures ≡ 1) }
     ensures once { reader.new.failures ≤ 1 }
@@ -113,10 +113,10 @@ pub fn watch_lines<R: Read, W: Write, F: Write, T: ActingTaker>(
         scanner: AnyScanner::new(),
         effects: LineEffects::new(first),
     };
-    match run.read_lines(reader, writer, faults, taker, limit) {
-        Ok(()) => Ok(run.end(faults)),
+    match run.read_lines(reader, writer, notices, taker, limit) {
+        Ok(()) => Ok(run.end(notices)),
         Err(end) => {
-            run.count(faults);
+            run.count(notices);
             Err(end)
         }
     }
@@ -135,7 +135,7 @@ impl LineRun {
         &mut self,
         reader: &mut Counting<R>,
         writer: &mut Counting<W>,
-        faults: &mut Counting<F>,
+        notices: &mut Counting<F>,
         taker: &mut T,
         limit: u64,
     ) -> Result<(), WatchEnd>
@@ -149,7 +149,7 @@ impl LineRun {
             → T.first_moment start.taker ≡ first
             → IsRunning (StandsWith T.stands W.contents) start (with_writer taker.old writer.old)
             first self.old old
-            (F.contents faults.old.inner) faults.old.failures []
+            (F.contents notices.old.inner) notices.old.failures []
             → (bytes : List ℕ)
             × Consumes (R.remaining reader.old.inner) (R.remaining reader.new.inner) bytes
             × (length bytes ≤ limit)
@@ -157,10 +157,10 @@ impl LineRun {
             (λ _. (IsAtEnd (R.remaining reader.new.inner) ⊎ (length bytes ≡ limit))
             × IsRunning (StandsWith T.stands W.contents) start (with_writer taker.new writer.new)
             first self.new old
-            (F.contents faults.new.inner) faults.new.failures bytes)
+            (F.contents notices.new.inner) notices.new.failures bytes)
             (λ end. EndsRun (StandsWith T.stands W.contents) start
             (with_writer taker.new writer.new) first self.new.effects old
-            (F.contents faults.new.inner) faults.new.failures end bytes) }
+            (F.contents notices.new.inner) notices.new.failures end bytes) }
         ensures few { OnOk result (self.new.effects.lines < 2 ^ 63) }
         ensures fewer { OnOk result (self.new.effects.without_effect ≤ self.new.effects.lines) }
         ensures unread { IsErrOf result ReadFailed ↔ (reader.new.failures ≡ 1) }
@@ -177,7 +177,7 @@ impl LineRun {
                 Piece::End => return Ok(()),
                 Piece::Failed => return Err(WatchEnd::Read),
             };
-            if let Err(end) = self.take_piece(&buffer[..count], writer, faults, taker) {
+            if let Err(end) = self.take_piece(&buffer[..count], writer, notices, taker) {
                 return Err(end);
             }
             room -= count as u64;
@@ -190,7 +190,7 @@ impl LineRun {
         &mut self,
         piece: &[u8],
         writer: &mut Counting<W>,
-        faults: &mut Counting<F>,
+        notices: &mut Counting<F>,
         taker: &mut T,
     ) -> Result<(), WatchEnd>
         requires short { length piece.now ≤ CHUNK }
@@ -204,14 +204,14 @@ impl LineRun {
             → T.first_moment start.taker ≡ first
             → IsRunning (StandsWith T.stands W.contents) start (with_writer taker.old writer.old)
             first self.old old
-            (F.contents faults.old.inner) faults.old.failures bytes
+            (F.contents notices.old.inner) notices.old.failures bytes
             → MatchResult result
             (λ _. IsRunning (StandsWith T.stands W.contents) start
             (with_writer taker.new writer.new) first self.new old
-            (F.contents faults.new.inner) faults.new.failures (bytes ++ piece.now))
+            (F.contents notices.new.inner) notices.new.failures (bytes ++ piece.now))
             (λ end. (more : List ℕ) → EndsRun (StandsWith T.stands W.contents) start
             (with_writer taker.new writer.new) first
-            self.new.effects old (F.contents faults.new.inner) faults.new.failures end
+            self.new.effects old (F.contents notices.new.inner) notices.new.failures end
             ((bytes ++ piece.now) ++ more)) }
         ensures room { OnOk result
             (self.old.scanner.scanner.room ≤ self.new.scanner.scanner.room + length piece.now) }
@@ -226,7 +226,7 @@ impl LineRun {
     {
         let mut at = 0;
         while at < piece.len() {
-            match self.take_line(&piece[at..], writer, faults, taker) {
+            match self.take_line(&piece[at..], writer, notices, taker) {
                 Ok(count) => at += count,
                 Err(end) => return Err(end),
             }
@@ -240,7 +240,7 @@ impl LineRun {
         &mut self,
         piece: &[u8],
         writer: &mut Counting<W>,
-        faults: &mut Counting<F>,
+        notices: &mut Counting<F>,
         taker: &mut T,
     ) -> Result<usize, WatchEnd>
         requires some { 0 < length piece.now }
@@ -255,14 +255,14 @@ impl LineRun {
             → T.first_moment start.taker ≡ first
             → IsRunning (StandsWith T.stands W.contents) start (with_writer taker.old writer.old)
             first self.old old
-            (F.contents faults.old.inner) faults.old.failures bytes
+            (F.contents notices.old.inner) notices.old.failures bytes
             → MatchResult result
             (λ count. IsRunning (StandsWith T.stands W.contents) start
             (with_writer taker.new writer.new) first self.new old
-            (F.contents faults.new.inner) faults.new.failures (bytes ++ take count piece.now))
+            (F.contents notices.new.inner) notices.new.failures (bytes ++ take count piece.now))
             (λ end. (more : List ℕ) → EndsRun (StandsWith T.stands W.contents) start
             (with_writer taker.new writer.new) first
-            self.new.effects old (F.contents faults.new.inner) faults.new.failures end
+            self.new.effects old (F.contents notices.new.inner) notices.new.failures end
             ((bytes ++ piece.now) ++ more)) }
         ensures some { IfOk result (λ count. 0 < count) }
         ensures all { IfOk result (λ count. count ≤ length piece.now) }
@@ -281,10 +281,10 @@ impl LineRun {
         match ended {
             Ended::Nothing => Ok(count),
             Ended::Unknown => {
-                self.pass_line(faults);
+                self.pass_line(notices);
                 Ok(count)
             }
-            Ended::Line => match self.take_known(writer, faults, taker) {
+            Ended::Line => match self.take_known(writer, notices, taker) {
                 Ok(()) => Ok(count),
                 Err(end) => Err(end),
             },
@@ -293,55 +293,55 @@ impl LineRun {
 
     /// Ends the input: keeps that it cuts a line, where it does, and tells how many lines had no
     /// effect.
-    fn end<F: Write>(&mut self, faults: &mut Counting<F>) -> LinesWatched
+    fn end<F: Write>(&mut self, notices: &mut Counting<F>) -> LinesWatched
         requires few { self.old.effects.lines < 2 ^ 63 }
         requires fewer { self.old.effects.without_effect ≤ self.old.effects.lines }
         ensures { (first : ℕ) (old : Option (List ℕ)) (bytes : List ℕ) (lines : List (Option Line))
             → IsScanning self.old.scanner bytes lines
-            → TellsFirst first self.old.effects old (F.contents faults.old.inner)
-            faults.old.failures lines
-            → EndsInput first bytes lines old (F.contents faults.new.inner) faults.new.failures
+            → TellsFirst first self.old.effects old (F.contents notices.old.inner)
+            notices.old.failures lines
+            → EndsInput first bytes lines old (F.contents notices.new.inner) notices.new.failures
             result }
     {
         if self.scanner.is_open() {
-            self.pass_line(faults);
-            return self.count(faults);
+            self.pass_line(notices);
+            return self.count(notices);
         }
-        self.count(faults)
+        self.count(notices)
     }
 
     /// Tells how many lines had no effect, and answers the counts.
-    fn count<F: Write>(&self, faults: &mut Counting<F>) -> LinesWatched
+    fn count<F: Write>(&self, notices: &mut Counting<F>) -> LinesWatched
         ensures counted { (first : ℕ) (old : Option (List ℕ)) (lines : List (Option Line))
-            → TellsFirst first self.now.effects old (F.contents faults.old.inner)
-            faults.old.failures lines
+            → TellsFirst first self.now.effects old (F.contents notices.old.inner)
+            notices.old.failures lines
             → AreCounted first lines result }
         ensures told { (first : ℕ) (old : Option (List ℕ)) (lines : List (Option Line))
-            → TellsFirst first self.now.effects old (F.contents faults.old.inner)
-            faults.old.failures lines
-            → HasTold old (F.contents faults.new.inner) faults.new.failures (told_of first lines) }
+            → TellsFirst first self.now.effects old (F.contents notices.old.inner)
+            notices.old.failures lines
+            → HasTold old (F.contents notices.new.inner) notices.new.failures (told_of first lines) }
     {
-        tell_number(self.effects.without_effect(), faults);
+        tell_number(self.effects.without_effect(), notices);
         self.effects.counts()
     }
 
     /// Keeps that a line isn't understood, and tells of it where it is the first without effect.
     #[inline(never)]
-    fn pass_line<F: Write>(&mut self, faults: &mut Counting<F>)
+    fn pass_line<F: Write>(&mut self, notices: &mut Counting<F>)
         requires few { self.old.effects.lines < 2 ^ 63 }
         requires fewer { self.old.effects.without_effect ≤ self.old.effects.lines }
         ensures tells { (first : ℕ) (old : Option (List ℕ)) (lines : List (Option Line))
-            → TellsFirst first self.old.effects old (F.contents faults.old.inner)
-            faults.old.failures lines
-            → TellsFirst first self.new.effects old (F.contents faults.new.inner)
-            faults.new.failures (lines ++ None ∷ []) }
+            → TellsFirst first self.old.effects old (F.contents notices.old.inner)
+            notices.old.failures lines
+            → TellsFirst first self.new.effects old (F.contents notices.new.inner)
+            notices.new.failures (lines ++ None ∷ []) }
         ensures scanner { self.new.scanner ≡ self.old.scanner }
         ensures lines { self.new.effects.lines ≡ self.old.effects.lines + 1 }
         ensures fewer { self.new.effects.without_effect ≤ self.new.effects.lines }
     {
         let before = self.effects.first_without();
         self.effects.not_understood();
-        tell_first(before, self.effects.first_without(), faults);
+        tell_first(before, self.effects.first_without(), notices);
     }
 
     /// Takes the line of an air file that the last byte ended.
@@ -349,7 +349,7 @@ impl LineRun {
     fn take_known<W: Write, F: Write, T: ActingTaker>(
         &mut self,
         writer: &mut Counting<W>,
-        faults: &mut Counting<F>,
+        notices: &mut Counting<F>,
         taker: &mut T,
     ) -> Result<(), WatchEnd>
         requires line { IsSomeAnd self.old.scanner.scanner.latest IsLine }
@@ -361,18 +361,18 @@ impl LineRun {
             → T.first_moment start.taker ≡ first → self.old.scanner.scanner.latest ≡ Some line
             → HasTaken (StandsWith T.stands W.contents) start (with_writer taker.old writer.old)
             first lines
-            → TellsFirst first self.old.effects old (F.contents faults.old.inner)
-            faults.old.failures lines
+            → TellsFirst first self.old.effects old (F.contents notices.old.inner)
+            notices.old.failures lines
             → MatchResult result
             (λ _. HasTaken (StandsWith T.stands W.contents) start (with_writer taker.new writer.new)
             first (lines ++ Some line ∷ [])
-            × TellsFirst first self.new.effects old (F.contents faults.new.inner)
-            faults.new.failures (lines ++ Some line ∷ []))
+            × TellsFirst first self.new.effects old (F.contents notices.new.inner)
+            notices.new.failures (lines ++ Some line ∷ []))
             (λ end. (front bytes : List ℕ) → AreLines front (lines ++ Some line ∷ []) []
             → (more : List ℕ) → bytes ≡ front ++ more
             → EndsRun (StandsWith T.stands W.contents) start (with_writer taker.new writer.new)
             first self.new.effects old
-            (F.contents faults.new.inner) faults.new.failures end bytes) }
+            (F.contents notices.new.inner) notices.new.failures end bytes) }
         ensures scanner { self.new.scanner ≡ self.old.scanner }
         ensures lines { self.new.effects.lines ≡ self.old.effects.lines + 1 }
         ensures fewer { self.new.effects.without_effect ≤ self.new.effects.lines }
@@ -391,11 +391,11 @@ impl LineRun {
                 Err(WriteFailed) => Err(WatchEnd::Write),
             },
             Effect::Nothing => {
-                tell_first(before, self.effects.first_without(), faults);
+                tell_first(before, self.effects.first_without(), notices);
                 Ok(())
             }
             Effect::Ends { last, given } => {
-                tell_first(before, self.effects.first_without(), faults);
+                tell_first(before, self.effects.first_without(), notices);
                 Err(WatchEnd::Back {
                     line: self.effects.lines(),
                     last,

@@ -12,44 +12,45 @@ use std::io::Write;
 const MOST_TOLD: usize = 64;
 
 /// Tells of the first line without effect, where there is one now and was none before.
-pub(crate) fn tell_first<F: Write>(before: Option<u64>, now: Option<u64>, faults: &mut Counting<F>)
+pub(crate) fn tell_first<F: Write>(before: Option<u64>, now: Option<u64>, notices: &mut Counting<F>)
     ensures { (old : Option (List ℕ)) → (IsSome before → now ≡ before)
-        → HasTold old (F.contents faults.old.inner) faults.old.failures (first_told before)
-        → HasTold old (F.contents faults.new.inner) faults.new.failures (first_told now) }
+        → HasTold old (F.contents notices.old.inner) notices.old.failures (first_told before)
+        → HasTold old (F.contents notices.new.inner) notices.new.failures (first_told now) }
 {
     if before.is_some() {
         return;
     }
     if let Some(line) = now {
-        tell(b"navtex: line ", line, b" had no effect\n", faults);
+        tell(b"navtex: line ", line, b" had no effect\n", notices);
     }
 }
 
 /// Tells at the end how many lines had no effect, where there are any.
-pub(crate) fn tell_number<F: Write>(count: u64, faults: &mut Counting<F>)
+pub(crate) fn tell_number<F: Write>(count: u64, notices: &mut Counting<F>)
     ensures { (old : Option (List ℕ)) (text : List ℕ)
-        → HasTold old (F.contents faults.old.inner) faults.old.failures text
-        → HasTold old (F.contents faults.new.inner) faults.new.failures (text ++ number_told count) }
+        → HasTold old (F.contents notices.old.inner) notices.old.failures text
+        → HasTold old (F.contents notices.new.inner) notices.new.failures
+        (text ++ number_told count) }
 {
     if count > 0 {
-        tell(b"navtex: ", count, b" lines had no effect\n", faults);
+        tell(b"navtex: ", count, b" lines had no effect\n", notices);
     }
 }
 
 /// Tells a number between two texts, behind what was told. A failed write is passed over, and
 /// nothing is told behind one.
-pub fn tell<F: Write>(before: &[u8], number: u64, behind: &[u8], faults: &mut Counting<F>)
+pub fn tell<F: Write>(before: &[u8], number: u64, behind: &[u8], notices: &mut Counting<F>)
     requires { length before.now + length behind.now ≤ 44 }
     ensures { (old : Option (List ℕ)) (text : List ℕ)
-        → HasTold old (F.contents faults.old.inner) faults.old.failures text
-        → HasTold old (F.contents faults.new.inner) faults.new.failures
+        → HasTold old (F.contents notices.old.inner) notices.old.failures text
+        → HasTold old (F.contents notices.new.inner) notices.new.failures
         (text ++ (before.now ++ (decimal number ++ behind.now))) }
 {
     let mut text = ArrayVec::<u8, MOST_TOLD>::new();
     append(&mut text, before);
     append(&mut text, Buffer::new().format(number).as_bytes());
     append(&mut text, behind);
-    write_more(&text, faults);
+    write_more(&text, notices);
 }
 
 /// Writes bytes behind others, unless a write failed before. A failed write is passed over, and so

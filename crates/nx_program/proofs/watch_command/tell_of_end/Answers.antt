@@ -32,21 +32,21 @@ returns-in-Read g c = λ old text told.
 
 pub returns-in-Damaged : goal.returns-in-Damaged
 returns-in-Damaged g c = λ old text told.
-    subst (λ w. HasTold old (g.E.Write.contents c.tell.new.faults.inner)
-    c.tell.new.faults.failures (text ++ watch_fault_line c.args.log.now (Ended w)))
+    subst (λ w. HasTold old (g.E.Write.contents c.tell.new.notices.inner)
+    c.tell.new.notices.failures (text ++ watch_fault_line c.args.log.now (Ended w)))
     (sym c.in-Damaged.is)
-    (more-told old (g.E.Write.contents c.tell.new.faults.inner) c.tell.new.faults.failures text
+    (more-told old (g.E.Write.contents c.tell.new.notices.inner) c.tell.new.notices.failures text
     (codes "navtex: the log ") c.args.log.now (codes " is damaged at line ")
     (decimal c.in-Damaged.line ++ codes "\n")
     (c.tell.ensures old _ (c.tell_of_log-in-Damaged.ensures old text told)))
 
 pub returns-in-Back : goal.returns-in-Back
 returns-in-Back g c = λ old text told.
-    subst (λ w. HasTold old (g.E.Write.contents c.tell-in-Back-3.new.faults.inner)
-    c.tell-in-Back-3.new.faults.failures (text ++ watch_fault_line c.args.log.now (Ended w)))
+    subst (λ w. HasTold old (g.E.Write.contents c.tell-in-Back-3.new.notices.inner)
+    c.tell-in-Back-3.new.notices.failures (text ++ watch_fault_line c.args.log.now (Ended w)))
     (sym c.in-Back.is)
-    (twice-told old (g.E.Write.contents c.tell-in-Back-3.new.faults.inner)
-    c.tell-in-Back-3.new.faults.failures text
+    (twice-told old (g.E.Write.contents c.tell-in-Back-3.new.notices.inner)
+    c.tell-in-Back-3.new.notices.failures text
     (codes "navtex: line ") (decimal c.in-Back.line) (codes ": moment ")
     (decimal c.in-Back.given) (codes " is before ") (decimal c.in-Back.last ++ codes "\n")
     (c.tell-in-Back-3.ensures old _ (c.tell-in-Back-2.ensures old _

@@ -8,7 +8,7 @@ returns-in-Ok-answer g c =
     let d = devices g.R.Read.remaining g.W.Write.contents c.args.reader.now
     c.watch-answer.new.reader c.args.writer.now c.watch-answer.new.writer in
     let b = beside c.args.files g.F.LogFiles.gives (Some c.watch-answer.result.1) g.F.Disk.DiskFile
-    g.E.Write.contents c.args.faults.now c.watch-answer.new.faults in (
+    g.E.Write.contents c.args.faults.now c.watch-answer.new.notices in (
       Ok c.in-Ok.disk,
       subst (λ n. g.F.LogFiles.gives c.args.files n (Ok c.in-Ok.disk)) c.as_str.ensures
           c.in-Ok.ensures,

@@ -36,7 +36,7 @@ returns-in-Err-clause-watched g c = λ start entries ex stands.
     let fault = c.in-Err.fault in
     let opened = has-opened disk start c.args.device c.in-Err.device g.R.Read.remaining
     c.args.reader.now c.args.reader.now g.W.Write.contents c.args.writer.now c.args.writer.now
-    g.F.Write.contents c.args.faults.now c.args.faults.now entries stands.texts stands.each
+    g.F.Write.contents c.args.notices.now c.args.notices.now entries stands.texts stands.each
     (c.in-Err.ensures.any_moment_err start stands.texts ex stands.stands) refl refl refl in
     rw c.fault_of.ensures
     (answers-opening _ c.args.moment entries fault opened
@@ -68,7 +68,7 @@ returns-in_default-clause-watched g c = λ start entries ex stands.
     let explained = subst (disk.explains start) c.answer.ensures.device ex in
     let opened = has-opened disk start c.args.device log.device g.R.Read.remaining
     c.args.reader.now c.args.reader.now g.W.Write.contents c.args.writer.now c.args.writer.now
-    g.F.Write.contents c.args.faults.now c.args.faults.now entries stands.texts stands.each
+    g.F.Write.contents c.args.notices.now c.args.notices.now entries stands.texts stands.each
     (c.in-Ok.ensures.any_moment start stands.texts explained stands.stands) refl refl refl in
     rw (c.answer.ensures.well refl, c.answer.ensures.device) opened
 
@@ -145,8 +145,8 @@ returns-clause-watched g c = λ start entries ex stands.
     answers-watch _ entries c.args.moment c.run.result.0
     (started-before disk start c.args.device log.device c.run.result.1 g.R.Read.remaining
     c.args.reader.now c.run.new.reader g.W.Write.contents c.args.writer.now c.run.new.writer
-    g.F.Write.contents c.args.faults.now c.run.new.faults (starts_at c.args.moment entries) entries
-    o.records c.run.result.0 each
+    g.F.Write.contents c.args.notices.now c.run.new.notices (starts_at c.args.moment entries)
+    entries o.records c.run.result.0 each
     (c.in-Ok.ensures.any_moment start o.records explained (record {
       front = o.front;
       tail = o.tail;
@@ -204,11 +204,11 @@ returns-clause-foreign g c = λ start ex none.
 
 pub returns-in-Err-clause-told : goal.returns-in-Err-clause-told
 returns-in-Err-clause-told g c =
-    (0, [], inl (c.requires.faults, nothing (g.F.Write.contents c.args.faults.now.inner)))
+    (0, [], inl (c.requires.notices, nothing (g.F.Write.contents c.args.notices.now.inner)))
 
 pub returns-in_default-clause-told : goal.returns-in_default-clause-told
 returns-in_default-clause-told g c =
-    (0, [], inl (c.requires.faults, nothing (g.F.Write.contents c.args.faults.now.inner)))
+    (0, [], inl (c.requires.notices, nothing (g.F.Write.contents c.args.notices.now.inner)))
 
 pub returns-clause-told : goal.returns-clause-told
 returns-clause-told g c =

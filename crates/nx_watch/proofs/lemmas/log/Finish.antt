@@ -91,7 +91,7 @@ all-entries entries copies texts more file h k stands = record {
 module _ {D R W E : Type 0} (disk : TellsOfDisk D) (content : List ℕ) (start : Keeper D)
     (remaining : R → Option (List ℕ)) (reader reader_after : CountedDevice R)
     (contents : W → Option (List ℕ)) (writer writer_after : CountedDevice W)
-    (told : E → Option (List ℕ)) (faults faults_after : CountedDevice E)
+    (told : E → Option (List ℕ)) (notices notices_after : CountedDevice E)
   where
     abbrev pub at-hand : D → WatchDevices D R W E
     at-hand after =
@@ -102,8 +102,8 @@ module _ {D R W E : Type 0} (disk : TellsOfDisk D) (content : List ℕ) (start :
           disk_after = after;
           streams = devices remaining contents reader reader_after writer writer_after;
           told = told;
-          faults = faults;
-          faults_after = faults_after;
+          notices = notices;
+          notices_after = notices_after;
         }
 
     all-kept : (entries copies : List MarkedCopy) (texts more : List (List ℕ)) (now : Keeper D)
@@ -290,7 +290,7 @@ stop-cause disk old new first unwritten lines copies (Err fault.Disk) h well =
 module _ {D R W E : Type 0} (disk : TellsOfDisk D) (logging : LoggingListener D) (first : ℕ)
     (remaining : R → Option (List ℕ)) (reader reader_after : CountedDevice R)
     (contents : W → Option (List ℕ)) (writer writer_after : CountedDevice W)
-    (told : E → Option (List ℕ)) (faults faults_after : CountedDevice E)
+    (told : E → Option (List ℕ)) (notices notices_after : CountedDevice E)
   where
     -- A run stopped so: its lines print these copies, of which it gave the texts to its keeper, and
     -- this is the keeper that it left.
@@ -311,7 +311,7 @@ module _ {D R W E : Type 0} (disk : TellsOfDisk D) (logging : LoggingListener D)
           (given_by (acting_lines first lines)) copies
       pub failed_read : (stop ≡ unread) ↔ (reader_after.failures ≡ 1)
       pub failed_write : stop ≡ unwritten → writer_after.failures ≡ 1
-      pub said : HasTold (told faults.inner) (told faults_after.inner) faults_after.failures
+      pub said : HasTold (told notices.inner) (told notices_after.inner) notices_after.failures
           (told_of first lines)
 
     abbrev at-hand-with : D → List ℕ → WatchDevices D R W E
@@ -323,8 +323,8 @@ module _ {D R W E : Type 0} (disk : TellsOfDisk D) (logging : LoggingListener D)
           disk_after = device;
           streams = devices remaining contents reader reader_after writer writer_after;
           told = told;
-          faults = faults;
-          faults_after = faults_after;
+          notices = notices;
+          notices_after = notices_after;
         }
 
     answers-stopped : (stop : Stop) (now : Keeper D) (h : HasStopped stop now)
@@ -338,7 +338,7 @@ module _ {D R W E : Type 0} (disk : TellsOfDisk D) (logging : LoggingListener D)
         outcome
     answers-stopped stop now h outcome is failed well content entries texts each keeps =
         answers-started disk content logging.keeper remaining reader reader_after contents writer
-        writer_after told faults faults_after (starts_of logging.listener) entries h.copies texts
+        writer_after told notices notices_after (starts_of logging.listener) entries h.copies texts
         h.texts now h.given stop h.lines outcome each h.each keeps h.kept h.wrote (record {
           bytes = h.bytes;
           consumed = h.consumed;
@@ -348,12 +348,12 @@ module _ {D R W E : Type 0} (disk : TellsOfDisk D) (logging : LoggingListener D)
           printed = subst (λ f. PrintsUntil stop (starts_of logging.listener)
               (given_by (acting_lines f h.lines)) h.copies) is h.printed;
           any_moment = moments-of disk content logging.keeper remaining reader reader_after contents
-              writer writer_after told faults faults_after entries h.copies texts h.texts now
+              writer writer_after told notices notices_after entries h.copies texts h.texts now
               h.given each h.each keeps h.kept;
           failed_read = h.failed_read;
           failed_write = h.failed_write;
-          faults_told = subst (λ f. HasTold (told faults.inner) (told faults_after.inner)
-              faults_after.failures (told_of f h.lines)) is h.said;
+          notices_told = subst (λ f. HasTold (told notices.inner) (told notices_after.inner)
+              notices_after.failures (told_of f h.lines)) is h.said;
         }) failed
         (λ w all. subst (λ f. AnswersStop f stop h.lines h.copies outcome) is (well w all))
 

@@ -48,13 +48,13 @@ same-texts texts records front tail file stands kept end split =
 module _ {D R W E : Type 0} (disk : TellsOfDisk D) (content : List ℕ) (old new : D)
     (remaining : R → Option (List ℕ)) (reader reader_after : CountedDevice R)
     (contents : W → Option (List ℕ)) (writer writer_after : CountedDevice W)
-    (told : E → Option (List ℕ)) (faults faults_after : CountedDevice E)
+    (told : E → Option (List ℕ)) (notices notices_after : CountedDevice E)
   where
     pub has-opened : (entries : List MarkedCopy) (texts : List (List ℕ))
         → AllZip IsLoggedAs entries texts
         → LeavesOnly disk.moment (disk.left_since content) old new
         (λ c. disk.may_leave content old c ⊎ StandsForTexts texts c)
-        → reader_after ≡ reader → writer_after ≡ writer → faults_after ≡ faults
+        → reader_after ≡ reader → writer_after ≡ writer → notices_after ≡ notices
         → HasOpened (record {
           tells = disk;
           start = content;
@@ -62,8 +62,8 @@ module _ {D R W E : Type 0} (disk : TellsOfDisk D) (content : List ℕ) (old new
           disk_after = new;
           streams = devices remaining contents reader reader_after writer writer_after;
           told = told;
-          faults = faults;
-          faults_after = faults_after;
+          notices = notices;
+          notices_after = notices_after;
         }) entries
     has-opened entries texts each moments r w f = record {
       any_moment = weaker disk.moment (disk.left_since content) (disk.may_leave content) _ _ old new
@@ -179,7 +179,7 @@ started-so d entries outcome is answer =
 module _ {D R W E : Type 0} (disk : TellsOfDisk D) (content : List ℕ) (old mid new : D)
     (remaining : R → Option (List ℕ)) (reader reader_after : CountedDevice R)
     (contents : W → Option (List ℕ)) (writer writer_after : CountedDevice W)
-    (told : E → Option (List ℕ)) (faults faults_after : CountedDevice E)
+    (told : E → Option (List ℕ)) (notices notices_after : CountedDevice E)
   where
     abbrev devices-from : D → WatchDevices D R W E
     devices-from from = record {
@@ -189,8 +189,8 @@ module _ {D R W E : Type 0} (disk : TellsOfDisk D) (content : List ℕ) (old mid
       disk_after = new;
       streams = devices remaining contents reader reader_after writer writer_after;
       told = told;
-      faults = faults;
-      faults_after = faults_after;
+      notices = notices;
+      notices_after = notices_after;
     }
 
     pub started-before : (starts : Starts) (entries : List MarkedCopy) (texts : List (List ℕ))
@@ -220,7 +220,7 @@ module _ {D R W E : Type 0} (disk : TellsOfDisk D) (content : List ℕ) (old mid
                 (λ c o. ⊎_elim (λ left. inr (none c (rests c left))) (λ s. inr s) o);
             failed_read = w.failed_read;
             failed_write = w.failed_write;
-            faults_told = w.faults_told;
+            notices_told = w.notices_told;
           },
           ⊎_elim (λ k. inl (
             record { found = k.0.found; left = k.0.left; silent = k.0.silent },

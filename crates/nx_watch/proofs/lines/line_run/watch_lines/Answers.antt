@@ -9,13 +9,13 @@ pub returns-in-Ok-clause-watched : goal.returns-in-Ok-clause-watched
 returns-in-Ok-clause-watched g c = λ start force stood.
     let stands = (StandsWith g.T.ActingTaker.stands g.W.Write.contents) in
     let before = with_writer start c.args.writer.now in
-    let old = g.F.Write.contents c.args.faults.now.inner in
+    let old = g.F.Write.contents c.args.notices.now.inner in
     let r = c.in-Ok.ensures.read before c.args.first old force
     (run-starts stands before (with_writer c.args.taker.now c.args.writer.now) c.args.first _ old
-    c.args.faults.now.failures
+    c.args.notices.now.failures
     c.new.ensures.stands c.new-2.ensures
     (stands-with g.T.ActingTaker.stands g.W.Write.contents start c.args.taker.now
-    c.args.writer.now stood c.requires.writer) c.requires.faults) in
+    c.args.writer.now stood c.requires.writer) c.requires.notices) in
     let run = r.3.1 in
     let e = c.end.ensures c.args.first old r.0 run.lines run.scans run.tells in (
       r.0,
@@ -28,13 +28,13 @@ pub returns-in-Err-clause-watched : goal.returns-in-Err-clause-watched
 returns-in-Err-clause-watched g c = λ start force stood.
     let stands = (StandsWith g.T.ActingTaker.stands g.W.Write.contents) in
     let before = with_writer start c.args.writer.now in
-    let old = g.F.Write.contents c.args.faults.now.inner in
+    let old = g.F.Write.contents c.args.notices.now.inner in
     let r = c.in-Err.ensures.read before c.args.first old force
     (run-starts stands before (with_writer c.args.taker.now c.args.writer.now) c.args.first _ old
-    c.args.faults.now.failures
+    c.args.notices.now.failures
     c.new.ensures.stands c.new-2.ensures
     (stands-with g.T.ActingTaker.stands g.W.Write.contents start c.args.taker.now
-    c.args.writer.now stood c.requires.writer) c.requires.faults) in (
+    c.args.writer.now stood c.requires.writer) c.requires.notices) in (
       r.0,
       r.1,
       r.2,
@@ -45,10 +45,10 @@ returns-in-Err-clause-watched g c = λ start force stood.
         first = c.args.first;
         AtEnd = ⊥;
         tells = TellsFirst c.args.first c.read_lines.new.self.effects old
-            (g.F.Write.contents c.read_lines.new.faults.inner) c.read_lines.new.faults.failures;
+            (g.F.Write.contents c.read_lines.new.notices.inner) c.read_lines.new.notices.failures;
       }) (IsAtEnd (g.R.Read.remaining c.read_lines.new.reader.inner)
           ⊎ (length r.0 ≡ c.args.limit))
-          (λ lines. HasTold old (g.F.Write.contents c.count.new.faults.inner)
-          c.count.new.faults.failures (told_of c.args.first lines)) c.in-Err.end
+          (λ lines. HasTold old (g.F.Write.contents c.count.new.notices.inner)
+          c.count.new.notices.failures (told_of c.args.first lines)) c.in-Err.end
           r.0 (λ lines tells. c.count.ensures.told c.args.first old lines tells) r.3,
     )

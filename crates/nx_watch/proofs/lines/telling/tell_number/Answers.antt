@@ -5,11 +5,13 @@ use Rattle.nx_watch.proofs.lines.telling.tell_number.Goals as goal
 
 pub returns-then-count-gt0 : goal.returns-then-count-gt0
 returns-then-count-gt0 g c = λ old text h.
-    subst (λ l. HasTold old (g.F.Write.contents c.tell.new.faults.inner) c.tell.new.faults.failures
-    (text ++ l)) (sym (number-some c.args.count c.if-count-gt0.true)) (c.tell.ensures old text h)
+    subst (λ l. HasTold old (g.F.Write.contents c.tell.new.notices.inner)
+    c.tell.new.notices.failures (text ++ l))
+    (sym (number-some c.args.count c.if-count-gt0.true)) (c.tell.ensures old text h)
 
 pub returns-else-count-gt0 : goal.returns-else-count-gt0
 returns-else-count-gt0 g c = λ old text h.
-    subst (λ l. HasTold old (g.F.Write.contents c.args.faults.now.inner) c.args.faults.now.failures
-    l) (sym (append-nil text) ∙ ap (λ l. text ++ l) (number-none c.args.count c.if-count-gt0.false))
+    subst (λ l. HasTold old (g.F.Write.contents c.args.notices.now.inner)
+    c.args.notices.now.failures l)
+    (sym (append-nil text) ∙ ap (λ l. text ++ l) (number-none c.args.count c.if-count-gt0.false))
     h

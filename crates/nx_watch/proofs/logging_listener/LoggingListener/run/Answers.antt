@@ -44,8 +44,8 @@ returns-in-Ok-clause-runs g c = λ is range heard kept.
     let w = c.in-Ok.ensures.watched self (sym is) (stands-first disk self range heard kept) in
     let closed = c.close.ensures.closed start (acting_lines c.args.first w.3.1) w.3.4.stood in
     has-run disk self c.args.first g.R.Read.remaining c.args.reader.now c.watch_lines.new.reader
-    g.W.Write.contents c.args.writer.now c.close.new.writer g.F.Write.contents c.args.faults.now
-    c.watch_lines.new.faults at_end c.close.result (record {
+    g.W.Write.contents c.args.writer.now c.close.new.writer g.F.Write.contents c.args.notices.now
+    c.watch_lines.new.notices at_end c.close.result (record {
       lines = w.3.1 ++ cut_line w.3.2;
       copies = closed.copies;
       texts = closed.texts;
@@ -87,8 +87,8 @@ returns-in-Back-clause-runs g c = λ is range heard kept.
       now = with_writer lines-read.taker lines-read.writer;
       first = c.args.first;
       AtEnd = IsAtEnd (g.R.Read.remaining lines-read.reader.inner) ⊎ (length w.0 ≡ most_bytes);
-      tells = λ lines. HasTold (g.F.Write.contents c.args.faults.now.inner)
-          (g.F.Write.contents lines-read.faults.inner) lines-read.faults.failures
+      tells = λ lines. HasTold (g.F.Write.contents c.args.notices.now.inner)
+          (g.F.Write.contents lines-read.notices.inner) lines-read.notices.failures
           (told_of c.args.first lines);
     } in
     let ended = subst (λ e. AnswersRun r (Err e) w.0) c.in-Back.is w.3 in
@@ -97,7 +97,7 @@ returns-in-Back-clause-runs g c = λ is range heard kept.
     let lines = ended.0 ++ Some (moment c.in-Back.given) ∷ [] in
     has-run disk self c.args.first g.R.Read.remaining c.args.reader.now lines-read.reader
     g.W.Write.contents c.args.writer.now c.close-in-Back.new.writer g.F.Write.contents
-    c.args.faults.now lines-read.faults stop c.close-in-Back.result (record {
+    c.args.notices.now lines-read.notices stop c.close-in-Back.result (record {
       lines = lines;
       copies = closed.copies;
       texts = closed.texts;
@@ -144,15 +144,15 @@ returns-in-Read-clause-runs g c = λ is range heard kept.
       now = with_writer lines-read.taker lines-read.writer;
       first = c.args.first;
       AtEnd = IsAtEnd (g.R.Read.remaining lines-read.reader.inner) ⊎ (length w.0 ≡ most_bytes);
-      tells = λ lines. HasTold (g.F.Write.contents c.args.faults.now.inner)
-          (g.F.Write.contents lines-read.faults.inner) lines-read.faults.failures
+      tells = λ lines. HasTold (g.F.Write.contents c.args.notices.now.inner)
+          (g.F.Write.contents lines-read.notices.inner) lines-read.notices.failures
           (told_of c.args.first lines);
     } in
     let ended = subst (λ e. AnswersRun r (Err e) w.0) c.in-Read.is w.3 in
     let stood = ended.3.stood in
     has-run disk self c.args.first g.R.Read.remaining c.args.reader.now lines-read.reader
-    g.W.Write.contents c.args.writer.now lines-read.writer g.F.Write.contents c.args.faults.now
-    lines-read.faults unread c.into_keeper.result (record {
+    g.W.Write.contents c.args.writer.now lines-read.writer g.F.Write.contents c.args.notices.now
+    lines-read.notices unread c.into_keeper.result (record {
       lines = ended.0;
       copies = stood.1.copies;
       texts = stood.1.texts;
@@ -188,8 +188,8 @@ returns-in-Write-clause-runs g c = λ is range heard kept.
       now = with_writer lines-read.taker lines-read.writer;
       first = c.args.first;
       AtEnd = IsAtEnd (g.R.Read.remaining lines-read.reader.inner) ⊎ (length w.0 ≡ most_bytes);
-      tells = λ lines. HasTold (g.F.Write.contents c.args.faults.now.inner)
-          (g.F.Write.contents lines-read.faults.inner) lines-read.faults.failures
+      tells = λ lines. HasTold (g.F.Write.contents c.args.notices.now.inner)
+          (g.F.Write.contents lines-read.notices.inner) lines-read.notices.failures
           (told_of c.args.first lines);
     } in
     let ended = subst (λ e. AnswersRun r (Err e) w.0) c.in-Write.is w.3 in
@@ -197,8 +197,8 @@ returns-in-Write-clause-runs g c = λ is range heard kept.
     let keeper = c.into_keeper-in-Write.result in
     let unwritten_one = c.watch_lines.ensures.unwritten.0 (c.in-Err.is ∙ ap Err c.in-Write.is) in
     has-run disk self c.args.first g.R.Read.remaining c.args.reader.now lines-read.reader
-    g.W.Write.contents c.args.writer.now lines-read.writer g.F.Write.contents c.args.faults.now
-    lines-read.faults unwritten keeper (record {
+    g.W.Write.contents c.args.writer.now lines-read.writer g.F.Write.contents c.args.notices.now
+    lines-read.notices unwritten keeper (record {
       lines = ended.0 ++ Some ended.1 ∷ [];
       copies = stood.1.copies;
       texts = stood.1.texts;
@@ -230,8 +230,8 @@ tells : (g : _) → (c : After-watch_lines g)
     → (starts_of c.args.self.listener).moment ≤ last_moment
     → HearsGiven (starts_of c.args.self.listener) c.args.self.listener [] []
     → HasKept g.D.DiskFile c.args.self.keeper c.args.self.keeper [] []
-    → TellsOfLines (g.F.Write.contents c.args.faults.now.inner)
-    (g.F.Write.contents c.watch_lines.new.faults.inner) c.watch_lines.new.faults.failures
+    → TellsOfLines (g.F.Write.contents c.args.notices.now.inner)
+    (g.F.Write.contents c.watch_lines.new.notices.inner) c.watch_lines.new.notices.failures
 tells g c is range heard kept =
     let disk = g.D.DiskFile in
     let lines-read = c.watch_lines.new in
@@ -243,8 +243,8 @@ tells g c is range heard kept =
       now = with_writer lines-read.taker lines-read.writer;
       first = c.args.first;
       AtEnd = IsAtEnd (g.R.Read.remaining lines-read.reader.inner) ⊎ (length w.0 ≡ most_bytes);
-      tells = λ lines. HasTold (g.F.Write.contents c.args.faults.now.inner)
-          (g.F.Write.contents lines-read.faults.inner) lines-read.faults.failures
+      tells = λ lines. HasTold (g.F.Write.contents c.args.notices.now.inner)
+          (g.F.Write.contents lines-read.notices.inner) lines-read.notices.failures
           (told_of c.args.first lines);
     } in
     let told = tells-some r c.watch_lines.result w.0 w.3 in

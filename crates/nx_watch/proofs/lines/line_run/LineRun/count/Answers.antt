@@ -5,7 +5,7 @@ use Rattle.nx_watch.proofs.lines.line_run.LineRun.count.Goals as goal
 pub returns-clause-told : goal.returns-clause-told
 returns-clause-told g c = λ first old lines tells.
     let all : Option ℕ → ℕ → List ℕ = λ o n. first_told o ++ number_told n in
-    subst (HasTold old (g.F.Write.contents c.tell_number.new.faults.inner)
-    c.tell_number.new.faults.failures)
+    subst (HasTold old (g.F.Write.contents c.tell_number.new.notices.inner)
+    c.tell_number.new.notices.failures)
     (ap₂ all tells.kept_so.first_one (c.without_effect.ensures ∙ tells.kept_so.without))
     (c.tell_number.ensures old (first_told c.args.self.now.effects.first_without) tells.told)

@@ -20,6 +20,6 @@ returns g c = λ first old bytes lines scans tells.
     ends-input first bytes lines [] old _ _ _ cuts.rest cuts.are cuts.cut
     (subst (λ l. AreCounted first l c.count-2.result) (sym (append-nil lines))
     (c.count-2.ensures.counted first old lines tells))
-    (subst (λ l. HasTold old (g.F.Write.contents c.count-2.new.faults.inner)
-    c.count-2.new.faults.failures (told_of first l)) (sym (append-nil lines))
+    (subst (λ l. HasTold old (g.F.Write.contents c.count-2.new.notices.inner)
+    c.count-2.new.notices.failures (told_of first l)) (sym (append-nil lines))
     (c.count-2.ensures.told first old lines tells))

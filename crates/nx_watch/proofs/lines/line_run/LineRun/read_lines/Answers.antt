@@ -64,7 +64,7 @@ returns-in-Err-clause-read g c = λ start first old force h.
       subst (λ l. EndsRun (StandsWith g.T.ActingTaker.stands g.W.Write.contents) start
           (with_writer c.take_piece.new.taker c.take_piece.new.writer) first
           c.take_piece.new.self.effects old
-          (g.F.Write.contents c.take_piece.new.faults.inner) c.take_piece.new.faults.failures
+          (g.F.Write.contents c.take_piece.new.notices.inner) c.take_piece.new.notices.failures
           c.in-Err.end l) (append-nil (r.0 ++ piece))
           (c.in-Err.ensures.taken start first old r.0 force r.3 []),
     )

@@ -20,13 +20,13 @@ invariant-loop-room g l = record {
       → g.T.ActingTaker.first_moment start.taker ≡ first
       → IsRunning (StandsWith g.T.ActingTaker.stands g.W.Write.contents) start
       (with_writer l.fn.taker l.fn.writer) first l.fn.self old
-      (g.F.Write.contents l.fn.faults.inner) l.fn.faults.failures []
+      (g.F.Write.contents l.fn.notices.inner) l.fn.notices.failures []
       → (bytes : List ℕ)
       × Consumes (g.R.Read.remaining l.fn.reader.inner) (g.R.Read.remaining l.reader.inner) bytes
       × (length bytes + l.room ≡ l.limit)
       × IsRunning (StandsWith g.T.ActingTaker.stands g.W.Write.contents) start
       (with_writer l.taker l.writer) first l.self old
-      (g.F.Write.contents l.faults.inner) l.faults.failures bytes;
+      (g.F.Write.contents l.notices.inner) l.notices.failures bytes;
 }
 
 abbrev pub decreases-loop-room : goal.decreases-loop-room

@@ -20,8 +20,8 @@ returns-in-Ok-clause-taken g c = λ start first old lines line force is taken te
           taken.on e.1.0 e.1.1 stood,
       record {
         kept_so = e.0;
-        told = subst (λ o. HasTold old (g.F.Write.contents c.args.faults.now.inner)
-            c.args.faults.now.failures (first_told o)) (sym (c.in-Acts.ensures.acting refl))
+        told = subst (λ o. HasTold old (g.F.Write.contents c.args.notices.now.inner)
+            c.args.notices.now.failures (first_told o)) (sym (c.in-Acts.ensures.acting refl))
             tells.told;
       },
     )
@@ -42,8 +42,8 @@ returns-in-Err-clause-taken g c = λ start first old lines line force is taken t
           taken.on e.1.0 e.1.1 stood,
       record {
         kept_so = e.0;
-        told = subst (λ o. HasTold old (g.F.Write.contents c.args.faults.now.inner)
-            c.args.faults.now.failures (first_told o)) (sym (c.in-Acts.ensures.acting refl))
+        told = subst (λ o. HasTold old (g.F.Write.contents c.args.notices.now.inner)
+            c.args.notices.now.failures (first_told o)) (sym (c.in-Acts.ensures.acting refl))
             tells.told;
       },
     )
@@ -57,10 +57,10 @@ returns-in-Nothing-clause-taken g c = λ start first old lines line force is tak
           (Some line) taken e.1.0 e.1.1,
       record {
         kept_so = e.0;
-        told = tell-step (λ o. HasTold old (g.F.Write.contents c.args.faults.now.inner)
-            c.args.faults.now.failures (first_told o))
-            (λ o. HasTold old (g.F.Write.contents c.tell_first.new.faults.inner)
-            c.tell_first.new.faults.failures (first_told o))
+        told = tell-step (λ o. HasTold old (g.F.Write.contents c.args.notices.now.inner)
+            c.args.notices.now.failures (first_told o))
+            (λ o. HasTold old (g.F.Write.contents c.tell_first.new.notices.inner)
+            c.tell_first.new.notices.failures (first_told o))
             c.first_without-before.result c.first_without.result
             c.args.self.now.effects.first_without c.line.new.self.first_without
             c.first_without-before.ensures c.first_without.ensures c.in-Nothing.ensures.first
@@ -90,10 +90,10 @@ returns-in-Ends-clause-taken g c = λ start first old lines line force is taken 
       record {
         kept_so = subst (λ (l : Option Line). IsKept first (lines ++ l ∷ []) c.line.new.self) said
             e.0;
-        told = tell-step (λ o. HasTold old (g.F.Write.contents c.args.faults.now.inner)
-            c.args.faults.now.failures (first_told o))
-            (λ o. HasTold old (g.F.Write.contents c.tell_first-in-Ends.new.faults.inner)
-            c.tell_first-in-Ends.new.faults.failures (first_told o))
+        told = tell-step (λ o. HasTold old (g.F.Write.contents c.args.notices.now.inner)
+            c.args.notices.now.failures (first_told o))
+            (λ o. HasTold old (g.F.Write.contents c.tell_first-in-Ends.new.notices.inner)
+            c.tell_first-in-Ends.new.notices.failures (first_told o))
             c.first_without-before.result c.first_without-in-Ends.result
             c.args.self.now.effects.first_without c.line.new.self.first_without
             c.first_without-before.ensures c.first_without-in-Ends.ensures c.in-Ends.ensures.first

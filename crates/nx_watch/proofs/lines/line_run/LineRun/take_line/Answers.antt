@@ -15,7 +15,7 @@ returns-in-Unknown-clause-taken g c = λ start first old bytes force r.
     let scans = c.take-count.ensures.scans bytes r.lines r.scans in
     run-of stands start (with_writer c.args.taker.now c.args.writer.now) first c.pass_line.new.self
     old
-    (g.F.Write.contents c.pass_line.new.faults.inner) c.pass_line.new.faults.failures _ r.lines
+    (g.F.Write.contents c.pass_line.new.notices.inner) c.pass_line.new.notices.failures _ r.lines
     (None ∷ []) c.take-count.result.1 latest (ap (λ e. lines_ended e latest) c.in-Unknown.is)
     (subst (λ s. IsScanning s (bytes ++ take c.take-count.result.0 c.args.piece.now)
     (r.lines ++ lines_ended c.take-count.result.1 latest)) (sym c.pass_line.ensures.scanner) scans)
@@ -33,7 +33,7 @@ returns-in-Ok-clause-taken g c = λ start first old bytes force r.
     let k = c.in-Ok.ensures.taken start first old r.lines one.0 force one.1 r.taken r.tells in
     run-of stands start (with_writer c.take_known.new.taker c.take_known.new.writer) first
     c.take_known.new.self old
-    (g.F.Write.contents c.take_known.new.faults.inner) c.take_known.new.faults.failures _ r.lines
+    (g.F.Write.contents c.take_known.new.notices.inner) c.take_known.new.notices.failures _ r.lines
     (Some one.0 ∷ []) c.take-count.result.1 latest
     (ap (λ e. lines_ended e latest) c.in-Line.is ∙ ap (λ o. map Some (option_to_list o)) one.1)
     (subst (λ s. IsScanning s (bytes ++ take c.take-count.result.0 c.args.piece.now)

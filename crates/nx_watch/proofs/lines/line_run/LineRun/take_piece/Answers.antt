@@ -8,8 +8,8 @@ pub returns-in-Err-clause-taken : goal.returns-in-Err-clause-taken
 returns-in-Err-clause-taken g c = λ start first old bytes force h more.
     subst (λ l. EndsRun (StandsWith g.T.ActingTaker.stands g.W.Write.contents) start
     (with_writer c.take_line.new.taker c.take_line.new.writer) first
-    c.take_line.new.self.effects old (g.F.Write.contents c.take_line.new.faults.inner)
-    c.take_line.new.faults.failures c.in-Err.end l)
+    c.take_line.new.self.effects old (g.F.Write.contents c.take_line.new.notices.inner)
+    c.take_line.new.notices.failures c.in-Err.end l)
     (piece-rest bytes c.args.piece.now more c.loop-at.at)
     (c.in-Err.ensures.taken start first old (bytes ++ take c.loop-at.at c.args.piece.now) force
     (c.loop-at.invariant.taken start first old bytes force h) more)
@@ -25,8 +25,8 @@ loop-at-preserved g c = record {
   taken = λ start first old bytes force h.
       subst (IsRunning (StandsWith g.T.ActingTaker.stands g.W.Write.contents) start
       (with_writer c.take_line.new.taker c.take_line.new.writer) first
-      c.take_line.new.self old (g.F.Write.contents c.take_line.new.faults.inner)
-      c.take_line.new.faults.failures)
+      c.take_line.new.self old (g.F.Write.contents c.take_line.new.notices.inner)
+      c.take_line.new.notices.failures)
       (piece-next bytes c.args.piece.now c.loop-at.at c.in-Ok.count)
       (c.in-Ok.ensures.taken start first old (bytes ++ take c.loop-at.at c.args.piece.now) force
       (c.loop-at.invariant.taken start first old bytes force h));

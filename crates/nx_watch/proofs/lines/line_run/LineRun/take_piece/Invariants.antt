@@ -18,10 +18,10 @@ invariant-loop-at g l = record {
       → g.T.ActingTaker.first_moment start.taker ≡ first
       → IsRunning (StandsWith g.T.ActingTaker.stands g.W.Write.contents) start
       (with_writer l.fn.taker l.fn.writer) first l.fn.self old
-      (g.F.Write.contents l.fn.faults.inner) l.fn.faults.failures bytes
+      (g.F.Write.contents l.fn.notices.inner) l.fn.notices.failures bytes
       → IsRunning (StandsWith g.T.ActingTaker.stands g.W.Write.contents) start
       (with_writer l.taker l.writer) first l.self old
-      (g.F.Write.contents l.faults.inner) l.faults.failures (bytes ++ take l.at l.piece);
+      (g.F.Write.contents l.notices.inner) l.notices.failures (bytes ++ take l.at l.piece);
 }
 
 abbrev pub decreases-loop-at : goal.decreases-loop-at
