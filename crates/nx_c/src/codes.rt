@@ -58,9 +58,9 @@ fn ended(outcome: Result<u64, RunFault>) -> Told
     }
 }
 
-/// The number of the signal that a word stands for: 1 to 32 for the combinations, 33 for idle
-/// signal alpha, 34 for idle signal beta and 35 for signal repetition (M.476, M.625); 0 where the
-/// word has the wrong weight, or the byte is the number of no word.
+/// The number of the signal that a word stands for. It is 1 to 32 for the combinations, 33 for idle
+/// signal alpha, 34 for idle signal beta and 35 for signal repetition (M.476, M.625). It is 0 where
+/// the word has the wrong weight, or the byte is the number of no word.
 #[unsafe(no_mangle)]
 pub extern "C" fn nx_signal_of(word: u8) -> u8
     ensures signal { (signal : Signal) → number_of_signal signal ≡ word

@@ -39,7 +39,7 @@ pub fn each_call_is_a_step()
 {}
 
 /// What a receiver handed out since it was opened, and by closing, is the log of all that was given
-/// to it: of the moment at which it was opened, and of what its calls gave, in order.
+/// to it. That is the moment at which it was opened, and what its calls gave, in order.
 pub fn a_whole_life_has_its_log()
     ensures log { (moment : ℕ) (closed first last : Option Kept) (steps : List Step)
         (texts : List (List ℕ)) → AnswersOpening moment closed first 0
@@ -58,8 +58,8 @@ pub fn a_whole_life_has_its_log()
 {}
 
 /// A message that is heard in time on a channel by a receiver, from its opening to its closing, has
-/// exactly one entry of that channel in the log: it is full, has 0 errors, and its text is the
-/// message's, letter for letter.
+/// exactly one entry of that channel in the log. The entry is full, has 0 errors, and its text is
+/// the message's, letter for letter.
 pub fn a_message_heard_in_a_life_has_one_entry()
     ensures { (starts : Starts) (given : List Given) (copies : List MarkedCopy) (channel : Channel)
         (parts : List Part) (message : MessageView) → PrintAllToEnd starts given copies

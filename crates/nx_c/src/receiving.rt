@@ -46,8 +46,8 @@ pub extern "C" fn nx_listen(
     tell(told, &writer.into_inner(), log, written, place)
 }
 
-/// Reads the state with which `state` begins, listens to an air file, going on from it, as
-/// `nx_receiver::listen_from` does, and puts the log and the text of what the run leaves into the
+/// Reads the state with which `state` begins, and listens to an air file, going on from it, as
+/// `nx_receiver::listen_from` does. Puts the log and the text of what the run leaves into the
 /// caller's rooms for them. What stands behind the state isn't read.
 ///
 /// The log is put as by `nx_listen`. The new state is handed out only where all succeeded and the

@@ -22,9 +22,9 @@ ghost use Rattle.nx_left_on.specs.Example.{example_watches, kept_bytes, one_entr
 ghost use Rattle.nx_left_on.specs.LeftOn.{HasEndedAt, IsHeardInTimeOver, IsUnknownOver};
 
 /// What a watch puts tells which of the copies that are found of it were judged. So a watch goes on
-/// from its log, with some copies found and judged, where it puts a beginning of what its lines
-/// print, and at least all that is printed of those behind which it read on. And a sending whose
-/// emission lies whole in what is given has ended there.
+/// from its log, with some copies found and judged. This holds where it puts a beginning of what
+/// its lines print, and at least all that is printed of those behind which it read on. And a
+/// sending whose emission lies whole in what is given has ended there.
 pub fn a_watch_goes_on_from_its_log()
     ensures some { (log : List MarkedCopy) (watch : Watch) → Puts log watch
         → (found judged : Channel → List FoundCopy)
@@ -85,7 +85,7 @@ pub fn a_chain_of_watches_is_one_receiver()
 {}
 
 /// The headline of a receiver that is left on. Take a chain of watches of one log, whatever it
-/// holds at first, each ended by the end of its input, a fault, or a crash at any moment, where no
+/// holds at first. Each is ended by the end of its input, a fault, or a crash at any moment, and no
 /// MOMENT lies 66 hours or more before the newest entry. Take a message that is heard in time over
 /// them on a channel, of which a sending ends in lines behind which its watch read on. It has
 /// exactly one entry of that channel among all that they put. The entry is full, has 0 errors, and

@@ -79,9 +79,9 @@ pub fn a_run_writes_a_log()
         → ResumedEntries contents outcome }
 {}
 
-/// A log says what the memory of its run knew: the entries that are made of copies are those that
-/// the printed ones keep; and so, where a run started with entries on a channel, the entries after
-/// it are the last 200 of these and what its log remembers of the channel.
+/// A log says what the memory of its run knew. The entries that are made of copies are those that
+/// the printed ones keep. So, where a run started with entries on a channel, the entries after it
+/// are the last 200 of these and what its log remembers of the channel.
 pub fn a_log_remembers_what_its_run_entered()
     ensures made { (entries : List MemoryEntry) (copies : List TaggedCopy)
         → entries_made entries copies ≡ kept_entries (printed_copies entries copies) }

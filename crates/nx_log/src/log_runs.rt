@@ -30,7 +30,7 @@ const MAX_READ: u64 = 9_223_372_036_854_775_807;
 /// `BadLog` at the line at which the bytes stop being a log, and `Read`, come after the entries
 /// before them were written. `Write` says how many bytes were written; after it no device is
 /// called. `Memory` comes before the first read. That each entry is written before the next read is
-/// said by the answer `Read`: a run can't know which read will fail, and after each that fails all
+/// said by the answer `Read`. A run can't know which read will fail, and after each that fails all
 /// whole entries of what was read are written.
 pub fn log_run<R: Read, W: Write>(
     alloc: Global,

@@ -110,9 +110,9 @@ pub record StopsBehind (first : ℕ) (bytes : List ℕ) (lines : List (Option Li
   pub are : AreLines front (lines ++ Some last ∷ []) []
   pub on : goes_on first lines ≡ true
 
--- A run over lines: how its taker stands, at first and now; the moment in force at first; what
--- holds where the input ended, or the limit was reached; and what holds of the lines that it tells
--- of.
+-- A run over lines: how its taker stands, at first and now, and the moment in force at first. With
+-- it stands what holds where the input ended, or the limit was reached, and what holds of the lines
+-- that it tells of.
 pub record RunOverLines (T : Type 0) : Type 1 where
   pub stands : Standing T
   pub start : T

@@ -24,10 +24,10 @@ use nx_receiver::Listener;
 use std::alloc::Global;
 use std::io::{Read, Write};
 
-/// Listens to the lines of any bytes, to their end or to 2^63 - 1 of them, and puts each entry that
-/// `listen_from` would print of the lines that act into the kept log, all of the lines so far
-/// before each further read. Three receivers hear them, one for each channel. They start at
-/// `moment`, in whole seconds since 1970-01-01 00:00:00 UTC, with what is remembered of the log
+/// Listens to the lines of any bytes, to their end or to 2^63 - 1 of them. It puts each entry that
+/// `listen_from` would print of the lines that act into the kept log. Before each further read all
+/// entries of the lines so far are put. Three receivers hear them, one for each channel. They start
+/// at `moment`, in whole seconds since 1970-01-01 00:00:00 UTC, with what is remembered of the log
 /// then; everything is selected. The end of the input closes the channels 0, 1 and 2 in order, and
 /// so does a moment that ends the watch. Lines without effect are told of on `notices`: the first
 /// before the next read, and their number at the end. A failed write there is passed over. Memory
@@ -38,10 +38,10 @@ use std::io::{Read, Write};
 /// failed write there too, it is answered as `Disk`. Nothing else is written to `writer`.
 ///
 /// A crash at any moment leaves a file that stands for the entries from before and a beginning of
-/// those that the lines print; or what it could leave before what the file held was brought to the
-/// disk. That each entry is on the disk before the next read of the input is said by the answer
-/// `Read`: a watch can't know which read will fail, and after each that fails all entries of the
-/// lines that were read whole are kept.
+/// those that the lines print. Or it leaves what it could leave before what the file held was
+/// brought to the disk. That each entry is on the disk before the next read of the input is said by
+/// the answer `Read`. A watch can't know which read will fail, and after each that fails all
+/// entries of the lines that were read whole are kept.
 pub fn watch<D: DiskFile + Drop, R: Read, W: Write, F: Write>(
     alloc: Global,
     moment: u64,

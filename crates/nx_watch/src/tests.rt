@@ -133,8 +133,8 @@ const PIECES: [(&str, usize); 4] = [
     ("in pieces of 65,536", 65_536),
 ];
 
-/// The lines 1, 2, 4, 5 and 9 have no effect: one that isn't understood, one of 600 bytes, a moment
-/// that goes back, the refusal of a vital subject, and one that the end cuts.
+/// The lines 1, 2, 4, 5 and 9 have no effect. They are one that isn't understood, one of 600 bytes,
+/// a moment that goes back, the refusal of a vital subject, and one that the end cuts.
 #[test]
 fn watch_garbage(rt: HostRuntime) {
     let alloc = rt.alloc();

@@ -275,8 +275,8 @@ fn whole_lines(input: &[u8], read: usize) -> usize {
 /// of 363 bytes.
 const HEARD_IN_SHORT_LINES: usize = COMMAND.len() + LINE_OF_MOMENT + 2 * 363;
 
-/// Where the first of the channels on three has heard a copy in full: behind a line of 490 elements
-/// on each of the three, one of 161 on channel 0 and one of 259 on channel 1.
+/// Where the first of the channels on three has heard a copy in full. That is behind a line of 490
+/// elements on each of the three, one of 161 on channel 0 and one of 259 on channel 1.
 const HEARD_ON_THREE: usize = LINE_OF_MOMENT + (493 + 494 + 494) + 164 + 263;
 
 /// The copies that stand open at the end come by channel.

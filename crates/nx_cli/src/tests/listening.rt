@@ -149,7 +149,7 @@ fn expect_stop_at_read(rt: &impl Abort, alloc: Global, row: &str, given: &[u8], 
 fn listens_to_readers_that_fail(rt: HostRuntime) {
     let alloc = rt.alloc();
     // Readers that fail behind the first line, behind a line with the end of a copy and behind one
-    // within a copy: the log of the lines that came is written, and an open copy is not closed.
+    // within a copy. The log of the lines that came is written, and an open copy is not closed.
     let open = made_of(&rt, alloc, &[Text(MOMENT_OF_EA01), Part(0, 1_323, 490)]);
     let cases: [(&str, &[u8], &[u8]); 3] = [
         ("the first line", MOMENT_OF_EA01, b""),

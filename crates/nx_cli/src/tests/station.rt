@@ -135,9 +135,10 @@ fn long_file(
 #[test]
 fn fills_a_slot(rt: HostRuntime) {
     // A message alone costs 72 positions of phasing, 13 of its head, 7 of its end and three of the
-    // end of the emission, one for the letter shift before the first A, 71 for a line of 69 A and 2
-    // for an empty line: with 58 and 36 of these 4,286, the most that a slot takes. The second has
-    // a 1 with its figure shift in place of two A, and so a letter shift before its end.
+    // end of the emission. It costs one more for the letter shift before the first A, 71 for a line
+    // of 69 A and 2 for an empty line. With 58 and 36 of these it costs 4,286, the most that a slot
+    // takes. The second has a 1 with its figure shift in place of two A, and so a letter shift
+    // before its end.
     let mut with_1 = [b'A'; 68];
     with_1[67] = b'1';
     let rows: [(usize, &[u8], usize, &str); 4] = [

@@ -15,7 +15,7 @@ use nx_envelope::{CIVIL_LEN, MAX_FOUND};
 use nx_receiver::entry_end;
 
 /// Endings of a civil time. What begins a civil time is one with the end of the first or of the
-/// second, which are the same but for the last digit of the day: a month has its 1st, 11th and
+/// second. These are the same but for the last digit of the day: a month has its 1st, 11th and
 /// 21st, and its 31st or its 30th.
 const FIRST_ENDING: &[u8; CIVIL_LEN] = b"1970-01-01 00:00:00";
 

@@ -26,8 +26,8 @@ pub(crate) enum Stage {
     Torn(usize),
 }
 
-/// How many bytes of a piece are of the gap, and what stands behind it then: the beginning of an
-/// entry, perhaps with no byte yet, where other bytes have to begin it or go on with it.
+/// How many bytes of a piece are of the gap, and what stands behind it then. That is the beginning
+/// of an entry, perhaps with no byte yet, where other bytes have to begin it or go on with it.
 #[derive(Clone, Copy, Debug)]
 pub(crate) struct GapPassed {
     pub(crate) passed: usize,

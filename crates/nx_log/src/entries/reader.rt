@@ -180,8 +180,9 @@ impl LogReader {
         }
     }
 
-    /// Takes bytes that can only be of a torn end, from the place on: all of them if there is room,
-    /// and else they stop being a log where the room ends, or at the place if it ends before.
+    /// Takes bytes that can only be of a torn end, from the place on. If there is room, it takes
+    /// all of them. Else they stop being a log where the room ends, or at the place if it ends
+    /// before.
     fn pass_torn(&mut self, bytes: &[u8], room: Option<usize>, place: usize) -> Pushed
         requires { place ≤ length bytes.now }
         ensures within { TakesWithin (length bytes.now) result }

@@ -17,7 +17,7 @@ const DATE_LEN: usize = 10;
 const TIME_LEN: usize = 9;
 
 /// The moment since which a text asks for entries. Digits alone are the moment itself, in whole
-/// seconds since 1970-01-01 00:00:00 UTC; `YYYY-MM-DD` is the first second of a date in UTC, and
+/// seconds since 1970-01-01 00:00:00 UTC. `YYYY-MM-DD` is the first second of a date in UTC, and
 /// `YYYY-MM-DDTHH:MM:SS`, with or without a `Z` behind it, a second of it. `None` exactly where it
 /// has none of these forms, where the calendar has no such time, and outside the years 1970 to
 /// 2999.

@@ -12,9 +12,10 @@ use arrayvec::ArrayVec;
 use nx_memory::{CAPACITY, LIFETIME, MemoryEntry, PlainRecall, Recall, Saved, Selection};
 
 /// What is remembered at a moment of the entries that a log remembers on a channel, at most 200 in
-/// their order: those less than 66 hours after the moment; of these, those behind which none with
-/// an earlier moment stands; and of these, those behind which none of their identity stands less
-/// than 66 hours later. Everything is selected.
+/// their order. They are chosen in three steps. First, those less than 66 hours after the moment
+/// stay. Of these, those stay behind which none with an earlier moment stands. Of these again,
+/// those stay behind which none of their identity stands less than 66 hours later. Everything is
+/// selected.
 pub fn remembered(moment: u64, entries: &[MemoryEntry]) -> Saved
     requires few { length entries.now ≤ 200 }
     requires numbered { All (λ entry. 0 < entry.identity.number) entries.now }
