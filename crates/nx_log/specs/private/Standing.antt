@@ -4,7 +4,6 @@ use Rattle.std.specs.Prelude.{◌≡◌, ◌≢◌, ◌⊎◌, ℕ, ◌+◌, ◌
 use Rattle.std.specs.List.{All}
 use Rattle.nx_log.specs.Entries.{IsUnfinishedEntry}
 use Rattle.nx_log.specs.Reading.{CanGoOn, HasNext, IsBlank}
-use Rattle.nx_log.specs.LogReading.{LogReading}
 use Rattle.nx_log.specs.declared.entries.gap.Stage.{Stage}
 use Rattle.nx_log.specs.declared.entries.gap.Stage.TheVariants.{Start, Blank, Gap, Bracket, Begun, Torn}
 use Rattle.nx_log.specs.private.Stages as stages
