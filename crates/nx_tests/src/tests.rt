@@ -3,18 +3,13 @@
 //! a watch.
 
 mod air_files;
-mod entries;
-mod hearing;
-mod judging;
-mod laws;
-mod listening;
 mod locking;
 mod logs;
 mod reading_logs;
+mod receiving;
 mod remembering;
 mod sending;
 mod signals;
-mod states;
 mod synchronising;
 mod texts;
 mod watching;

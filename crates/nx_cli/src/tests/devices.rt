@@ -1,6 +1,11 @@
 //! Readers and writers that give and take in pieces, fail at a call, never end, discard or take
 //! nothing.
 
+mod clocked;
+mod endings;
+mod failures;
+mod interrupted;
+
 use std::io::{Error, ErrorKind, Read, Result, Write};
 
 /// A reader that gives its text in pieces.

@@ -1,5 +1,9 @@
 //! `listen` on a whole file, on a part of one, on faulty ones and on devices that fail.
 
+mod copies;
+mod locking;
+mod repeats;
+
 use super::air::Piece::{Part, Sent, Text};
 use super::air::{
     Heard, LOG_OF_EA01, MOMENT_OF_EA01, Piece, Refused, expect_logs, expect_refusals, made_of,

@@ -1,5 +1,8 @@
 //! `send`, `slots` and `code`.
 
+mod damaging;
+mod reading;
+
 use super::{expect_fault, expect_output, expect_text, output_of, run_on, shown};
 use std::alloc::Global;
 use std::process::Abort;

@@ -1,7 +1,7 @@
 //! Devices that fail, take little, or forget.
 
-use super::devices::{Sink, Source};
-use super::{AIR_FILE_OF_A, expect_end, expect_text};
+use super::super::{AIR_FILE_OF_A, expect_end, expect_text};
+use super::{Sink, Source};
 use nx_fec::Counting;
 use nx_program::run;
 use std::alloc::Global;

@@ -1,7 +1,7 @@
 //! Copies that are cut or too long.
 
-use super::air::Piece::{Combinations, Part, Text};
-use super::air::{
+use super::super::air::Piece::{Combinations, Part, Text};
+use super::super::air::{
     HEADER_OF_EA01, Heard, LINES, MOMENT_OF_EA01, Piece, expect_log, expect_logs, join,
 };
 use std::alloc::Global;

@@ -1,10 +1,10 @@
 //! `damage`.
 
-use super::devices::{Sink, Source};
-use super::station::AIR_FILE_OF_EA01;
-use super::{
+use super::super::devices::{Sink, Source};
+use super::super::{
     AIR_FILE_OF_A, expect_end, expect_fault, expect_output, expect_text, output_of, run_on,
 };
+use super::AIR_FILE_OF_EA01;
 use std::alloc::Global;
 
 // 59 words from slot 144 on are those of slots 144 to 202, of which 30 are even.

@@ -4,13 +4,13 @@
 ghost use Rattle.std.specs.Prelude.{◌≡◌, ◌≤◌};
 ghost use Rattle.nx_envelope.specs.Moment.{last_moment};
 
-use super::air::Piece::{Combinations, Named, Part, Text};
-use super::air::{HEADER_OF_EA01, MOMENT_OF_EA01, Piece, made_of};
+use super::super::air::Piece::{Combinations, Named, Part, Text};
+use super::super::air::{HEADER_OF_EA01, MOMENT_OF_EA01, Piece, made_of};
+use super::super::resuming::{EA01_SAVED, NOTHING};
+use super::super::station::{AIR_FILE_OF_EA01, MESSAGE_FILE};
+use super::super::{AIR_FILE_OF_A, shown};
 use super::clocked::{Clock, Pieces, Reader, Writer};
 use super::endings::Ending;
-use super::resuming::{EA01_SAVED, NOTHING};
-use super::station::{AIR_FILE_OF_EA01, MESSAGE_FILE};
-use super::{AIR_FILE_OF_A, shown};
 use nx_envelope::{Finder, FinderStep, Identity, Letter};
 use nx_fec::{
     Channel, Counting, decode_run, encode_run, read_bits, show_run, write_bits, write_table,

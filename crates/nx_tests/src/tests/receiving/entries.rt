@@ -1,6 +1,6 @@
 //! Entries as they are printed.
 
-use super::{FIRST, expect_text, first_copy, shown};
+use super::super::{FIRST, expect_text, first_copy, shown};
 use nx_fec::{Channel, Counting};
 use nx_receiver::{Entry, entry_text, entry_text_on};
 use std::alloc::Global;

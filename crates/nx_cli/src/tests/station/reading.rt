@@ -1,8 +1,8 @@
 //! `show` and `check`.
 
-use super::air::join;
-use super::station::{AIR_FILE_OF_EA01, MESSAGE_FILE, SEND};
-use super::{AIR_FILE_OF_A, expect_fault, expect_output, output_of, shown, with_word};
+use super::super::air::join;
+use super::super::{AIR_FILE_OF_A, expect_fault, expect_output, output_of, shown, with_word};
+use super::{AIR_FILE_OF_EA01, MESSAGE_FILE, SEND};
 
 // The words of an emission of A in their slots (M.625, mode B), with their numbers and names by the
 // code table of M.476.

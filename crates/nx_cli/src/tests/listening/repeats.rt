@@ -1,8 +1,8 @@
 //! What `listen` prints of messages that are sent again, and of those that are refused.
 
-use super::air::Piece::{Damaged, Sent, Text};
-use super::air::{Damage, Heard, LINES, LOG_OF_EA01, MOMENT_OF_EA01, Piece, expect_logs};
-use super::station::{AIR_FILE_OF_EA01, MESSAGE_FILE};
+use super::super::air::Piece::{Damaged, Sent, Text};
+use super::super::air::{Damage, Heard, LINES, LOG_OF_EA01, MOMENT_OF_EA01, Piece, expect_logs};
+use super::super::station::{AIR_FILE_OF_EA01, MESSAGE_FILE};
 
 /// Moments whose next slots of station E begin at 1735692000, 1735706400 and 1735720800.
 const NOW: &str = "1735689600";

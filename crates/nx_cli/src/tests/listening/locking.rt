@@ -1,8 +1,8 @@
 //! Emissions that a receiver doesn't hear as they were sent, and of which `listen` writes the same
 //! log nevertheless, or nothing.
 
-use super::air::Piece::{Combinations, Damaged, Part, Text};
-use super::air::{
+use super::super::air::Piece::{Combinations, Damaged, Part, Text};
+use super::super::air::{
     HEADER_OF_EA01, Heard, LINES, LOG_OF_EA01, MOMENT_OF_EA01, Piece, REST_OF_EA01, expect_logs,
 };
 

@@ -1,7 +1,9 @@
 //! What `listen` and `listen_from` report.
 
-use super::remembering::enter_numbers;
-use super::{EA01, FIRST, LOG_OF_EA01, SECOND, elements_of, expect_text, expect_told, sent, shown};
+use super::super::remembering::enter_numbers;
+use super::super::{
+    EA01, FIRST, LOG_OF_EA01, SECOND, elements_of, expect_text, expect_told, sent, shown,
+};
 use nx_envelope::Letter;
 use nx_fec::Counting;
 use nx_memory::{PlainRecall, Saved, SavedSet, Selection};

@@ -1,6 +1,6 @@
 //! A file read piece by piece, and whole.
 
-use super::super::{expect_text, shown};
+use crate::tests::{expect_text, shown};
 use nx_fec::{Counting, Piece, next_piece, read_bits, read_whole};
 
 #[test]

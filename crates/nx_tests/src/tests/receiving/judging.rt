@@ -3,7 +3,7 @@
 ghost use Rattle.std.specs.Prelude.{◌≤◌};
 ghost use Rattle.nx_memory.specs.Memory.{newest_moment};
 
-use super::{AGAIN, FIRST, SECOND, first_copy};
+use super::super::{AGAIN, FIRST, SECOND, first_copy};
 use nx_envelope::Identity;
 use nx_memory::{PlainRecall, Recall, RingRecall};
 use nx_receiver::judge;

@@ -1,6 +1,6 @@
 //! The text of a state, read and written, and runs that resume from it.
 
-use super::{EA01, SECOND, expect_text, sent, shown};
+use super::super::{EA01, SECOND, expect_text, sent, shown};
 use nx_fec::Counting;
 use nx_receiver::{
     ListenFault, MomentFault, Report, ResumeFault, StateFault, Want, read_state, resume,

@@ -1,6 +1,6 @@
 //! Aligned decoding.
 
-use super::super::{expect_text, shown};
+use crate::tests::{expect_text, shown};
 use nx_code::Word;
 use nx_fec::{AlignedFault, decode_aligned, word_in};
 use std::alloc::Global;

@@ -1,6 +1,6 @@
 //! What several writes write.
 
-use super::super::expect_text;
+use crate::tests::expect_text;
 use nx_fec::{Counting, WriteFault, write_bits, write_on};
 
 #[test]

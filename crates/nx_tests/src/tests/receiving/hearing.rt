@@ -3,7 +3,7 @@
 ghost use Rattle.std.specs.Prelude.{◌<◌, ◌≤◌};
 ghost use Rattle.nx_envelope.specs.Moment.{last_moment};
 
-use super::{AGAIN, EA01, FIRST, LOG_OF_EA01, SECOND, elements_of, expect_text};
+use super::super::{AGAIN, EA01, FIRST, LOG_OF_EA01, SECOND, elements_of, expect_text};
 use nx_envelope::{Identity, Letter};
 use nx_fec::Counting;
 use nx_memory::{PlainRecall, Recall, RingRecall, Selection};

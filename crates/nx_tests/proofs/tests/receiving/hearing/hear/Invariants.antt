@@ -1,5 +1,5 @@
 use Rattle.std.proofs.Common.{◌-◌, ◌≤◌, length}
-use Rattle.nx_tests.proofs.tests.hearing.hear.Given as goal
+use Rattle.nx_tests.proofs.tests.receiving.hearing.hear.Given as goal
 
 abbrev pub invariant-loop-at : goal.invariant-loop-at
 invariant-loop-at g l = l.at ≤ length l.bits
