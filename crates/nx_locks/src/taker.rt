@@ -207,13 +207,18 @@ impl StepTaker for LockTaker {
     }
 
     #[inline(always)]
-    fn take_words(&mut self, words: &[Word]) -> (usize, Option<()>) {
+    fn take_words(&mut self, words: &[Word]) -> bool {
         if !self.reader.hear_words(words, &mut self.shown) {
-            return (0, None);
+            return false;
         }
         let elements = (ELEMENTS * words.len()) as u64;
         self.elements = self.elements.saturating_add(elements);
-        (words.len(), None)
+        true
+    }
+
+    // A word that may begin or end a header is taken alone.
+    fn take_pairs(&mut self, _words: &[Word]) -> (usize, Option<()>) {
+        (0, None)
     }
 
     ghost none = { λ held taker. hears_none held taker };

@@ -134,8 +134,12 @@ impl StepTaker for CopyTaker {
     }
 
     #[inline(always)]
-    fn take_words(&mut self, words: &[Word]) -> (usize, Option<Over>) {
-        let (heard, event) = self.reader.hear_words(words);
+    fn take_words(&mut self, words: &[Word]) -> bool {
+        self.reader.hear_plain(words)
+    }
+
+    fn take_pairs(&mut self, words: &[Word]) -> (usize, Option<Over>) {
+        let (heard, event) = self.reader.hear_pairs(words);
         (heard, self.meet(event, false))
     }
 

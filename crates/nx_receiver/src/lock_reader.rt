@@ -81,23 +81,8 @@ impl LockReader {
     /// first one that begins or ends a copy, all of them where none does. Says how many these are,
     /// in whole pairs, and what the last one brings. A copy that it ends can be taken before the
     /// next word.
-    #[inline(always)]
-    pub(crate) fn hear_words(&mut self, words: &[Word]) -> (usize, TextEvent)
-        requires { ArePairs words.now }
-        ensures within { result.0 ≤ length words.now }
-        ensures even { result.0 % 2 ≡ 0 }
-        ensures some { 0 < result.0 }
-        ensures hears { HearsWords self.old self.new (take result.0 words.now) result.1 }
-    {
-        if self.hear_plain(words) {
-            return (words.len(), TextEvent::Nothing);
-        }
-        self.hear_pairs(words)
-    }
-
-    /// Hears words as `hear_words` does, pair by pair.
     #[inline(never)]
-    fn hear_pairs(&mut self, words: &[Word]) -> (usize, TextEvent)
+    pub(crate) fn hear_pairs(&mut self, words: &[Word]) -> (usize, TextEvent)
         requires { ArePairs words.now }
         ensures within { result.0 ≤ length words.now }
         ensures even { result.0 % 2 ≡ 0 }
@@ -129,7 +114,7 @@ impl LockReader {
     /// Hears the next words of the lock at once, DX and RX by turns, where surely none of them
     /// begins or ends a copy: `true` where it did. Else nothing changed.
     #[inline(always)]
-    fn hear_plain(&mut self, words: &[Word]) -> bool
+    pub(crate) fn hear_plain(&mut self, words: &[Word]) -> bool
         requires { ArePairs words.now }
         ensures plain { IsTrue result → ReadsPlain self.old self.new words.now }
         ensures same { result ≡ false → self.new ≡ self.old }

@@ -9,8 +9,8 @@ ghost use Rattle.nx_sync.specs.Locks.{pattern_elements};
 ghost use Rattle.nx_sync.specs.private.Windows as spec;
 ghost use Rattle.nx_sync.specs.private.Windows.{IsBeforeLockIn};
 
-use crate::phasing::{is_block, is_lock_window};
-use crate::windows_after::{joined, window_after_number};
+use crate::phasing::{PATTERN, is_block, is_lock_window};
+use crate::windows_after::joined;
 use nx_code::{ELEMENTS, WORDS_AT_ONCE, Word, elements_at, packed_word, words_of};
 
 /// So few elements are looked at window by window at once, which costs less than the tests of
@@ -122,9 +122,11 @@ fn count_by_windows(window: u32, number: u64, count: usize) -> usize
     requires few { count ≤ packed_elements }
     ensures { IsBeforeLockIn (spec.joined window number) count result }
 {
+    let mut rest = joined(window, number);
     let mut at = 0;
     while at < count {
-        if is_lock_window(window_after_number(window, number, at + 1)) {
+        rest >>= 1;
+        if is_lock_window((rest % (1 << PATTERN)) as u32) {
             return at;
         }
         at += 1;

@@ -21,7 +21,8 @@ use crate::step::{Role, Step};
 use crate::track::Track;
 use crate::windows::count_before_lock;
 use crate::windows_after::{
-    STRIDE, last_word, next_window, window_after_number, window_after_stride, window_after_whole,
+    STRIDE, last_word, next_window, window_after_few, window_after_number, window_after_stride,
+    window_after_whole,
     windows_after,
 };
 use crate::word_synchroniser::WordSynchroniser;
@@ -292,7 +293,7 @@ impl Synchroniser {
         };
         let heard = count.min(ELEMENTS - usize::from(track.filled));
         let number = elements_at(numbers, from, heard);
-        self.recent = window_after_number(self.recent, number, heard);
+        self.recent = window_after_few(self.recent, number, heard);
         let filled = track.filled + (heard - 1) as u8;
         (heard, self.follow(Track { filled, ..track }))
     }

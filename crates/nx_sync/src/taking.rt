@@ -46,10 +46,21 @@ pub trait StepTaker {
             → BringsStep old new bits step → hears old self.old bits new self.new result }
         ensures can { (more : ℕ) → can_take self.old (count + more) → can_take self.new more };
 
+    /// Takes words of a lock that bring no change, DX and RX by turns, at once, where surely
+    /// nothing is over with any of them: `true` where it did. Else nothing changed.
+    fn take_words(&mut self, words: &[Word]) -> bool
+        requires pairs { ArePairs words.now }
+        requires can { can_take self.old (word_elements * length words.now) }
+        ensures hears { IsTrue result → (old new : Held) → BringsWords old new words.now
+            → hears old self.old (flat_map elements words.now) new self.new None }
+        ensures can { (more : ℕ) → can_take self.old (word_elements * length words.now + more)
+            → can_take self.new more }
+        ensures same { result ≡ false → self.new ≡ self.old };
+
     /// Takes the first of these words of a lock, DX and RX by turns, where none of them brings a
     /// change. Says how many it took, in whole pairs, and what is over with the last of these, if
     /// anything is. Where it took none, nothing changed. The next word has to be taken alone then.
-    fn take_words(&mut self, words: &[Word]) -> (usize, Option<Self::Over>)
+    fn take_pairs(&mut self, words: &[Word]) -> (usize, Option<Self::Over>)
         requires pairs { ArePairs words.now }
         requires can { can_take self.old (word_elements * length words.now) }
         ensures within { result.0 ≤ length words.now }
@@ -98,7 +109,10 @@ impl Synchroniser {
         if count == 1 {
             return (1, self.hear_one(taker, numbers, from));
         }
-        self.hear_parts(taker, numbers, from, count)
+        if count < ELEMENTS * TWO_WORDS {
+            return self.hear_few(taker, numbers, from, count);
+        }
+        self.hear_many(taker, numbers, from, count)
     }
 
     /// Hears the one element that there is to hear. Never inlined: it needs none of the registers
@@ -119,10 +133,10 @@ impl Synchroniser {
         taker.take(1, step)
     }
 
-    /// Hears these elements part by part, as `hear` does. Never inlined: its loop has the registers
-    /// to itself.
+    /// Hears fewer elements than two words have, as `hear` does. Never inlined: it needs few of the
+    /// registers that words at once do.
     #[inline(never)]
-    fn hear_parts<T: StepTaker>(
+    fn hear_few<T: StepTaker>(
         &mut self,
         taker: &mut T,
         numbers: &[u64],
@@ -135,9 +149,48 @@ impl Synchroniser {
             self.new taker.new result }
         ensures all { result.1 ≡ None → result.0 ≡ count }
     {
+        self.hear_parts(taker, numbers, from, count, false)
+    }
+
+    /// Hears any number of elements, as `hear` does. Never inlined: its loop has the registers to
+    /// itself.
+    #[inline(never)]
+    fn hear_many<T: StepTaker>(
+        &mut self,
+        taker: &mut T,
+        numbers: &[u64],
+        from: usize,
+        count: usize,
+    ) -> (usize, Option<T::Over>)
+        requires part { HasPart numbers.now from count }
+        requires can { T.can_take taker.old count }
+        ensures takes { TakesSome T.hears T.can_take self.old taker.old numbers.now from count
+            self.new taker.new result }
+        ensures all { result.1 ≡ None → result.0 ≡ count }
+    {
+        self.hear_parts(taker, numbers, from, count, true)
+    }
+
+    /// Hears these elements part by part, whole words by themselves where that is said.
+    #[inline(always)]
+    fn hear_parts<T: StepTaker>(
+        &mut self,
+        taker: &mut T,
+        numbers: &[u64],
+        from: usize,
+        count: usize,
+        has_words: bool,
+    ) -> (usize, Option<T::Over>)
+        requires part { HasPart numbers.now from count }
+        requires can { T.can_take taker.old count }
+        ensures takes { TakesSome T.hears T.can_take self.old taker.old numbers.now from count
+            self.new taker.new result }
+        ensures all { result.1 ≡ None → result.0 ≡ count }
+    {
         let mut heard = 0;
         while heard < count {
-            let (part, over) = self.hear_part(taker, numbers, from + heard, count - heard);
+            let (part, over) =
+                self.hear_part(taker, numbers, from + heard, count - heard, has_words);
             heard += part;
             if over.is_some() {
                 return (heard, over);
@@ -146,7 +199,8 @@ impl Synchroniser {
         (heard, None)
     }
 
-    /// Hears one or more of these elements: those of a hunt, whole words, or a part of a word.
+    /// Hears one or more of these elements: those of a hunt, whole words where that is said, or a
+    /// part of a word.
     #[inline(always)]
     fn hear_part<T: StepTaker>(
         &mut self,
@@ -154,6 +208,7 @@ impl Synchroniser {
         numbers: &[u64],
         from: usize,
         count: usize,
+        has_words: bool,
     ) -> (usize, Option<T::Over>)
         requires some { 0 < count }
         requires part { HasPart numbers.now from count }
@@ -165,7 +220,7 @@ impl Synchroniser {
             return self.hear_hunting(taker, numbers, from, count);
         }
         // One word alone isn't worth the way to whole words and back.
-        if self.is_between_words() && count >= ELEMENTS * TWO_WORDS {
+        if has_words && self.is_between_words() && count >= ELEMENTS * TWO_WORDS {
             let mut words = self.at_words();
             let answer = words.hear(taker, numbers, from, count);
             self.go_on_from(&words);
@@ -329,13 +384,13 @@ impl WordSynchroniser {
         if !self.keeps_lock(words) {
             return (0, None);
         }
-        let (heard, over) = taker.take_words(words);
+        if taker.take_words(words) {
+            self.push_words(words);
+            return (ELEMENTS * count, None);
+        }
+        let (heard, over) = taker.take_pairs(words);
         if heard == 0 {
             return (0, None);
-        }
-        if heard == count {
-            self.push_words(words);
-            return (ELEMENTS * count, over);
         }
         self.push_words(&words[..heard]);
         (ELEMENTS * heard, over)

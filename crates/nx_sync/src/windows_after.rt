@@ -141,6 +141,18 @@ pub(crate) fn window_after_number(window: u32, number: u64, count: usize) -> u32
     ((joined(window, number) >> count) % (1 << PATTERN)) as u32
 }
 
+/// The same after so few elements that the window and they have room in 64 places.
+#[inline(always)]
+pub(crate) fn window_after_few(window: u32, number: u64, count: usize) -> u32
+    requires window { window < 2 ^ pattern_elements }
+    requires few { number < 2 ^ 36 }
+    requires shift { count < 64 }
+    ensures value { result ≡ spec.window_after window (elements_from count number) }
+    ensures within { result < 2 ^ pattern_elements }
+{
+    (((u64::from(window) + (number << PATTERN)) >> count) % (1 << PATTERN)) as u32
+}
+
 /// The window after all 64 elements of a number, which is the last one that the rule gives,
 /// whichever window was before.
 #[inline(always)]

@@ -168,7 +168,6 @@ fn read_marked(line: &[u8], elements: &mut PackedElements) -> Option<LineKind>
 
 /// The channel that a line of elements names, if it names one, and what follows a space behind it.
 /// None where the bytes begin no line of elements.
-#[inline(always)]
 pub(crate) fn digits_behind(line: &[u8]) -> Option<(Option<Channel>, &[u8])>
     ensures { IfSome result (λ found. line.now ≡ with_mark (codes "B") found.0 found.1.now) }
 {

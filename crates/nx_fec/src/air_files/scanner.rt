@@ -240,23 +240,26 @@ impl Scanner {
             return 0;
         }
         match piece {
+            [b'B', b' ', digits @ ..] => self.take_elements(piece, None, digits),
             [b'T', b' ', digits @ ..] => self.take_moment(piece, digits),
-            _ => self.take_elements(piece),
+            _ => match digits_behind(piece) {
+                Some((mark, digits)) => self.take_elements(piece, mark, digits),
+                None => 0,
+            },
         }
     }
 
-    /// Takes the line that a piece begins with as `take_whole` does, where it has elements.
+    /// Takes the line that a piece begins with as `take_whole` does, where it has elements, by the
+    /// channel that it names, if it names one, and what follows it and a space.
     #[inline(always)]
-    fn take_elements(&mut self, piece: &[u8]) -> usize
+    fn take_elements(&mut self, piece: &[u8], mark: Option<Channel>, digits: &[u8]) -> usize
+        requires front { piece.now ≡ with_mark (codes "B") mark digits.now }
         requires empty { self.old.part ≡ [] }
         requires long { NEAR_BYTES ≤ length piece.now }
         requires room { NEAR_BYTES ≤ self.old.room }
         ensures taken { 0 < result → TakesLine self.old self.new piece.now result }
         ensures none { result ≡ 0 → Waits self.old self.new }
     {
-        let Some((mark, digits)) = digits_behind(piece) else {
-            return 0;
-        };
         let count = self.take_few(piece, mark, digits);
         if count > 0 {
             return count;
@@ -264,8 +267,7 @@ impl Scanner {
         self.take_many(piece, mark, digits)
     }
 
-    /// Takes the line that a piece begins with as `take_elements` does, where it has few elements,
-    /// by the channel that it names, if it names one, and what follows it and a space.
+    /// Takes the line that a piece begins with as `take_elements` does, where it has few elements.
     #[inline(always)]
     fn take_few(&mut self, piece: &[u8], mark: Option<Channel>, digits: &[u8]) -> usize
         requires front { piece.now ≡ with_mark (codes "B") mark digits.now }
@@ -314,7 +316,7 @@ impl Scanner {
         end + 1
     }
 
-    /// Takes the line that a piece begins with as `take_few` does, whatever number of elements it
+    /// Takes the line that a piece begins with as `take_elements` does, however many elements it
     /// has.
     #[inline(never)]
     fn take_many(&mut self, piece: &[u8], mark: Option<Channel>, digits: &[u8]) -> usize

@@ -1,15 +1,11 @@
-use Rattle.std.proofs.Common.{◌≡◌, ◌+◌, ◌-◌, ◌*◌, ◌^◌, ℕ, List, arith, length, subst, sym, rules, take}
-use Rattle.std.proofs.Math.Seq.{take-length}
+use Rattle.std.proofs.Common.{◌≡◌, ◌+◌, ◌-◌, ◌*◌, ◌^◌, arith, subst, sym, rules}
 use Rattle.std.specs.Prelude.{min, IsTrue}
-use Rattle.std.specs.List.{flat_map}
-use Rattle.nx_code.specs.Word.{elements}
-use Rattle.nx_sync.specs.Taking.{BringsWords}
 use Rattle.nx_locks.proofs.lemmas.WordsTaken.{words_taken}
-use Rattle.nx_locks.specs.private.Taker.{Hears, Taking}
+use Rattle.nx_locks.specs.private.Taker.{Taking}
 use Rattle.nx_locks.proofs.taker.LockTakerStepTaker.take_words.Goals as goal
 
 pub returns-clause-hears : goal.returns-clause-hears
-returns-clause-hears c = rw (← c.self.view_is) (λ some before after brings.
+returns-clause-hears c = rw (← c.self.view_is) (λ is before after brings.
     let i = c.self.inside in
     let count = c.saturating_add-self-inside.result in
     let words = c.args.words.now in
@@ -22,7 +18,6 @@ returns-clause-hears c = rw (← c.self.view_is) (λ some before after brings.
       copies = i.copies;
       shown = i.shown.items;
     } in
-    let all : take (length words) words ≡ words = take-length words in
-    rw all (words_taken old before after count c.hear_words.new.self words
-    c.hear_words.new.shown.items c.requires.pairs.some (subst (BringsWords before after) all brings)
-    c.saturating_add-self-inside.ensures (c.hear_words.ensures.shows heard)))
+    words_taken old before after count c.hear_words.new.self words c.hear_words.new.shown.items
+    c.requires.pairs.some brings c.saturating_add-self-inside.ensures
+    (c.hear_words.ensures.shows heard))

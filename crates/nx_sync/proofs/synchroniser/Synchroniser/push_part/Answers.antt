@@ -30,16 +30,16 @@ returns-clause-brings c =
     let short = (c.self.invariant.2 track c.in-Some.is).0 in
     let full : old.seen ≡ 28 =
     sym (ap (λ s. s.seen) c.self.view_is) ∙ (c.self.invariant.2 track c.in-Some.is).1 in
-    let window : c.window_after_number-self-inside.result
+    let window : c.window_after_few-self-inside.result
     ≡ window_after old.recent (front ++ last ∷ []) =
-    c.window_after_number-self-inside.ensures.value
+    c.window_after_few-self-inside.ensures.value
     ∙ ap (window_after c.self.inside.recent) (c.elements_at-number.ensures.elements ∙ sym all)
     ∙ ap (λ (s : Held). window_after s.recent (front ++ last ∷ [])) c.self.view_is in
     let heard : Held = record old { recent = window_after old.recent (front ++ last ∷ []) } in
     let followed : Followed heard (filled_by track (length front)) c.follow.new.self
     c.follow.result =
     subst (λ y. Followed y (filled_by track (length front)) c.follow.new.self c.follow.result)
-    (ap (λ (s : Held). record s { recent = c.window_after_number-self-inside.result })
+    (ap (λ (s : Held). record s { recent = c.window_after_few-self-inside.result })
     c.self.view_is
     ∙ ap (λ w. record old { recent = w }) window)
     (subst (λ k. Followed (record (record {
@@ -47,7 +47,7 @@ returns-clause-brings c =
       seen = c.self.inside.seen;
       track = c.self.inside.track;
       wrong = c.self.inside.marks;
-    }) { recent = c.window_after_number-self-inside.result }) (filled_by track k) c.follow.new.self
+    }) { recent = c.window_after_few-self-inside.result }) (filled_by track k) c.follow.new.self
     c.follow.result) (sym front_size)
     (record { inner = c.follow.ensures.inside; whole = c.follow.ensures.whole })) in
     subst (λ l. BringsStep old c.follow.new.self l c.follow.result) all
