@@ -28,9 +28,9 @@ pub struct LocksReport {
 
 /// Shows the locks of an air file of at most 268,435,456 bytes to its end, and writes their report.
 /// It has for each lock a line that opens it, its running text, a line that closes it, and an empty
-/// line; and one last line. They are the locks in the elements of channel 0: elements of other channels
-/// change nothing. What the lines so far show is written before each further read. All memory is
-/// taken before the first read.
+/// line; and one last line. They are the locks in the elements of channel 0: elements of other
+/// channels change nothing. What the lines so far show is written before each further read. All
+/// memory is taken before the first read.
 ///
 /// It reads the file as `listen` does, with the same faults, on whichever channel they stand; what
 /// is selected changes nothing. The first fault in the order of the bytes ends the run; the line

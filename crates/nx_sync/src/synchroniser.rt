@@ -22,8 +22,7 @@ use crate::track::Track;
 use crate::windows::count_before_lock;
 use crate::windows_after::{
     STRIDE, last_word, next_window, window_after_few, window_after_number, window_after_stride,
-    window_after_whole,
-    windows_after,
+    window_after_whole, windows_after,
 };
 use crate::word_synchroniser::WordSynchroniser;
 use nx_code::{ELEMENTS, PACKED, Word, elements_at};

@@ -189,8 +189,13 @@ impl Synchroniser {
     {
         let mut heard = 0;
         while heard < count {
-            let (part, over) =
-                self.hear_part(taker, numbers, from + heard, count - heard, has_words);
+            let (part, over) = self.hear_part(
+                taker,
+                numbers,
+                from + heard,
+                count - heard,
+                has_words,
+            );
             heard += part;
             if over.is_some() {
                 return (heard, over);

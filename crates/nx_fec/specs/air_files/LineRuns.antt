@@ -23,8 +23,8 @@ IsPlaced AtEnd (LineLong line) = ⊤
 IsPlaced AtEnd (LineCut line) = AtEnd
 IsPlaced AtEnd (BadLine line) = ⊤
 
--- A read failed behind whole lines and the beginning of one more, within the limit, and what follows
--- is left; and this holds of the lines.
+-- A read failed behind whole lines and the beginning of one more, within the limit, and what
+-- follows is left; and this holds of the lines.
 abbrev pub HasReadFault : Extent → (List Line → Type 0) → List ℕ → Type 0
 HasReadFault extent holds bytes = StopsAt bytes (λ lines rest more.
     (length (file_of lines ++ rest) ≤ air_limit) × extent.is_left more × holds lines)

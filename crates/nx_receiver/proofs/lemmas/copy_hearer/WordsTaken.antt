@@ -55,7 +55,8 @@ quiet_last h before last pairs odd quiet =
     let k = length before in
     let one = quiet k (omega (arith, length-append before (last ∷ []))) in
     let word : slice_index (before ++ last ∷ []) k ≡ last = get_or-append_seam before last [] 0 in
-    let first : take k (before ++ last ∷ []) ≡ before = take-append-le k before (last ∷ []) (omega arith) ∙ take-length before in
+    let first : take k (before ++ last ∷ []) ≡ before =
+    take-append-le k before (last ∷ []) (omega arith) ∙ take-length before in
     let role : role_of Dx k ≡ Rx =
     ap (role_of Dx) (odd ∙ add-one (2 * pairs))
     ∙ ap other_role (dx_from_none pairs) in

@@ -17,8 +17,8 @@ returns-clause-plain c is =
           let before = subst (λ r. ReadsLock r first words n) (sym c.self.view_is) reads in
           record {
             bytes = _;
-            grows =
-                (c.print_words-printed.ensures.printed first words n (prints_lock before) all).grows;
+            grows = (c.print_words-printed.ensures.printed first words n (prints_lock before)
+                all).grows;
             nothing = c.hear_plain.ensures.brings heard (text_after first words n) before.finder;
           };
     }

@@ -14,8 +14,8 @@ use Rattle.nx_sync.proofs.word_synchroniser.WordSynchroniser.hear_at_once.Goals 
 
 pub push_words-requires-2-clause-keeps : goal.push_words-requires-2-clause-keeps
 push_words-requires-2-clause-keeps g c =
-    keeps_first c.args.self.now (take c.args.count c.words_in-eight.result) c.take_pairs-heard.result.0
-    c.take_pairs-heard.ensures.within (search rules)
+    keeps_first c.args.self.now (take c.args.count c.words_in-eight.result)
+    c.take_pairs-heard.result.0 c.take_pairs-heard.ensures.within (search rules)
 
 pub returns-then-take_words-clause-takes : goal.returns-then-take_words-clause-takes
 returns-then-take_words-clause-takes g c =

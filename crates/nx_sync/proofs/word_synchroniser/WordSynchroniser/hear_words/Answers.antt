@@ -1,5 +1,4 @@
 use Rattle.std.proofs.Common.{◌-◌, arith, subst}
-use Rattle.nx_sync.proofs.lemmas.words.TakenSteps.{at_once_among, at_once_none}
 use Rattle.nx_sync.proofs.word_synchroniser.WordSynchroniser.hear_words.Goals as goal
 
 pub hear_at_once-requires-clause-can : goal.hear_at_once-requires-clause-can

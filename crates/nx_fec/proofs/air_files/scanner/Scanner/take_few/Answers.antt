@@ -1,4 +1,4 @@
-use Rattle.std.proofs.Common.{◌≡◌, ◌+◌, ◌-◌, ◌≤◌, ◌∙◌, ◌++◌, ap, arith, length, refl, subst, sym, take}
+use Rattle.std.proofs.Common.{◌+◌, ◌-◌, ◌∙◌, ◌++◌, ap, arith, length, refl, subst, sym, take}
 use Rattle.nx_fec.specs.private.ScannerKept.{SpellsLine}
 use Rattle.nx_fec.specs.declared.air_files.lines.LineKind.TheVariants.{Elements}
 use Rattle.nx_fec.proofs.lemmas.lines.WholeLine.{Digits, digits-behind-front, digits-spell, takes-digits}

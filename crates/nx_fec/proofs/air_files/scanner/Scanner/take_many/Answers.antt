@@ -58,8 +58,8 @@ returns-clause-taken c = λ _.
       feed = c.if-digits-count-ne-NEWLINE.false;
       are = c.read_front-count.ensures.elements;
     } in
-    takes-digits c.args.self.now _ piece mark digits start count bits found c.requires.empty refl refl
-    (ap (λ s. s.lines + 1) c.self-2.view_is ∙ ap (λ n. n + 1) c.open.ensures.lines)
+    takes-digits c.args.self.now _ piece mark digits start count bits found c.requires.empty refl
+    refl (ap (λ s. s.lines + 1) c.self-2.view_is ∙ ap (λ n. n + 1) c.open.ensures.lines)
     (omega (
       arith,
       ap (λ s. s.room) c.self.view_is,
