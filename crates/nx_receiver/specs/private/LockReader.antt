@@ -68,12 +68,12 @@ pub record ReadsPlain (old new : LockReading) (next : List ℕ) : Type 0 where
 
 -- The reader heard a word of this role, after whichever it stood, and the event is what it brings.
 pub record HearsNext (old new : LockReading) (word : ℕ) (role : Role) (event : TextEvent) : Type 0
-    where
-  pub stands : (first : Role) (words : ℕ → ℕ) (n : ℕ) → ReadsLock old first words n
-      → words n ≡ word → role ≡ role_of first n → ReadsLock new first words (n + 1)
-  pub hears : (first : Role) (words : ℕ → ℕ) (n : ℕ) → ReadsLock old first words n
-      → words n ≡ word → role ≡ role_of first n
-      → HearsWord (text_after first words n) (text_after first words (n + 1)) new.finder event
+  where
+    pub stands : (first : Role) (words : ℕ → ℕ) (n : ℕ) → ReadsLock old first words n
+        → words n ≡ word → role ≡ role_of first n → ReadsLock new first words (n + 1)
+    pub hears : (first : Role) (words : ℕ → ℕ) (n : ℕ) → ReadsLock old first words n
+        → words n ≡ word → role ≡ role_of first n
+        → HearsWord (text_after first words n) (text_after first words (n + 1)) new.finder event
 
 -- The reader heard these words, DX and RX by turns. None before the last one begins or ends a copy,
 -- and the event is what the last one brings.

@@ -1,6 +1,6 @@
 -- Words of a lock that a reader hears behind others, where none of them but the last may bring
 -- anything.
-use Rattle.std.proofs.Common.{◌≡◌, ℕ, zero, suc, ◌+◌, ◌*◌, ◌<◌, List, [], ◌∷◌, ◌++◌, length, take}
+use Rattle.std.proofs.Common.{◌≡◌, ℕ, zero, suc, ◌+◌, ◌*◌, List, [], ◌∷◌, ◌++◌, length, take}
 use Rattle.std.proofs.Common.{refl, sym, ap, ◌∙◌, subst, subst₂, arith, append_assoc, append-nil}
 use Rattle.std.proofs.Common.{inl, inr}
 use Rattle.std.proofs.Math.Seq.{get_or-append_seam}
@@ -42,7 +42,7 @@ next_first : {first : Role} {words : ℕ → ℕ} {n : ℕ} (xs ys : List ℕ)
     → AreNext first words n (xs ++ ys) → AreNext first words n xs
 next_first xs ys all = record {
   dx = all.dx;
-  are = λ k lt. all.are k (omega (arith, lt, length-append xs ys)) 
+  are = λ k lt. all.are k (omega (arith, lt, length-append xs ys))
       ∙ get_or_append_left xs ys 0 k lt;
 }
 

@@ -20,7 +20,7 @@ use Rattle.nx_envelope.specs.declared.found.TextEvent.{TextEvent}
 use Rattle.nx_receiver.specs.declared.copy_taker.CopyTaker.{CopyTaker}
 use Rattle.nx_receiver.specs.Events.{Setting}
 use Rattle.nx_receiver.specs.copies.FoundCopies.{TaggedCopy}
-use Rattle.nx_receiver.specs.CopyHearing.{CopyHearing, LockReading}
+use Rattle.nx_receiver.specs.CopyHearing.{LockReading}
 use Rattle.nx_receiver.specs.private.LockReader.{HearsUpTo, HearsWords}
 use Rattle.nx_receiver.specs.private.CopyTaker.{Hears, ReadsStep, ReadsWord, hearer_of, setting_of}
 use Rattle.nx_receiver.specs.private.CopyTaker.{tag_after}

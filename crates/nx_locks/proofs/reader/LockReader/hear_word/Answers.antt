@@ -1,4 +1,4 @@
-use Rattle.std.proofs.Common.{Option, Some, None, ap, ◌∙◌, arith, append-nil, sym}
+use Rattle.std.proofs.Common.{Some, None, ap, ◌∙◌, arith, append-nil, sym}
 use Rattle.nx_receiver.proofs.lemmas.listening.Listener.{none-left}
 use Rattle.nx_receiver.proofs.lemmas.locks.ReaderWords.{prints_lock}
 use Rattle.nx_locks.specs.private.Reader.{Reading}

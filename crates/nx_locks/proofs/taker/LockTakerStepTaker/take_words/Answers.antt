@@ -1,5 +1,5 @@
-use Rattle.std.proofs.Common.{◌≡◌, ◌+◌, ◌-◌, ◌*◌, ◌^◌, arith, subst, sym, rules}
-use Rattle.std.specs.Prelude.{min, IsTrue}
+use Rattle.std.proofs.Common.{rules}
+use Rattle.std.specs.Prelude.{IsTrue}
 use Rattle.nx_locks.proofs.lemmas.WordsTaken.{words_taken}
 use Rattle.nx_locks.specs.private.Taker.{Taking}
 use Rattle.nx_locks.proofs.taker.LockTakerStepTaker.take_words.Goals as goal

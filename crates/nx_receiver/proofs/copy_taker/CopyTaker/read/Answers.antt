@@ -1,1 +1,0 @@
-use Rattle.nx_receiver.proofs.copy_taker.CopyTaker.read.Goals as goal

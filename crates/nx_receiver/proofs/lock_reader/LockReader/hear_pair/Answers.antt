@@ -1,4 +1,4 @@
-use Rattle.std.proofs.Common.{refl, ap, sym}
+use Rattle.std.proofs.Common.{ap}
 use Rattle.nx_receiver.specs.CopyHearing.{LockReading}
 use Rattle.nx_receiver.proofs.lemmas.copy_hearer.PlainPairs.{pair_heard}
 use Rattle.nx_receiver.proofs.lock_reader.LockReader.hear_pair.Goals as goal

@@ -1,9 +1,8 @@
-use Rattle.std.proofs.Common.{◌≡◌, ◌<◌, ◌+◌, ◌*◌, ◌/◌, ◌%◌, ◌∷◌, ◌++◌, [], ℕ, List, length, take, drop, slice_index, arith, inr}
+use Rattle.std.proofs.Common.{◌≡◌, ◌<◌, ◌+◌, ◌*◌, ◌/◌, ◌%◌, ◌∷◌, ◌++◌, [], ℕ, List, length, take, slice_index, arith, inr}
 use Rattle.std.proofs.Common.{◌∙◌, sym, subst, ap, ap₂}
 use Rattle.std.proofs.lemmas.Grind.{get_or_default_zero}
 use Rattle.std.proofs.lemmas.List.{append_assoc, length-take-le, take_more}
 use Rattle.nx_envelope.specs.declared.found.TextEvent.{TextEvent}
-use Rattle.nx_envelope.specs.declared.found.TextEvent.TheVariants.{Nothing}
 use Rattle.nx_receiver.specs.CopyHearing.{LockReading}
 use Rattle.nx_receiver.specs.private.LockReader.{HearsUpTo, ReadsPlain}
 use Rattle.nx_receiver.proofs.lemmas.copy_hearer.PlainPairs.{plain_up_to, up_to_behind}
