@@ -275,10 +275,9 @@ impl Synchroniser {
 
     /// Hears the next of these packed elements up to the end of the word in which they stand, all
     /// where they are fewer: what as many pushes do. Says how many those are, and what the last one
-    /// brings; those before it bring nothing. Never inlined: the loops over whole words have the
-    /// registers to themselves.
-    #[inline(never)]
-    pub(crate) fn push_part(&mut self, numbers: &[u64], from: usize, count: usize) -> (usize, Step)
+    /// brings; those before it bring nothing.
+    #[inline(always)]
+    fn push_part_here(&mut self, numbers: &[u64], from: usize, count: usize) -> (usize, Step)
         requires locked { is_hunting self.old ≡ false }
         requires some { 0 < count }
         requires room { from + count ≤ packed_elements * length numbers.now }
@@ -295,6 +294,43 @@ impl Synchroniser {
         self.recent = window_after_few(self.recent, number, heard);
         let filled = track.filled + (heard - 1) as u8;
         (heard, self.follow(Track { filled, ..track }))
+    }
+
+    /// The same by a call, so that a loop over whole words has the registers to itself.
+    #[inline(never)]
+    fn push_part_apart(&mut self, numbers: &[u64], from: usize, count: usize) -> (usize, Step)
+        requires locked { is_hunting self.old ≡ false }
+        requires some { 0 < count }
+        requires room { from + count ≤ packed_elements * length numbers.now }
+        ensures within { result.0 ≤ count }
+        ensures some { 0 < result.0 }
+        ensures brings { BringsStep self.old self.new (packed_part numbers.now from result.0)
+            result.1 }
+    {
+        self.push_part_here(numbers, from, count)
+    }
+
+    /// The same, by a call where that is said.
+    #[inline(always)]
+    pub(crate) fn push_part(
+        &mut self,
+        numbers: &[u64],
+        from: usize,
+        count: usize,
+        is_apart: bool,
+    ) -> (usize, Step)
+        requires locked { is_hunting self.old ≡ false }
+        requires some { 0 < count }
+        requires room { from + count ≤ packed_elements * length numbers.now }
+        ensures within { result.0 ≤ count }
+        ensures some { 0 < result.0 }
+        ensures brings { BringsStep self.old self.new (packed_part numbers.now from result.0)
+            result.1 }
+    {
+        if is_apart {
+            return self.push_part_apart(numbers, from, count);
+        }
+        self.push_part_here(numbers, from, count)
     }
 
     /// Hears the packed elements that come too early to be the last of 28, and says how many.

@@ -231,7 +231,7 @@ impl Synchroniser {
             self.go_on_from(&words);
             return answer;
         }
-        let (part, step) = self.push_part(numbers, from, count);
+        let (part, step) = self.push_part(numbers, from, count, has_words);
         (part, taker.take(part, step))
     }
 

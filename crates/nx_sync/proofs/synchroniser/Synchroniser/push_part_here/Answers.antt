@@ -8,7 +8,7 @@ use Rattle.nx_sync.specs.private.Windows.{window_after}
 use Rattle.nx_sync.proofs.lemmas.hunting.PackedParts.{length-part}
 use Rattle.nx_sync.proofs.lemmas.states.Pushes.{Followed}
 use Rattle.nx_sync.proofs.lemmas.words.PartWords.{filled_by, part_brings}
-use Rattle.nx_sync.proofs.synchroniser.Synchroniser.push_part.Goals as goal
+use Rattle.nx_sync.proofs.synchroniser.Synchroniser.push_part_here.Goals as goal
 
 pub returns-clause-brings : goal.returns-clause-brings
 returns-clause-brings c =
