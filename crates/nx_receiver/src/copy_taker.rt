@@ -138,6 +138,8 @@ impl StepTaker for CopyTaker {
         self.reader.hear_plain(words)
     }
 
+    // Few words go this way, and a loop over words has the registers to itself.
+    #[inline(never)]
     fn take_pairs(&mut self, words: &[Word]) -> (usize, Option<Over>) {
         let (heard, event) = self.reader.hear_pairs(words);
         (heard, self.meet(event, false))
