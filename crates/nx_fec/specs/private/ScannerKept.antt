@@ -15,6 +15,15 @@ IsMarked (accept_station mark letter) = IsSome mark
 IsMarked (refuse_subject mark letter) = IsSome mark
 IsMarked (accept_subject mark letter) = IsSome mark
 
+-- the line is a command that names no channel
+abbrev pub IsUnmarkedCommand : Line → Type 0
+IsUnmarkedCommand (moment n) = ⊥
+IsUnmarkedCommand (elements mark bits) = ⊥
+IsUnmarkedCommand (refuse_station mark letter) = mark ≡ None
+IsUnmarkedCommand (accept_station mark letter) = mark ≡ None
+IsUnmarkedCommand (refuse_subject mark letter) = mark ≡ None
+IsUnmarkedCommand (accept_subject mark letter) = mark ≡ None
+
 -- these bytes spell the line that says so, and these are all its elements
 pub record SpellsLine (kind : LineKind) (bits : List Bool) (bytes : List ℕ) : Type 0 where
   pub good : IsLine (line_with kind bits)

@@ -7,7 +7,7 @@ ghost use Rattle.std.specs.Fmt.{decimal};
 ghost use Rattle.nx_code.specs.Reading.{IsCapital};
 ghost use Rattle.nx_fec.specs.air_files.AirFile.{IsLine, IsNoLine, Line, Means, spelling, with_mark};
 ghost use Rattle.nx_fec.specs.private.Packing.{is_one};
-ghost use Rattle.nx_fec.specs.private.ScannerKept.{IsMarked, SpellsLine};
+ghost use Rattle.nx_fec.specs.private.ScannerKept.{IsMarked, IsUnmarkedCommand, SpellsLine};
 ghost use Rattle.nx_fec.specs.declared.air_files.lines.LineKind.{LineKind};
 
 use crate::air_files::channel::Channel;
@@ -120,6 +120,19 @@ pub(crate) fn read_line(line: &[u8], elements: &mut PackedElements) -> Option<Li
             None
         };
     }
+    if let Some(kind) = command(line) {
+        return Some(kind);
+    }
+    read_marked(line, elements)
+}
+
+/// Reads a command that names no channel, given without its line feed. None where the line is none.
+#[inline(always)]
+pub(crate) fn command(line: &[u8]) -> Option<LineKind>
+    ensures found { IfSome result (λ kind. SpellsLine kind [] line.now) }
+    ensures none { IfNone result ((sent : Line) → IsUnmarkedCommand sent → IsLine sent
+        → line.now ≢ spelling sent) }
+{
     if let Some(letter) = letter_behind(line, b"RS ") {
         return Some(LineKind::RefuseStation(None, letter));
     }
@@ -132,7 +145,7 @@ pub(crate) fn read_line(line: &[u8], elements: &mut PackedElements) -> Option<Li
     if let Some(letter) = letter_behind(line, b"AJ ") {
         return Some(LineKind::AcceptSubject(None, letter));
     }
-    read_marked(line, elements)
+    None
 }
 
 /// Reads a line that names its channel, as `read_line` does.

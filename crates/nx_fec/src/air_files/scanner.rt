@@ -14,7 +14,7 @@ use crate::air_files::bounded_bytes::BoundedBytes;
 use crate::air_files::channel::Channel;
 use crate::air_files::line_feeds::first_feed;
 use crate::air_files::lines::{
-    LineKind, MAX_ELEMENTS, digits_behind, moment_front, read_line, unpack,
+    LineKind, MAX_ELEMENTS, command, digits_behind, moment_front, read_line, unpack,
 };
 use crate::air_files::packed::{PackedElements, pack_near};
 use crate::fault::LineFault;
@@ -30,6 +30,9 @@ const MAX_LINE_BYTES: usize = 514;
 const NEAR_ELEMENTS: usize = 30;
 
 const NEAR_BYTES: usize = 35;
+
+/// The bytes of a command that names no channel: two letters, a space and a letter.
+const COMMAND_BYTES: usize = 4;
 
 /// Any other line of elements is looked for in so many, the most that a line has, with its end, and
 /// one more.
@@ -228,9 +231,9 @@ impl Scanner {
         Ok(at + 1)
     }
 
-    /// Takes the line that a piece begins with, where none is open and the line is one of elements
-    /// or a moment, and answers how many bytes it has with its end. 0 where it took nothing, as it
-    /// may.
+    /// Takes the line that a piece begins with, where none is open and the line is one of elements,
+    /// a moment or a command, and answers how many bytes it has with its end. 0 where it took
+    /// nothing, as it may.
     #[inline(always)]
     fn take_whole(&mut self, piece: &[u8]) -> usize
         ensures taken { 0 < result → TakesLine self.old self.new piece.now result }
@@ -242,11 +245,37 @@ impl Scanner {
         match piece {
             [b'B', b' ', digits @ ..] => self.take_elements(piece, None, digits),
             [b'T', b' ', digits @ ..] => self.take_moment(piece, digits),
+            [b'R' | b'A', ..] => self.take_command(piece),
             _ => match digits_behind(piece) {
                 Some((mark, digits)) => self.take_elements(piece, mark, digits),
                 None => 0,
             },
         }
+    }
+
+    /// Takes the line that a piece begins with as `take_whole` does, where it is a command that
+    /// names no channel.
+    #[inline(always)]
+    fn take_command(&mut self, piece: &[u8]) -> usize
+        requires empty { self.old.part ≡ [] }
+        requires long { NEAR_BYTES ≤ length piece.now }
+        requires room { NEAR_BYTES ≤ self.old.room }
+        ensures taken { 0 < result → TakesLine self.old self.new piece.now result }
+        ensures none { result ≡ 0 → self.new ≡ self.old }
+    {
+        if piece[COMMAND_BYTES] != NEWLINE {
+            return 0;
+        }
+        let Some(kind) = command(&piece[..COMMAND_BYTES]) else {
+            return 0;
+        };
+        self.kept.clear();
+        self.kept.append_front(piece, COMMAND_BYTES);
+        self.elements.clear();
+        self.ended = Some(kind);
+        self.lines += 1;
+        self.room -= COMMAND_BYTES as u64 + 1;
+        COMMAND_BYTES + 1
     }
 
     /// Takes the line that a piece begins with as `take_whole` does, where it has elements, by the
