@@ -254,8 +254,8 @@ impl Scanner {
     }
 
     /// Takes the line that a piece begins with as `take_whole` does, where it is a command that
-    /// names no channel.
-    #[inline(always)]
+    /// names no channel. Never inlined: a moment would pay for its registers.
+    #[inline(never)]
     fn take_command(&mut self, piece: &[u8]) -> usize
         requires empty { self.old.part ≡ [] }
         requires long { NEAR_BYTES ≤ length piece.now }
