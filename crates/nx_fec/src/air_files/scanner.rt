@@ -245,10 +245,9 @@ impl Scanner {
         match piece {
             [b'B', b' ', digits @ ..] => self.take_elements(piece, None, digits),
             [b'T', b' ', digits @ ..] => self.take_moment(piece, digits),
-            [b'R' | b'A', ..] => self.take_command(piece),
             _ => match digits_behind(piece) {
                 Some((mark, digits)) => self.take_elements(piece, mark, digits),
-                None => 0,
+                None => self.take_command(piece),
             },
         }
     }
