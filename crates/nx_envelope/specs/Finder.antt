@@ -22,7 +22,8 @@ pub record Keeps (text : List ℕ) (byte : ℕ) : Type 0 where
   pub ended : ended_copies (text ++ byte ∷ []) ≡ ended_copies text
   pub still_open : open_headers (text ++ byte ∷ []) ≡ open_headers text
 
--- the byte completes the header, and with it the one open copy begins
+-- The byte completes the header, and a copy begins with it, the only open one: none was open
+-- before, and the byte ends none.
 pub record BeginsCopy (text : List ℕ) (byte : ℕ) (header : Header) : Type 0 where
   pub behind : header.behind ≡ length text + 1
   pub headers : headers (text ++ byte ∷ []) ≡ headers text ++ header ∷ []

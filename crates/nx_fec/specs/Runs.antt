@@ -181,8 +181,10 @@ pub record IsEncoded (text file : List ℕ) (positions : ℕ) : Type 0 where
   pub written : file ≡ file_of (bit_lines (bits_of (emission (framed_positions numbers))))
   pub count : positions ≡ length (framed_positions numbers)
 
--- What a fault of encoding says. The text is too long, or it has a character that isn't in the
--- code, the first at this index. Or its file was written in part, or the reader or memory failed.
+-- What a fault of encoding says of bytes of this extent of a text. It is too long. Or the bytes are
+-- all of it, and not too many: one of them isn't in the code, the first at this index; or the file
+-- that they are encoded as was written in part. A failed read and want of memory say nothing here,
+-- and there are no other faults.
 abbrev pub ExplainsEncoding : Extent → List ℕ → Contents → RunFault → Type 0
 ExplainsEncoding extent bytes contents Read = ⊤
 ExplainsEncoding extent bytes contents (Memory error) = ⊤

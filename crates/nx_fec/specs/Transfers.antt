@@ -54,8 +54,8 @@ IsNextPiece remaining old new buffer (Bytes count) =
     (0 < count) × (count ≤ length buffer)
     × Consumes (remaining old.inner) (remaining new.inner) (take count buffer) × (new.failures ≡ 0)
 
--- What a run says of its writer: the count of failures rose, by one, exactly where the outcome is a
--- fault `write`.
+-- what a run says of its writer: the count of failures is 1 where the outcome is a fault `write`,
+-- and else 0
 pub record Writes {W N F : Type 0} (new : CountedDevice W) (write : ℕ → F)
     (outcome : Result N F) : Type 0 where
   pub failed : ((written : ℕ) × (outcome ≡ Err (write written))) ↔ (new.failures ≡ 1)
@@ -138,9 +138,9 @@ abbrev pub whole_input : Extent
 whole_input = record { at_end = Unit {0}; is_left = λ more. Unit {0} }
 
 -- What a run says of its reader. It read these bytes, and answers so to them, whatever the reader
--- tells of its bytes. Where those are known, it answers so to all that was left, however it came.
--- A fault comes only where `behind` holds of it and of the bytes that were read. It is the fault
--- `read` exactly where the count of failures rose, by one.
+-- tells of its bytes. Where those are known, it answers so to all that was left, however it came. A
+-- fault comes only where `behind` holds of it and of the bytes that were read. It is the fault
+-- `read` exactly where the count of failures is 1; else the count is 0.
 pub record Reads {R N F : Type 0} (i : Input R) (read : F) (behind : F → List ℕ → Type 0)
     (outcome : Result N F) (answers : Extent → List ℕ → Type 0) : Type 0 where
   pub bytes : List ℕ

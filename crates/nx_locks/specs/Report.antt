@@ -89,7 +89,8 @@ abbrev pub now_locks : Now → ℕ
 now_locks (hunting p) = 0
 now_locks (locked p t) = 1
 
--- The report of these bits so far: nothing is closed but what was released.
+-- The report of these bits so far: each lock that was ended or lost, with the lines that close it,
+-- and the lock that stands, if one does, without them. The last line isn't in it.
 pub record IsReportSoFar (bits : List Bool) (moments : List ℕ) (bytes : List ℕ) : Type 0 where
   pub locks : List Lock
   pub now : Now

@@ -67,12 +67,12 @@ pub record HasShownAll (contents : Contents) (file : List ℕ) (answer : LocksRe
       ≡ past_headers (elements_on_0 lines) report.report.locks
       + now_headers (elements_on_0 lines) report.report.now
 
--- What a fault of a run that shows locks says of bytes of this extent. The report so far of the
--- whole lines before it was written, and nothing is closed but what was released. A failed read
--- comes behind whole lines and the beginning of one more, and leaves what follows. After a failed
--- write the first bytes of a report are written: of some of the lines that were read, from the
--- first on, or of the whole file, closed, if it had ended. A want of memory says nothing of the
--- bytes. Each other fault is the first of the file; `LineCut` comes only where the file ends.
+-- What a fault of a run that shows locks says of bytes of this extent. Want of memory says nothing.
+-- After a failed write the first bytes of a report are written: of some of the whole lines, from
+-- the first on, or of the whole file, if it had ended. Before each other fault the report so far of
+-- the whole lines before it was written. A failed read comes behind those lines and the beginning
+-- of one more, and leaves what follows. Any further fault is the first of the file; `LineCut` comes
+-- only where the bytes are all.
 abbrev pub ExplainsShowing : Extent → Contents → List ℕ → ListenFault → Type 0
 ExplainsShowing extent contents bytes (Memory error) = ⊤
 ExplainsShowing extent contents bytes Read = HasReadFault extent (HasShown contents) bytes

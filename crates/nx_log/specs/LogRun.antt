@@ -38,31 +38,34 @@ pub record BeginWithEntries (bytes : List ℕ) (entries : List MarkedCopy) : Typ
   pub split : bytes ≡ front ++ more
   pub hold : HoldEntries front entries
 
--- the output of these entries was written
+-- the output of these entries, for this query and in this form, was written
 pub record WroteOutput (query : Query) (form : Form) (contents : Contents)
     (entries : List MarkedCopy) : Type 0 where
   pub output : List ℕ
   pub is_output : IsOutput query form entries output
   pub written : Appends contents.before contents.after output
 
--- a write failed, before which the writer took the first `written` bytes of their output
+-- a write of the output of these entries failed: some first bytes of it were written, but not all,
+-- and `written` counts them
 pub record WrotePart (query : Query) (form : Form) (contents : Contents)
     (entries : List MarkedCopy) (written : ℕ) : Type 0 where
   pub output : List ℕ
   pub is_output : IsOutput query form entries output
   pub part : WroteSome contents.before contents.after output written
 
--- What a run over a log answers of the bytes that it read. At their end, how many of their entries
--- the query admits, and the output of all was written. After a failed read the output of all whole
--- entries of the bytes was written, so it is written before each further read. At the line at which
--- they stop being a log, the output of the entries before it was written. After a failed write the
--- first bytes were written of the output of entries with which they begin. Memory runs out before
--- anything is read or written.
+-- A run over a log by this query, in this form, on these devices.
 module _ {R W : Type 0} (query : Query) (form : Form) (d : Devices R W) where
   -- these bytes are all: none is left, or there are as many as are read
   abbrev pub AreAll : List ℕ → Type 0
   AreAll bytes = IsReadOut d ⊎ (length bytes ≡ most_read)
 
+  -- What it answers of the bytes that it read. Where they are all and a log, it is how many of
+  -- their entries the query admits, and the output of all was written. After a failed read the
+  -- output of all whole entries of the bytes was written, so it is written before each further
+  -- read. A bad log stops being one at this line, or the bytes are all and end too early there; the
+  -- output of the entries before that was written. After a failed write the first bytes were
+  -- written of the output of entries with which they begin. Memory runs out before anything is read
+  -- or written.
   abbrev pub AnswersLogRun : Result ℕ LogFault → List ℕ → Type 0
   AnswersLogRun (Ok count) bytes =
       AreAll bytes × (entries : List MarkedCopy) × HoldEntriesToEnd bytes entries

@@ -51,7 +51,8 @@ pub record IsTorn (bytes : List ℕ) : Type 0 where
 abbrev pub IsEndOfLog : List ℕ → Type 0
 IsEndOfLog bytes = IsGap bytes ⊎ IsTorn bytes
 
--- some bytes to come, or none, end an entry there or are the end
+-- with some bytes to come, or none, an entry stands next in these, or they may stand behind the
+-- last entry
 pub record CanGoOn (bytes : List ℕ) : Type 0 where
   pub more : List ℕ
   pub goes_on : HasNext (bytes ++ more) ⊎ IsEndOfLog (bytes ++ more)

@@ -16,15 +16,15 @@ SomeLog holds =
     (log : List ℕ) × (entries : List MarkedCopy) × IsLogOfLogged entries log × holds log
 
 -- What was written is the log of logged entries. Where a write failed, the first bytes of one were
--- written; where memory ran out, the run wrote nothing.
+-- written; where memory ran out, nothing is said.
 abbrev pub WroteEntries : Contents → Result Report ListenFault → Type 0
 WroteEntries contents (Err (Write written)) =
     SomeLog (λ log. WroteSome contents.before contents.after log written)
 WroteEntries contents (Err (Memory error)) = ⊤
 WroteEntries contents outcome = SomeLog (Appends contents.before contents.after)
 
--- The same of a run that resumes and writes its log: a fault of the state comes before anything is
--- written.
+-- The same of a run that resumes and writes its log. Of a fault that isn't one of listening nothing
+-- is said.
 abbrev pub ResumedEntries : Contents → Result Report ResumeFault → Type 0
 ResumedEntries contents (Ok report) = WroteEntries contents (Ok report)
 ResumedEntries contents (Err (resume.Listen fault)) = WroteEntries contents (Err fault)

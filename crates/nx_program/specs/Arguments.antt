@@ -107,7 +107,8 @@ tree_of name (on_file make) = file_tree name
 tree_of name (range make) = damage_tree name
 tree_of name (options make) = log_tree name
 
--- a row of the table of commands: the name of a command, and what it takes
+-- a row of the table of commands: the name of a command, what it takes, and the call that it makes
+-- of it
 abbrev pub CommandRow : Type 0
 CommandRow = Text × Maker
 
@@ -139,8 +140,8 @@ IsFile values name = first_of (codes "FILE") values ≡ Some name
 abbrev pub IsKind : List Row → DamageKind → Type 0
 IsKind values kind = first_of (codes "KIND") values ≡ Some (kind_name kind)
 
--- the value of this name is this number: one decimal digit or more, before which a plus may
--- stand
+-- the value of this name is this number, below 2 ^ 64: one decimal digit or more, before which a
+-- plus may stand
 pub record IsNumber (name : Text) (values : List Row) (number : ℕ) : Type 0 where
   pub text : Text
   pub given : one_of name values ≡ Some text
@@ -153,7 +154,7 @@ abbrev pub HasStationAndMoment : List Row → Letter → ℕ → Type 0
 HasStationAndMoment values station moment =
     IsStation values station × IsNumber (codes "MOMENT") values moment
 
--- the values are those of the call
+-- the values are those that the call has; of a call that has none, nothing is said
 abbrev pub HasValues : Call → List Row → Type 0
 HasValues (Send station moment) values = HasStationAndMoment values station moment
 HasValues (Slots station moment) values = HasStationAndMoment values station moment

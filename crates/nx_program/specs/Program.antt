@@ -89,7 +89,8 @@ pub record IsSlotLine (slot : ℕ) (line : List ℕ) : Type 0 where
   pub shown : IsShownAs slot time
   pub whole : line ≡ decimal slot ++ space ∷ time ++ newline ∷ []
 
--- the line of the station's next slot was written, or it has none
+-- the line of the station's next slot was written, whole or as far as the fault says; or the
+-- station has none, and nothing was written
 abbrev pub ShowsSlot : {W : Type 0} → ℕ → ℕ → (W → Option (List ℕ)) → CountedDevice W
     → CountedDevice W → Result (Unit {0}) CallFault → Type 0
 ShowsSlot station moment contents old new (Ok done) =
@@ -151,7 +152,8 @@ pub record RunsCall {R W : Type 0} (arguments : List Text) (d : Devices R W)
   pub named : Names arguments call
   pub performed : PerformsOnStreams call d outcome
 
--- the arguments ask for help, and a text was written; which text that is, clap leaves open
+-- The arguments ask for help, nothing was read, and a text was written, whole or as far as the
+-- outcome says. Which text that is, clap leaves open.
 pub record GivesHelp {R W : Type 0} (arguments : List Text) (d : Devices R W)
     (outcome : Result (Unit {0}) CallFault) : Type 0 where
   pub asked : AsksForHelp arguments
@@ -165,7 +167,8 @@ abbrev pub version_text : List ℕ
 version_text =
     codes "navtex 1.0.0, proved with rattle-kit-13f logic dac8208d650f15bf" ++ newline ∷ []
 
--- the arguments ask for the version, and its text was written
+-- the arguments ask for the version, nothing was read, and its text was written, whole or as far as
+-- the outcome says
 pub record GivesVersion {R W : Type 0} (arguments : List Text) (d : Devices R W)
     (outcome : Result (Unit {0}) CallFault) : Type 0 where
   pub asked : AsksForVersion arguments

@@ -84,7 +84,8 @@ moment_in_force first (to_one channel events ∷ given) = moment_in_force first 
 -- After it was given this, with what it started, a listener printed these copies. The receiver of
 -- each channel stands after the channel's share, with the copies of that channel, and has the
 -- moment in force. The copies are in the order in which they ended. The listener counted the
--- elements and the entries, and no element ended more than one copy.
+-- elements and the entries, each at most to the greatest number of 64 bits, and there are no more
+-- copies than elements.
 pub record HearsGiven (starts : Starts) (listener : Listening) (given : List Given)
     (copies : List MarkedCopy)
     : Type 0 where

@@ -92,14 +92,16 @@ abbrev pub HasDamaged : Damage → Contents → List Line → Type 0
 HasDamaged damage contents lines =
     Appends contents.before contents.after (damaged_file damage lines)
 
--- the air file has this fault, its first, and the whole lines before it were written
+-- The air file has this fault, its first, and the whole lines before it were written, damaged. A
+-- cut line comes only where the bytes of this extent are all.
 abbrev pub StopsFor : Extent → Damage → List ℕ → Contents → LineFault → Type 0
 StopsFor extent damage air contents why =
     IsPlaced extent.at_end why × HasFaultAfter (HasDamaged damage contents) air why
 
 -- What a fault says of bytes of this extent of the air file. A failed read comes behind whole lines
--- and the beginning of one more, and leaves what follows. The whole lines before it were written,
--- as before a fault of the file. A write that failed wrote a part.
+-- and the beginning of one more, and leaves what follows; a fault of the file is its first. The
+-- whole lines before either were written, damaged. After a failed write the first bytes were
+-- written of some of the whole lines, damaged, from the first line on.
 abbrev pub ExplainsDamaging : Extent → Damage → List ℕ → Contents → DamageFault → Type 0
 ExplainsDamaging extent damage air contents Read =
     HasReadFault extent (HasDamaged damage contents) air

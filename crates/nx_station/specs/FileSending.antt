@@ -34,7 +34,8 @@ pub record IsTransmission (station from : ℕ) (file written : List ℕ) (sent :
   pub count : sent.positions ≡ length positions
   pub all : sent.messages ≡ length messages
 
--- the file has messages of that station, and it has no next slot
+-- the file has messages of that station, which has no slot from that moment on, up to the last
+-- moment
 pub record IsLate (station from : ℕ) (file : List ℕ) : Type 0 where
   pub messages : List MessageView
   pub is_file : IsMessageFile file (map file_message_of messages)
@@ -78,9 +79,10 @@ IsOutside _ = ⊥
 
 -- What sending as this station, from this moment on, answers.
 module _ (station from : ℕ) where
-  -- What a fault of sending says of bytes of this extent of the file. That it is the first means
-  -- that it is that of the whole file, so they are all of it: the file was read to its end. A read
-  -- that failed and a want of memory say nothing of it.
+  -- What a fault of sending says of bytes of this extent of the file. That the file is too long
+  -- says that the bytes are too many. A failed read and want of memory say nothing. Each other
+  -- fault comes only where the bytes are all and not too many: a refusal, the first fault of the
+  -- file, or a write that failed after the first bytes of the air file.
   abbrev pub ExplainsSending : Extent → List ℕ → Contents → SendRunFault → Type 0
   ExplainsSending extent file contents Read = ⊤
   ExplainsSending extent file contents (Memory error) = ⊤

@@ -24,8 +24,8 @@ pub record AreOf (station : ℕ) (messages : List MessageView) : Type 0 where
   pub some : messages ≢ []
   pub each : AllByRecursion (λ (message : MessageView). message.identity.b1.byte ≡ station) messages
 
--- a station may send the messages: they are some, all of one station that has slots, and fit into a
--- slot
+-- a station may send the messages: they are some, each with good lines, all of one station that has
+-- slots, and fit into a slot
 pub record IsSendable (messages : List MessageView) : Type 0 where
   pub station : ℕ
   pub of_one : AreOf station messages

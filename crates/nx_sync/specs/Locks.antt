@@ -111,12 +111,13 @@ pub data Now : Type 0 where
   hunting : ℕ → Now
   locked : ℕ → ℕ → Now
 
--- a search from p finds nothing in these bits
+-- These locks are past, and the search after them is from p. It finds nothing in these bits.
 pub record IsHunting (bits : List Bool) (locks : List Lock) (p : ℕ) : Type 0 where
   pub past : Past bits locks p
   pub none : (s : ℕ) → p < s → IsPattern bits s → ⊥
 
--- a search from p found t, and no word released the lock that began there
+-- These locks are past, and the search after them is from p. It found t, and no word released the
+-- lock that began there.
 pub record IsLocked (bits : List Bool) (locks : List Lock) (p t : ℕ) : Type 0 where
   pub past : Past bits locks p
   pub found : Finds bits p t

@@ -53,9 +53,9 @@ pub record IsStep (bits : List Bool) (s : Step) : Type 0 where
   pub stands : IsNow bits locks now
   pub brings : Brings bits s locks now
 
--- Of these bits, which come after others, n are heard by a hunt. The push of none of them answers
--- that a lock was found, nor anything else. The push of the next one, if there is one, answers that
--- a lock was found.
+-- Of these bits, which come after others, the first n are heard by a hunt. The push of none of them
+-- answers that a lock was found, nor anything else. The push of the next one, if there is one,
+-- answers that a lock was found.
 pub record HuntsThrough (before bits : List Bool) (n : ℕ) : Type 0 where
   pub within : n ≤ length bits
   pub quiet : (k : ℕ) → k < n → IsStep (before ++ take (k + 1) bits) (step None None)

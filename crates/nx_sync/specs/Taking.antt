@@ -20,15 +20,17 @@ pub record BringsStep (old new : Held) (bits : List Bool) (s : Step) : Type 0 wh
   pub stands : (h : List Bool) → StandsAfter old h → StandsAfter new (h ++ bits)
   pub brings : (h : List Bool) → StandsAfter old h → IsLastStep h bits s
 
--- It heard these words of a lock, the first of which is a DX word, and none of them brings a
--- change.
+-- A synchroniser heard these words, whichever bits it stood after: a lock stood there, between two
+-- of its words. The first of these words is a DX word, and none of them brings a change.
 pub record BringsWords (old new : Held) (words : List ℕ) : Type 0 where
   pub stands : (h : List Bool) → StandsAfter old h → StandsAfter new (h ++ flat_map elements words)
   pub limit : (h : List Bool) → StandsAfter old h → LimitStands h
   pub quiet : (h : List Bool) → StandsAfter old h → AreQuietWords h Dx words
 
--- A synchroniser heard these bits, and a taker took what they bring; with the last of them this is
--- over for the taker, and with none before it anything. `hears` and `can_take` are the taker's own.
+-- A synchroniser heard these bits, and a taker took what they bring, as its own `hears` says.
+-- `over` says what is over for the taker with the last of them; with one before it nothing is.
+-- Where the taker had room for these bits and more, by its own `can_take`, it now has room for the
+-- more.
 pub record IsTaken {T O : Type 0} (hears : Held → T → List Bool → Held → T → Option O → Type 0)
     (can_take : T → ℕ → Type 0) (old : Held) (before : T) (bits : List Bool) (new : Held)
     (after : T) (over : Option O) : Type 0 where

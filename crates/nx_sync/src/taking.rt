@@ -1,7 +1,7 @@
-//! How packed elements are heard for a taker. What comes next, a hunt, a part of a word, one word,
-//! or some of them at once, is decided here alone, and what the synchroniser holds
-//! meanwhile. What runs for each word is inlined always, since its answers would go through memory
-//! otherwise.
+//! A synchroniser hears packed elements, and gives a taker what they bring. Whether a hunt comes
+//! next, a part of a word, one word, or some words at once, is decided here alone, and so is what
+//! the synchroniser holds meanwhile. What runs for each word is inlined always, since its answers
+//! would go through memory otherwise.
 
 ghost use Rattle.std.specs.Prelude.{◌≡◌, ℕ, ◌+◌, ◌*◌, ◌%◌, ◌^◌, ◌<◌, ◌≤◌, List, Bool, Option, None, false, [], ◌++◌, length, take, IsTrue};
 ghost use Rattle.std.specs.List.{flat_map};

@@ -154,7 +154,8 @@ module _ {D R W E : Type 0} (d : WatchDevices D R W E) where
 
   -- A watch that started so over a file that stands for these entries read these lines until it
   -- stopped so. They print these copies; at each moment the file stands for the entries and a
-  -- beginning of the copies; and what is told of the lines was told.
+  -- beginning of the copies; and what is told of the lines was told. A read failed exactly where it
+  -- stopped at a failed read; where it stopped at a failed write, one had failed.
   pub record HasWatched (starts : Starts) (entries : List MarkedCopy) (stop : Stop)
       (lines : List (Option Line)) (copies : List MarkedCopy)
       : Type 0 where

@@ -28,7 +28,8 @@ abbrev pub mark_bytes : Option Channel → List ℕ
 mark_bytes None = []
 mark_bytes (Some channel) = (digit_zero + channel_number channel) ∷ []
 
--- a word, the channel, a space, and what follows
+-- the letters that begin a line, the digit of its channel if it names one, a space, and what
+-- follows
 abbrev pub with_mark : List ℕ → Option Channel → List ℕ → List ℕ
 with_mark word mark rest = word ++ (mark_bytes mark ++ (space ∷ rest))
 

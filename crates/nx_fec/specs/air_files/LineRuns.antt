@@ -16,28 +16,28 @@ use Rattle.nx_fec.specs.declared.air_files.line_taking.TakeFault.{TakeFault}
 use Rattle.nx_fec.specs.declared.air_files.line_taking.TakeFault.TheVariants as take
 use Rattle.nx_fec.specs.declared.air_files.line_taking.LinesRead.{LinesRead}
 
--- a fault at the end of the file comes where this holds
+-- a cut line is a fault only where `AtEnd` holds, and each other fault may come anywhere
 abbrev pub IsPlaced : Type 0 → LineFault → Type 0
 IsPlaced AtEnd TooLong = ⊤
 IsPlaced AtEnd (LineLong line) = ⊤
 IsPlaced AtEnd (LineCut line) = AtEnd
 IsPlaced AtEnd (BadLine line) = ⊤
 
--- A read failed behind whole lines and the beginning of one more, within the limit, and what
--- follows is left; and this holds of the lines.
+-- In bytes of this extent a read may have failed here: behind good lines and the beginning of one
+-- more, within the limit. It leaves what follows, and `holds` holds of the lines.
 abbrev pub HasReadFault : Extent → (List Line → Type 0) → List ℕ → Type 0
 HasReadFault extent holds bytes = StopsAt bytes (λ lines rest more.
     (length (file_of lines ++ rest) ≤ air_limit) × extent.is_left more × holds lines)
 
--- Good lines and the beginning of one more stand before a fault of the file, of which this is the
--- cause; and this holds of the lines.
+-- The air file of these bytes has the fault `why`, its first: good lines and the beginning of one
+-- more stand before it. And `holds` holds of the lines.
 abbrev pub HasFaultAfter : (List Line → Type 0) → List ℕ → LineFault → Type 0
 HasFaultAfter holds bytes why = StopsAt bytes (λ lines rest more.
     IsCause air_limit (length (file_of lines ++ rest)) lines rest more why × holds lines)
 
--- What a fault of the lines says of bytes of this extent. The whole lines before it were taken, and
--- `taken` holds of them: a failed read leaves what follows; a fault of the air file is its first;
--- or a line was refused.
+-- What a fault of the lines says of bytes of this extent; `taken` holds of the whole lines before
+-- it. A failed read leaves what follows. A fault of the air file is its first, and a cut line comes
+-- only where the bytes are all. Or the next line is refused, for this reason.
 abbrev pub StopsLines : {F : Type 0} → (List Line → Line → F → Type 0) → (List Line → Type 0)
     → Extent → List ℕ → HearFault F → Type 0
 StopsLines refuses taken extent bytes hear.Read =

@@ -26,8 +26,8 @@ counts_as word =
     (λ place. if nat_lt place combination_count then traffic (place + 1) else idle_signal)
     (place_of word) nothing
 
--- what is taken of a DX and an RX: where they count alike, or only one of them counts, that, and
--- else nothing
+-- what is taken of a DX and an RX: where they count alike, or only one of them counts, that; and
+-- else it is lost
 abbrev pub pairing : Counted → Counted → Reception
 pairing (traffic m) (traffic n) = if m == n then combination m else lost
 pairing (traffic m) nothing = combination m

@@ -24,7 +24,8 @@ IsUnmarkedCommand (accept_station mark letter) = mark ≡ None
 IsUnmarkedCommand (refuse_subject mark letter) = mark ≡ None
 IsUnmarkedCommand (accept_subject mark letter) = mark ≡ None
 
--- these bytes spell the line that says so, and these are all its elements
+-- The line of this kind, with these elements, is one of an air file. These bytes spell it, and
+-- these are all its elements.
 pub record SpellsLine (kind : LineKind) (bits : List Bool) (bytes : List ℕ) : Type 0 where
   pub good : IsLine (line_with kind bits)
   pub spelled : bytes ≡ spelling (line_with kind bits)

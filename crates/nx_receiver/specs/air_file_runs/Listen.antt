@@ -129,8 +129,8 @@ HasLogged starts contents lines =
     (log : List ℕ) × IsLogOfLines starts lines log
     × Appends contents.before contents.after log
 
--- a write failed, before which the writer took the first `written` bytes of the log, of which this
--- holds
+-- a write of a log, of which this holds, failed: some first bytes of the log were written, but not
+-- all, and `written` counts them
 abbrev pub HasLoggedSome : (List ℕ → Type 0) → Contents → ℕ → Type 0
 HasLoggedSome IsLogged contents written =
     (log : List ℕ) × IsLogged log × WroteSome contents.before contents.after log written
@@ -156,8 +156,8 @@ lines_fault (run.Line why) = file_fault why
 lines_fault (run.Refused number why) = refusal_fault number why
 
 -- The first fault of an air file, by its bytes alone: a fault of the file, or the next line is
--- refused; and this holds of the whole lines before it. Those of devices and of memory are none of
--- bytes.
+-- refused. And `holds` holds of the whole lines before it. A failed read, a failed write or want of
+-- memory is never such a fault.
 abbrev pub HasListenFault : Starts → (List Line → Type 0) → List ℕ → ListenFault → Type 0
 HasListenFault starts holds bytes AirTooLong = HasFaultAfter holds bytes file.TooLong
 HasListenFault starts holds bytes (LineLong line) = HasFaultAfter holds bytes (file.LineLong line)
@@ -167,13 +167,13 @@ HasListenFault starts holds bytes fault = StopsAt bytes (λ lines rest more.
     IsLineRefused (RefusesAfter starts fault) air_limit lines rest more (length lines + 1)
     × holds lines)
 
--- What a run that listens answers of bytes of this extent: a report, where the log of the file was
--- written; or a fault. Before a fault the log of the whole lines before it was written, and nothing
--- is closed. A failed read comes behind whole lines and the beginning of one more, and leaves what
--- follows. After a failed write the first bytes of a log are written: of some of the lines that
--- were read, from the first on, or of the whole file, closed, if it had ended. A want of memory
--- says nothing of the bytes. Each other fault is the first of the file; `LineCut` comes only where
--- the file ends.
+-- What a run that listens answers of bytes of this extent: a report, where they are all and the log
+-- of their file was written; or a fault. Want of memory says nothing. After a failed write the
+-- first bytes of a log are written: of some of the whole lines, from the first on, or of the whole
+-- file, if it had ended. Before each other fault the log of the whole lines before it was written,
+-- and no copy that stands open is closed. A failed read comes behind those lines and the beginning
+-- of one more, and leaves what follows. Any further fault is the first of the file; `LineCut` comes
+-- only where the bytes are all.
 abbrev pub AnswersListening : Starts → Extent → Contents → Result Report ListenFault → List ℕ
     → Type 0
 AnswersListening starts extent contents (Ok report) bytes =

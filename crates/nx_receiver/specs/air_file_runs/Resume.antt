@@ -31,7 +31,8 @@ pub record HasLeft (holds : List ℕ → Type 0) (states : SavedStates) (air : L
 -- What a run answers that goes on from these states over bytes of this extent of an air file. Where
 -- the log is wanted, it is written, with both halves of the headline. Where the state is wanted, no
 -- log is, and the text of what the air file leaves is written; or the first bytes of it, before the
--- write that failed.
+-- write that failed. A fault of listening is answered as by a run that listens, with its log or,
+-- where the state is wanted, without it.
 abbrev pub AnswersAir : Want → SavedStates → Extent → Contents → Result Report ResumeFault
     → List ℕ → Type 0
 AnswersAir Log states extent contents (Ok report) air =

@@ -60,7 +60,8 @@ IsNotUnderstood extent lines rest (byte ∷ more) =
 
 -- What a fault of reading a state says of bytes of this extent of the input: its line, from 1, is
 -- the one in which the fault stands. What follows the byte that shows it, or a failed read, is
--- left. That of the end comes at the end.
+-- left. `StateCut` comes only where the bytes are all, and nothing stands behind the beginning of
+-- that line.
 abbrev pub ExplainsState : Extent → List ℕ → StateFault → Type 0
 ExplainsState extent input Read = StopsInText input (λ lines rest more. extent.is_left more)
 ExplainsState extent input (StateLine line) =

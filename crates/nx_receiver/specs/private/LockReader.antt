@@ -58,7 +58,8 @@ pub record PrintsPlain (before after : List ℕ) : Type 0 where
   pub grows : after ≡ before ++ bytes
   pub nothing : BringNothing before bytes
 
--- The reader heard these words, after whichever it stood, and none of them begins or ends a copy.
+-- The reader heard these words, the first of which is a DX word, after whichever words of a lock it
+-- stood; and none of them begins or ends a copy.
 pub record ReadsPlain (old new : LockReading) (next : List ℕ) : Type 0 where
   pub stands : (first : Role) (words : ℕ → ℕ) (n : ℕ) → ReadsLock old first words n
       → AreNext first words n next → ReadsLock new first words (n + length next)
@@ -75,8 +76,8 @@ pub record HearsNext (old new : LockReading) (word : ℕ) (role : Role) (event :
         → words n ≡ word → role ≡ role_of first n
         → HearsWord (text_after first words n) (text_after first words (n + 1)) new.finder event
 
--- The reader heard these words, DX and RX by turns. None before the last one begins or ends a copy,
--- and the event is what the last one brings.
+-- The reader heard these words, DX and RX by turns, from a DX word to an RX word. None before the
+-- last one begins or ends a copy, and the event is what the last one brings.
 pub record HearsUpTo (old new : LockReading) (words : List ℕ) (event : TextEvent) : Type 0 where
   pub mid : LockReading
   pub before : List ℕ
@@ -87,7 +88,9 @@ pub record HearsUpTo (old new : LockReading) (words : List ℕ) (event : TextEve
   pub plain : ReadsPlain old mid before
   pub next : HearsNext mid new last Rx event
 
--- The reader heard these words, and none of them begins or ends a copy, or the last one alone.
+-- The reader heard these words, the first of which is a DX word. None of them begins or ends a
+-- copy, and the event is `Nothing`. Or none before the last one does; that one is an RX word, and
+-- the event is what it brings.
 abbrev pub HearsWords : LockReading → LockReading → List ℕ → TextEvent → Type 0
 HearsWords old new words event =
     ((event ≡ Nothing) × ReadsPlain old new words) ⊎ HearsUpTo old new words event
