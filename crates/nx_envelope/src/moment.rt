@@ -5,11 +5,13 @@ ghost use Rattle.nx_envelope.specs.Moment.{IsShownAs, last_moment};
 ghost use Rattle.nx_envelope.specs.private.CivilTimes.{IsCivilTime, IsMomentOf};
 
 use crate::digit::two_digits;
-use jiff::Timestamp;
-use jiff::tz::Offset;
+use jiff_core::civil::{Date, Time};
 
 /// The last moment, 2999-12-31 23:59:59, in seconds since 1970-01-01 00:00:00 UTC.
 pub const LAST_MOMENT: u64 = 32_503_679_999;
+
+/// The seconds of a day.
+const DAY: u64 = 86_400;
 
 /// The bytes of a civil time as it is printed, `YYYY-MM-DD HH:MM:SS`.
 pub const CIVIL_LEN: usize = 19;
@@ -40,17 +42,17 @@ fn civil_time(moment: u64) -> Option<CivilTime>
     if moment > LAST_MOMENT {
         return None;
     }
-    let Ok(timestamp) = Timestamp::from_second(moment as i64) else {
+    let Ok(date) = Date::from_unix_epoch_day((moment / DAY) as i64) else {
         return None;
     };
-    let datetime = Offset::UTC.to_datetime(timestamp).to_plain();
+    let time = Time::from_second((moment % DAY) as u32, 0);
     Some(CivilTime {
-        year: datetime.date.year as u16,
-        month: datetime.date.month,
-        day: datetime.date.day,
-        hour: datetime.time.hour,
-        minute: datetime.time.minute,
-        second: datetime.time.second,
+        year: date.year as u16,
+        month: date.month,
+        day: date.day,
+        hour: time.hour,
+        minute: time.minute,
+        second: time.second,
     })
 }
 
