@@ -81,7 +81,7 @@ impl LockReader {
     /// first one that begins or ends a copy, all of them where none does. Says how many these are,
     /// in whole pairs, and what the last one brings. A copy that it ends can be taken before the
     /// next word.
-    #[inline(never)]
+    #[inline(always)]
     pub(crate) fn hear_pairs(&mut self, words: &[Word]) -> (usize, TextEvent)
         requires { ArePairs words.now }
         ensures within { result.0 ≤ length words.now }

@@ -2,6 +2,7 @@
 
 ghost use Rattle.std.specs.Prelude.{◌≡◌, ◌+◌, ◌≤◌, ℕ, true, List, [], ◌∷◌, ◌++◌, length, Option, MatchResult};
 ghost use Rattle.std.specs.Io.KnownBytes.{Appends};
+ghost use Rattle.arrayvec.specs.ArrayVec.{array_vec_len};
 ghost use Rattle.nx_envelope.specs.Copies.{errors_of};
 ghost use Rattle.nx_code.specs.Reading.{newline};
 ghost use Rattle.nx_envelope.specs.Moment.{IsShownAs, last_moment};
@@ -145,11 +146,11 @@ fn head_line(head: &FoundHead, text: &[u8], moment: u64, channel: Channel) -> Ar
     let mut bytes = ArrayVec::new();
     bytes.push(b'[');
     append(&mut bytes, &name);
-    append(&mut bytes, mark_of(channel).as_bytes());
+    append_mark(&mut bytes, channel);
     bytes.push(b' ');
     append(&mut bytes, &time);
     bytes.push(b' ');
-    append(&mut bytes, how_text(head.how).as_bytes());
+    append_how(&mut bytes, head.how);
     bytes.push(b' ');
     append(&mut bytes, Buffer::new().format(head.errors).as_bytes());
     bytes.push(b'/');
@@ -158,27 +159,33 @@ fn head_line(head: &FoundHead, text: &[u8], moment: u64, channel: Channel) -> Ar
     bytes
 }
 
-/// The mark of a channel behind an identity, which channel 0 doesn't have.
-fn mark_of(channel: Channel) -> &'static str
-    ensures mark { result.now ≡ channel_mark channel }
-    ensures short { length result.now ≤ 2 }
+/// Appends the mark of a channel behind an identity, which channel 0 doesn't have.
+// How many bytes are appended is a constant in each arm, so that no arm calls for a copy.
+#[inline(always)]
+fn append_mark(bytes: &mut ArrayVec<u8, MAX_HEAD>, channel: Channel)
+    requires { array_vec_len bytes.old + 2 ≤ MAX_HEAD }
+    ensures mark { bytes.new.items ≡ bytes.old.items ++ channel_mark channel }
+    ensures short { array_vec_len bytes.new ≤ array_vec_len bytes.old + 2 }
 {
     match channel {
-        Channel::Zero => "",
-        Channel::One => "/1",
-        Channel::Two => "/2",
+        Channel::Zero => {}
+        Channel::One => append(bytes, b"/1"),
+        Channel::Two => append(bytes, b"/2"),
     }
 }
 
-/// How a copy ended, as it is printed.
-fn how_text(how: How) -> &'static str
-    ensures name { result.now ≡ how_name how }
-    ensures short { length result.now ≤ 4 }
+/// Appends how a copy ended, as it is printed.
+// As with a mark, no arm calls for a copy.
+#[inline(always)]
+fn append_how(bytes: &mut ArrayVec<u8, MAX_HEAD>, how: How)
+    requires { array_vec_len bytes.old + 4 ≤ MAX_HEAD }
+    ensures name { bytes.new.items ≡ bytes.old.items ++ how_name how }
+    ensures short { array_vec_len bytes.new ≤ array_vec_len bytes.old + 4 }
 {
     match how {
-        How::Full => "full",
-        How::Cut => "cut",
-        How::Long => "long",
+        How::Full => append(bytes, b"full"),
+        How::Cut => append(bytes, b"cut"),
+        How::Long => append(bytes, b"long"),
     }
 }
 

@@ -55,6 +55,7 @@ impl Batch {
     /// Gives bytes to be written. Where there is no room for them, those that wait are written, and
     /// so are they themselves where they are more than may wait. Where a write failed, the fault
     /// says how many bytes were written.
+    #[inline(always)]
     pub fn give<W: Write>(
         &mut self,
         writer: &mut Counting<W>,
@@ -72,6 +73,25 @@ impl Batch {
             self.waiting.append(bytes);
             return Ok(());
         }
+        self.send_and_give(writer, bytes)
+    }
+
+    /// Writes the bytes that wait, and then gives these as `give` does.
+    // A call of its own, so that `give` is little where it is inlined.
+    #[inline(never)]
+    fn send_and_give<W: Write>(
+        &mut self,
+        writer: &mut Counting<W>,
+        bytes: &[u8],
+    ) -> Result<(), WriteFault>
+        requires { writer.old.failures ≡ 0 }
+        ensures bytes { (first : Option (List ℕ)) (before : List ℕ)
+            → HasGiven first (W.contents writer.old.inner) self.old before → MatchResult result
+            (λ _. HasGiven first (W.contents writer.new.inner) self.new (before ++ bytes.now))
+            (λ fault. WroteSome first (W.contents writer.new.inner)
+            (before ++ bytes.now) fault.written) }
+        ensures counts { FailsOnce writer.new result }
+    {
         self.send(writer)?;
         if bytes.len() <= BATCH_BYTES {
             self.waiting.append(bytes);

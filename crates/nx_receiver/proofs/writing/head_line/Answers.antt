@@ -12,12 +12,12 @@ pieces : (name mark civil how errors count last : List ℕ) →
     ≡ 91 ∷ name ++ mark ++ 32 ∷ civil ++ 32 ∷ how ++ 32 ∷ errors ++ 47 ∷ count ++ last
 pieces name mark civil how errors count last = simp append_assoc
 
--- the same, each piece by what it is
-same_pieces : (name mark civil how errors count name' mark' how' errors' count' last : List ℕ)
-    → name ≡ name' → mark ≡ mark' → how ≡ how' → errors ≡ errors' → count ≡ count' →
+-- the same, with the name and the numbers by what they are
+same_pieces : (name mark civil how errors count name' errors' count' last : List ℕ)
+    → name ≡ name' → errors ≡ errors' → count ≡ count' →
     91 ∷ name ++ mark ++ 32 ∷ civil ++ 32 ∷ how ++ 32 ∷ errors ++ 47 ∷ count ++ last
-    ≡ 91 ∷ name' ++ mark' ++ 32 ∷ civil ++ 32 ∷ how' ++ 32 ∷ errors' ++ 47 ∷ count' ++ last
-same_pieces name mark civil how errors count name' mark' how' errors' count' last en em eh ee ec =
+    ≡ 91 ∷ name' ++ mark ++ 32 ∷ civil ++ 32 ∷ how ++ 32 ∷ errors' ++ 47 ∷ count' ++ last
+same_pieces name mark civil how errors count name' errors' count' last en ee ec =
     cc
 
 pub returns : goal.returns
@@ -25,34 +25,29 @@ unfolding entry_head
 returns c =
     let head = c.args.head.now in
     let text = c.args.text.now in
-    let start = c.append-3.ensures.items
+    let start = c.append-2.ensures.items
     ∙ ap (λ xs. xs ++ c.in-Some.time)
     (c.push-2.ensures.items ∙ ap (λ xs. xs ++ 32 ∷ [])
-    (c.append-2.ensures.items ∙ ap (λ xs. xs ++ c.as_bytes.result.now)
+    (c.append_mark.ensures.mark ∙ ap (λ xs. xs ++ channel_mark c.args.channel)
     (c.append.ensures.items ∙ ap (λ xs. xs ++ c.bytes-name.result)
     (c.push.ensures.items ∙ ap (λ xs. xs ++ 91 ∷ []) c.new-bytes.ensures)))) in
     let middle = c.push-5.ensures.items
     ∙ ap (λ xs. xs ++ 47 ∷ [])
-    (c.append-5.ensures.items
-    ∙ ap (λ xs. xs ++ c.as_bytes-3.result.now)
+    (c.append-3.ensures.items
+    ∙ ap (λ xs. xs ++ c.as_bytes.result.now)
     (c.push-4.ensures.items ∙ ap (λ xs. xs ++ 32 ∷ [])
-    (c.append-4.ensures.items
-    ∙ ap (λ xs. xs ++ c.as_bytes-2.result.now)
+    (c.append_how.ensures.name
+    ∙ ap (λ xs. xs ++ how_name head.how)
     (c.push-3.ensures.items ∙ ap (λ xs. xs ++ 32 ∷ []) start)))) in
-    let all = c.append-7.ensures.items
+    let all = c.append-5.ensures.items
     ∙ ap (λ xs. xs ++ 93 ∷ 10 ∷ [])
-    (c.append-6.ensures.items ∙ ap (λ xs. xs ++ c.as_bytes-4.result.now) middle) in
-    let ordered = pieces c.bytes-name.result c.as_bytes.result.now c.in-Some.time
-    c.as_bytes-2.result.now
-    c.as_bytes-3.result.now c.as_bytes-4.result.now (93 ∷ 10 ∷ []) in
-    let spelled = same_pieces c.bytes-name.result c.as_bytes.result.now c.in-Some.time
-    c.as_bytes-2.result.now
-    c.as_bytes-3.result.now c.as_bytes-4.result.now (identity_bytes head.identity)
-    (channel_mark c.args.channel)
-    (how_name head.how) (decimal (errors_of text))
-    (decimal (length text)) (93 ∷ 10 ∷ [])
-    c.bytes-name.ensures (c.as_bytes.ensures.value ∙ c.mark_of.ensures.mark)
-    (c.as_bytes-2.ensures.value ∙ c.how_text.ensures.name)
-    (c.as_bytes-3.ensures.value ∙ c.format.ensures.text ∙ ap decimal c.requires.errors)
-    (c.as_bytes-4.ensures.value ∙ c.format-2.ensures.text) in
+    (c.append-4.ensures.items ∙ ap (λ xs. xs ++ c.as_bytes-2.result.now) middle) in
+    let ordered = pieces c.bytes-name.result (channel_mark c.args.channel) c.in-Some.time
+    (how_name head.how) c.as_bytes.result.now c.as_bytes-2.result.now (93 ∷ 10 ∷ []) in
+    let spelled = same_pieces c.bytes-name.result (channel_mark c.args.channel) c.in-Some.time
+    (how_name head.how) c.as_bytes.result.now c.as_bytes-2.result.now
+    (identity_bytes head.identity) (decimal (errors_of text)) (decimal (length text))
+    (93 ∷ 10 ∷ []) c.bytes-name.ensures
+    (c.as_bytes.ensures.value ∙ c.format.ensures.text ∙ ap decimal c.requires.errors)
+    (c.as_bytes-2.ensures.value ∙ c.format-2.ensures.text) in
     (c.in-Some.time, c.in-Some.ensures.shown, all ∙ ordered ∙ spelled)
