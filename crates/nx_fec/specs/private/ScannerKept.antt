@@ -24,6 +24,15 @@ IsUnmarkedCommand (accept_station mark letter) = mark ≡ None
 IsUnmarkedCommand (refuse_subject mark letter) = mark ≡ None
 IsUnmarkedCommand (accept_subject mark letter) = mark ≡ None
 
+-- the line is a command that names its channel
+abbrev pub IsMarkedCommand : Line → Type 0
+IsMarkedCommand (moment n) = ⊥
+IsMarkedCommand (elements mark bits) = ⊥
+IsMarkedCommand (refuse_station mark letter) = IsSome mark
+IsMarkedCommand (accept_station mark letter) = IsSome mark
+IsMarkedCommand (refuse_subject mark letter) = IsSome mark
+IsMarkedCommand (accept_subject mark letter) = IsSome mark
+
 -- The line of this kind, with these elements, is one of an air file. These bytes spell it, and
 -- these are all its elements.
 pub record SpellsLine (kind : LineKind) (bits : List Bool) (bytes : List ℕ) : Type 0 where

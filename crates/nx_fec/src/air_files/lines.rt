@@ -7,7 +7,7 @@ ghost use Rattle.std.specs.Fmt.{decimal};
 ghost use Rattle.nx_code.specs.Reading.{IsCapital};
 ghost use Rattle.nx_fec.specs.air_files.AirFile.{IsLine, IsNoLine, Line, Means, spelling, with_mark};
 ghost use Rattle.nx_fec.specs.private.Packing.{is_one};
-ghost use Rattle.nx_fec.specs.private.ScannerKept.{IsMarked, IsUnmarkedCommand, SpellsLine};
+ghost use Rattle.nx_fec.specs.private.ScannerKept.{IsMarked, IsMarkedCommand, IsUnmarkedCommand, SpellsLine};
 ghost use Rattle.nx_fec.specs.declared.air_files.lines.LineKind.{LineKind};
 
 use crate::air_files::channel::Channel;
@@ -164,6 +164,16 @@ fn read_marked(line: &[u8], elements: &mut PackedElements) -> Option<LineKind>
             None
         };
     }
+    marked_command(line)
+}
+
+/// Reads a command that names its channel, as `command` does.
+#[inline(always)]
+pub(crate) fn marked_command(line: &[u8]) -> Option<LineKind>
+    ensures found { IfSome result (λ kind. SpellsLine kind [] line.now) }
+    ensures none { IfNone result ((sent : Line) → IsMarkedCommand sent → IsLine sent
+        → line.now ≢ spelling sent) }
+{
     if let Some((channel, letter)) = marked_letter(line, b"RS") {
         return Some(LineKind::RefuseStation(Some(channel), letter));
     }

@@ -1,20 +1,21 @@
 //! A scanner of the lines of an air file, which takes one piece after the other. What runs for each
 //! line is inlined always, so that no large answer goes through memory. Most lines are taken whole,
 //! and have few elements; what runs for other lines is never inlined.
-ghost use Rattle.std.specs.Prelude.{◌≡◌, ◌≢◌, ◌+◌, ◌<◌, ◌≤◌, ℕ, List, [], ◌∷◌, ◌++◌, None, option_to_list, codes, IfOk, IfErr, IfSome, OnOk, OnErr, IsSomeAnd, length, take, MatchResult};
+ghost use Rattle.std.specs.Prelude.{◌≡◌, ◌≢◌, ◌+◌, ◌<◌, ◌≤◌, ℕ, List, [], ◌∷◌, ◌++◌, None, option_to_list, codes, IfOk, IfErr, IfSome, OnOk, OnErr, IsSomeAnd, length, take, slice_index, MatchResult};
 ghost use Rattle.std.specs.List.{AllByRecursion};
 ghost use Rattle.std.specs.Option.{option_map};
 ghost use Rattle.nx_code.specs.Reading.{newline};
 ghost use Rattle.nx_fec.specs.air_files.AirFile.{IsLine, Line, spelling, with_mark};
 ghost use Rattle.nx_fec.specs.air_files.Lines.{Scans, StopsIn, IsCause, IsAirFile, IsAtByte};
 ghost use Rattle.nx_fec.specs.air_files.Scanner.{elements_kept, kind_kept};
+ghost use Rattle.nx_fec.specs.private.ScannerKept.{SpellsLine};
 ghost use Rattle.nx_fec.specs.private.WholeLines.{TakesLine, Waits};
 
 use crate::air_files::bounded_bytes::BoundedBytes;
 use crate::air_files::channel::Channel;
 use crate::air_files::line_feeds::first_feed;
 use crate::air_files::lines::{
-    LineKind, MAX_ELEMENTS, command, digits_behind, moment_front, read_line, unpack,
+    LineKind, MAX_ELEMENTS, command, digits_behind, marked_command, moment_front, read_line, unpack,
 };
 use crate::air_files::packed::{PackedElements, pack_near};
 use crate::fault::LineFault;
@@ -33,6 +34,9 @@ const NEAR_BYTES: usize = 35;
 
 /// The bytes of a command that names no channel: two letters, a space and a letter.
 const COMMAND_BYTES: usize = 4;
+
+/// The bytes of one that names its channel: a digit more.
+const MARKED_COMMAND_BYTES: usize = 5;
 
 /// Any other line of elements is looked for in so many, the most that a line has, with its end, and
 /// one more.
@@ -252,8 +256,8 @@ impl Scanner {
         }
     }
 
-    /// Takes the line that a piece begins with as `take_whole` does, where it is a command that
-    /// names no channel. Never inlined: a moment would pay for its registers.
+    /// Takes the line that a piece begins with as `take_whole` does, where it is a command. Never
+    /// inlined: a moment would pay for its registers.
     #[inline(never)]
     fn take_command(&mut self, piece: &[u8]) -> usize
         requires empty { self.old.part ≡ [] }
@@ -262,19 +266,16 @@ impl Scanner {
         ensures taken { 0 < result → TakesLine self.old self.new piece.now result }
         ensures none { result ≡ 0 → self.new ≡ self.old }
     {
-        if piece[COMMAND_BYTES] != NEWLINE {
-            return 0;
-        }
-        let Some(kind) = command(&piece[..COMMAND_BYTES]) else {
+        let Some((kind, end)) = command_front(piece) else {
             return 0;
         };
         self.kept.clear();
-        self.kept.append_front(piece, COMMAND_BYTES);
+        self.kept.append_front(piece, end);
         self.elements.clear();
         self.ended = Some(kind);
         self.lines += 1;
-        self.room -= COMMAND_BYTES as u64 + 1;
-        COMMAND_BYTES + 1
+        self.room -= end as u64 + 1;
+        end + 1
     }
 
     /// Takes the line that a piece begins with as `take_whole` does, where it has elements, by the
@@ -430,4 +431,24 @@ impl Scanner {
             line: self.lines + 1,
         })
     }
+}
+
+/// The command that a piece begins with, with its line feed, and how many bytes it has before that.
+#[inline(always)]
+fn command_front(piece: &[u8]) -> Option<(LineKind, usize)>
+    requires { NEAR_BYTES ≤ length piece.now }
+    ensures command { IfSome result (λ found. SpellsLine found.0 [] (take found.1 piece.now)) }
+    ensures ended { IfSome result (λ found. (found.1 < NEAR_BYTES)
+        × (slice_index piece.now found.1 ≡ newline)) }
+{
+    if piece[COMMAND_BYTES] == NEWLINE {
+        return Some((command(&piece[..COMMAND_BYTES])?, COMMAND_BYTES));
+    }
+    if piece[MARKED_COMMAND_BYTES] == NEWLINE {
+        return Some((
+            marked_command(&piece[..MARKED_COMMAND_BYTES])?,
+            MARKED_COMMAND_BYTES,
+        ));
+    }
+    None
 }
