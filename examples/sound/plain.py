@@ -69,7 +69,7 @@ class Plain:
         self.tones = Tones(rate, pair[::-1] if exchanged else pair)
         self.elements = Elements(rate)
         self.rate, self.middle, self.exchanged = rate, centre, exchanged
-        self.told = self.phasing = self.locked = self.locks = 0
+        self.told = self.phasing = self.locked = self.locks = self.sure = self.unsure = 0
         self.tone = 0.0
 
     def hear(self, samples):

@@ -12,6 +12,7 @@ RATE = BAUD * PER     # samples a second there
 PIECE = 20            # elements a piece
 AHEAD = 5             # pieces that the clock looks ahead
 MEMORY = 15.0         # pieces that the clock remembers
+STEP = 100.0          # what a step of the clock has to explain: noise gives 80, half an element 450
 BAND = 320.0          # Hz on each side of the middle that pass the filter
 
 
@@ -49,9 +50,11 @@ class Middle:
         at = lambda f: np.interp(f / self.bin, np.arange(len(smooth)), smooth)
         return np.minimum(at(places - SHIFT / 2), at(places + SHIFT / 2))
 
-    def best(self):
-        scores = self.scores()
-        return self.places[scores.argmax()], scores.max()
+    def best(self, first=0, last=np.inf):
+        """The clearest place from `first` to `last`, and its score."""
+        within = self.places[(self.places >= first) & (self.places <= last)]
+        scores = self.scores(within)
+        return within[scores.argmax()], scores.max()
 
 
 class Mixer:
@@ -123,7 +126,8 @@ class Clock:
     element ends, so the angle of the sum of |E_B - E_Y| e^(-2 pi i t / 16) tells the place (after
     Oerder and Meyr 1988). The sum is over 3 s before and 1 s after. Each element moves by an eighth
     of what it is late, at most 2 per cent of its length, so that the count of elements goes on
-    where nothing is heard.
+    where nothing is heard. Where sound was lost or doubled the place changes at once: two sums,
+    before a piece and from it on, are then together much longer than the sum of all.
     """
 
     def __init__(self):
@@ -164,7 +168,16 @@ class Clock:
 
     def piece(self):
         """The elements of the oldest piece."""
-        place = -np.angle(self.past + sum(self.swings)) / (2 * np.pi) * PER
+        sums = np.cumsum([self.past, *self.swings])
+        gains = np.abs(sums[:-1]) + np.abs(sums[-1] - sums[:-1]) - np.abs(sums[-1])
+        first = gains.argmax()
+        shown = sums[-1]
+        if gains[first] > STEP:
+            shown = sums[first] if first else shown - self.past
+            self.past *= first > 0
+        place = -np.angle(shown) / (2 * np.pi) * PER
+        if gains[first] > STEP and first == 0:
+            self.next += (place - self.next + PER / 2) % PER - PER / 2
         self.past = (self.past + self.swings.pop(0)) * np.exp(-1 / MEMORY)
         limit = (self.seen - AHEAD) * PER * PIECE
         begins = []

@@ -17,6 +17,9 @@ NEAR = 20                                   # elements on each side that tell lo
 BACK, ON = 14, 10                           # positions before and behind that tell a lock
 LOCK, LOSE, BETTER = 14.0, 5.0, 8.0         # evidence for a lock, against it, and for another one
 SURE = 0.98                                 # a word is written where it is so probable
+FARTHEST, JUMP = 30, 14.0                   # elements that words jump at most, and evidence for it
+EVER = 1 << 60                              # the last element of a stretch without an end
+PAIR = 0.06                                 # for a lock one tone has this part of the other's A^2
 SPOILT = 0.002                              # how often one sending of a word is spoilt in any way
 ENTER, LEAVE = 0.01, 0.1                    # how often a fade begins, and ends, at an element
 WEAK = 0.07                                 # how often an element has half its size
@@ -101,18 +104,31 @@ class Store:
 
     def __getitem__(self, part):
         if isinstance(part, slice):
-            return self.rows[max(0, part.start - self.first):part.stop - self.first]
+            return self.rows[max(0, part.start - self.first):part.stop - self.first:part.step]
         return self.rows[part - self.first]
 
 
 class Sendings:
-    """Takes the tones of elements and tells elements, 2.3 s behind. All is numbered by elements."""
+    """Takes the tones of elements and tells elements, 2.3 s behind. All is numbered by elements.
+
+    Where sound is lost or doubled on its way, words jump: they are heard some elements earlier or
+    later than those before. They are told in the slots of the words before all the same, so
+    elements are put in or left out. A stretch of sound without a jump is (first, last, shift): what
+    is told as element i is heard as element i + shift, from the first on and before the last.
+    """
 
     def __init__(self, exchanged=False):
         self.exchanged = exchanged               # whether the lower tone is B
-        self.lock = None                         # the place of DX words, from 0 to 13
+        self.lock = None                         # the place of DX words as told, from 0 to 13
+        self.slot = None                         # that of the latest lock
+        self.stretches = [(0, EVER, 0)]          # the one that is told, and the next one if known
+        self.sure = self.unsure = 0              # words that were sure, and those not between them
+        self.doubts = -np.inf                    # words not sure since the latest sure one of a lock
+        self.jumps = 0                           # jumps met
+        self.is_tuned = True                     # whether words that are found now count
+        self.single = 0                          # how often a lock was refused for one tone alone
         self.middle = None                       # the middle by the phase of words, in a lock
-        self.phasing = 0                         # phasing positions met
+        self.phasing = self.phases = 0           # pairs of phasing positions met; those in a row now
         self.tones = Store(2, dtype=complex)     # r of the upper and of the lower tone
         self.mixed = Store()                     # the frequency that they were mixed down by
         self.state = Store(2, 3)                 # of each tone A^2, N, and its likelihood
@@ -130,10 +146,17 @@ class Sendings:
         self.hear_words()
         self.hear_positions()
         first = self.told
-        while self.told + TURN * (ON + 1) + WORD + GAP < self.words.end:
-            self.decide(self.told)
+        while self.here + TURN * (ON + 1) + WORD + GAP < self.words.end:
+            self.decide()
             self.told += 1
+            if self.here + WORD > self.stretches[0][1]:
+                self.stretches.pop(0)
         return self.out[first:self.told]
+
+    @property
+    def here(self):
+        """The element of those heard that is told next."""
+        return self.told + self.stretches[0][2]
 
     def hear_tones(self):
         """A^2 and N of each tone, by two rounds of expectation and maximisation over the elements
@@ -195,33 +218,95 @@ class Sendings:
         turned *= np.sqrt(state[..., 0]) / state[..., 1]
         return sum(np.sum(turned[:, m:] * turned[:, :WORD - m].conj(), 1) for m in (1, 2, 3))
 
-    def decide(self, place):
-        """Element `place`, and the words of a position of the lock that begins there."""
-        if self.out.end <= place:
-            upper, lower = np.abs(self.tones[place])
-            self.out.add([int((upper > lower) != self.exchanged)])
-        if place % TURN == 0 and place > TURN * BACK:
-            self.seek(place)
-        if self.lock is not None and place % TURN == self.lock:
-            self.write(place)
+    def decide(self):
+        """The element that is told next, and the words of a position that begins there."""
+        if self.out.end <= self.told:
+            upper, lower = np.abs(self.tones[self.here])
+            self.out.add([int(self.is_tuned and (upper > lower) != self.exchanged)])
+        if self.told % TURN == 0:
+            self.seek(self.here)
+        if self.lock is not None and self.told % TURN == self.lock:
+            if len(self.stretches) == 1:
+                self.find_jump(self.here)
+            self.write(self.here)
 
     def seek(self, place):
-        """The lock: the place in a turn, and the sideband, for which the positions near here speak."""
-        near = self.proof[place - TURN * (BACK - 1):place + TURN * (ON + 1)]
+        """The lock: the place in a turn, and the sideband, for which the positions near here speak.
+        It is told in the slot of the lock before."""
+        first, last, shift = self.stretches[0]
+        back, on = min(BACK - 1, (place - first) // TURN), min(ON + 1, (last - place) // TURN)
+        if back + on < ON // 2:
+            return
+        near = self.proof[place - TURN * back:place + TURN * on]
         scores = near.reshape(-1, TURN, 2).sum(0)
         best = np.unravel_index(scores.argmax(), scores.shape)
         here = -np.inf if self.lock is None else scores[self.lock, int(self.exchanged)]
         if scores[best] > max(LOCK, here + BETTER):
-            self.lock, self.exchanged, self.phase = int(best[0]), bool(best[1]), 0.0
+            loud = self.state[place - TURN * back:place + TURN * on][:, :, 0].mean(0)
+            if not self.is_tuned or loud.min() < PAIR * loud.max():
+                self.single += self.is_tuned
+                return
+            self.slot = int(best[0]) if self.slot is None else self.slot
+            self.lock, self.exchanged, self.phase = self.slot, bool(best[1]), 0.0
+            self.doubts = -np.inf
+            step = (int(best[0]) - self.slot + TURN // 2) % TURN - TURN // 2
+            if step:
+                self.stretches = [(first, EVER, shift + step)]
         elif here < LOSE:
             self.lock, self.middle = None, None
+
+    def forget(self, first):
+        """What was heard before element `first` tells nothing of a lock."""
+        self.lock, self.middle = None, None
+        self.stretches = [(first, EVER, self.stretches[0][2])]
+
+    def find_jump(self, place):
+        """Looks for a jump ahead: the last of the next positions speak for another place in a turn.
+        It is taken when a word of the position at `place` may be behind it, and no sooner, so that
+        more is heard of it."""
+        near = self.proof[place:place + TURN * ON][:, int(self.exchanged)].reshape(ON, TURN)
+        gains = np.cumsum((near - near[:, :1])[::-1], 0)
+        if gains.max() < JUMP:
+            return
+        turn = np.unravel_index(gains.argmax(), gains.shape)[1]
+        steps = range((turn + FARTHEST) % TURN - FARTHEST, FARTHEST + 1, TURN)
+        _, end, begin, step = max(self.jump(place, step) for step in steps)
+        if end <= place + GAP + WORD + TURN:
+            first, _, shift = self.stretches[0]
+            self.stretches = [(first, end, shift), (begin, EVER, shift + step)]
+            self.jumps += 1
+
+    def jump(self, place, step):
+        """The likeliest jump by so many elements behind `place`: (likelihood, end, begin, step).
+        Words are heard whole before `end`, and from `begin` on `step` elements later; a word
+        between says nothing. Both are tried each 4 elements."""
+        dx = np.arange(place, place + TURN * ON - step, TURN)
+        words = [[np.zeros((len(dx), 128))] + [self.words[at[0]:at[-1] + 1:TURN] for at in (first, first + step)]
+                 for first in (dx, dx + GAP)]
+        proof = [[log_sum(pairs(one, other, self.exchanged)) for other in words[1]] for one in words[0]]
+        ends = place + 4 * np.arange(TURN * ON // 4)[:, None, None]
+        begins = ends + 4 * np.arange(12)[:, None]
+        heard = lambda at: np.where(at + WORD <= ends, 1, np.where(at + step >= begins, 2, 0))
+        total = np.clip(proof, -8, 6)[heard(dx), heard(dx + GAP), np.arange(len(dx))].sum(-1)
+        total -= step > 0                             # sound is lost more often than doubled
+        end, wide = np.unravel_index(total.argmax(), total.shape)
+        return total.max(), place + 4 * int(end), place + 4 * int(end + wide), step
+
+    def heard(self, place):
+        """Where the word that is told at `place` was heard in one piece, if it was."""
+        for first, last, shift in self.stretches:
+            if first <= place + shift and place + shift + WORD <= last:
+                return place + shift
+        return None
 
     def write(self, place):
         """The words of the position that begins here, in both places; where none is sure, 0. Two
         models are mixed, with and without phase, by what spoke for each of late."""
         off = self.off(place)
-        still = pairs(self.words[place], self.words[place + GAP], self.exchanged)
-        turning = pairs(self.with_phase(place, off), self.with_phase(place + GAP, off), self.exchanged)
+        places = self.heard(self.told), self.heard(self.told + GAP)
+        none = np.zeros(128)
+        still = pairs(*(none if p is None else self.words[p] for p in places), self.exchanged)
+        turning = pairs(*(none if p is None else self.with_phase(p, off) for p in places), self.exchanged)
         self.phase = np.clip(0.95 * self.phase + log_sum(turning) - log_sum(still), -6, 6)
         share = part(self.phase)
         models = np.logaddexp(still + np.log(1 - share), turning + np.log(share))
@@ -229,14 +314,27 @@ class Sendings:
         dx, rx = (P1, 0) if best == len(DX) else (DX[best], RX[best])
         if models[best] - log_sum(models) < np.log(SURE):
             dx = rx = 0
-        self.phasing += int(dx == P2)
-        for begin, word in ((place, dx), (place + GAP, rx)):
+        self.count(dx)
+        for begin, word in ((self.told, dx), (self.told + GAP, rx)):
             self.out.add(np.zeros(max(0, begin + WORD - self.out.end), int))
             self.out[begin:begin + WORD][:] = PATTERNS[word]
 
+    def count(self, dx):
+        """Counts a position: words that aren't sure count only between sure ones of a lock."""
+        if not dx:
+            self.doubts += 1
+            return
+        self.sure, self.unsure, self.doubts = self.sure + 1, self.unsure + max(0, self.doubts), 0
+        self.phases = self.phases + 1 if dx == P2 else 0
+        self.phasing += dx == P2 and self.phases % 2 == 0
+
     def off(self, place):
         """How far the middle is from where element `place` was mixed down, Hz."""
-        places = [p for p in range(place - 12 * TURN, place + ON * TURN + 1, TURN) if p >= self.slopes.first]
+        first, last, _ = self.stretches[0]
+        places = [p for p in range(place - 12 * TURN, place + ON * TURN + 1, TURN)
+                  if max(first, self.slopes.first) <= p < last]
+        if not places:
+            return 0.0
         total = sum(self.slopes[p][int(self.exchanged)] for p in places)
         self.middle = np.mean([self.mixed[p] for p in places]) + np.angle(total) / (4 * np.pi * T)
         return self.middle - self.mixed[place]
