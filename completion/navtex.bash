@@ -1,27 +1,42 @@
-# Completion of navtex's arguments for bash. Which commands there are, and what each takes, is read from navtex's own help.
+# Completion of navtex's arguments for bash. Which commands and options there are, and what each takes, is read from navtex's own help.
+
+# What may stand for a value, of a line of help as `<KIND> The words that are meant: dx, rx or all`.
+_navtex_values() {
+    case $1 in
+        '<STATION>'* | '<LETTERS>'*) echo {A..Z} ;;
+        '<MOMENT>'*) date +%s ;;
+        '<TIME>'*) date -u +%F ;;
+        *', '[0-9]' to '[0-9]) seq "${1: -6:1}" "${1: -1}" ;;
+        *) sed -n 's/.*: \(.*\) or \(.*\)/\1 \2/p' <<< "$1" | tr -d , ;;
+    esac
+}
+
 _navtex() {
-    local word=${COMP_WORDS[COMP_CWORD]} program=${COMP_WORDS[0]} choices=
+    local word=${COMP_WORDS[COMP_CWORD]} before=${COMP_WORDS[COMP_CWORD - 1]} program=${COMP_WORDS[0]}
+    local choices='' help='' value='' name
     if ((COMP_CWORD == 1)); then
         choices="$("$program" --help 2>/dev/null | sed -n 's/^  \([a-z][a-z]*\)   *[A-Z].*/\1/p') --help --version"
-    elif [ "${COMP_WORDS[1]}" = log ]; then
-        case ${COMP_WORDS[COMP_CWORD - 1]} in
-            --station) choices='A B C D E F G H I J K L M N O P Q R S T U V W X' ;;
-            --subject) choices='A B C D E F G H I J K L M N O P Q R S T U V W X Y Z' ;;
-            --channel) choices='0 1 2' ;;
-            --since | --until) choices=$(date -u +%F) ;;
-            *) choices=$("$program" log -h 2>/dev/null | sed -n 's/^ .*\(--[a-z]*\).*/\1/p') ;;
-        esac
     else
-        # the usage of `navtex send` is `navtex send <STATION> <MOMENT>`
-        case $("$program" "${COMP_WORDS[1]}" -h 2>/dev/null | awk -v at=$((COMP_CWORD + 2)) '$1 == "Usage:" { print $at }') in
-            '<STATION>') choices='A B C D E F G H I J K L M N O P Q R S T U V W X' ;;
-            '<MOMENT>') choices=$(date +%s) ;;
-            '<KIND>') choices='dx rx all' ;;
-            '<FILE>') COMPREPLY=($(compgen -f -- "$word")); return ;;
+        help=$("$program" "${COMP_WORDS[1]}" -h 2>/dev/null)
+        # `--channel <N>  Entries ..` is the line of an option with a value
+        [[ $before != --* ]] || value=$(sed -n "s/^ *$before \(<[A-Z]*>\)  */\1 /p" <<< "$help")
+        if [ -z "$value" ] && [[ $word != -* ]]; then
+            # the usage of `navtex send` is `navtex send <STATION> <MOMENT>`
+            name=$(awk -v at=$((COMP_CWORD + 2)) '$1 == "Usage:" { print $at }' <<< "$help")
+            [[ $name != \<* ]] || value=$(sed -n "s/^ *\($name\)  */\1 /p" <<< "$help")
+        fi
+        case $value in
+            '<FILE>'*)
+                mapfile -t COMPREPLY < <(compgen -f -- "$word")
+                return
+                ;;
+            '') choices=$(sed -n 's/^ .*\(--[a-z][a-z-]*\).*/\1/p' <<< "$help") ;;
+            *) choices=$(_navtex_values "$value") ;;
         esac
-        ((COMP_CWORD > 2)) || choices+=' --help'
+        # options come where one begins, or where the command has some of its own
+        [ -n "$value" ] || [[ $word == -* || $choices == *$'\n'* ]] || ((COMP_CWORD == 2)) || choices=''
     fi
-    COMPREPLY=($(compgen -W "$choices" -- "$word"))
+    mapfile -t COMPREPLY < <(compgen -W "$choices" -- "$word")
 }
 # behind < and > bash completes the names of files
 complete -o default -F _navtex navtex
