@@ -4,8 +4,10 @@
 #[cfg(test)]
 mod tests;
 
+use nx_disk::LeftBefore;
 use nx_fec::Counting;
 use nx_program::{SystemFiles, answer};
+use nx_watch::StampedReader;
 use std::process::ExitCode;
 use std::{env, io};
 
@@ -18,10 +20,10 @@ fn main(rt: HostRuntime) -> ExitCode {
     let ended = answer(
         rt.alloc(),
         arguments_of(&rt),
-        &mut Counting::new(rt.stdin()),
+        StampedReader::new(Counting::new(rt.stdin())),
         &mut Counting::new(rt.stdout()),
         &mut Counting::new(rt.stderr()),
-        SystemFiles::new(rt.alloc(), &rt),
+        SystemFiles::new(rt.alloc(), &rt, LeftBefore::any()),
     );
     ExitCode::from(ended.status)
 }

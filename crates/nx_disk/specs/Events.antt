@@ -1,6 +1,6 @@
 -- The calls of a file with their answers, and what follows from them, where the file had these
 -- bytes at first.
-use Rattle.std.specs.Prelude.{◌≡◌, ◌⊎◌, ℕ, zero, suc, ◌+◌, ◌≤◌, Bool, true, false, List, [], ◌∷◌, ◌++◌, length, take, drop}
+use Rattle.std.specs.Prelude.{◌≡◌, ◌⊎◌, ℕ, zero, suc, ◌+◌, ◌≤◌, Bool, true, false, List, [], ◌∷◌, ◌++◌, length, take, drop, Contains}
 use Rattle.std.proofs.Common.{inl, inr, arith}
 use Rattle.nx_kept.specs.Disk.{Torn, Cut}
 
@@ -39,18 +39,22 @@ LeftAfter (suc (suc zero)) size ok bytes seen left c = (d : List ℕ) × left d 
 LeftAfter (suc (suc (suc more))) at true bytes seen left c = c ≡ seen
 LeftAfter (suc (suc (suc more))) at false bytes seen left c = left c
 
--- Before the first call it may leave anything, since an earlier program may have left writes that
--- no sync followed.
-abbrev pub MayLeave : List ℕ → List Event → List ℕ → Type 0
-MayLeave start [] c = Unit {0}
-MayLeave start (event ∷ earlier) c = LeftAfter event.0 event.1 event.3 event.4
-    (seen_of start earlier) (MayLeave start earlier) c
+-- Before the first call it may leave what a read finds, or one of these files: an earlier program
+-- may have left writes that no sync followed. A list is enough, since what is said of the files
+-- that a crash leaves is said of each alone.
+abbrev pub LeftAtFirst : List ℕ → List (List ℕ) → List ℕ → Type 0
+LeftAtFirst start first c = (c ≡ start) ⊎ Contains first c
+
+abbrev pub MayLeave : List ℕ → List (List ℕ) → List Event → List ℕ → Type 0
+MayLeave start first [] c = LeftAtFirst start first c
+MayLeave start first (event ∷ earlier) c = LeftAfter event.0 event.1 event.3 event.4
+    (seen_of start earlier) (MayLeave start first earlier) c
 
 -- what a crash since so many calls may have left
-abbrev pub LeftSince : List ℕ → List Event → ℕ → List ℕ → Type 0
-LeftSince start [] t c = Unit {0}
-LeftSince start (event ∷ earlier) t c =
-    MayLeave start (event ∷ earlier) c ⊎ ((t ≤ length earlier) × LeftSince start earlier t c)
+abbrev pub LeftSince : List ℕ → List (List ℕ) → List Event → ℕ → List ℕ → Type 0
+LeftSince start first [] t c = LeftAtFirst start first c
+LeftSince start first (event ∷ earlier) t c = MayLeave start first (event ∷ earlier) c
+    ⊎ ((t ≤ length earlier) × LeftSince start first earlier t c)
 
 abbrev pub one_for : Bool → ℕ
 one_for true = 0
@@ -66,6 +70,13 @@ abbrev pub HasFailed : (ℕ → Type 0) → List Event → Type 0
 HasFailed kind [] = ⊥
 HasFailed kind (event ∷ earlier) = kind event.0 × (event.3 ≡ false)
 
+-- the newest call was at a place within the file or at its end, or of a size up to the file's, and
+-- failed
+abbrev pub HasFailedWithin : List ℕ → List Event → Type 0
+HasFailedWithin start [] = ⊥
+HasFailedWithin start (event ∷ earlier) =
+    (event.1 ≤ length (seen_of start earlier)) × (event.3 ≡ false)
+
 abbrev pub Reads : ℕ → Type 0
 Reads call = call ≡ 0
 
@@ -73,14 +84,15 @@ abbrev pub Writes : ℕ → Type 0
 Writes call = 1 ≤ call
 
 -- this moment is one of those since an earlier one
-pub counts_now : (start : List ℕ) (events : List Event) (t : ℕ) (c : List ℕ) → t ≤ length events
-    → MayLeave start events c → LeftSince start events t c
-counts_now start [] t c le now = tt
-counts_now start (event ∷ earlier) t c le now = inl now
+pub counts_now : (start : List ℕ) (first : List (List ℕ)) (events : List Event) (t : ℕ)
+    (c : List ℕ) → t ≤ length events → MayLeave start first events c
+    → LeftSince start first events t c
+counts_now start first [] t c le now = now
+counts_now start first (event ∷ earlier) t c le now = inl now
 
 -- since this moment there is no other
-pub only_now : (start : List ℕ) (events : List Event) (c : List ℕ)
-    → LeftSince start events (length events) c → MayLeave start events c
-only_now start [] c left = tt
-only_now start (event ∷ earlier) c (inl now) = now
-only_now start (event ∷ earlier) c (inr since) = absurd (omega (arith, since.0))
+pub only_now : (start : List ℕ) (first : List (List ℕ)) (events : List Event) (c : List ℕ)
+    → LeftSince start first events (length events) c → MayLeave start first events c
+only_now start first [] c left = left
+only_now start first (event ∷ earlier) c (inl now) = now
+only_now start first (event ∷ earlier) c (inr since) = absurd (omega (arith, since.0))

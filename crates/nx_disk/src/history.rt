@@ -1,6 +1,6 @@
-//! A list of calls that only clauses read.
+//! Lists that only clauses read: the calls of a file, and what a crash could leave before them.
 
-ghost use Rattle.std.specs.Prelude.{◌≡◌, List, [], ◌∷◌};
+ghost use Rattle.std.specs.Prelude.{◌≡◌, List, [], ◌∷◌, ℕ};
 ghost use Rattle.std.specs.Borrow.{ftrue};
 ghost use Rattle.nx_disk.specs.Events.{Event};
 ghost use Rattle.nx_disk.specs.private.Noting.{event_of};
@@ -31,4 +31,37 @@ impl History {
     pub(crate) fn note(&mut self, _numbers: &[u64], _bytes: &[u8])
         ensures { self.new.events ≡ event_of _numbers.now _bytes.now ∷ self.old.events }
     {}
+}
+
+/// The files of which a crash could leave one before the first call of a file, beside what a read
+/// finds: what an earlier program that was killed wrote, and no sync followed. They are handed in
+/// where a file is opened, and only clauses read them. It takes no memory.
+#[derive(Drop)]
+pub struct LeftBefore {
+    marker: PhantomData<u8>,
+    pub ghost files: { List (List ℕ) },
+}
+
+impl Model for LeftBefore {
+    ghost also_owns = { λ _. ftrue };
+}
+
+impl LeftBefore {
+    /// These files, which the caller names in its proof. It holds for every list.
+    pub fn these() -> LeftBefore
+        ghost files: { List (List ℕ) }
+        ensures { result.files ≡ files }
+    {
+        LeftBefore {
+            marker: PhantomData,
+        }
+    }
+
+    /// Some such files. Nobody can know them, so no clause says which they are, and what is
+    /// promised of a file is promised for every list that is handed in. "Each file that a crash
+    /// could leave before stands for these entries" is thus a premise that some lists meet and
+    /// some don't.
+    pub fn any() -> LeftBefore {
+        LeftBefore::these()
+    }
 }

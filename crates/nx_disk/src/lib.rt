@@ -4,11 +4,14 @@
 
 mod file;
 mod history;
+mod log_file;
 mod noted;
 #[cfg(test)]
 mod tests;
 mod torn;
 
-pub use file::{FileFault, LogFile, open};
+pub use file::FileFault;
+pub use history::LeftBefore;
+pub use log_file::{LogFile, open};
 pub use noted::{Noted, RawFile};
 pub use torn::{Tear, TornFile};

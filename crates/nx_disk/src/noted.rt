@@ -1,11 +1,12 @@
 //! A disk file over calls without a contract: each is noted with its answer, and what follows from
 //! the notes is what the clauses say.
 
-ghost use Rattle.std.specs.Prelude.{◌≡◌, ◌+◌, ◌<◌, ◌^◌, List, ℕ, length, OnOk};
-ghost use Rattle.nx_disk.specs.Events.{Explains, HasFailed, LeftSince, MayLeave, Reads, Writes, faults_of, seen_of};
+ghost use Rattle.std.specs.Prelude.{◌+◌, ◌<◌, ◌^◌, ℕ, length, OnOk};
+ghost use Rattle.nx_disk.specs.Events.{Explains, HasFailed, HasFailedWithin, LeftSince, MayLeave, Reads, Writes, faults_of, seen_of};
 ghost use Rattle.nx_disk.specs.Events as events;
+ghost use Rattle.nx_disk.specs.Fresh.{IsFresh};
 
-use crate::history::History;
+use crate::history::{History, LeftBefore};
 use nx_kept::{DiskFailed, DiskFile};
 
 /// A file has fewer than 2^63 bytes.
@@ -40,17 +41,18 @@ pub trait RawFile {
 #[derive(Drop)]
 pub struct Noted<F> {
     file: F,
+    left: LeftBefore,
     history: History,
 }
 
 impl<F: RawFile> Noted<F> {
-    /// The file, of which no call was made.
-    pub fn new(file: F) -> Self
-        ensures { (start : List ℕ) → ⟦<Noted<F> as DiskFile>⟧.explains start result
-            × (⟦<Noted<F> as DiskFile>⟧.seen start result ≡ start) }
+    /// The file, of which no call was made, and what a crash could leave before.
+    pub fn new(file: F, left: LeftBefore) -> Self
+        ensures { IsFresh ⟦<Noted<F> as DiskFile>⟧ left.files result }
     {
         Noted {
             file,
+            left,
             history: History::new(),
         }
     }
@@ -62,7 +64,11 @@ impl<F: RawFile> Noted<F> {
 
     /// Gives the file back.
     pub fn into_file(self) -> F {
-        let Noted { file, history: _ } = self;
+        let Noted {
+            file,
+            left: _,
+            history: _,
+        } = self;
         file
     }
 }
@@ -82,11 +88,11 @@ impl<F: RawFile> DiskFile for Noted<F> {
 
     ghost seen = { λ start f. seen_of start f.history.events };
 
-    ghost may_leave = { λ start f c. MayLeave start f.history.events c };
+    ghost may_leave = { λ start f c. MayLeave start f.left.files f.history.events c };
 
     ghost moment = { λ f. length f.history.events };
 
-    ghost left_since = { λ start f t c. LeftSince start f.history.events t c };
+    ghost left_since = { λ start f t c. LeftSince start f.left.files f.history.events t c };
 
     ghost faults = { λ f. faults_of f.history.events };
 
@@ -94,9 +100,13 @@ impl<F: RawFile> DiskFile for Noted<F> {
 
     ghost has_failed_to_write = { λ f. HasFailed Writes f.history.events };
 
-    ghost counts_now = { λ start f t c le now. events.counts_now start f.history.events t c le now };
+    ghost has_failed_within = { λ start f. HasFailedWithin start f.history.events };
 
-    ghost only_now = { λ start f c left. events.only_now start f.history.events c left };
+    ghost counts_now = { λ start f t c le now. events.counts_now start f.left.files f.history.events
+        t c le now };
+
+    ghost only_now = { λ start f c left. events.only_now start f.left.files f.history.events c
+        left };
 
     fn read_at(&mut self, at: usize, room: &mut [u8]) -> Result<usize, DiskFailed> {
         let size = room.len() as u64;

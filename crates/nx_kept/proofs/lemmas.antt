@@ -5,5 +5,6 @@ pub mod Pieces
 pub mod Putting
 pub mod Repairing
 pub mod Scanning
+pub mod Settling
 pub mod Stages
 pub mod Steps

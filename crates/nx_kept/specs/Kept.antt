@@ -66,3 +66,7 @@ module _ (is_record : List ℕ → Type 0) (longest : ℕ) where
   abbrev pub WithOrWithout : List (List ℕ) → List ℕ → List ℕ → Type 0
   WithOrWithout records one_more bytes =
       StandsFor records bytes ⊎ StandsFor (records ++ one_more ∷ []) bytes
+
+  -- the bytes stand for these records, or for those others
+  abbrev pub StandsForEither : List (List ℕ) → List (List ℕ) → List ℕ → Type 0
+  StandsForEither records others bytes = StandsFor records bytes ⊎ StandsFor others bytes

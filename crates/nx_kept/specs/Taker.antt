@@ -1,7 +1,40 @@
-use Rattle.std.specs.Prelude.{◌≡◌, ℕ, List, [], ◌∷◌}
+-- What is given to who takes the records of a log.
+use Rattle.std.specs.Prelude.{◌≡◌, ◌≢◌, ℕ, List, [], ◌∷◌, ◌++◌, ◌==◌, if◌then◌else◌}
+use Rattle.nx_kept.specs.Kept.{closed_gate, line_behind, IsBehindOpenGates, IsTail}
 
 -- from old to new it took these records, in order
 abbrev pub Took : {T : Type 0} → (T → List ℕ → T → Type 0) → T → List (List ℕ) → T → Type 0
 Took takes old [] new = new ≡ old
 Took {T} takes old (record_ ∷ records) new = (mid : T) × takes old record_ mid
     × Took takes mid records new
+
+-- or some
+abbrev pub TookSome : {T : Type 0} → (T → List ℕ → T → Type 0) → T → T → Type 0
+TookSome takes old new = (records : List (List ℕ)) × Took takes old records new
+
+-- what is cut of a tail: the bytes behind its closed gate, or a byte that is no closed gate
+abbrev pub cut_of : List ℕ → List ℕ
+cut_of [] = []
+cut_of (gate ∷ more) = if gate == closed_gate then more else gate ∷ more
+
+-- it heard that these bytes are cut, and of their line; of no bytes it heard nothing
+pub record HeardOfCut {T : Type 0} (hears_of_cut : T → ℕ → List ℕ → T → Type 0) (line : ℕ)
+    (bytes : List ℕ) (old new : T) : Type 0 where
+  pub nothing : bytes ≡ [] → new ≡ old
+  pub heard : bytes ≢ [] → hears_of_cut old line bytes new
+
+-- The file was records behind open gates and a tail. It took the records, in order, and heard of
+-- what is cut of the tail. (A closed gate is no line feed, so the bytes behind it begin on its
+-- line.)
+pub record TookAll {T : Type 0} (is_record : List ℕ → Type 0) (longest : ℕ)
+    (takes : T → List ℕ → T → Type 0) (hears_of_cut : T → ℕ → List ℕ → T → Type 0)
+    (file : List ℕ) (old new : T) : Type 0 where
+  pub records : List (List ℕ)
+  pub front : List ℕ
+  pub tail : List ℕ
+  pub kept : IsBehindOpenGates is_record records front
+  pub end : IsTail longest tail
+  pub split : file ≡ front ++ tail
+  pub given : T
+  pub taken : Took takes old records given
+  pub heard : HeardOfCut hears_of_cut (line_behind front) (cut_of tail) given new

@@ -1,6 +1,6 @@
 //! A file on a disk: what a read returns, and what a crash may leave.
 
-ghost use Rattle.std.specs.Prelude.{◌≡◌, ◌+◌, ◌<◌, ◌≤◌, ◌^◌, List, ℕ, length, take, drop, IfOk, OnOk};
+ghost use Rattle.std.specs.Prelude.{◌≡◌, ◌+◌, ◌<◌, ◌≤◌, ◌^◌, List, ℕ, length, take, drop, IfOk, OnErr, OnOk};
 ghost use Rattle.nx_kept.specs.Disk.{Cut, Elapses, Follows, Holds, Only, TellsFaults, Torn};
 
 use thiserror::Error;
@@ -39,6 +39,10 @@ pub trait DiskFile {
     /// The last call of it was to write, cut or sync, and failed.
     ghost has_failed_to_write: { Self → Type 0 };
 
+    /// The last call of it was at a place within the file or at its end, where the file had these
+    /// bytes at first, and failed.
+    ghost has_failed_within: { List ℕ → Self → Type 0 };
+
     /// Reads the bytes at a place into the room, as many as there are and the room takes; how many.
     fn read_at(&mut self, at: usize, room: &mut [u8]) -> Result<usize, DiskFailed>
         ensures in_room { IfOk result (λ n. n ≤ length room.old) }
@@ -52,7 +56,9 @@ pub trait DiskFile {
         ensures time { (start : List ℕ) → Elapses (moment self.old) (moment self.new)
             (left_since start self.old) (left_since start self.new) (may_leave start self.new) }
         ensures faults { TellsFaults (faults self.old) (faults self.new)
-            (has_failed_to_read self.new) result };
+            (has_failed_to_read self.new) result }
+        ensures within { (start : List ℕ) → at ≤ length (seen start self.old) →
+            OnErr result (has_failed_within start self.new) };
 
     /// Writes bytes over what is there, and past the end. Until a sync, a crash may leave any bytes
     /// in their range.
@@ -67,7 +73,9 @@ pub trait DiskFile {
         ensures time { (start : List ℕ) → Elapses (moment self.old) (moment self.new)
             (left_since start self.old) (left_since start self.new) (may_leave start self.new) }
         ensures faults { TellsFaults (faults self.old) (faults self.new)
-            (has_failed_to_write self.new) result };
+            (has_failed_to_write self.new) result }
+        ensures within { (start : List ℕ) → at ≤ length (seen start self.old) →
+            OnErr result (has_failed_within start self.new) };
 
     /// Cuts the file to this many bytes.
     fn cut(&mut self, size: usize) -> Result<(), DiskFailed>
@@ -79,7 +87,9 @@ pub trait DiskFile {
         ensures time { (start : List ℕ) → Elapses (moment self.old) (moment self.new)
             (left_since start self.old) (left_since start self.new) (may_leave start self.new) }
         ensures faults { TellsFaults (faults self.old) (faults self.new)
-            (has_failed_to_write self.new) result };
+            (has_failed_to_write self.new) result }
+        ensures within { (start : List ℕ) → size ≤ length (seen start self.old) →
+            OnErr result (has_failed_within start self.new) };
 
     /// Brings the file to the disk: after it, a crash leaves what a read finds.
     fn sync(&mut self) -> Result<(), DiskFailed>
@@ -92,7 +102,8 @@ pub trait DiskFile {
         ensures time { (start : List ℕ) → Elapses (moment self.old) (moment self.new)
             (left_since start self.old) (left_since start self.new) (may_leave start self.new) }
         ensures faults { TellsFaults (faults self.old) (faults self.new)
-            (has_failed_to_write self.new) result };
+            (has_failed_to_write self.new) result }
+        ensures within { (start : List ℕ) → OnErr result (has_failed_within start self.new) };
 
     /// This moment is one of those since an earlier one.
     ghost counts_now: { (start : List ℕ) (file : Self) (t : ℕ) (c : List ℕ) →

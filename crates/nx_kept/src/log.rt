@@ -1,6 +1,6 @@
 //! A log that says at any moment which records it keeps.
 
-ghost use Rattle.std.specs.Prelude.{◌≡◌, ◌⊎◌, ◌+◌, ◌<◌, ◌≤◌, ◌^◌, List, [], ◌∷◌, ◌++◌, ℕ, length, IfOk, IfErr, OnOk};
+ghost use Rattle.std.specs.Prelude.{◌≡◌, ◌≢◌, ◌⊎◌, ◌+◌, ◌<◌, ◌≤◌, ◌^◌, List, [], ◌∷◌, ◌++◌, ℕ, length, IfOk, IfErr, OnErr, OnOk};
 
 use crate::disk::{DiskFailed, DiskFile};
 use crate::fault::OpenFault;
@@ -30,12 +30,14 @@ impl<D: DiskFile, G: Grammar> KeptLog<D, G> {
     ghost use Rattle.nx_kept.specs.Disk.{LeavesOnly, OnlyReads, TellsFaults};
     ghost use Rattle.nx_kept.specs.Kept.{open_gate, IsBehindOpenGates, IsDamaged, IsKeptLog, StandsFor, WithOrWithout};
     ghost use Rattle.nx_kept.specs.Log.{IsAtRest, Keeps};
-    ghost use Rattle.nx_kept.specs.Open.{HasCause, KeepsRecords, Opens};
+    ghost use Rattle.nx_kept.specs.Taker.{TookAll, TookSome};
+    ghost use Rattle.nx_kept.specs.Open.{HasCause, KeepsEither, KeepsRecords, Opens, SyncsFirst, SyncsFirstOrReads};
 
     /// Opens a file that a crash may have left, and gives each of its records to the taker, in
     /// order. What the file holds is brought to the disk first. A damaged file is refused, and
-    /// isn't touched. A tail that is no closed gate is cut, and one is written in its place. An
-    /// `Err` hands the file back; the taker may then have taken some of the records.
+    /// isn't touched. A tail that is no closed gate is cut, and one is written in its place: the
+    /// taker hears of what is cut before that. An `Err` hands the file back; the taker may then
+    /// have taken some of the records.
     pub fn open<T: RecordTaker>(
         alloc: Global,
         mut device: D,
@@ -45,8 +47,8 @@ impl<D: DiskFile, G: Grammar> KeptLog<D, G> {
         requires { (record_ : List ℕ) → G.is_record record_ → T.can_take record_ }
 
         ensures opened { IfOk result (λ log. (start : List ℕ) → D.explains start log.device →
-            Opens G.is_record G.LONGEST T.takes (D.seen start) (D.may_leave start) device
-            taker.old taker.new log) }
+            Opens G.is_record G.LONGEST T.takes T.hears_of_cut (D.seen start) (D.may_leave start)
+            device taker.old taker.new log) }
 
         // A log whose last gate is closed, with nothing behind it, is only read.
         ensures only_read { IfOk result (λ log. (start : List ℕ) → D.explains start log.device →
@@ -67,6 +69,31 @@ impl<D: DiskFile, G: Grammar> KeptLog<D, G> {
             KeepsRecords G.is_record G.LONGEST (D.may_leave start) D.moment (D.left_since start)
             records device e.1) }
 
+        // Where a crash before the call could leave only the records, or others, it leaves no more
+        // than these in the opening.
+        ensures from_before { IfOk result (λ log. (start : List ℕ)
+            (records others : List (List ℕ)) → D.explains start log.device →
+            StandsFor G.is_record G.LONGEST records (D.seen start device) →
+            KeepsEither G.is_record G.LONGEST (D.may_leave start) D.moment (D.left_since start)
+            records others device log.device) }
+        ensures from_before_err { IfErr result (λ e. (start : List ℕ)
+            (records others : List (List ℕ)) → D.explains start e.1 →
+            StandsFor G.is_record G.LONGEST records (D.seen start device) →
+            KeepsEither G.is_record G.LONGEST (D.may_leave start) D.moment (D.left_since start)
+            records others device e.1) }
+
+        // From its first sync that succeeds on, a crash leaves the records.
+        ensures synced_first { IfOk result (λ log. (start : List ℕ) (records : List (List ℕ)) →
+            D.explains start log.device →
+            StandsFor G.is_record G.LONGEST records (D.seen start device) →
+            SyncsFirst G.is_record G.LONGEST (D.seen start) (D.may_leave start) D.moment
+            (D.left_since start) records device log.device) }
+        ensures synced_first_err { IfErr result (λ e. (start : List ℕ) (records : List (List ℕ)) →
+            D.explains start e.1 →
+            StandsFor G.is_record G.LONGEST records (D.seen start device) →
+            SyncsFirstOrReads G.is_record G.LONGEST (D.seen start) (D.may_leave start) D.moment
+            (D.left_since start) records device e.1) }
+
         // A file that is no kept log is refused at the line of the damage, and is only read.
         ensures damaged { IfErr result (λ e. (start : List ℕ) (line : ℕ) → D.explains start e.1 →
             e.0 ≡ OpenFault.Damaged line →
@@ -79,6 +106,19 @@ impl<D: DiskFile, G: Grammar> KeptLog<D, G> {
         ensures faults { IfOk result (λ log. D.faults log.device ≡ D.faults device) }
         ensures cause { IfErr result (λ e.
             HasCause D.faults D.has_failed_to_read D.has_failed_to_write e.0 device e.1) }
+
+        // A call that failed was at a place within the file or at its end.
+        ensures within { IfErr result (λ e. (start : List ℕ) → D.explains start e.1 →
+            D.faults e.1 ≢ D.faults device → D.has_failed_within start e.1) }
+
+        // At a fault it took some of the records, or all, and heard of what is to be cut. Where a
+        // call to write failed, that was the first sync, or it had heard.
+        ensures taken_err { IfErr result (λ e. (start : List ℕ) → D.explains start e.1 →
+            TookSome T.takes taker.old taker.new ⊎ TookAll G.is_record G.LONGEST T.takes
+            T.hears_of_cut (D.seen start device) taker.old taker.new) }
+        ensures told_first { IfErr result (λ e. (start : List ℕ) → D.explains start e.1 →
+            e.0 ≡ OpenFault.Disk → (taker.new ≡ taker.old) ⊎ TookAll G.is_record G.LONGEST T.takes
+            T.hears_of_cut (D.seen start device) taker.old taker.new) }
 
         ensures explained { IfOk result (λ log. (start : List ℕ) →
             D.explains start log.device → D.explains start device) }
@@ -119,6 +159,11 @@ impl<D: DiskFile, G: Grammar> KeptLog<D, G> {
         // It doesn't give up by itself, and goes no further after a call that failed.
         ensures faults { TellsFaults (D.faults self.old.device) (D.faults self.new.device)
             (D.has_failed_to_write self.new.device) result }
+
+        // That call was at a place within the file or at its end.
+        ensures within { (start front : List ℕ) →
+            IsAtRest (D.seen start) (D.may_leave start) front self.old →
+            OnErr result (D.has_failed_within start self.new.device) }
         ensures explained { (start : List ℕ) →
             D.explains start self.new.device → D.explains start self.old.device }
     {

@@ -1,9 +1,10 @@
 //! A kept log is read, and its end is put right.
 
-ghost use Rattle.std.specs.Prelude.{◌≡◌, ◌+◌, ◌<◌, ◌≤◌, ◌^◌, [], ◌∷◌, ◌++◌, List, ℕ, length, take, IfOk, IfErr, IsErrOf, OnOk};
+ghost use Rattle.std.specs.Prelude.{◌≡◌, ◌≢◌, ◌⊎◌, ◌+◌, ◌<◌, ◌≤◌, ◌^◌, [], ◌∷◌, ◌++◌, List, ℕ, length, take, IfOk, IfErr, IsErrOf, OnErr, OnOk};
 ghost use Rattle.nx_kept.specs.Disk.{LeavesOnly, Only, OnlyReads, TellsFaults};
 ghost use Rattle.nx_kept.specs.Kept.{closed_gate, IsDamaged, IsKeptLog, StandsFor};
-ghost use Rattle.nx_kept.specs.Open.{HasCause, KeepsRecords};
+ghost use Rattle.nx_kept.specs.Open.{HasCause, SyncsFirst, SyncsFirstOrReads};
+ghost use Rattle.nx_kept.specs.Taker.{TookAll, TookSome};
 ghost use Rattle.nx_kept.specs.private.Scan.{IsCutThere, Settles};
 
 use crate::disk::{DiskFailed, DiskFile};
@@ -27,6 +28,8 @@ fn repair<D: DiskFile>(device: &mut D, gate: usize) -> Result<(), DiskFailed>
         (IsCutThere gate (D.seen start device.old)) }
     ensures faults { TellsFaults (D.faults device.old) (D.faults device.new)
         (D.has_failed_to_write device.new) result }
+    ensures within { (start : List ℕ) → gate ≤ length (D.seen start device.old) →
+        OnErr result (D.has_failed_within start device.new) }
     ensures explained { (start : List ℕ) → D.explains start device.new
         → D.explains start device.old }
 {
@@ -37,6 +40,7 @@ fn repair<D: DiskFile>(device: &mut D, gate: usize) -> Result<(), DiskFailed>
 }
 
 /// Reads a kept log from its beginning, and leaves one closed gate behind its records; its place.
+/// What is cut was told before.
 pub(crate) fn settle<D: DiskFile, G: Grammar, T: RecordTaker>(
     alloc: Global,
     device: &mut D,
@@ -45,17 +49,29 @@ pub(crate) fn settle<D: DiskFile, G: Grammar, T: RecordTaker>(
 ) -> Result<usize, OpenFault>
     requires { (record_ : List ℕ) → G.is_record record_ → T.can_take record_ }
     ensures settled { (start : List ℕ) → D.explains start device.new → IfOk result
-        (Settles G.is_record G.LONGEST T.takes (D.seen start) (D.may_leave start)
+        (Settles G.is_record G.LONGEST T.takes T.hears_of_cut (D.seen start) (D.may_leave start)
         device.old device.new taker.old taker.new) }
+    ensures taken_err { (start : List ℕ) → D.explains start device.new → OnErr result
+        (TookSome T.takes taker.old taker.new ⊎ TookAll G.is_record G.LONGEST T.takes
+        T.hears_of_cut (D.seen start device.old) taker.old taker.new) }
+    ensures told_first { (start : List ℕ) → D.explains start device.new →
+        IsErrOf result OpenFault.Disk → (taker.new ≡ taker.old) ⊎ TookAll G.is_record G.LONGEST
+        T.takes T.hears_of_cut (D.seen start device.old) taker.old taker.new }
     ensures in_range { IfOk result (λ gate. gate + 1 < 2 ^ 63) }
     ensures only_read { (start : List ℕ) → D.explains start device.new →
         OnOk result (D.seen start device.new ≡ D.seen start device.old →
         OnlyReads (D.seen start) (D.may_leave start) D.moment (D.left_since start) device.old
         device.new) }
-    ensures any_moment { (start : List ℕ) (records : List (List ℕ)) → D.explains start device.new →
-        StandsFor G.is_record G.LONGEST records (D.seen start device.old) →
-        KeepsRecords G.is_record G.LONGEST (D.may_leave start) D.moment (D.left_since start)
-        records device.old device.new }
+    ensures synced_first { (start : List ℕ) (records : List (List ℕ)) →
+        D.explains start device.new →
+        StandsFor G.is_record G.LONGEST records (D.seen start device.old) → OnOk result
+        (SyncsFirst G.is_record G.LONGEST (D.seen start) (D.may_leave start) D.moment
+        (D.left_since start) records device.old device.new) }
+    ensures synced_first_err { (start : List ℕ) (records : List (List ℕ)) →
+        D.explains start device.new →
+        StandsFor G.is_record G.LONGEST records (D.seen start device.old) → OnErr result
+        (SyncsFirstOrReads G.is_record G.LONGEST (D.seen start) (D.may_leave start) D.moment
+        (D.left_since start) records device.old device.new) }
     ensures damaged { (start : List ℕ) (line : ℕ) → D.explains start device.new →
         IsErrOf result (OpenFault.Damaged line) →
         IsDamaged G.is_record G.LONGEST line (D.seen start device.old) }
@@ -66,6 +82,8 @@ pub(crate) fn settle<D: DiskFile, G: Grammar, T: RecordTaker>(
     ensures faults { OnOk result (D.faults device.new ≡ D.faults device.old) }
     ensures cause { IfErr result (λ fault.
         HasCause D.faults D.has_failed_to_read D.has_failed_to_write fault device.old device.new) }
+    ensures within { (start : List ℕ) → D.explains start device.new → OnErr result
+        (D.faults device.new ≢ D.faults device.old → D.has_failed_within start device.new) }
     ensures explained { (start : List ℕ) → D.explains start device.new
         → D.explains start device.old }
 {

@@ -1,5 +1,6 @@
 -- Lemmas that several proofs cite.
 pub mod Acting
+pub mod Bounds
 pub mod Example
 pub mod chains
 pub mod entries

@@ -1,6 +1,7 @@
 -- A watch of a kept log, and a chain of them: each starts with what the log remembers of all that
 -- was put before it (this profile).
-use Rattle.std.specs.Prelude.{◌≡◌, ℕ, ◌+◌, ◌<◌, List, [], ◌∷◌, ◌++◌, Option, ⊤}
+use Rattle.std.specs.Prelude.{◌≡◌, ℕ, ◌+◌, ◌<◌, ◌≤◌, List, [], ◌∷◌, ◌++◌}
+use Rattle.std.specs.Prelude.{length, take, Option, ⊤}
 use Rattle.std.specs.List.{flat_map}
 use Rattle.nx_code.specs.Lists.{Begins}
 use Rattle.nx_fec.specs.air_files.AirFile.{Line}
@@ -15,7 +16,8 @@ use Rattle.nx_receiver.specs.copies.Printing.{printed_copies}
 use Rattle.nx_receiver.specs.copies.Shares.{Given, MarkedCopy, Starts, copies_on, start_on}
 use Rattle.nx_sync.specs.Locks.{IsNow, Lock, Now}
 use Rattle.nx_watch.specs.Acting.{acting_lines}
-use Rattle.nx_watch.specs.Watch.{StandsForEntries, starts_at}
+use Rattle.nx_watch.specs.AnyLines.{AreLines}
+use Rattle.nx_watch.specs.Watch.{StandsForEntries, Stop, moments_at, starts_at, unread, unwritten}
 
 -- ---- a watch
 
@@ -87,7 +89,7 @@ PutAll ending more printed put = ⊤
 pub record Puts (log : List MarkedCopy) (watch : Watch) : Type 0 where
   pub begins : watch.starts ≡ starts_at watch.moment log
   pub said : List (Option Line)
-  pub acted : lines_of watch ≡ acting_lines watch.starts.moment said
+  pub acted : lines_of watch ≡ acting_lines (moments_at watch.moment watch.starts) said
   pub printed : List MarkedCopy
   pub prints : PrintOf watch.ending watch.starts (given_by (lines_of watch)) printed
   pub most : Begins watch.put printed
@@ -97,17 +99,57 @@ pub record Puts (log : List MarkedCopy) (watch : Watch) : Type 0 where
   pub all : PutAll watch.ending watch.more printed watch.put
   pub stands : StandsForEntries (log ++ watch.put) watch.file
 
--- A watch that started at this moment behind these entries of its log, read on behind these lines,
--- and put these copies, left these bytes.
-pub record IsLeftBy (now : ℕ) (log : List MarkedCopy) (sure : List Line) (put : List MarkedCopy)
-    (file : List ℕ)
+-- those of these lines that act on a watch that started at this moment behind these entries
+abbrev pub acting_at : ℕ → List MarkedCopy → List (Option Line) → List Line
+acting_at now log lines = acting_lines (moments_at now (starts_at now log)) lines
+
+-- At some moment these were the lines, of all lines of a watch that started so, that had been read
+-- whole. All that is printed in turn of those of them that act is among so many copies.
+pub record HadRead (now : ℕ) (log : List MarkedCopy) (lines by_then : List (Option Line))
+    (count : ℕ)
+    : Type 0 where
+  pub begins : Begins by_then lines
+  pub surely : List MarkedCopy
+  pub in_turn : PrintsInTurn (starts_at now log) (given_by (acting_at now log by_then)) surely
+  pub least : length surely ≤ count
+
+-- how a watch ends that stops so, where it kept all that its lines print, and where it kept less
+abbrev pub kept_all_at : Stop → Ending
+kept_all_at unread = stopped
+kept_all_at unwritten = stopped
+kept_all_at stop = answered
+
+abbrev pub kept_some_at : Stop → Ending
+kept_some_at unread = stopped
+kept_some_at unwritten = stopped
+kept_some_at stop = stopped_closing
+
+-- A watch that started at this moment behind these entries of its log, and ended so, took these
+-- lines that act. It read on behind the sure ones of them, put these copies, and left these bytes.
+pub record IsLeftBy (now : ℕ) (log : List MarkedCopy) (ending : Ending) (lines sure : List Line)
+    (put : List MarkedCopy) (file : List ℕ)
     : Type 0 where
   pub watch : Watch
   pub started : watch.moment ≡ now
+  pub ended : watch.ending ≡ ending
+  pub took : lines_of watch ≡ lines
   pub read_on : watch.sure ≡ sure
   pub kept : watch.put ≡ put
   pub left : watch.file ≡ file
   pub puts : Puts log watch
+
+-- A watch that started so read these lines of these bytes until it stopped so. Behind a read before
+-- which so many bytes had come, it left this file. It is sure of those of its lines that were whole
+-- by then.
+pub record IsLeftBehind (now : ℕ) (log : List MarkedCopy) (stop : Stop)
+    (lines : List (Option Line)) (bytes : List ℕ) (read : ℕ) (file : List ℕ)
+    : Type 0 where
+  pub by_then : List (Option Line)
+  pub rest : List ℕ
+  pub whole : AreLines (take read bytes) by_then rest
+  pub put : List MarkedCopy
+  pub left : IsLeftBy now log (kept_some_at stop) (acting_at now log lines)
+      (acting_at now log (take (length by_then) lines)) put file
 
 -- The copies that it judged on a channel begin those that were found, and what is printed of them
 -- is what it put. Those that had ended in the lines behind which it read on are among them.
@@ -123,6 +165,10 @@ pub record Judges (channel : Channel) (watch : Watch) : Type 0 where
 pub record GoesOn (log : List MarkedCopy) (watch : Watch) : Type 0 where
   pub puts : Puts log watch
   pub judges : (channel : Channel) → Judges channel watch
+
+-- the watch, where these copies were found and these of them judged
+abbrev pub with_copies : Watch → (Channel → List FoundCopy) → (Channel → List FoundCopy) → Watch
+with_copies watch found judged = record watch { found = found; judged = judged }
 
 -- ---- a chain of watches
 

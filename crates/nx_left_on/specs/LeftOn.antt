@@ -52,6 +52,14 @@ abbrev pub in_force_in : Channel → CutWatch → ℕ → Setting
 in_force_in channel cut place =
     setting_at (first_setting (start_in channel cut.watch)) (events_in channel cut.watch) place
 
+-- Any two sendings, in one watch or in two, lie less than 66 hours apart.
+abbrev pub AreClose : Channel → List CutWatch → MessageView → Type 0
+AreClose channel cuts message =
+    (one other : CutWatch) (at place : ℕ) → IsSentIn channel cuts message one at
+    → IsSentIn channel cuts message other place
+    → (in_force_in channel one at).moment
+    < (in_force_in channel other place).moment + seconds_known
+
 -- A copy that one of the watches judged on a channel, between the watches before and after it, and
 -- the copies that its watch judged before and after it.
 pub record JudgedCopy (channel : Channel) (watches : List Watch) : Type 0 where
@@ -124,10 +132,7 @@ pub record IsHeardInTimeOver (channel : Channel) (watches : List Watch) (message
   pub selected : (one : CutWatch) (at : ℕ) → IsSentIn channel cuts message one at
       → IsTrue (admits (in_force_in channel one at).refused message.identity)
   -- Any two sendings, in one watch or in two, lie less than 66 hours apart.
-  pub close : (one other : CutWatch) (at place : ℕ) → IsSentIn channel cuts message one at
-      → IsSentIn channel cuts message other place
-      → (in_force_in channel one at).moment
-      < (in_force_in channel other place).moment + seconds_known
+  pub close : AreClose channel cuts message
   -- At its first copy no entry of its identity is live of all that is known there; where the log
   -- was empty at first, this always holds.
   pub unknown : IsUnknownOver channel watches message.identity

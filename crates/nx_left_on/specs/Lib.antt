@@ -1,3 +1,5 @@
+pub mod AtHand
 pub mod Chain
 pub mod LeftOn
 pub mod Example
+pub mod Bounds

@@ -1,7 +1,8 @@
 //! Laws of a chain of watches of one kept log. Each function does nothing; its contract is the law.
 
-ghost use Rattle.std.specs.Prelude.{◌≡◌, ℕ, Bool, List, [], ◌∷◌, ◌++◌, length, take, Option};
+ghost use Rattle.std.specs.Prelude.{◌≡◌, ◌⊎◌, ◌≤◌, ℕ, ◌+◌, Bool, Contains, List, [], ◌∷◌, ◌++◌, length, take, Option, Result};
 ghost use Rattle.nx_envelope.specs.Message.{MessageView};
+ghost use Rattle.nx_fec.specs.Transfers.{CountedDevice};
 ghost use Rattle.nx_fec.specs.air_files.AirFile.{Line};
 ghost use Rattle.nx_fec.specs.declared.air_files.channel.Channel.{Channel};
 ghost use Rattle.nx_fec.specs.declared.air_files.channel.Channel.TheVariants.{Zero};
@@ -10,16 +11,23 @@ ghost use Rattle.nx_memory.specs.Content.{IsContent};
 ghost use Rattle.nx_receiver.specs.Events.{Event, elements_among};
 ghost use Rattle.nx_receiver.specs.copies.FoundCopies.{FoundCopy};
 ghost use Rattle.nx_receiver.specs.air_file_runs.Listen.{given_by};
+ghost use Rattle.nx_receiver.specs.examples.Chain.{found_on};
 ghost use Rattle.nx_receiver.specs.laws.Once.{IsPrintedOnce};
 ghost use Rattle.nx_receiver.specs.copies.Printing.{printed_copies};
 ghost use Rattle.nx_receiver.specs.copies.Shares.{MarkedCopy, copies_on};
 ghost use Rattle.nx_station.specs.reception.PathExample.{example_message};
 ghost use Rattle.nx_station.specs.reception.Sendings.{IsCut, IsSentAt, Part};
-ghost use Rattle.nx_watch.specs.Acting.{acting_lines};
-ghost use Rattle.nx_watch.specs.Watch.{PrintsUntil, StandsForEntries, Stop, starts_at};
-ghost use Rattle.nx_left_on.specs.Chain.{ClocksAreNear, GoesOn, IsChain, IsLeftBy, Puts, Watch, all_copies, all_put};
-ghost use Rattle.nx_left_on.specs.Example.{example_watches, kept_bytes, one_entry};
+ghost use Rattle.nx_watch.specs.Stamp.{Stamp};
+ghost use Rattle.nx_watch.specs.declared.watch_fault.WatchFault.{WatchFault};
+ghost use Rattle.nx_watch.specs.declared.watch_report.WatchReport.{WatchReport};
+ghost use Rattle.nx_watch.specs.Watch.{AnswersWatch, PrintsUntil, StandsForEntries, Stop, starts_at};
+ghost use Rattle.nx_left_on.specs.AtHand.{AtHand, WasLeftBehind, telling};
+ghost use Rattle.nx_left_on.specs.Chain.{ClocksAreNear, GoesOn, HadRead, IsChain, IsLeftBy, Puts, Watch, acting_at, all_copies, all_put, answered, kept_all_at, kept_some_at, stopped, with_copies};
+ghost use Rattle.nx_left_on.specs.Example.{example_watches, first_acting, first_moment, first_watch, kept_bytes, one_entry, second_acting, second_watch};
 ghost use Rattle.nx_left_on.specs.LeftOn.{HasEndedAt, IsHeardInTimeOver, IsUnknownOver};
+
+use nx_kept::DiskFile;
+use std::io::{Read, Write};
 
 /// What a watch puts tells which of the copies that are found of it were judged. So a watch goes on
 /// from its log, with some copies found and judged. This holds where it puts a beginning of what
@@ -28,7 +36,7 @@ ghost use Rattle.nx_left_on.specs.LeftOn.{HasEndedAt, IsHeardInTimeOver, IsUnkno
 pub fn a_watch_goes_on_from_its_log()
     ensures some { (log : List MarkedCopy) (watch : Watch) → Puts log watch
         → (found judged : Channel → List FoundCopy)
-        × GoesOn log (record watch { found = found; judged = judged }) }
+        × GoesOn log (with_copies watch found judged) }
     ensures ended { (events : List Event) (parts : List Part) (message : MessageView) (place : ℕ)
         → IsCut (elements_among events) parts → IsSentAt parts message place
         → HasEndedAt events place }
@@ -37,20 +45,64 @@ pub fn a_watch_goes_on_from_its_log()
 /// What the clause `watched` of `nx_watch::watch` says of its file makes it a watch of a chain: the
 /// copies that its lines print until it stopped, and the entries for which the file stands. Where
 /// all of these copies are kept, it read on behind all its lines. Where so many of them are, after
-/// a crash or a fault of the disk, it is at least a watch that is sure of no line.
+/// a crash or a fault of the disk, it is at least a watch that is sure of no line. Behind a moment
+/// at which lines had been read whole, and all that they print in turn is kept, it is sure of those
+/// of them that act. Then a crash leaves so many copies, and a fault of the disk these, or one
+/// more.
 pub fn what_a_watch_keeps_goes_on()
     ensures all { (now : ℕ) (log copies : List MarkedCopy) (lines : List (Option Line))
         (file : List ℕ) (stop : Stop)
-        → PrintsUntil stop (starts_at now log)
-        (given_by (acting_lines (starts_at now log).moment lines)) copies
+        → PrintsUntil stop (starts_at now log) (given_by (acting_at now log lines)) copies
         → StandsForEntries (log ++ copies) file
-        → IsLeftBy now log (acting_lines (starts_at now log).moment lines) copies file }
+        → IsLeftBy now log (kept_all_at stop) (acting_at now log lines) (acting_at now log lines)
+        copies file }
     ensures some { (now : ℕ) (log copies : List MarkedCopy) (lines : List (Option Line))
         (file : List ℕ) (count : ℕ) (stop : Stop)
-        → PrintsUntil stop (starts_at now log)
-        (given_by (acting_lines (starts_at now log).moment lines)) copies
+        → PrintsUntil stop (starts_at now log) (given_by (acting_at now log lines)) copies
         → StandsForEntries (log ++ take count copies) file
-        → IsLeftBy now log [] (take count copies) file }
+        → IsLeftBy now log (kept_some_at stop) (acting_at now log lines) []
+        (take count copies) file }
+    ensures behind_a_read { (now : ℕ) (log copies : List MarkedCopy)
+        (lines by_then : List (Option Line)) (file : List ℕ) (count : ℕ) (stop : Stop)
+        → PrintsUntil stop (starts_at now log) (given_by (acting_at now log lines)) copies
+        → HadRead now log lines by_then count
+        → StandsForEntries (log ++ take count copies) file
+        → IsLeftBy now log (kept_some_at stop) (acting_at now log lines)
+        (acting_at now log by_then) (take count copies) file }
+    ensures after_a_fault { (now : ℕ) (log copies : List MarkedCopy)
+        (lines by_then : List (Option Line)) (file : List ℕ) (count : ℕ) (stop : Stop)
+        → PrintsUntil stop (starts_at now log) (given_by (acting_at now log lines)) copies
+        → HadRead now log lines by_then count
+        → (StandsForEntries (log ++ take count copies) file)
+        ⊎ (StandsForEntries (log ++ take (count + 1) copies) file)
+        → (put : List MarkedCopy)
+        × IsLeftBy now log (kept_some_at stop) (acting_at now log lines)
+        (acting_at now log by_then) put file }
+{}
+
+/// What the clause `watched` of `nx_watch::watch` says of each read of its input makes a crash
+/// leave a watch of a chain, where it comes behind such a read, by which no call of the disk had
+/// failed. That watch is sure of those of its lines that act and were whole at the read. The same
+/// holds of a file that is found when the watch is over, after a fault of the disk too, since a
+/// crash leaves it.
+pub fn a_crash_behind_a_read_leaves_a_watch<D: DiskFile, R: Read, W: Write, N: Write>()
+    ensures crash { (a : AtHand D R W N) (now : ℕ) (log : List MarkedCopy)
+        (outcome : Result WatchReport WatchFault)
+        (at : Stamp D (CountedDevice W) (CountedDevice N)) (file : List ℕ)
+        → AnswersWatch (telling D.DiskFile R.remaining W.contents N.contents a) now log outcome
+        → Contains a.stamps at → D.faults at.disk ≡ D.faults a.disk
+        → D.left_since a.start a.disk_after (D.moment at.disk) file
+        → WasLeftBehind (telling D.DiskFile R.remaining W.contents N.contents a) now log at.read
+        file }
+    ensures found { (a : AtHand D R W N) (now : ℕ) (log : List MarkedCopy)
+        (outcome : Result WatchReport WatchFault)
+        (at : Stamp D (CountedDevice W) (CountedDevice N)) (file : List ℕ)
+        → AnswersWatch (telling D.DiskFile R.remaining W.contents N.contents a) now log outcome
+        → Contains a.stamps at → D.faults at.disk ≡ D.faults a.disk
+        → D.moment at.disk ≤ D.moment a.disk_after
+        → D.may_leave a.start a.disk_after file
+        → WasLeftBehind (telling D.DiskFile R.remaining W.contents N.contents a) now log at.read
+        file }
 {}
 
 /// However the watches of a chain ended, the bytes that the last of them left stand for the entries
@@ -103,11 +155,18 @@ pub fn a_message_stands_in_the_log_once()
 
 /// There is such a chain, of two watches of a log that was empty at first. EA01 with the line TEST
 /// is heard on channel 0, its entry is put, and the power fails. A watch that starts four hours
-/// later hears EA01 again. They put the one entry, and the 44 bytes of the log stand for it.
+/// later hears EA01 again. They put the one entry, and the 44 bytes of the log stand for it. Each
+/// is the watch that a call leaves which says so much of its file.
 pub fn there_is_a_chain_of_watches_with_a_message_heard_in_time()
     ensures chain { IsChain [] example_watches }
     ensures clocks { ClocksAreNear Zero [] example_watches }
     ensures heard { IsHeardInTimeOver Zero example_watches example_message }
     ensures put { all_put example_watches ≡ one_entry }
     ensures bytes { (StandsForEntries one_entry kept_bytes) × (length kept_bytes ≡ 44) }
+    ensures first { (left : IsLeftBy first_moment [] stopped first_acting first_acting one_entry
+        kept_bytes)
+        × (first_watch ≡ with_copies left.watch found_on found_on) }
+    ensures second { (left : IsLeftBy 1735706400 one_entry answered (second_acting 1735706400)
+        (second_acting 1735706400) [] kept_bytes)
+        × (second_watch 1735706400 ≡ with_copies left.watch found_on found_on) }
 {}

@@ -2,4 +2,5 @@
 //! each may end at any moment. There are laws here, and no code.
 #![tactic(auto)]
 
+pub mod bounds;
 pub mod laws;

@@ -4,4 +4,5 @@ pub mod Program
 pub mod Report
 pub mod WatchCommand
 pub mod Arguments
+pub mod FaultText
 pub mod private

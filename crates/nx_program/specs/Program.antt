@@ -200,21 +200,21 @@ EndsOnStreams arguments d (Err (fault.Call why)) =
 
 -- the arguments name a watch, which had this outcome
 pub record RunsWatch {R W F D E : Type 0} (arguments : List Text) (d : Devices R W)
-    (b : Beside F D E) (outcome : Result (Unit {0}) Fault) : Type 0 where
+    (b : Beside F D W E) (outcome : Result (Unit {0}) Fault) : Type 0 where
   pub name : Text
   pub moment : ℕ
   pub named : Names arguments (Watch name moment)
   pub watched : WatchesLog d b name moment outcome
 
 -- how the program ends: as a watch, or with no file and nothing told on standard error
-abbrev pub EndsRun : {R W F D E : Type 0} → List Text → Devices R W → Beside F D E
+abbrev pub EndsRun : {R W F D E : Type 0} → List Text → Devices R W → Beside F D W E
     → Result (Unit {0}) Fault → Type 0
 EndsRun arguments d b outcome =
     RunsWatch arguments d b outcome ⊎ (IsUnused b × EndsOnStreams arguments d outcome)
 
 -- The call did what its outcome says: a watch on its file, its input, its output and standard
 -- error, and each other call on its input and its output alone.
-abbrev pub Performs : {R W F D E : Type 0} → Call → Devices R W → Beside F D E
+abbrev pub Performs : {R W F D E : Type 0} → Call → Devices R W → Beside F D W E
     → Result (Unit {0}) Fault → Type 0
 Performs (Watch name moment) d b outcome = WatchesLog d b name moment outcome
 Performs call d b (Ok done) = IsUnused b × PerformsOnStreams call d (Ok done)
@@ -222,7 +222,7 @@ Performs call d b (Err (fault.Call why)) = IsUnused b × PerformsOnStreams call 
 Performs call d b (Err _) = ⊥
 
 -- the program ends so on these devices, with this status
-pub record Exits {R W F D E : Type 0} (arguments : List Text) (d : Devices R W) (b : Beside F D E)
+pub record Exits {R W F D E : Type 0} (arguments : List Text) (d : Devices R W) (b : Beside F D W E)
     (status : ℕ) : Type 0 where
   pub outcome : Result (Unit {0}) Fault
   pub ends : EndsRun arguments d b outcome
@@ -230,7 +230,7 @@ pub record Exits {R W F D E : Type 0} (arguments : List Text) (d : Devices R W) 
 
 -- the call that the arguments name succeeded, or they ask for help or for the version, which was
 -- written
-abbrev pub Succeeds : {R W F D E : Type 0} → List Text → Devices R W → Beside F D E → Type 0
+abbrev pub Succeeds : {R W F D E : Type 0} → List Text → Devices R W → Beside F D W E → Type 0
 Succeeds arguments d b = EndsRun arguments d b (Ok tt)
 
 -- the arguments name a watch

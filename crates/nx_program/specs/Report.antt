@@ -12,6 +12,7 @@ use Rattle.nx_fec.specs.declared.fault.RunFault.TheVariants as run
 use Rattle.nx_program.specs.declared.fault.CallFault.TheVariants as call
 use Rattle.nx_program.specs.declared.fault.Fault.{Fault}
 use Rattle.nx_program.specs.declared.fault.Fault.TheVariants as fault
+use Rattle.nx_program.specs.FaultText.{call_fault_line}
 use Rattle.nx_program.specs.Program.{EndsRun, IsUntouched}
 use Rattle.nx_program.specs.Status.{fault_status, status_of}
 use Rattle.nx_program.specs.WatchCommand.{Beside, watch_fault_line, with_faults}
@@ -22,7 +23,7 @@ pub record IsFaultLine (line : List ℕ) : Type 0 where
   pub whole : line ≡ codes "navtex: " ++ shown ++ newline ∷ []
 
 -- the text that reports a fault: clap's own answer to the arguments, the report of a value, or
--- a line
+-- the line of the fault
 abbrev pub IsFaultText : Fault → List ℕ → Type 0
 IsFaultText (fault.Arguments answer) text = text ≡ string_bytes answer
 IsFaultText fault.NoText text =
@@ -32,7 +33,7 @@ IsFaultText fault.Station text =
 IsFaultText fault.Kind text = text ≡ codes "navtex: kind must be dx, rx or all" ++ newline ∷ []
 IsFaultText (fault.Value report) text = text ≡ string_bytes report
 IsFaultText (fault.Watch name why) text = text ≡ watch_fault_line name why
-IsFaultText (fault.Call why) text = IsFaultLine text
+IsFaultText (fault.Call why) text = text ≡ call_fault_line why
 
 -- one text, of which this holds, was written whole, or up to a write that failed
 pub record WritesOne {E : Type 0} (IsText : List ℕ → Type 0) (contents : E → Option (List ℕ))
@@ -58,7 +59,8 @@ Reports contents old new (Err why) = WritesLast (IsFaultText why) contents old n
 
 -- The program ends so on its devices and on standard error, with this status: standard error stood
 -- so behind the call, and then the fault was reported there.
-pub record Answers {R W F D E : Type 0} (arguments : List Text) (d : Devices R W) (b : Beside F D E)
+pub record Answers {R W F D E : Type 0} (arguments : List Text) (d : Devices R W)
+    (b : Beside F D W E)
     (status : ℕ) : Type 0 where
   pub outcome : Result (Unit {0}) Fault
   pub behind_call : CountedDevice E
@@ -75,7 +77,8 @@ IsWantOfArguments reason why =
 
 -- the arguments can't be had for this reason: no device was called, no file opened, and the fault
 -- was reported
-pub record LacksArguments {R W F D E : Type 0} (reason : Error) (d : Devices R W) (b : Beside F D E)
+pub record LacksArguments {R W F D E : Type 0} (reason : Error) (d : Devices R W)
+    (b : Beside F D W E)
     (status : ℕ) : Type 0 where
   pub why : Fault
   pub want : IsWantOfArguments reason why

@@ -1,5 +1,5 @@
 -- What `navtex watch FILE MOMENT` does: the log is opened, watched, and handed back (this profile).
-use Rattle.std.specs.Prelude.{◌≡◌, ◌++◌, ℕ, List, Option, Some, None, Result, Ok, Err}
+use Rattle.std.specs.Prelude.{◌≡◌, ◌++◌, ℕ, List, [], Option, Some, None, Result, Ok, Err}
 use Rattle.std.specs.Prelude.{codes, decimal}
 use Rattle.clap.specs.Words.{Text}
 use Rattle.nx_fec.specs.Transfers.{CountedDevice, Devices}
@@ -10,9 +10,10 @@ use Rattle.nx_log.specs.Entries.{IsWholeEntry}
 use Rattle.nx_receiver.specs.copies.Shares.{MarkedCopy}
 use Rattle.nx_disk.specs.declared.file.FileFault.{FileFault}
 use Rattle.nx_disk.specs.declared.file.FileFault.TheVariants as file
-use Rattle.nx_watch.specs.Watch.{AnswersWatch, HasCause, StandsForEntries, WatchDevices}
+use Rattle.nx_watch.specs.Watch.{AnswersWatch, HasCause, RefusesLog, StandsForEntries, WatchDevices}
 use Rattle.nx_watch.specs.Watch.{longest_entry}
 use Rattle.nx_watch.specs.LineRun.{TellsOfLines}
+use Rattle.nx_watch.specs.Stamp.{Stamp}
 use Rattle.nx_watch.specs.declared.watch_fault.WatchFault.{WatchFault}
 use Rattle.nx_watch.specs.declared.watch_fault.WatchFault.TheVariants as watch
 use Rattle.nx_watch.specs.declared.watch_report.WatchReport.{WatchReport}
@@ -23,8 +24,9 @@ use Rattle.nx_program.specs.declared.watch_command.WatchFailure.TheVariants.{Uno
 
 -- What the program has beside its input and its output, as it stands before a call and after it.
 -- That is what opens the file of a log, and what opening one may give; that file, where one was
--- opened, and what it tells of itself; and standard error.
-pub record Beside (F D E : Type 0) : Type 1 where
+-- opened, and what it tells of itself; and standard error. With them stands what stood at each read
+-- of the input of a watch, the last one first.
+pub record Beside (F D W E : Type 0) : Type 1 where
   pub files : F
   pub gives : F → List ℕ → Result D FileFault → Type 0
   pub disk_after : Option D
@@ -32,10 +34,12 @@ pub record Beside (F D E : Type 0) : Type 1 where
   pub contents : E → Option (List ℕ)
   pub faults : CountedDevice E
   pub faults_after : CountedDevice E
+  pub stamps : List (Stamp D (CountedDevice W) (CountedDevice E))
 
-abbrev pub beside : {F D E : Type 0} → F → (F → List ℕ → Result D FileFault → Type 0) → Option D
-    → TellsOfDisk D → (E → Option (List ℕ)) → CountedDevice E → CountedDevice E → Beside F D E
-beside files gives disk_after tells contents faults faults_after = record {
+abbrev pub beside : {F D W E : Type 0} → F → (F → List ℕ → Result D FileFault → Type 0) → Option D
+    → TellsOfDisk D → (E → Option (List ℕ)) → CountedDevice E → CountedDevice E
+    → List (Stamp D (CountedDevice W) (CountedDevice E)) → Beside F D W E
+beside files gives disk_after tells contents faults faults_after stamps = record {
   files = files;
   gives = gives;
   disk_after = disk_after;
@@ -43,15 +47,17 @@ beside files gives disk_after tells contents faults faults_after = record {
   contents = contents;
   faults = faults;
   faults_after = faults_after;
+  stamps = stamps;
 }
 
 -- the same with standard error as it stood at another moment after the call
-abbrev pub with_faults : {F D E : Type 0} → Beside F D E → CountedDevice E → Beside F D E
+abbrev pub with_faults : {F D W E : Type 0} → Beside F D W E → CountedDevice E → Beside F D W E
 with_faults b after = record b { faults_after = after }
 
--- no file was opened, and nothing was told on standard error
-pub record IsUnused {F D E : Type 0} (b : Beside F D E) : Type 0 where
+-- no file was opened, no read was stamped, and nothing was told on standard error
+pub record IsUnused {F D W E : Type 0} (b : Beside F D W E) : Type 0 where
   pub unopened : b.disk_after ≡ None
+  pub unstamped : b.stamps ≡ []
   pub untold : b.faults_after ≡ b.faults
 
 -- the line that reports a failed watch of the log of this name
@@ -74,7 +80,7 @@ watch_fault_line name (Ended (watch.Back line last given)) =
     codes "navtex: line " ++ (decimal line ++ (codes ": moment " ++ (decimal given
     ++ (codes " is before " ++ (decimal last ++ codes "\n")))))
 
-module _ {R W F D E : Type 0} (d : Devices R W) (b : Beside F D E) where
+module _ {R W F D E : Type 0} (d : Devices R W) (b : Beside F D W E) where
   -- the devices of the watch of a file, told for this first content of it
   abbrev pub devices_of : D → D → List ℕ → WatchDevices D R W E
   devices_of disk disk_after start =
@@ -87,12 +93,14 @@ module _ {R W F D E : Type 0} (d : Devices R W) (b : Beside F D E) where
         told = b.contents;
         notices = b.faults;
         notices_after = b.faults_after;
+        stamps = b.stamps;
       }
 
   -- The file was watched from this moment on, with this answer, and stands so now. Something is
   -- said for each first content that explains what it answered. Where it stood for entries, all is
   -- said of what was read, kept, written and told; where it was damaged, at which line. Where it
-  -- was no kept log, nothing was done but to read it. The disk is blamed only where it failed.
+  -- was no kept log, it was refused, and nothing was done but to read it. The disk is blamed only
+  -- where it failed.
   -- Whatever the file was, some lines were told of on standard error, and nothing else.
   pub record WatchesFile (moment : ℕ) (disk disk_after : D) (answer : Result WatchReport WatchFault)
       : Type 0 where
@@ -107,6 +115,10 @@ module _ {R W F D E : Type 0} (d : Devices R W) (b : Beside F D E) where
         → OnlyReads (b.tells.seen start) (b.tells.may_leave start) b.tells.moment
         (b.tells.left_since start) disk disk_after
         × (d.reader_after ≡ d.reader) × (d.writer_after ≡ d.writer) × (b.faults_after ≡ b.faults)
+        × (b.stamps ≡ [])
+    pub refused : (start : List ℕ) → b.tells.explains start disk_after
+        → (IsKeptLog IsWholeEntry longest_entry (b.tells.seen start disk) → ⊥)
+        → RefusesLog (b.tells.seen start disk) answer
     pub cause : HasCause b.tells answer disk disk_after
     pub explained : (start : List ℕ) → b.tells.explains start disk_after
         → b.tells.explains start disk

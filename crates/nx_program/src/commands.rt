@@ -143,10 +143,11 @@ ends a watch, also a power cut in the middle of a write, the next one goes on
 from FILE, and prints no message again that stands there.
 
 Reads from standard input, to its end, the lines that listen --help lists, and
-any others: a line that isn't understood, a moment that goes back and elements
-before any moment have no effect. The first such line is told on standard error,
-and at the end their number. A moment that goes back by 66 hours or more, twice
-in a row, ends the watch.
+any others: a line that isn't understood and a moment that goes back have no
+effect. The first such line is told on standard error, and at the end their
+number. A moment that goes back by 66 hours or more, twice in a row, ends the
+watch. Elements before any line of T are heard at MOMENT, or at the newest
+moment that FILE remembers where that is later.
 
 Puts each entry into FILE, and brings it to the disk, before it reads on. An
 empty line stands before each entry and a space behind the last. Nothing is
@@ -159,7 +160,7 @@ listen. A second watch of the same file is refused. MOMENT is the time at which
 the watch starts; what is remembered of 66 hours later or more is left out.";
 
 const WATCH_EXAMPLE: &str = "Example, live from a demodulator:
-  $ examples/sound/elements < samples | navtex watch watch.log \"$(date +%s)\"";
+  $ navtex-elements < samples | navtex watch watch.log \"$(date +%s)\"";
 
 const WATCH: Row = Row {
     name: "watch",

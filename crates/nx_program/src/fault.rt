@@ -1,14 +1,14 @@
 //! Why a run of the program fails: the line on standard error, and the exit status.
 
-ghost use Rattle.std.specs.Fmt.InlineText.{inline_text};
 ghost use Rattle.std.specs.Prelude.{◌≡◌};
-ghost use Rattle.nx_program.specs.Report.{IsFaultLine, IsFaultText, WritesLast, WritesOne};
+ghost use Rattle.nx_program.specs.Report.{IsFaultText, WritesLast, WritesOne};
 ghost use Rattle.nx_program.specs.Status.{call_status, fault_status};
 ghost use Rattle.nx_program.specs.declared.fault.CallFault.TheVariants.{Check, Damage, Listen, Log};
 ghost use Rattle.nx_program.specs.declared.fault.CallFault.TheVariants.{Resume, Run, Send};
 ghost use Rattle.nx_program.specs.declared.fault.Fault.TheVariants.{Call};
 ghost use Rattle.nx_fec.specs.declared.fault.RunFault.TheVariants.{Memory};
 
+use crate::fault_text::call_fault_line;
 use crate::file_name::FileName;
 use crate::watch_command::WatchFailure;
 use nx_fec::{Counting, RunFault, write_out};
@@ -16,7 +16,6 @@ use nx_log::LogFault;
 use nx_receiver::{ListenFault, ResumeFault, StateFault};
 use nx_station::{CheckFault, DamageFault, EmissionFault, SendRunFault};
 use std::alloc::AllocError;
-use std::fmt::InlineText;
 use std::io::Write;
 use thiserror::Error;
 
@@ -33,13 +32,6 @@ const NO_TEXT: &str = "navtex: a word of the command line is not UTF-8\n";
 const STATION: &str = "navtex: station must be one letter A to Z\n";
 /// The line for a kind of damage that there isn't.
 const KIND: &str = "navtex: kind must be dx, rx or all\n";
-
-/// What stands before a fault in its line.
-const PROGRAM: &str = "navtex: ";
-/// The most bytes of a fault in its line. The longest fault has 101 bytes.
-const SHOWN_BYTES: usize = 160;
-/// More bytes than a line of a fault has.
-const LINE_BYTES: usize = 176;
 
 /// Why a call of the program failed.
 #[derive(Debug, Drop, Error)]
@@ -104,17 +96,6 @@ impl CallFault {
             _ => BAD_INPUT,
         }
     }
-
-    /// The line that reports the fault. It is made without memory.
-    fn line(&self) -> InlineText<LINE_BYTES>
-        ensures { IsFaultLine (inline_text result) }
-    {
-        let shown = InlineText::<SHOWN_BYTES>::of(self);
-        InlineText::new()
-            .and_str(PROGRAM, PROGRAM.len())
-            .and_str(shown.as_str(), SHOWN_BYTES)
-            .and_str("\n", 1)
-    }
 }
 
 /// Why a run of the program failed.
@@ -172,7 +153,7 @@ impl<'a> Fault<'a> {
             Fault::Kind => write_out(faults, KIND.as_bytes()),
             Fault::Value(report) => write_out(faults, report.as_bytes()),
             Fault::Watch(log, why) => return why.tell(log, faults),
-            Fault::Call(why) => write_out(faults, why.line().as_str().as_bytes()),
+            Fault::Call(why) => write_out(faults, call_fault_line(why).as_slice()),
         };
     }
 }

@@ -5,6 +5,7 @@
 mod arguments;
 mod commands;
 mod fault;
+mod fault_text;
 mod file_name;
 pub mod laws;
 mod log_arguments;
@@ -17,5 +18,5 @@ mod watch_command;
 pub use arguments::Call;
 pub use fault::CallFault;
 pub use file_name::FileName;
-pub use program::{Answered, answer, run};
+pub use program::{Answered, Input, answer, run};
 pub use watch_command::{LogFiles, NoFile, NoFiles, SystemFiles, WatchFailure};

@@ -1,11 +1,12 @@
 //! The program without its process.
 
-ghost use Rattle.std.specs.Prelude.{◌≡◌, ◌≢◌, ◌⊎◌, IfErr, IfOk, IfSome, List, MatchResult, None, Option, map, string_bytes, ℕ};
+ghost use Rattle.std.specs.Prelude.{◌≡◌, ◌≢◌, ◌⊎◌, [], IfErr, IfOk, IfSome, List, MatchResult, None, Option, map, string_bytes, ℕ};
 ghost use Rattle.nx_program.specs.Program.{EndsOnStreams, EndsRun, Exits, NamesWatch, Performs, PerformsOnStreams};
 ghost use Rattle.nx_program.specs.Program.{Succeeds, WritesText, fresh_device, version_text};
 ghost use Rattle.nx_program.specs.Report.{Answers, IsFaultLine, IsWantOfArguments, LacksArguments, WritesOne};
 ghost use Rattle.nx_program.specs.Status.{IsStatus};
-ghost use Rattle.nx_program.specs.WatchCommand.{beside};
+ghost use Rattle.nx_program.specs.WatchCommand.{WatchesLog, beside};
+ghost use Rattle.nx_watch.specs.Stamps.{IsFresh, counted_of, stamps_of};
 ghost use Rattle.nx_program.specs.Arguments.{IsRefused, Names};
 ghost use Rattle.nx_program.specs.private.Reading.{ExplainsArguments, IsOnStreams};
 ghost use Rattle.clap.specs.Words.{Text};
@@ -16,6 +17,7 @@ ghost use Rattle.nx_program.specs.declared.arguments.Call.{Call};
 use crate::arguments::{ArgumentsFault, Call, call_of};
 use crate::commands::VERSION;
 use crate::fault::{CallFault, Fault};
+use crate::file_name::FileName;
 use crate::slots::print_slot;
 use crate::watch_command::{LogFiles, NoFile, NoFiles, watch_log};
 use nx_disk::Noted;
@@ -25,6 +27,7 @@ use nx_locks::locks;
 use nx_log::log_run;
 use nx_receiver::{Want, listen, resume};
 use nx_station::{check_run, damage, send};
+use nx_watch::StampedReader;
 use std::alloc::{AllocError, Global};
 use std::convert::AsStr;
 use std::fmt::Display;
@@ -158,38 +161,110 @@ fn obey_on_streams<R: Read, W: Write>(
     }
 }
 
+/// The input of the program: a counted reader that notes what stood at each read of a watch.
+pub type Input<R, D, W, E> = StampedReader<R, D, Counting<W>, Counting<E>>;
+
+/// How the program obeyed its arguments, with its input, and the file of the log, if one was
+/// opened.
+#[derive(Drop)]
+struct Obeyed<'a, I, D> {
+    outcome: Result<(), Fault<'a>>,
+    input: I,
+    file: Option<D>,
+}
+
 /// Reads the arguments and does what they ask for. The log's file is handed back, if one was
 /// opened.
 fn obey<'a, S: AsStr, R: Read, W: Write, E: Write, F: LogFiles + Drop>(
     alloc: Global,
     arguments: &'a [S],
-    reader: &mut Counting<R>,
+    input: Input<R, F::Disk, W, E>,
     writer: &mut Counting<W>,
     faults: &mut Counting<E>,
     files: F,
-) -> (Result<(), Fault<'a>>, Option<F::Disk>)
-    requires reader { reader.old.failures ≡ 0 }
+) -> Obeyed<'a, Input<R, F::Disk, W, E>, F::Disk>
+    requires input { IsFresh input }
     requires writer { writer.old.failures ≡ 0 }
     requires faults { faults.old.failures ≡ 0 }
     ensures { EndsRun (map S.text arguments.now)
-        (devices R.remaining W.contents reader.old reader.new writer.old writer.new)
-        (beside files F.gives result.1 F.Disk.DiskFile E.contents faults.old faults.new)
-        result.0 }
+        (devices R.remaining W.contents (counted_of input) (counted_of result.input) writer.old
+        writer.new)
+        (beside files F.gives result.file F.Disk.DiskFile E.contents faults.old faults.new
+        (stamps_of result.input))
+        result.outcome }
 {
     match call_of(alloc, arguments) {
-        Ok(Call::Watch { file, moment }) => watch_log(
-            alloc, file, moment, files, reader, writer, faults,
-        ),
-        Ok(call) => (obey_on_streams(alloc, Ok(call), reader, writer), None),
-        Err(why) => (obey_on_streams(alloc, Err(why), reader, writer), None),
+        Ok(Call::Watch { file, moment }) => {
+            watch_input(alloc, file, moment, files, input, writer, faults)
+        }
+        Ok(call) => obey_unstamped(alloc, Ok(call), input, writer),
+        Err(why) => obey_unstamped(alloc, Err(why), input, writer),
     }
 }
 
-/// How the program ended, and the file of the log, if one was opened.
+/// Watches the log of this name.
+fn watch_input<'a, R: Read, W: Write, E: Write, F: LogFiles + Drop>(
+    alloc: Global,
+    log: FileName<'a>,
+    moment: u64,
+    files: F,
+    mut input: Input<R, F::Disk, W, E>,
+    writer: &mut Counting<W>,
+    faults: &mut Counting<E>,
+) -> Obeyed<'a, Input<R, F::Disk, W, E>, F::Disk>
+    requires input { IsFresh input }
+    requires writer { writer.old.failures ≡ 0 }
+    requires faults { faults.old.failures ≡ 0 }
+    ensures { WatchesLog
+        (devices R.remaining W.contents (counted_of input) (counted_of result.input) writer.old
+        writer.new)
+        (beside files F.gives result.file F.Disk.DiskFile E.contents faults.old faults.new
+        (stamps_of result.input))
+        log.entry moment result.outcome }
+{
+    let (outcome, file) = watch_log(alloc, log, moment, files, &mut input, writer, faults);
+    Obeyed {
+        outcome,
+        input,
+        file,
+    }
+}
+
+/// Does what the arguments ask for that were read so, where they name no watch. Its reads need no
+/// stamps.
+fn obey_unstamped<R: Read, W: Write, E: Write, D>(
+    alloc: Global,
+    read: Result<Call, ArgumentsFault>,
+    input: Input<R, D, W, E>,
+    writer: &mut Counting<W>,
+) -> Obeyed<'static, Input<R, D, W, E>, D>
+    requires input { IsFresh input }
+    requires writer { writer.old.failures ≡ 0 }
+    requires streams { IfOk read IsOnStreams }
+    ensures ended { (arguments : List Text) → IfOk read.entry (Names arguments)
+        → IfErr read.entry (ExplainsArguments arguments) → EndsOnStreams arguments
+        (devices R.remaining W.contents (counted_of input) (counted_of result.input) writer.old
+        writer.new)
+        result.outcome }
+    ensures unopened { result.file ≡ None }
+    ensures unstamped { stamps_of result.input ≡ [] }
+{
+    let mut reader = input.into_inner();
+    let outcome = obey_on_streams(alloc, read, &mut reader, writer);
+    Obeyed {
+        outcome,
+        input: StampedReader::new(reader),
+        file: None,
+    }
+}
+
+/// How the program ended, its input, and the file of the log, if one was opened.
 #[derive(Drop)]
-pub struct Answered<D> {
+pub struct Answered<I, D> {
     /// The exit status.
     pub status: u8,
+    /// The input, behind what was read of it.
+    pub input: I,
     /// The file of the log.
     pub file: Option<D>,
 }
@@ -199,24 +274,35 @@ pub struct Answered<D> {
 fn exit_status<S: AsStr, R: Read, W: Write, E: Write, F: LogFiles + Drop>(
     alloc: Global,
     arguments: &[S],
-    reader: &mut Counting<R>,
+    input: Input<R, F::Disk, W, E>,
     writer: &mut Counting<W>,
     faults: &mut Counting<E>,
     files: F,
-) -> Answered<F::Disk>
-    requires reader { reader.old.failures ≡ 0 }
+) -> Answered<Input<R, F::Disk, W, E>, F::Disk>
+    requires input { IsFresh input }
     requires writer { writer.old.failures ≡ 0 }
     requires faults { faults.old.failures ≡ 0 }
     ensures { Answers (map S.text arguments.now)
-        (devices R.remaining W.contents reader.old reader.new writer.old writer.new)
-        (beside files F.gives result.file F.Disk.DiskFile E.contents faults.old faults.new)
+        (devices R.remaining W.contents (counted_of input) (counted_of result.input) writer.old
+        writer.new)
+        (beside files F.gives result.file F.Disk.DiskFile E.contents faults.old faults.new
+        (stamps_of result.input))
         result.status }
 {
-    let (outcome, file) = obey(alloc, arguments, reader, writer, faults, files);
+    let Obeyed {
+        outcome,
+        input,
+        file,
+    } = obey(alloc, arguments, input, writer, faults, files);
     match outcome {
-        Ok(()) => Answered { status: DONE, file },
+        Ok(()) => Answered {
+            status: DONE,
+            input,
+            file,
+        },
         Err(fault) => Answered {
             status: fault.report(faults),
+            input,
             file,
         },
     }
@@ -236,16 +322,17 @@ fn want_of_arguments(reason: &io::Error) -> Fault<'static>
 /// Runs the program from its input to its output, both as they stand. Does what its arguments ask
 /// for, of which the first is the program's name. Reports a fault on `faults`, and answers the exit
 /// status. Where the arguments can't be had, it reports why. After the answer nothing more is read
-/// or written. A watch opens its log by `files`; the open file is handed back.
+/// or written. A watch opens its log by `files`; the open file is handed back, and so is the input,
+/// with what stood at each of its reads.
 pub fn answer<R: Read, W: Write, E: Write, F: LogFiles + Drop>(
     alloc: Global,
     arguments: io::Result<Vec<String>>,
-    input: &mut Counting<R>,
+    input: Input<R, F::Disk, W, E>,
     output: &mut Counting<W>,
     faults: &mut Counting<E>,
     files: F,
-) -> Answered<F::Disk>
-    requires input { input.old.failures ≡ 0 }
+) -> Answered<Input<R, F::Disk, W, E>, F::Disk>
+    requires input { IsFresh input }
     requires output { output.old.failures ≡ 0 }
     requires faults { faults.old.failures ≡ 0 }
 
@@ -253,12 +340,16 @@ pub fn answer<R: Read, W: Write, E: Write, F: LogFiles + Drop>(
     // arguments; or why there were none.
     ensures exits { MatchResult arguments
         (λ given. Answers (map string_bytes given.items)
-        (devices R.remaining W.contents input.old input.new output.old output.new)
-        (beside files F.gives result.file F.Disk.DiskFile E.contents faults.old faults.new)
+        (devices R.remaining W.contents (counted_of input) (counted_of result.input) output.old
+        output.new)
+        (beside files F.gives result.file F.Disk.DiskFile E.contents faults.old faults.new
+        (stamps_of result.input))
         result.status)
         (λ reason. LacksArguments reason
-        (devices R.remaining W.contents input.old input.new output.old output.new)
-        (beside files F.gives result.file F.Disk.DiskFile E.contents faults.old faults.new)
+        (devices R.remaining W.contents (counted_of input) (counted_of result.input) output.old
+        output.new)
+        (beside files F.gives result.file F.Disk.DiskFile E.contents faults.old faults.new
+        (stamps_of result.input))
         result.status) }
     ensures status { IsStatus result.status }
 
@@ -266,8 +357,10 @@ pub fn answer<R: Read, W: Write, E: Write, F: LogFiles + Drop>(
     ensures called { IfOk arguments
         (λ given. (call : Call) → Names (map string_bytes given.items) call
         → result.status ≡ 0 → Performs call
-        (devices R.remaining W.contents input.old input.new output.old output.new)
-        (beside files F.gives result.file F.Disk.DiskFile E.contents faults.old faults.new)
+        (devices R.remaining W.contents (counted_of input) (counted_of result.input) output.old
+        output.new)
+        (beside files F.gives result.file F.Disk.DiskFile E.contents faults.old faults.new
+        (stamps_of result.input))
         (Ok tt)) }
 
     // A success leaves nothing on standard error, but for a watch. A fault leaves one text, behind
@@ -283,6 +376,7 @@ pub fn answer<R: Read, W: Write, E: Write, F: LogFiles + Drop>(
         Ok(arguments) => exit_status(alloc, arguments.as_slice(), input, output, faults, files),
         Err(reason) => Answered {
             status: want_of_arguments(&reason).report(faults),
+            input,
             file: None,
         },
     }
@@ -303,7 +397,7 @@ pub fn run<S: AsStr, R: Read + Drop, W: Write + Drop, E: Write + Drop>(
         × Exits (map S.text arguments.now)
         (devices R.remaining W.contents (fresh_device input) reader (fresh_device output) writer)
         (beside (record {}) ⟦<NoFiles as LogFiles>⟧.gives None
-        ⟦<Noted<NoFile> as DiskFile>⟧ E.contents (fresh_device faults) told)
+        ⟦<Noted<NoFile> as DiskFile>⟧ E.contents (fresh_device faults) told [])
         result }
     ensures status { IsStatus result }
 
@@ -313,7 +407,7 @@ pub fn run<S: AsStr, R: Read + Drop, W: Write + Drop, E: Write + Drop>(
         × Succeeds (map S.text arguments.now)
         (devices R.remaining W.contents (fresh_device input) reader (fresh_device output) writer)
         (beside (record {}) ⟦<NoFiles as LogFiles>⟧.gives None
-        ⟦<Noted<NoFile> as DiskFile>⟧ E.contents (fresh_device faults) told) }
+        ⟦<Noted<NoFile> as DiskFile>⟧ E.contents (fresh_device faults) told []) }
 
     // A success of arguments that name a call is the success of that call.
     ensures called { (call : Call) → Names (map S.text arguments.now) call → result ≡ 0
@@ -321,22 +415,14 @@ pub fn run<S: AsStr, R: Read + Drop, W: Write + Drop, E: Write + Drop>(
         × Performs call
         (devices R.remaining W.contents (fresh_device input) reader (fresh_device output) writer)
         (beside (record {}) ⟦<NoFiles as LogFiles>⟧.gives None
-        ⟦<Noted<NoFile> as DiskFile>⟧ E.contents (fresh_device faults) told)
+        ⟦<Noted<NoFile> as DiskFile>⟧ E.contents (fresh_device faults) told [])
         (Ok tt) }
     ensures arguments { result ≡ 64 → IsRefused (map S.text arguments.now) }
     ensures refused { IsRefused (map S.text arguments.now)
         → (result ≡ 64) ⊎ (result ≡ 1) }
 {
-    let mut reader = Counting::new(input);
+    let reader = StampedReader::new(Counting::new(input));
     let mut writer = Counting::new(output);
     let mut lines = Counting::new(faults);
-    exit_status(
-        alloc,
-        arguments,
-        &mut reader,
-        &mut writer,
-        &mut lines,
-        NoFiles,
-    )
-    .status
+    exit_status(alloc, arguments, reader, &mut writer, &mut lines, NoFiles).status
 }

@@ -6,13 +6,14 @@ ghost use Rattle.nx_program.specs.Status.{watch_failure_status};
 ghost use Rattle.nx_program.specs.declared.watch_command.WatchFailure.TheVariants.{Unopened, Ended};
 ghost use Rattle.nx_program.specs.WatchCommand.{WatchesLog, beside, watch_fault_line};
 ghost use Rattle.nx_watch.specs.LineRun.{HasTold};
+ghost use Rattle.nx_watch.specs.Stamps.{IsFresh, counted_of, stamps_of};
 
 use crate::fault::Fault;
 use crate::file_name::FileName;
-use nx_disk::{FileFault, LogFile, Noted, RawFile};
+use nx_disk::{FileFault, LeftBefore, LogFile, Noted, RawFile};
 use nx_fec::Counting;
 use nx_kept::{DiskFailed, DiskFile};
-use nx_watch::{WatchFault, tell, watch, write_more};
+use nx_watch::{StampedReader, WatchFault, tell, watch, write_more};
 use std::alloc::Global;
 use std::fs::{File, Files};
 use std::io::{Read, Write};
@@ -33,27 +34,45 @@ pub trait LogFiles {
         ensures { gives self name.now result };
 }
 
-/// The files of the system. What they have no clause can say.
+/// The files of the system. What they have no clause can say. Of one that was just opened no call
+/// was made, and a crash may leave what it holds, or one of the files of `left`.
 #[derive(Drop)]
 pub struct SystemFiles<'a, R> {
     alloc: Global,
     system: &'a R,
+    left: LeftBefore,
 }
 
 impl<'a, R> SystemFiles<'a, R> {
-    /// The files of this system.
-    pub fn new(alloc: Global, system: &'a R) -> Self {
-        SystemFiles { alloc, system }
+    /// The files of this system, and those of which a crash could leave one before the log is
+    /// opened.
+    pub fn new(alloc: Global, system: &'a R, left: LeftBefore) -> Self
+        ensures { result.left ≡ left }
+    {
+        SystemFiles {
+            alloc,
+            system,
+            left,
+        }
     }
 }
 
 impl<'a, R: Files<File = File>> LogFiles for SystemFiles<'a, R> {
+    ghost use Rattle.std.specs.Prelude.{IfOk};
+    ghost use Rattle.nx_disk.specs.Fresh.{IsFresh as IsJustOpened};
+
     type Disk = Noted<LogFile<'a, R>>;
 
-    ghost gives = { λ files name opened. Unit {0} };
+    ghost gives = { λ files name opened. IfOk opened (λ file.
+        IsJustOpened ⟦<Noted<LogFile<'a, R>> as DiskFile>⟧ files.left.files file) };
 
     fn open(self, name: &str) -> Result<Noted<LogFile<'a, R>>, FileFault> {
-        nx_disk::open(self.alloc, self.system, name)
+        let SystemFiles {
+            alloc,
+            system,
+            left,
+        } = self;
+        nx_disk::open(alloc, system, name, left)
     }
 }
 
@@ -189,16 +208,18 @@ pub fn watch_log<'a, F: LogFiles, R: Read, W: Write, E: Write>(
     log: FileName<'a>,
     moment: u64,
     files: F,
-    reader: &mut Counting<R>,
+    reader: &mut StampedReader<R, F::Disk, Counting<W>, Counting<E>>,
     writer: &mut Counting<W>,
     faults: &mut Counting<E>,
 ) -> (Result<(), Fault<'a>>, Option<F::Disk>)
-    requires reader { reader.old.failures ≡ 0 }
+    requires reader { IsFresh reader.old }
     requires writer { writer.old.failures ≡ 0 }
     requires faults { faults.old.failures ≡ 0 }
     ensures { WatchesLog
-        (devices R.remaining W.contents reader.old reader.new writer.old writer.new)
-        (beside files F.gives result.1 F.Disk.DiskFile E.contents faults.old faults.new)
+        (devices R.remaining W.contents (counted_of reader.old) (counted_of reader.new) writer.old
+        writer.new)
+        (beside files F.gives result.1 F.Disk.DiskFile E.contents faults.old faults.new
+        (stamps_of reader.new))
         log.entry moment result.0 }
 {
     match files.open(log.as_str()) {

@@ -8,8 +8,9 @@ use Rattle.nx_fec.specs.air_files.AirFile.{refuse_subject, accept_subject}
 use Rattle.nx_fec.specs.Transfers.{CountedDevice}
 use Rattle.nx_memory.specs.Selection.{is_vital}
 use Rattle.nx_watch.specs.Acting.{acting_lines, count_without, ends_watch, first_without}
-use Rattle.nx_watch.specs.Acting.{goes_on, in_force, moments_said}
+use Rattle.nx_watch.specs.Acting.{goes_on, in_force, moments_behind, moments_said}
 use Rattle.nx_watch.specs.AnyLines.{AreLines, cut_line}
+use Rattle.nx_watch.specs.declared.lines.line_effects.StartMoments.{StartMoments}
 use Rattle.nx_watch.specs.declared.lines.line_run.LinesWatched.{LinesWatched}
 use Rattle.nx_watch.specs.declared.lines.line_run.WatchEnd.{WatchEnd}
 use Rattle.nx_watch.specs.declared.lines.line_run.WatchEnd.TheVariants.{Read, Back, Write}
@@ -48,7 +49,7 @@ number_told count =
     else codes "navtex: " ++ (decimal count ++ codes " lines had no effect\n")
 
 -- what is told of these lines
-abbrev pub told_of : ℕ → List (Option Line) → List ℕ
+abbrev pub told_of : StartMoments → List (Option Line) → List ℕ
 told_of first lines =
     first_told (first_without first lines) ++ number_told (count_without first lines)
 
@@ -62,7 +63,8 @@ HasTold old new failures text =
 -- Some lines were told of.
 abbrev pub TellsOfLines : Option (List ℕ) → Option (List ℕ) → ℕ → Type 0
 TellsOfLines old new failures =
-    (first : ℕ) × (lines : List (Option Line)) × HasTold old new failures (told_of first lines)
+    (first : StartMoments) × (lines : List (Option Line))
+    × HasTold old new failures (told_of first lines)
 
 -- These bytes were given to a writer: they were written, or a first part of them, where a write
 -- failed. Where there are none, it wasn't called.
@@ -88,13 +90,13 @@ StandsWith stands contents start now lines =
     × WereGiven contents start.writer now.writer given
 
 -- None of these lines ended the watch, and those that act were taken.
-pub record HasTaken {T : Type 0} (stands : Standing T) (start now : T) (first : ℕ)
+pub record HasTaken {T : Type 0} (stands : Standing T) (start now : T) (first : StartMoments)
     (lines : List (Option Line)) : Type 0 where
   pub on : goes_on first lines ≡ true
   pub stood : stands start now (acting_lines first lines)
 
 -- These counts are those of these lines.
-pub record AreCounted (first : ℕ) (lines : List (Option Line)) (counts : LinesWatched)
+pub record AreCounted (first : StartMoments) (lines : List (Option Line)) (counts : LinesWatched)
     : Type 0 where
   pub lines_counted : counts.lines ≡ length lines
   pub without : counts.without_effect ≡ count_without first lines
@@ -102,7 +104,8 @@ pub record AreCounted (first : ℕ) (lines : List (Option Line)) (counts : Lines
 
 -- The bytes begin with these lines and this last one, each with its end; none before the last ended
 -- the watch.
-pub record StopsBehind (first : ℕ) (bytes : List ℕ) (lines : List (Option Line)) (last : Line)
+pub record StopsBehind (first : StartMoments) (bytes : List ℕ) (lines : List (Option Line))
+    (last : Line)
     : Type 0 where
   pub front : List ℕ
   pub more : List ℕ
@@ -110,14 +113,14 @@ pub record StopsBehind (first : ℕ) (bytes : List ℕ) (lines : List (Option Li
   pub are : AreLines front (lines ++ Some last ∷ []) []
   pub on : goes_on first lines ≡ true
 
--- A run over lines: how its taker stands, at first and now, and the moment in force at first. With
+-- A run over lines: how its taker stands, at first and now, and with which moments it starts. With
 -- it stands what holds where the input ended, or the limit was reached, and what holds of the lines
 -- that it tells of.
 pub record RunOverLines (T : Type 0) : Type 1 where
   pub stands : Standing T
   pub start : T
   pub now : T
-  pub first : ℕ
+  pub first : StartMoments
   pub AtEnd : Type 0
   pub tells : List (Option Line) → Type 0
 
@@ -136,8 +139,8 @@ AnswersRun r (Err Read) bytes =
     × HasTaken r.stands r.start r.now r.first lines × r.tells lines
 AnswersRun r (Err (Back line last given)) bytes =
     (lines : List (Option Line)) × StopsBehind r.first bytes lines (moment given)
-    × (ends_watch r.first (moments_said lines) (Some (moment given)) ≡ true)
-    × (line ≡ length lines + 1) × (last ≡ in_force r.first (moments_said lines))
+    × (ends_watch r.first.newest (moments_behind r.first lines) (Some (moment given)) ≡ true)
+    × (line ≡ length lines + 1) × (last ≡ in_force r.first.newest (moments_behind r.first lines))
     × r.stands r.start r.now (acting_lines r.first lines)
     × r.tells (lines ++ Some (moment given) ∷ [])
 AnswersRun r (Err Write) bytes =

@@ -1,14 +1,14 @@
 -- A receiver that is left on, and the kept log that is its memory too (this profile).
 use Rattle.std.specs.Prelude.{◌≡◌, ◌⊎◌, ◌↔◌, ℕ, ◌+◌, ◌<◌, ◌≤◌, true, List, [], ◌∷◌, ◌++◌}
-use Rattle.std.specs.Prelude.{length, take, drop, Option, Some, Result, Ok, Err, ⊤}
-use Rattle.std.specs.List.{AllZip}
-use Rattle.std.specs.Io.KnownBytes.{Consumes}
+use Rattle.std.specs.Prelude.{◌-◌, suc, length, take, drop, Option, Some, Result, Ok, Err, ⊤}
+use Rattle.std.specs.List.{All, AllZip}
+use Rattle.std.specs.Io.KnownBytes.{Appends, Consumes}
 use Rattle.nx_fec.specs.air_files.AirFile.{Line, moment}
 use Rattle.nx_fec.specs.Transfers.{CountedDevice, Devices, IsReadOut, count_of}
 use Rattle.nx_fec.specs.declared.air_files.channel.Channel.{Channel}
 use Rattle.nx_fec.specs.declared.air_files.channel.Channel.TheVariants.{Zero, One, Two}
 use Rattle.nx_kept.specs.Disk.{FailedOnce, LeavesOnly}
-use Rattle.nx_kept.specs.Kept.{StandsFor}
+use Rattle.nx_kept.specs.Kept.{IsBehindOpenGates, IsDamaged, StandsFor, closed_gate}
 use Rattle.nx_kept.specs.declared.disk.DiskFile.{Ghosts as TellsOfDisk}
 use Rattle.nx_log.specs.Entries.{IsWholeEntry}
 use Rattle.nx_log.specs.Logged.{IsLoggedAs, remembered_on}
@@ -19,10 +19,12 @@ use Rattle.nx_receiver.specs.air_file_runs.Listen.{given_by}
 use Rattle.nx_receiver.specs.copies.Log.{IsLog}
 use Rattle.nx_receiver.specs.copies.Shares.{Given, MarkedCopy, Starts, starts_from}
 use Rattle.nx_watch.specs.Acting.{acting_lines, count_without, ends_watch, first_without, goes_on}
-use Rattle.nx_watch.specs.Acting.{in_force, moments_said, most_bytes}
+use Rattle.nx_watch.specs.Acting.{in_force, moments_behind, most_bytes}
 use Rattle.nx_watch.specs.AnyLines.{AreLines, cut_line}
 use Rattle.nx_watch.specs.Start.{remembered_at}
-use Rattle.nx_watch.specs.LineRun.{HasTold, StopsBehind, told_of}
+use Rattle.nx_watch.specs.LineRun.{HasTold, StopsBehind, first_told, told_of}
+use Rattle.nx_watch.specs.Stamp.{Stamp}
+use Rattle.nx_watch.specs.declared.lines.line_effects.StartMoments.{StartMoments}
 use Rattle.nx_watch.specs.declared.watch_report.WatchReport.{WatchReport}
 use Rattle.nx_watch.specs.declared.watch_fault.WatchFault.{WatchFault}
 use Rattle.nx_watch.specs.declared.watch_fault.WatchFault.TheVariants.{Open, Damaged, Disk, Memory}
@@ -39,6 +41,19 @@ pub record StandsForEntries (entries : List MarkedCopy) (file : List ℕ) : Type
   pub texts : List (List ℕ)
   pub each : AllZip IsLoggedAs entries texts
   pub stands : StandsFor IsWholeEntry longest_entry texts file
+
+-- The file is at rest with these logged entries: it is their bytes, each behind an open gate, and
+-- one closed gate, with nothing behind it.
+pub record RestsWithEntries (entries : List MarkedCopy) (file : List ℕ) : Type 0 where
+  pub texts : List (List ℕ)
+  pub each : AllZip IsLoggedAs entries texts
+  pub front : List ℕ
+  pub kept : IsBehindOpenGates IsWholeEntry texts front
+  pub whole : file ≡ front ++ closed_gate ∷ []
+
+-- all of these entries but the last
+abbrev pub all_but_last : List MarkedCopy → List MarkedCopy
+all_but_last entries = take (length entries - 1) entries
 
 -- what is remembered of a channel by these entries, at this moment; everything is selected
 abbrev pub saved_at : ℕ → List MarkedCopy → Channel → SavedState
@@ -58,6 +73,10 @@ all_saved_at now entries = record {
 abbrev pub starts_at : ℕ → List MarkedCopy → Starts
 starts_at now entries = starts_from (all_saved_at now entries)
 
+-- the moments with which a watch starts at this one, with this
+abbrev pub moments_at : ℕ → Starts → StartMoments
+moments_at now starts = record { newest = starts.moment; started = now }
+
 -- ---- the lines of a watch, and what they print
 
 -- How a watch stops: at the end of its input, or of the bytes that it reads at most; at a failed
@@ -71,16 +90,16 @@ pub data Stop : Type 0 where
 
 -- These are the lines of the bytes that were read until the watch stopped so, a cut last one and
 -- the one that ends the watch too. Where the input didn't end, it stopped behind the end of a line.
--- `first` is the moment in force at first.
-abbrev pub HasRead : Type 0 → ℕ → Stop → List ℕ → List (Option Line) → Type 0
+-- `first` is the moments with which it started.
+abbrev pub HasRead : Type 0 → StartMoments → Stop → List ℕ → List (Option Line) → Type 0
 HasRead AtEnd first at_end bytes lines =
     AtEnd × (whole : List (Option Line)) × (rest : List ℕ) × AreLines bytes whole rest
     × (lines ≡ whole ++ cut_line rest) × (goes_on first whole ≡ true)
 HasRead AtEnd first (back line last given) bytes lines =
     (before : List (Option Line)) × (lines ≡ before ++ Some (moment given) ∷ [])
     × StopsBehind first bytes before (moment given)
-    × (ends_watch first (moments_said before) (Some (moment given)) ≡ true)
-    × (line ≡ length lines) × (last ≡ in_force first (moments_said before))
+    × (ends_watch first.newest (moments_behind first before) (Some (moment given)) ≡ true)
+    × (line ≡ length lines) × (last ≡ in_force first.newest (moments_behind first before))
 HasRead AtEnd first unread bytes lines =
     (rest : List ℕ) × AreLines bytes lines rest × (goes_on first lines ≡ true)
 HasRead AtEnd first unwritten bytes lines =
@@ -97,7 +116,7 @@ PrintsUntil unwritten = PrintsInTurn
 
 -- what a watch answers that stopped so, where the disk didn't fail: it read these lines, and put
 -- these copies
-abbrev pub AnswersStop : ℕ → Stop → List (Option Line) → List MarkedCopy
+abbrev pub AnswersStop : StartMoments → Stop → List (Option Line) → List MarkedCopy
     → Result WatchReport WatchFault → Type 0
 AnswersStop first at_end lines copies (Ok report) =
     (report.lines ≡ length lines) × (report.without_effect ≡ count_without first lines)
@@ -112,7 +131,8 @@ AnswersStop first stop lines copies outcome = ⊥
 
 -- The file of a watch, its input and its output, and its notices, where it tells of lines without
 -- effect: as they stand before it and after it, and what they tell of themselves. What the file
--- tells is told for `start`, its first content.
+-- tells is told for `start`, its first content. With them stands what stood at each read of the
+-- input, the last one first.
 pub record WatchDevices (D R W E : Type 0) : Type 1 where
   pub tells : TellsOfDisk D
   pub start : List ℕ
@@ -122,20 +142,83 @@ pub record WatchDevices (D R W E : Type 0) : Type 1 where
   pub told : E → Option (List ℕ)
   pub notices : CountedDevice E
   pub notices_after : CountedDevice E
+  pub stamps : List (Stamp D (CountedDevice W) (CountedDevice E))
+
+-- how many writes failed: where the watch stopped at a failed read, none; where it stopped at a
+-- failed write, that one; where it closed what stood open, at most one, in the closings
+abbrev pub FailsWrites : Stop → ℕ → Type 0
+FailsWrites at_end failures = failures ≤ 1
+FailsWrites (back line last given) failures = failures ≤ 1
+FailsWrites unread failures = failures ≡ 0
+FailsWrites unwritten failures = failures ≡ 1
 
 module _ {D R W E : Type 0} (d : WatchDevices D R W E) where
   -- each file that a crash may leave when all is over has this
   abbrev pub LeavesAtLast : (List ℕ → Type 0) → Type 0
   LeavesAtLast P = (file : List ℕ) → d.tells.may_leave d.start d.disk_after file → P file
 
-  -- at each moment a crash leaves a file that has this, or what it could leave before
-  abbrev pub LeavesAtAnyMoment : (List ℕ → Type 0) → Type 0
-  LeavesAtAnyMoment P =
-      LeavesOnly d.tells.moment (d.tells.left_since d.start) d.disk d.disk_after
-      (λ file. d.tells.may_leave d.start d.disk file ⊎ P file)
+  -- each file that a crash could leave before the first call stands for the entries, or for all but
+  -- the last of them
+  abbrev pub CouldLeaveAtFirst : List MarkedCopy → Type 0
+  CouldLeaveAtFirst entries = (file : List ℕ) → d.tells.may_leave d.start d.disk file
+      → StandsForEntries entries file ⊎ StandsForEntries (all_but_last entries) file
 
-  -- All copies are kept behind the entries, on the disk, and nothing was written.
+  -- Where that holds, a crash at any moment leaves a file that has this, or stands for all entries
+  -- but the last.
+  abbrev pub LeavesAtAnyMoment : List MarkedCopy → (List ℕ → Type 0) → Type 0
+  LeavesAtAnyMoment entries P = CouldLeaveAtFirst entries
+      → LeavesOnly d.tells.moment (d.tells.left_since d.start) d.disk d.disk_after
+      (λ file. StandsForEntries (all_but_last entries) file ⊎ P file)
+
+  -- At a read no put had failed, and these copies had been printed. Nothing had been written. Each
+  -- file that a crash leaves from then on stands for the entries and a beginning of all copies of
+  -- the watch, with at least those.
+  pub record HadKept (entries printed copies : List MarkedCopy)
+      (at : Stamp D (CountedDevice W) (CountedDevice E))
+      : Type 0 where
+    pub well : d.tells.faults at.disk ≡ d.tells.faults d.disk
+    pub silent : at.writer ≡ d.streams.writer
+    pub left : (file : List ℕ)
+        → d.tells.left_since d.start d.disk_after (d.tells.moment at.disk) file
+        → (count : ℕ) × (length printed ≤ count) × (count ≤ length copies)
+        × StandsForEntries (entries ++ take count copies) file
+
+  -- At a read a put had failed. From it on the copies printed by then had been written, as the log
+  -- has them, and no write had failed.
+  pub record HadWritten (printed : List MarkedCopy)
+      (at : Stamp D (CountedDevice W) (CountedDevice E))
+      : Type 0 where
+    pub failed : d.tells.faults at.disk ≡ suc (d.tells.faults d.disk)
+    pub count : ℕ
+    pub fewer : count < length printed
+    pub log : List ℕ
+    pub spelled : IsLog (drop count printed) log
+    pub written : Appends (d.streams.contents d.streams.writer.inner)
+        (d.streams.contents at.writer.inner) log
+    pub well : at.writer.failures ≡ 0
+
+  -- What stood at a read of a watch that started so at this moment and printed these copies in all,
+  -- where `bytes` are those of its input. The lines that were whole had been taken, and none ended
+  -- the watch. What they print had been kept, or written from a failed put on. The first of them
+  -- without effect had been told, or a write of that had failed.
+  pub record StoodAt (now : ℕ) (starts : Starts) (entries : List MarkedCopy) (bytes : List ℕ)
+      (copies : List MarkedCopy) (at : Stamp D (CountedDevice W) (CountedDevice E))
+      : Type 0 where
+    pub within : at.read ≤ length bytes
+    pub lines : List (Option Line)
+    pub rest : List ℕ
+    pub whole : AreLines (take at.read bytes) lines rest
+    pub on : goes_on (moments_at now starts) lines ≡ true
+    pub printed : List MarkedCopy
+    pub prints : PrintsInTurn starts (given_by (acting_lines (moments_at now starts) lines)) printed
+    pub kept : HadKept entries printed copies at ⊎ HadWritten printed at
+    pub told : HasTold (d.told d.notices.inner) (d.told at.notices.inner) at.notices.failures
+        (first_told (first_without (moments_at now starts) lines))
+
+  -- All copies are kept behind the entries, on the disk, and nothing was written. The file is at
+  -- rest.
   pub record KeepsAll (entries copies : List MarkedCopy) : Type 0 where
+    pub rests : RestsWithEntries (entries ++ copies) (d.tells.seen d.start d.disk_after)
     pub found : StandsForEntries (entries ++ copies) (d.tells.seen d.start d.disk_after)
     pub left : LeavesAtLast (StandsForEntries (entries ++ copies))
     pub silent : d.streams.writer_after ≡ d.streams.writer
@@ -152,43 +235,50 @@ module _ {D R W E : Type 0} (d : WatchDevices D R W E) where
     pub written : HasTold (d.streams.contents d.streams.writer.inner)
         (d.streams.contents d.streams.writer_after.inner) d.streams.writer_after.failures log
 
-  -- A watch that started so over a file that stands for these entries read these lines until it
-  -- stopped so. They print these copies; at each moment the file stands for the entries and a
-  -- beginning of the copies; and what is told of the lines was told. A read failed exactly where it
-  -- stopped at a failed read; where it stopped at a failed write, one had failed.
-  pub record HasWatched (starts : Starts) (entries : List MarkedCopy) (stop : Stop)
+  -- A watch that started so at this moment over a file that stands for these entries read these
+  -- lines until it stopped so. They print these copies; at each moment the file stands for the
+  -- entries and a beginning of the copies; and what is told of the lines was told. At each read of
+  -- the input all of that stood already, of the lines that were whole by then. A read failed
+  -- exactly where it stopped at a failed read; a write failed only where it stopped at that, or
+  -- closed.
+  pub record HasWatched (now : ℕ) (starts : Starts) (entries : List MarkedCopy) (stop : Stop)
       (lines : List (Option Line)) (copies : List MarkedCopy)
       : Type 0 where
     pub bytes : List ℕ
     pub consumed : Consumes (d.streams.remaining d.streams.reader.inner)
         (d.streams.remaining d.streams.reader_after.inner) bytes
     pub within : length bytes ≤ most_bytes
-    pub read : HasRead (IsReadOut d.streams ⊎ (length bytes ≡ most_bytes)) starts.moment stop bytes
-        lines
-    pub printed : PrintsUntil stop starts (given_by (acting_lines starts.moment lines)) copies
-    pub any_moment : LeavesAtAnyMoment (λ file.
+    pub read : HasRead (IsReadOut d.streams ⊎ (length bytes ≡ most_bytes)) (moments_at now starts)
+        stop bytes lines
+    pub printed : PrintsUntil stop starts
+        (given_by (acting_lines (moments_at now starts) lines)) copies
+    pub before_each_read : All (StoodAt now starts entries bytes copies) d.stamps
+    pub any_moment : LeavesAtAnyMoment entries (λ file.
         (count : ℕ) × (count ≤ length copies)
         × StandsForEntries (entries ++ take count copies) file)
     pub failed_read : (stop ≡ unread) ↔ (d.streams.reader_after.failures ≡ 1)
-    pub failed_write : stop ≡ unwritten → d.streams.writer_after.failures ≡ 1
+    pub failed_write : FailsWrites stop d.streams.writer_after.failures
     pub notices_told : HasTold (d.told d.notices.inner) (d.told d.notices_after.inner)
-        d.notices_after.failures (told_of starts.moment lines)
+        d.notices_after.failures (told_of (moments_at now starts) lines)
 
   -- Only the file was touched. At each moment it stands for the entries.
   pub record HasOpened (entries : List MarkedCopy) : Type 0 where
-    pub any_moment : LeavesAtAnyMoment (StandsForEntries entries)
+    pub any_moment : LeavesAtAnyMoment entries (StandsForEntries entries)
     pub unread : d.streams.reader_after ≡ d.streams.reader
+    pub unstamped : d.stamps ≡ []
     pub unwritten : d.streams.writer_after ≡ d.streams.writer
     pub untold : d.notices_after ≡ d.notices
 
-  -- What a watch answers that started so over a file that stands for these entries, once it was
-  -- opened. All copies are kept, and how it stopped is answered. Or the disk failed as a copy was
-  -- put, which is answered, whatever else ended the watch then.
-  abbrev pub AnswersStarted : Starts → List MarkedCopy → Result WatchReport WatchFault → Type 0
-  AnswersStarted starts entries outcome =
+  -- What a watch answers that started so at this moment over a file that stands for these entries,
+  -- once it was opened. All copies are kept, and how it stopped is answered. Or the disk failed as
+  -- a copy was put, which is answered, whatever else ended the watch then.
+  abbrev pub AnswersStarted : ℕ → Starts → List MarkedCopy → Result WatchReport WatchFault
+      → Type 0
+  AnswersStarted now starts entries outcome =
       (stop : Stop) × (lines : List (Option Line)) × (copies : List MarkedCopy)
-      × HasWatched starts entries stop lines copies
-      × ((KeepsAll entries copies × AnswersStop starts.moment stop lines copies outcome)
+      × HasWatched now starts entries stop lines copies
+      × ((KeepsAll entries copies
+      × AnswersStop (moments_at now starts) stop lines copies outcome)
       ⊎ (KeepsSome entries copies × (outcome ≡ Err Disk)))
 
   -- What a watch answers that started at this moment over a file that stands for these entries.
@@ -199,8 +289,8 @@ module _ {D R W E : Type 0} (d : WatchDevices D R W E) where
   AnswersWatch now entries (Err Memory) = HasOpened entries
   AnswersWatch now entries (Err (Damaged line)) = ⊥
   AnswersWatch now entries (Err Disk) =
-      HasOpened entries ⊎ AnswersStarted (starts_at now entries) entries (Err Disk)
-  AnswersWatch now entries outcome = AnswersStarted (starts_at now entries) entries outcome
+      HasOpened entries ⊎ AnswersStarted now (starts_at now entries) entries (Err Disk)
+  AnswersWatch now entries outcome = AnswersStarted now (starts_at now entries) entries outcome
 
 -- Why a watch answers so: a call of the disk failed, and it was the last one; or none failed.
 abbrev pub HasCause : {D : Type 0} → TellsOfDisk D → Result WatchReport WatchFault → D → D → Type 0
@@ -209,3 +299,12 @@ HasCause tells (Err Open) old new =
 HasCause tells (Err Disk) old new =
     FailedOnce (tells.faults old) (tells.faults new) (tells.has_failed_to_write new)
 HasCause tells outcome old new = tells.faults new ≡ tells.faults old
+
+-- What a watch answers of a file that is no kept log: it is damaged at its line, or a call of the
+-- disk failed, or memory ran out.
+abbrev pub RefusesLog : List ℕ → Result WatchReport WatchFault → Type 0
+RefusesLog file (Err (Damaged line)) = IsDamaged IsWholeEntry longest_entry line file
+RefusesLog file (Err Open) = ⊤
+RefusesLog file (Err Disk) = ⊤
+RefusesLog file (Err Memory) = ⊤
+RefusesLog file outcome = ⊥

@@ -7,3 +7,4 @@ pub mod Remembering
 pub mod Entries
 pub mod Answering
 pub mod LoggingListener
+pub mod Stamping

@@ -6,15 +6,18 @@ ghost use Rattle.nx_kept.specs.Disk.{OnlyReads};
 ghost use Rattle.nx_kept.specs.Kept.{IsDamaged, IsKeptLog};
 ghost use Rattle.nx_log.specs.Entries.{IsWholeEntry};
 ghost use Rattle.nx_receiver.specs.copies.Shares.{MarkedCopy};
-ghost use Rattle.nx_watch.specs.Watch.{AnswersWatch, HasCause, StandsForEntries, longest_entry};
+ghost use Rattle.nx_watch.specs.Watch.{AnswersWatch, HasCause, RefusesLog, StandsForEntries, longest_entry};
 ghost use Rattle.nx_watch.specs.LineRun.{TellsOfLines};
+ghost use Rattle.nx_watch.specs.Stamps.{IsFresh, counted_of, stamps_of};
 ghost use Rattle.nx_watch.specs.private.Answering.{fault_answered};
 ghost use Rattle.nx_watch.specs.declared.watch_fault.WatchFault.TheVariants.{Damaged as DamagedAt};
 
 use crate::kept_log::keeper::Keeper;
 use crate::kept_log::log_grammar::LogGrammar;
 use crate::kept_log::log_memory::LogMemory;
+use crate::lines::line_effects::StartMoments;
 use crate::logging_listener::LoggingListener;
+use crate::stamped::StampedReader;
 use crate::watch_fault::WatchFault;
 use crate::watch_report::WatchReport;
 use arrayvec::ArrayVec;
@@ -28,29 +31,31 @@ use std::io::{Read, Write};
 /// `listen_from` would print of the lines that act into the kept log. Before each further read all
 /// entries of the lines so far are put. Three receivers hear them, one for each channel. They start
 /// at `moment`, in whole seconds since 1970-01-01 00:00:00 UTC, with what is remembered of the log
-/// then; everything is selected. The end of the input closes the channels 0, 1 and 2 in order, and
-/// so does a moment that ends the watch. Lines without effect are told of on `notices`: the first
-/// before the next read, and their number at the end. A failed write there is passed over. Memory
-/// is taken before the first read, and not later. Hands the file back.
+/// then; everything is selected. Elements that come before any moment set it, or the newest
+/// remembered one where that is later; one past the year 2999 isn't set. The end of the input
+/// closes the channels 0, 1 and 2 in order, and so does a moment that ends the watch. Lines without
+/// effect are told of on `notices`: the first before the next read, and their number at the end. A
+/// failed write there is passed over. Memory is taken before the first read, and not later. Hands
+/// the file back.
 ///
 /// From a failed put on the disk isn't called any more: that entry and all later ones are written
 /// to `writer`, each before the next read, as `listen` writes them. Whatever ends the watch then, a
 /// failed write there too, it is answered as `Disk`. Nothing else is written to `writer`.
 ///
-/// A crash at any moment leaves a file that stands for the entries from before and a beginning of
-/// those that the lines print. Or it leaves what it could leave before what the file held was
-/// brought to the disk. That each entry is on the disk before the next read of the input is said by
-/// the answer `Read`. A watch can't know which read will fail, and after each that fails all
-/// entries of the lines that were read whole are kept.
+/// Where each file that a crash could leave before the call stands for the entries from before, or
+/// for all but the last of them, a crash at any moment leaves a file that stands for so much, or
+/// for the entries and a beginning of those that the lines print. The reader notes what stood at
+/// each of its reads. A crash at any moment from a read on leaves at least the entries of the lines
+/// that were whole at it, where no put had failed by then; else they stood on `writer`.
 pub fn watch<D: DiskFile + Drop, R: Read, W: Write, F: Write>(
     alloc: Global,
     moment: u64,
     device: D,
-    reader: &mut Counting<R>,
+    reader: &mut StampedReader<R, D, Counting<W>, Counting<F>>,
     writer: &mut Counting<W>,
     notices: &mut Counting<F>,
 ) -> (Result<WatchReport, WatchFault>, D)
-    requires reader { reader.old.failures ≡ 0 }
+    requires reader { IsFresh reader.old }
     requires writer { writer.old.failures ≡ 0 }
     requires notices { notices.old.failures ≡ 0 }
 
@@ -61,17 +66,22 @@ pub fn watch<D: DiskFile + Drop, R: Read, W: Write, F: Write>(
           start = start;
           disk = device;
           disk_after = result.1;
-          streams = devices R.remaining W.contents reader.old reader.new writer.old writer.new;
+          streams = devices R.remaining W.contents (counted_of reader.old) (counted_of reader.new)
+              writer.old writer.new;
           told = F.contents;
           notices = notices.old;
           notices_after = notices.new;
+          stamps = stamps_of reader.new;
         }) moment entries result.0 }
 
-    // A file that is no kept log is refused at the line of the damage. It is only read, and nothing
-    // is read of the input.
+    // A file that is no kept log is refused: at the line of the damage, or since the disk failed or
+    // memory ran out. It is only read, and nothing is read of the input.
     ensures damaged { (start : List ℕ) (line : ℕ) → D.explains start result.1
         → result.0 ≡ Err (DamagedAt line)
         → IsDamaged IsWholeEntry longest_entry line (D.seen start device) }
+    ensures refused { (start : List ℕ) → D.explains start result.1
+        → (IsKeptLog IsWholeEntry longest_entry (D.seen start device) → ⊥)
+        → RefusesLog (D.seen start device) result.0 }
     ensures foreign { (start : List ℕ) → D.explains start result.1
         → (IsKeptLog IsWholeEntry longest_entry (D.seen start device) → ⊥)
         → OnlyReads (D.seen start) (D.may_leave start) D.moment (D.left_since start) device result.1
@@ -99,7 +109,10 @@ pub fn watch<D: DiskFile + Drop, R: Read, W: Write, F: Write>(
     let Ok(listener) = Listener::starting(alloc, &saved) else {
         return keeper.answer(Err(WatchFault::Memory));
     };
-    let first = saved.newest().unwrap_or(0);
+    let first = StartMoments {
+        newest: saved.newest().unwrap_or(0),
+        started: moment,
+    };
     let logging = LoggingListener {
         listener,
         keeper,

@@ -6,14 +6,14 @@ pub mod laws;
 mod left_on;
 mod lines;
 mod logging_listener;
-#[cfg(test)]
-mod tests;
+mod stamped;
 mod watch_fault;
 mod watch_report;
 
 pub use kept_log::start::remembered;
 pub use left_on::watch;
-pub use lines::line_run::{ActingTaker, LinesWatched, WatchEnd, WriteFailed, watch_lines};
+pub use lines::line_effects::StartMoments;
 pub use lines::telling::{tell, write_more};
+pub use stamped::StampedReader;
 pub use watch_fault::WatchFault;
 pub use watch_report::WatchReport;

@@ -16,12 +16,15 @@ ghost use Rattle.nx_watch.specs.LineRun.{StandsWith, WithWriter, with_writer};
 ghost use Rattle.nx_watch.specs.declared.kept_log.keeper.Keeper.{Keeper as TheKeeper};
 ghost use Rattle.nx_watch.specs.declared.logging_listener.LoggingListener.{LoggingListener as TheLoggingListener};
 ghost use Rattle.nx_watch.specs.LineRun.{TellsOfLines};
+ghost use Rattle.nx_watch.specs.Stamps.{IsFresh, counted_of, stamps_of};
 ghost use Rattle.nx_watch.specs.private.Keeping.{HasKept, KeepsWith};
 ghost use Rattle.nx_watch.specs.private.LoggingListener.{HasClosed, HasRun, IsCopyInRange, IsLineInRange, KeepsHeard, KeepsLines};
 
 use crate::kept_log::keeper::Keeper;
 use crate::lines::any_scanner::MOST_BYTES;
+use crate::lines::line_effects::StartMoments;
 use crate::lines::line_run::{ActingTaker, WatchEnd, WriteFailed, watch_lines};
+use crate::stamped::StampedReader;
 use crate::watch_fault::WatchFault;
 use crate::watch_report::WatchReport;
 use arrayvec::ArrayVec;
@@ -154,32 +157,34 @@ impl<D: DiskFile + Drop> LoggingListener<D> {
     }
 
     /// Watches the lines of an input, and answers how that ended; and the file. `first` is the
-    /// moment in force at first.
+    /// moments with which it starts.
     pub(crate) fn run<R: Read, W: Write, F: Write>(
         mut self,
-        first: u64,
-        reader: &mut Counting<R>,
+        first: StartMoments,
+        reader: &mut StampedReader<R, D, Counting<W>, Counting<F>>,
         writer: &mut Counting<W>,
         notices: &mut Counting<F>,
     ) -> (Result<WatchReport, WatchFault>, D)
-        requires reader { reader.old.failures ≡ 0 }
+        requires reader { IsFresh reader.old }
         requires writer { writer.old.failures ≡ 0 }
         requires notices { notices.old.failures ≡ 0 }
-        ensures runs { first ≡ (starts_of self.listener).moment
+        ensures runs { first.newest ≡ (starts_of self.listener).moment → self.keeper.put ≡ 0
             → (starts_of self.listener).moment ≤ last_moment
             → HearsGiven (starts_of self.listener) self.listener [] []
             → HasKept D.DiskFile self.keeper self.keeper [] []
-            → HasRun D.DiskFile self (λ content. record {
+            → HasRun D.DiskFile first.started self (λ content. record {
               tells = D.DiskFile;
               start = content;
               disk = self.keeper.log.device;
               disk_after = result.1;
-              streams = devices R.remaining W.contents reader.old reader.new writer.old writer.new;
+              streams = devices R.remaining W.contents (counted_of reader.old)
+                  (counted_of reader.new) writer.old writer.new;
               told = F.contents;
               notices = notices.old;
               notices_after = notices.new;
+              stamps = stamps_of reader.new;
             }) result.0 result.1 }
-        ensures told { first ≡ (starts_of self.listener).moment
+        ensures told { first.newest ≡ (starts_of self.listener).moment
             → (starts_of self.listener).moment ≤ last_moment
             → HearsGiven (starts_of self.listener) self.listener [] []
             → HasKept D.DiskFile self.keeper self.keeper [] []
@@ -231,6 +236,10 @@ impl<D: DiskFile + Drop> ActingTaker for LoggingListener<D> {
     ghost first_moment = { λ logging. (starts_of logging.listener).moment };
 
     ghost stands = { KeepsLines D.DiskFile };
+
+    fn set_moment(&mut self, given: u64) {
+        LoggingListener::set_moment(self, given);
+    }
 
     fn take<W: Write>(
         &mut self,

@@ -9,6 +9,7 @@ use nx_program::laws::{
 };
 use nx_program::log_laws::log_in_examples;
 use nx_program::{NoFiles, answer};
+use nx_watch::StampedReader;
 use std::alloc::Global;
 use std::io::{Error, ErrorKind};
 use std::process::Abort;
@@ -122,24 +123,18 @@ fn expect_end_without_arguments(
     status: u8,
     line: &str,
 ) {
-    let mut input = Counting::new(Source::of(b""));
+    let input = StampedReader::new(Counting::new(Source::of(b"")));
     let mut output = Counting::new(Sink::new(Vec::new(alloc)));
     let mut faults = Counting::new(Sink::new(Vec::new(alloc)));
     let arguments = Err(Error::from(kind));
-    let ended = answer(
-        alloc,
-        arguments,
-        &mut input,
-        &mut output,
-        &mut faults,
-        NoFiles,
-    )
-    .status;
+    let ended = answer(alloc, arguments, input, &mut output, &mut faults, NoFiles);
     expect_text(rt, line, &faults.into_inner().taken, line.as_bytes());
     assert!(rt;
-        ended == status,
-        "{line}: status {ended} in place of {status}"
+        ended.status == status,
+        "{line}: status {} in place of {status}",
+        ended.status
     );
+    let input = ended.input.into_inner();
     assert!(rt; input.into_inner().calls == 0, "{line}");
     assert!(rt; output.into_inner().calls == 0, "{line}");
 }

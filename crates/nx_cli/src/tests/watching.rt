@@ -5,9 +5,10 @@ use super::air::{MOMENT_OF_EA01, join};
 use super::devices::{Sink, Source};
 use super::expect_text;
 use super::station::AIR_FILE_OF_EA01;
-use nx_disk::{FileFault, Noted, TornFile};
+use nx_disk::{FileFault, LeftBefore, Noted, TornFile};
 use nx_fec::Counting;
 use nx_program::{LogFiles, answer};
+use nx_watch::StampedReader;
 use std::alloc::Global;
 use std::process::Abort;
 
@@ -36,7 +37,7 @@ impl LogFiles for Given {
 fn file_of(rt: &impl Abort, alloc: Global, bytes: &[u8], failing: u64) -> Given {
     let file = TornFile::new(alloc, bytes).expect(rt, "memory");
     Given {
-        opened: Ok(Noted::new(file.failing_in(failing))),
+        opened: Ok(Noted::new(file.failing_in(failing), LeftBefore::any())),
     }
 }
 
@@ -65,15 +66,8 @@ fn expect_watch(
     let mut output = Counting::new(Sink::new(Vec::new(alloc)));
     let mut faults = Counting::new(Sink::new(Vec::new(alloc)));
     let arguments = Ok(arguments_of_watch(rt, alloc));
-    let mut input = Counting::new(source);
-    let ended = answer(
-        alloc,
-        arguments,
-        &mut input,
-        &mut output,
-        &mut faults,
-        files,
-    );
+    let input = StampedReader::new(Counting::new(source));
+    let ended = answer(alloc, arguments, input, &mut output, &mut faults, files);
     expect_text(rt, row, &faults.into_inner().taken, end.1.as_bytes());
     expect_text(rt, row, &output.into_inner().taken, end.2);
     assert!(rt;

@@ -56,31 +56,34 @@ left_after (suc (suc zero)) size false bytes seen left is = (seen, is, cut_none 
 left_after (suc (suc (suc more))) at true bytes seen left is = refl
 left_after (suc (suc (suc more))) at false bytes seen left is = is
 
-pub seen_is_left : (start : List ℕ) (events : List Event)
-    → MayLeave start events (seen_of start events)
-seen_is_left start [] = tt
-seen_is_left start (event ∷ earlier) = left_after event.0 event.1 event.3 event.4
-    (seen_of start earlier) (MayLeave start earlier) (seen_is_left start earlier)
+pub seen_is_left : (start : List ℕ) (first : List (List ℕ)) (events : List Event)
+    → MayLeave start first events (seen_of start events)
+seen_is_left start first [] = inl refl
+seen_is_left start first (event ∷ earlier) = left_after event.0 event.1 event.3 event.4
+    (seen_of start earlier) (MayLeave start first earlier) (seen_is_left start first earlier)
 
 -- each outcome of a write, whole or torn
-pub write_follows : (start : List ℕ) (events : List Event) (at : ℕ) (ok : Bool) (bytes : List ℕ)
+pub write_follows : (start : List ℕ) (first : List (List ℕ)) (events : List Event) (at : ℕ)
+    (ok : Bool) (bytes : List ℕ)
     → at ≤ length (seen_of start events)
-    → Follows (Torn at (length bytes)) (MayLeave start events)
-    (LeftAfter 1 at ok bytes (seen_of start events) (MayLeave start events))
-write_follows start events at ok bytes within c (inl torn) = torn
-write_follows start events at true bytes within c (inr is) = (
+    → Follows (Torn at (length bytes)) (MayLeave start first events)
+    (LeftAfter 1 at ok bytes (seen_of start events) (MayLeave start first events))
+write_follows start first events at ok bytes within c (inl torn) = torn
+write_follows start first events at true bytes within c (inr is) = (
   seen_of start events,
-  seen_is_left start events,
+  seen_is_left start first events,
   subst (Torn at (length bytes) (seen_of start events)) (sym is)
       (torn_whole at bytes (seen_of start events) within),
 )
-write_follows start events at false bytes within c (inr is) = (
+write_follows start first events at false bytes within c (inr is) = (
   seen_of start events,
-  seen_is_left start events,
+  seen_is_left start first events,
   subst (Torn at (length bytes) (seen_of start events)) (sym is)
       (torn_none at (length bytes) (seen_of start events)),
 )
 
-pub sync_follows : (start : List ℕ) (events : List Event) (c : List ℕ) → c ≡ seen_of start events
-    → MayLeave start events c
-sync_follows start events c is = subst (MayLeave start events) (sym is) (seen_is_left start events)
+pub sync_follows : (start : List ℕ) (first : List (List ℕ)) (events : List Event) (c : List ℕ) → c
+    ≡ seen_of start events
+    → MayLeave start first events c
+sync_follows start first events c is = subst (MayLeave start first events) (sym is)
+    (seen_is_left start first events)

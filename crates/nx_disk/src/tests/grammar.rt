@@ -44,11 +44,14 @@ fn fits_at(place: usize, byte: u8) -> bool
     byte != 0 && (place > 0 || byte == b'[')
 }
 
-/// How many records it has taken, and the first byte behind the bracket of the last.
-#[derive(Clone, Copy, Drop)]
+/// How many records it has taken, and the first byte behind the bracket of the last; how many bytes
+/// it heard are cut, and on which line.
+#[derive(Clone, Copy, Default, Drop)]
 pub struct Count {
     pub records: u64,
     pub last: u8,
+    pub cut: usize,
+    pub cut_line: u64,
 }
 
 impl RecordTaker for Count {
@@ -56,8 +59,15 @@ impl RecordTaker for Count {
 
     ghost takes = { λ _ _ _. Unit {0} };
 
+    ghost hears_of_cut = { λ _ _ _ _. Unit {0} };
+
     fn take(&mut self, bytes: &[u8]) {
         self.records = self.records.wrapping_add(1);
         self.last = bytes.get(1).copied().unwrap_or(0);
+    }
+
+    fn hear_of_cut(&mut self, line: u64, bytes: &[u8]) {
+        self.cut = bytes.len();
+        self.cut_line = line;
     }
 }

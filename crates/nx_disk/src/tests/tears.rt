@@ -1,7 +1,7 @@
 //! A file in memory whose disk fails, and tears what was written, in each call.
 
 use super::grammar::{Count, Trial};
-use crate::{Noted, Tear, TornFile};
+use crate::{LeftBefore, Noted, Tear, TornFile};
 use nx_kept::{KeptLog, OpenFault};
 use std::alloc::Global;
 use std::process::Abort;
@@ -17,11 +17,13 @@ const REST: &[u8; 44] = b"\n[EA01 2025-01-01 00:40:00 full 0/5]\nTEST\n\n ";
 type Log = KeptLog<Noted<TornFile>, Trial>;
 
 fn open(alloc: Global, file: TornFile) -> (Result<Log, (OpenFault, Noted<TornFile>)>, Count) {
-    let mut count = Count {
-        records: 0,
-        last: 0,
-    };
-    let opened = KeptLog::open(alloc, Noted::new(file), Trial, &mut count);
+    let mut count = Count::default();
+    let opened = KeptLog::open(
+        alloc,
+        Noted::new(file, LeftBefore::any()),
+        Trial,
+        &mut count,
+    );
     (opened, count)
 }
 
@@ -50,7 +52,7 @@ fn an_entry_is_put_behind_a_newline(rt: HostRuntime) -> Result<(), Fail> {
 fn a_log_at_rest_is_only_read(rt: HostRuntime) -> Result<(), Fail> {
     let alloc = rt.alloc();
     let (log, count) = opened(alloc, REST)?;
-    assert_eq!(rt; count.records, 1);
+    assert_eq!(rt; (count.records, count.cut), (1, 0));
     // It is synced, and read at each gate.
     assert_eq!(rt; log.device.file().calls(), 3);
     Ok(())
@@ -64,12 +66,25 @@ fn a_torn_tail_is_cut(rt: HostRuntime) -> Result<(), Fail> {
     torn.extend_from_slice(b"[EA02 2025")?;
     let (log, count) = opened(alloc, &torn)?;
     assert_eq!(rt; count.records, 1);
+    // The closed gate stands on the line behind the four of the entry.
+    assert_eq!(rt; (count.cut, count.cut_line), (10, 5));
     assert_eq!(rt; log.device.file().bytes(), REST.as_slice());
     Ok(())
 }
 
+// So is a gate that was torn, which is any byte but a space.
+#[test]
+fn a_torn_gate_is_cut(rt: HostRuntime) -> Result<(), Fail> {
+    let alloc = rt.alloc();
+    let (log, count) = opened(alloc, b"\0")?;
+    assert_eq!(rt; (count.records, count.cut, count.cut_line), (0, 1, 1));
+    assert_eq!(rt; log.device.file().bytes(), b" ".as_slice());
+    Ok(())
+}
+
 fn refused(rt: &impl Abort, alloc: Global, bytes: &[u8], fault: OpenFault) -> Result<(), Fail> {
-    let (opened, _count) = open(alloc, TornFile::new(alloc, bytes)?);
+    let (opened, count) = open(alloc, TornFile::new(alloc, bytes)?);
+    assert_eq!(rt; count.cut, 0);
     match opened {
         Ok(_log) => assert!(rt; false, "refused"),
         Err((why, device)) => {

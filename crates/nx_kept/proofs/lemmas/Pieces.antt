@@ -1,5 +1,6 @@
 -- Beginnings and ends of lists.
 use Rattle.std.proofs.Common.{◌≡◌, ℕ, zero, suc, ◌+◌, ◌<◌, ◌≤◌, Bool, List, [], ◌∷◌, ◌++◌, length, take, refl, sym, ◌∙◌, ap, arith, count_by}
+use Rattle.std.specs.Prelude.{Result, Ok, Err, OnErr}
 use Rattle.std.proofs.lemmas.List.Sums.{sum_by-append}
 
 -- of two beginnings of one list the longer one begins with the shorter one
@@ -31,3 +32,8 @@ take_short (suc n) (x ∷ xs) lt = ap (λ (l : List ℕ). x ∷ l) (take_short n
 pub count_by-append : (p : ℕ → Bool) (xs ys : List ℕ)
     → count_by p (xs ++ ys) ≡ count_by p xs + count_by p ys
 count_by-append p xs ys = sum_by-append _ xs ys
+
+-- what holds anyway holds of an answer that is a fault
+pub on_err : {A E P : Type 0} (answer : Result A E) → P → OnErr answer P
+on_err (Ok value) holds = tt
+on_err (Err fault) holds = holds

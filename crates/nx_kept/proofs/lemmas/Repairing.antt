@@ -1,16 +1,16 @@
 -- What a crash leaves while the end of a log is put right.
-use Rattle.std.proofs.Common.{◌≡◌, ◌⊎◌, inl, inr, ℕ, suc, ◌+◌, ◌-◌, ◌<◌, ◌≤◌, List, [], ◌∷◌, ◌++◌, length, take, drop, refl, sym, ◌∙◌, ap, subst, arith, length-append, length-drop, length-take, take-append-drop}
+use Rattle.std.proofs.Common.{◌≡◌, ◌⊎◌, inl, inr, ⊎_elim, ℕ, suc, ◌+◌, ◌-◌, ◌<◌, ◌≤◌, List, [], ◌∷◌, ◌++◌, length, take, drop, refl, sym, ◌∙◌, ap, subst, arith, length-append, length-drop, length-take, take-append-drop}
 use Rattle.std.proofs.lemmas.List.{append-nil, take_at, take_all, drop_at}
 use Rattle.nx_kept.specs.Disk.{Cut, LeavesOnly, Only, Torn}
-use Rattle.nx_kept.specs.Kept.{closed_gate, IsBehindOpenGates, IsTail, StandsFor}
+use Rattle.nx_kept.specs.Kept.{closed_gate, IsBehindOpenGates, IsTail, StandsFor, StandsForEither}
 use Rattle.nx_kept.specs.private.Scan.{Ends, IsCutThere, ReadsUpTo}
 use Rattle.nx_kept.specs.declared.scan.Rest.{Rest}
-use Rattle.nx_kept.specs.Open.{HasCause}
+use Rattle.nx_kept.specs.Open.{HasCause, KeepsEither, KeepsRecords, SyncsFirst}
 use Rattle.nx_kept.specs.declared.fault.OpenFault.{OpenFault}
 use Rattle.nx_kept.specs.declared.fault.OpenFault.TheVariants.{Read, Disk, Damaged, Memory}
 use Rattle.nx_kept.proofs.lemmas.KeptLaws.{more_behind, one_list, only_tail, short_tail, tail_begins}
 use Rattle.nx_kept.proofs.lemmas.Calls.{Cuts, File, IsOnlyNow, Leaves, Reads, Syncs, Writes, begun, cut, durable, reads_leave, wrote}
-use Rattle.nx_kept.proofs.lemmas.Stages.{joined, reads_both}
+use Rattle.nx_kept.proofs.lemmas.Stages.{joined, weaker}
 use Rattle.nx_kept.proofs.lemmas.Pieces.{take_past}
 
 -- the file itself
@@ -112,41 +112,104 @@ module _ {D : Type 0} (f : File D) (place : ℕ) {old : D}
       (omega (arith, within, ap length (syncs.seen ∙ is), length-take place (f.seen old))) writes
       (λ d c is torn. torn_there place (f.seen old) d c within is torn) (λ c is. is)
 
--- a file that was brought to the disk, read, and repaired behind its records
-pub repaired : {D T : Type 0} (f : File D) (is_record : List ℕ → Type 0) (longest : ℕ)
-    (some : (bytes : List ℕ) → is_record bytes → 0 < length bytes)
-    (one : (bytes more : List ℕ) → is_record bytes → is_record (bytes ++ more) → more ≡ [])
-    {takes : T → List ℕ → T → Type 0} {before after : T} (records : List (List ℕ)) (end : Rest)
-    {old mid read now : D} → StandsFor is_record longest records (f.seen old) → Reads f old mid
-    → Only (f.seen old) (f.may_leave mid) → Reads f mid read
-    → Ends is_record longest takes (f.seen mid) before after end
-    → (end.gate ≤ length (f.seen read) → Only (f.seen read) (f.may_leave read)
-    → LeavesOnly f.moment f.left_since read now (IsCutThere end.gate (f.seen read)))
-    → LeavesOnly f.moment f.left_since old now
-    (λ c. f.may_leave old c ⊎ StandsFor is_record longest records c)
-repaired f is_record longest some one records end {old} {mid} {read} {now} stands first only second
-    ends repairs =
-    let Kept = λ (c : List ℕ). f.may_leave old c ⊎ StandsFor is_record longest records c in
-    let same : f.seen read ≡ f.seen old = second.same ∙ first.same in
-    let file_is : f.seen read ≡ ends.front ++ ends.tail = second.same ∙ ends.split in
-    let found : StandsFor is_record longest ends.records (f.seen old) = record {
-      front = ends.front;
-      tail = ends.tail;
-      kept = ends.kept;
-      end = ends.is_tail;
-      split = sym first.same ∙ ends.split;
-    } in
-    let same_records =
-    one_list is_record longest some one ends.records records (f.seen old) found stands in
-    joined f.moment f.left_since f.may_leave Kept (IsCutThere end.gate (f.seen read)) old read now
-    (reads_leave f (StandsFor is_record longest records)
-    (reads_both f.moment f.left_since f.may_leave f.seen old mid read first second))
-    (repairs
-    (omega (arith, ends.gate, ap length file_is, length-append ends.front ends.tail))
-    (λ c left. only c (second.crash c left) ∙ sym same))
-    (λ c cut. inr (subst (λ (r : List (List ℕ)). StandsFor is_record longest r c) same_records
-    (cut_keeps is_record longest ends.records ends.front ends.tail end.gate (f.seen read) c
-    ends.kept ends.is_tail file_is ends.gate cut)))
+module _ {D : Type 0} (f : File D) (is_record : List ℕ → Type 0) (longest : ℕ) where
+  -- the file was brought to the disk, and since then a crash leaves the records
+  abbrev pub SyncedFirst : List (List ℕ) → D → D → Type 0
+  SyncedFirst records old new =
+      SyncsFirst is_record longest f.seen f.may_leave f.moment f.left_since records old new
+
+  -- and was read
+  pub read_since : (records : List (List ℕ)) {old mid read : D}
+      → StandsFor is_record longest records (f.seen old) → Only (f.seen old) (f.may_leave mid)
+      → Reads f mid read → LeavesOnly f.moment f.left_since mid read
+      (StandsFor is_record longest records)
+  read_since records {old} {mid} {read} stands only second =
+      weaker f.moment f.left_since f.may_leave (StandsFor is_record longest records)
+      (f.may_leave mid) mid read second.any_moment
+      (λ c left. subst (StandsFor is_record longest records) (sym (only c left)) stands)
+
+  pub read_first : (records : List (List ℕ)) {old mid read : D}
+      → StandsFor is_record longest records (f.seen old) → Reads f old mid
+      → Only (f.seen old) (f.may_leave mid) → Reads f mid read → SyncedFirst records old read
+  read_first records {old} {mid} {read} stands first only second = record {
+    synced = mid;
+    only_read = first;
+    durable = only;
+    since = read_since records stands only second;
+  }
+
+  -- and was repaired behind its records
+  pub repaired : (some : (bytes : List ℕ) → is_record bytes → 0 < length bytes)
+      (one : (bytes more : List ℕ) → is_record bytes → is_record (bytes ++ more) → more ≡ [])
+      {T : Type 0} {takes : T → List ℕ → T → Type 0} {hears : T → ℕ → List ℕ → T → Type 0}
+      {before after : T} (records : List (List ℕ))
+      (end : Rest) {old mid read now : D} → StandsFor is_record longest records (f.seen old)
+      → Reads f old mid → Only (f.seen old) (f.may_leave mid) → Reads f mid read
+      → Ends is_record longest takes hears (f.seen mid) before after end
+      → (end.gate ≤ length (f.seen read) → Only (f.seen read) (f.may_leave read)
+      → LeavesOnly f.moment f.left_since read now (IsCutThere end.gate (f.seen read)))
+      → SyncedFirst records old now
+  repaired some one records end {old} {mid} {read} {now} stands first only second ends repairs =
+      let same : f.seen read ≡ f.seen old = second.same ∙ first.same in
+      let file_is : f.seen read ≡ ends.all.front ++ ends.all.tail = second.same ∙ ends.all.split in
+      let found : StandsFor is_record longest ends.all.records (f.seen old) = record {
+        front = ends.all.front;
+        tail = ends.all.tail;
+        kept = ends.all.kept;
+        end = ends.all.end;
+        split = sym first.same ∙ ends.all.split;
+      } in
+      let same_records =
+      one_list is_record longest some one ends.all.records records (f.seen old) found stands in
+      record {
+        synced = mid;
+        only_read = first;
+        durable = only;
+        since =
+            joined f.moment f.left_since f.may_leave (StandsFor is_record longest records)
+            (IsCutThere end.gate (f.seen read)) mid read now
+            (read_since records stands only second)
+            (repairs
+            (omega (
+              arith,
+              ends.gate,
+              ap length file_is,
+              length-append ends.all.front
+                  ends.all.tail,
+            ))
+            (λ c left. only c (second.crash c left) ∙ sym same))
+            (λ c cut. subst (λ (r : List (List ℕ)). StandsFor is_record longest r c) same_records
+            (cut_keeps is_record longest ends.all.records ends.all.front ends.all.tail end.gate
+            (f.seen read) c
+            ends.all.kept ends.all.end file_is ends.gate cut));
+      }
+
+  -- so a crash leaves the records, or what it could leave before
+  pub keeps_records : (records : List (List ℕ)) {old new : D} → SyncedFirst records old new
+      → KeepsRecords is_record longest f.may_leave f.moment f.left_since records old new
+  keeps_records records {old} {new} synced =
+      joined f.moment f.left_since f.may_leave
+      (λ c. f.may_leave old c ⊎ StandsFor is_record longest records c)
+      (StandsFor is_record longest records) old synced.synced new
+      (reads_leave f (StandsFor is_record longest records) synced.only_read) synced.since
+      (λ c stands. inr stands)
+
+  pub keeps_records_err : (records : List (List ℕ)) {old new : D}
+      → SyncedFirst records old new ⊎ Reads f old new
+      → KeepsRecords is_record longest f.may_leave f.moment f.left_since records old new
+  keeps_records_err records {old} {new} steps = elim steps [
+    | inl synced ↦ keeps_records records synced
+    | inr reads ↦ reads_leave f (StandsFor is_record longest records) reads
+  ]
+
+  -- and others only where it could before
+  pub keeps_either : (records others : List (List ℕ)) {old new : D}
+      → KeepsRecords is_record longest f.may_leave f.moment f.left_since records old new
+      → KeepsEither is_record longest f.may_leave f.moment f.left_since records others old new
+  keeps_either records others {old} {new} keeps before =
+      weaker f.moment f.left_since f.may_leave (StandsForEither is_record longest records others)
+      (λ c. f.may_leave old c ⊎ StandsFor is_record longest records c) old new keeps
+      (λ c left. ⊎_elim (before c) (λ stands. inl stands) left)
 
 -- why a reading failed is why the opening failed
 pub read_cause : {D : Type 0} → (faults : D → ℕ) (to_read to_write : D → Type 0) (fault : OpenFault)

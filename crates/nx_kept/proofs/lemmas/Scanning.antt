@@ -1,11 +1,11 @@
 -- How far a log has been read.
-use Rattle.std.proofs.Common.{◌≡◌, ℕ, suc, ◌+◌, ◌<◌, ◌≤◌, List, [], ◌∷◌, ◌++◌, length, take, drop, refl, sym, ◌∙◌, ap, subst, arith, append_assoc, length-append, length-take, count_by, ◌==◌}
-use Rattle.std.proofs.lemmas.List.{drop_at, drop-take, take_at, take-take}
-use Rattle.nx_kept.specs.Kept.{line_feed, line_behind, IsBehindOpenGates, IsDamaged, IsDamagedBehind}
-use Rattle.nx_kept.specs.Taker.{Took}
-use Rattle.nx_kept.specs.private.Scan.{IsAtRecord}
+use Rattle.std.proofs.Common.{◌≡◌, ◌↔◌, Bool, IsTrue, ℕ, suc, ◌+◌, ◌<◌, ◌≤◌, List, [], ◌∷◌, ◌++◌, length, take, drop, refl, sym, ◌∙◌, ap, subst, arith, append_assoc, length-append, length-take, count_by, ◌==◌}
+use Rattle.std.proofs.lemmas.List.{drop_at, drop-take, take_all, take_at, take-take}
+use Rattle.nx_kept.specs.Kept.{closed_gate, line_feed, line_behind, IsTail, IsBehindOpenGates, IsDamaged, IsDamagedBehind}
+use Rattle.nx_kept.specs.Taker.{HeardOfCut, Took, cut_of}
+use Rattle.nx_kept.specs.private.Scan.{Ends, IsAtRecord}
 use Rattle.nx_kept.proofs.lemmas.Pieces.{count_by-append, take_past}
-use Rattle.nx_kept.proofs.lemmas.KeptLaws.{one_behind, damaged_behind}
+use Rattle.nx_kept.proofs.lemmas.KeptLaws.{one_behind, damaged_behind, tail_short}
 
 -- one record more was taken
 pub took_one : {T : Type 0} (takes : T → List ℕ → T → Type 0) (records : List (List ℕ))
@@ -135,3 +135,35 @@ module _ (is_record : List ℕ → Type 0) {T : Type 0} (takes : T → List ℕ 
               (sym reached.split) whole,
           omega (arith, reached.at_line, count, both),
         )
+
+    -- what is left is a tail, of which what is to be cut was heard of
+    pub reached_end : (hears : T → ℕ → List ℕ → T → Type 0) (now after : T) (bytes : List ℕ)
+        (is_closed : Bool) → Reached file gate line old now
+        → bytes ≡ take (longest + 3) (drop gate file) → IsTail longest (drop gate file)
+        → (IsTrue is_closed ↔ (bytes ≡ closed_gate ∷ []))
+        → HeardOfCut hears line (cut_of bytes) now after
+        → Ends is_record longest takes hears file old after
+        (record { gate = gate; is_closed = is_closed })
+    reached_end hears now after bytes is_closed reached shown is closed heard =
+        let rest_is = left_is file gate line old now reached in
+        let short = tail_short is_record longest (drop gate file) is in
+        let all : bytes ≡ reached.rest = shown
+        ∙ take_all (longest + 3) (drop gate file) (omega (arith, short)) ∙ rest_is in
+        record {
+          all = record {
+            records = reached.records;
+            front = reached.front;
+            tail = reached.rest;
+            kept = reached.kept;
+            end = subst (IsTail longest) rest_is is;
+            split = reached.split;
+            given = now;
+            taken = reached.taken;
+            heard =
+                subst (λ (l : ℕ). HeardOfCut hears l (cut_of reached.rest) now after)
+                reached.at_line
+                (subst (λ (t : List ℕ). HeardOfCut hears line (cut_of t) now after) all heard);
+          };
+          gate = reached.place;
+          closed = ((λ is_true. sym all ∙ closed.0 is_true), (λ same. closed.1 (all ∙ same)));
+        }

@@ -3,8 +3,8 @@ use Rattle.std.specs.Prelude.{◌≡◌, ◌≢◌, ◌⊎◌, ◌↔◌, ℕ, �
 use Rattle.nx_kept.specs.Disk.{FailedOnce, Only}
 use Rattle.nx_kept.specs.declared.fault.OpenFault.{OpenFault}
 use Rattle.nx_kept.specs.declared.fault.OpenFault.TheVariants.{Read, Disk, Damaged as DamagedAt, Memory}
-use Rattle.nx_kept.specs.Kept.{closed_gate, IsBehindOpenGates, IsTail, IsDamagedBehind}
-use Rattle.nx_kept.specs.Taker.{Took}
+use Rattle.nx_kept.specs.Kept.{closed_gate, IsTail, IsDamagedBehind}
+use Rattle.nx_kept.specs.Taker.{TookAll}
 use Rattle.nx_kept.specs.declared.scan.Step.{Step}
 use Rattle.nx_kept.specs.declared.scan.Step.TheVariants.{Tail, Record, Damaged}
 use Rattle.nx_kept.specs.declared.scan.Rest.{Rest}
@@ -26,18 +26,14 @@ module _ (is_record : List ℕ → Type 0) (longest : ℕ) where
   Steps bytes (Record n) = IsAtRecord n bytes
   Steps bytes (Damaged place) = IsDamagedBehind is_record longest place bytes
 
-  -- the file is records behind open gates, which were taken, and a tail
-  pub record Ends {T : Type 0} (takes : T → List ℕ → T → Type 0) (file : List ℕ) (old new : T)
-      (end : Rest) : Type 0 where
-    pub records : List (List ℕ)
-    pub front : List ℕ
-    pub tail : List ℕ
-    pub kept : IsBehindOpenGates is_record records front
-    pub is_tail : IsTail longest tail
-    pub split : file ≡ front ++ tail
-    pub gate : end.gate ≡ length front
-    pub closed : IsTrue end.is_closed ↔ (tail ≡ closed_gate ∷ [])
-    pub taken : Took takes old records new
+  -- the file is records behind open gates, which were taken, and a tail, of which what is to be
+  -- cut was heard of
+  pub record Ends {T : Type 0} (takes : T → List ℕ → T → Type 0)
+      (hears_of_cut : T → ℕ → List ℕ → T → Type 0) (file : List ℕ) (old new : T) (end : Rest)
+      : Type 0 where
+    pub all : TookAll is_record longest takes hears_of_cut file old new
+    pub gate : end.gate ≡ length all.front
+    pub closed : IsTrue end.is_closed ↔ (all.tail ≡ closed_gate ∷ [])
 
 -- the bytes are the file's up to the place, and then some more of it, or at most one byte of any
 -- kind
@@ -46,21 +42,16 @@ pub record IsCutThere (place : ℕ) (file bytes : List ℕ) : Type 0 where
   pub split : bytes ≡ take place file ++ rest
   pub behind : ((n : ℕ) × (rest ≡ take n (drop place file))) ⊎ (length rest ≤ 1)
 
--- The file was records behind open gates, which were taken, and a tail. Now a closed gate is in the
--- place of the tail, and a crash leaves just that.
+-- The file was records behind open gates, which were taken, and a tail, of which what is cut was
+-- heard of. Now a closed gate is in the place of the tail, and a crash leaves just that.
 pub record Settles {D T : Type 0} (is_record : List ℕ → Type 0) (longest : ℕ)
-    (takes : T → List ℕ → T → Type 0) (seen : D → List ℕ) (may_leave : D → List ℕ → Type 0)
-    (old new : D) (before after : T) (gate : ℕ) : Type 0 where
-  pub records : List (List ℕ)
-  pub front : List ℕ
-  pub tail : List ℕ
-  pub kept : IsBehindOpenGates is_record records front
-  pub end : IsTail longest tail
-  pub split : seen old ≡ front ++ tail
-  pub place : gate ≡ length front
-  pub closed : seen new ≡ front ++ closed_gate ∷ []
+    (takes : T → List ℕ → T → Type 0) (hears_of_cut : T → ℕ → List ℕ → T → Type 0)
+    (seen : D → List ℕ) (may_leave : D → List ℕ → Type 0) (old new : D) (before after : T)
+    (gate : ℕ) : Type 0 where
+  pub all : TookAll is_record longest takes hears_of_cut (seen old) before after
+  pub place : gate ≡ length all.front
+  pub closed : seen new ≡ all.front ++ closed_gate ∷ []
   pub durable : Only (seen new) (may_leave new)
-  pub taken : Took takes before records after
 
 -- why a reading failed: by its last call, or by the bytes alone
 abbrev pub ReadsUpTo : {D : Type 0} → (faults : D → ℕ) (has_failed_to_read : D → Type 0) → OpenFault

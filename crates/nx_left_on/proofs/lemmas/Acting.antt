@@ -3,7 +3,9 @@ use Rattle.std.proofs.Common.{◌≡◌, ℕ, true, false, cond, List, [], ◌�
 use Rattle.std.proofs.Common.{option_to_list, refl, sym, ap, ap₂, ◌∙◌, subst, append-nil, append_assoc}
 use Rattle.nx_fec.specs.air_files.AirFile.{Line}
 use Rattle.nx_watch.specs.Acting.{acting_behind, acting_lines, acts, moment_said, moments_said}
+use Rattle.nx_watch.specs.Acting.{with_start}
 use Rattle.nx_watch.specs.LineRun.{MayAct}
+use Rattle.nx_watch.specs.declared.lines.line_effects.StartMoments.{StartMoments}
 use Rattle.nx_watch.proofs.lemmas.lines.Run.{may-act}
 use Rattle.nx_left_on.proofs.lemmas.entries.Climbing.{Act}
 
@@ -71,8 +73,9 @@ acts-behind first moments (Some head ∷ lines) before after line e =
           (acts-behind first next lines before after line e))
     ] refl e
 
-pub acting-act : (first : ℕ) (said : List (Option Line)) (lines : List Line)
-    → lines ≡ acting_lines first said → Act first lines
-acting-act first said lines e before after line whole =
-    let a = acts-behind first [] said before after line (sym e ∙ whole) in
+pub acting-act : (start : StartMoments) (said : List (Option Line)) (lines : List Line)
+    → lines ≡ acting_lines start said → Act start.newest lines
+acting-act start said lines e before after line whole =
+    let first = start.newest in
+    let a = acts-behind first [] (with_start start said) before after line (sym e ∙ whole) in
     subst (λ l. MayAct first l line) a.acted (may-act first a.said line a.acts_now)

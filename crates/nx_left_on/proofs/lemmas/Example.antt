@@ -2,7 +2,7 @@
 -- once.
 use Rattle.std.proofs.Common.{◌≡◌, ℕ, ◌+◌, ◌<◌, ◌≤◌, Bool, false, true, List, [], ◌∷◌, ◌++◌}
 use Rattle.std.proofs.Common.{length, map, take, refl, sym, ap, ◌∙◌, subst, arith, append-nil, length-append}
-use Rattle.std.proofs.Common.{cond, lit<, lit≤, nat_le, nat_lt}
+use Rattle.std.proofs.Common.{cond, lit<, lit≤, nat_le}
 use Rattle.std.specs.Prelude.{codes, slice_index_or, Option, Some}
 use Rattle.std.proofs.lemmas.Bool.{and_from, le-leb}
 use Rattle.std.specs.List.{All, AllZip, Contains, concat}
@@ -19,7 +19,7 @@ use Rattle.nx_fec.specs.declared.air_files.channel.Channel.{Channel}
 use Rattle.nx_fec.specs.declared.air_files.channel.Channel.TheVariants.{Zero, One, Two}
 use Rattle.nx_fec.proofs.lemmas.emissions.RoundTrip.{length-bits_of}
 use Rattle.nx_log.specs.Logged.{IsLogged, IsLoggedAs, is_kept, is_text_byte, kept_entries, remembered_on}
-use Rattle.nx_memory.specs.Memory.{newest_moment}
+use Rattle.nx_memory.specs.Memory.{newest_moment, seconds_known}
 use Rattle.nx_memory.specs.Selection.{admits}
 use Rattle.nx_memory.specs.declared.memories.entry.MemoryEntry.{MemoryEntry}
 use Rattle.nx_station.specs.reception.PathExample.{ea01, example_message, example_parts, example_sending}
@@ -53,67 +53,64 @@ use Rattle.nx_receiver.proofs.lemmas.receiver.Logged.{end_adds, one_printed}
 use Rattle.nx_receiver.proofs.lemmas.channels.Marked.{of-one}
 use Rattle.nx_receiver.proofs.lemmas.channels.Some.{some-in_turn}
 use Rattle.nx_receiver.specs.examples.Emission.{damaged_words, worked_log}
-use Rattle.nx_watch.specs.Acting.{acting_behind, acting_lines, moment_said}
-use Rattle.nx_left_on.specs.Chain.{ClocksAreNear, GoesOn, HadEnded, IsChain, Judges}
-use Rattle.nx_left_on.specs.Chain.{Watch, all_copies, all_put, copies_in}
-use Rattle.nx_watch.specs.Watch.{StandsForEntries}
+use Rattle.nx_watch.specs.Acting.{acting_behind, acting_lines, moment_said, with_start}
+use Rattle.nx_watch.specs.declared.lines.line_effects.StartMoments.{StartMoments}
+use Rattle.nx_left_on.specs.Chain.{ClocksAreNear, GoesOn, HadEnded, IsChain, IsLeftBy, Judges}
+use Rattle.nx_left_on.specs.Chain.{Puts, Watch, answered, stopped, all_copies, all_put, copies_in}
+use Rattle.nx_left_on.specs.Chain.{with_copies}
+use Rattle.nx_watch.specs.Watch.{StandsForEntries, at_end, moments_at, unread}
 use Rattle.nx_left_on.specs.Chain.{events_in}
 use Rattle.nx_left_on.specs.Chain.{lines_of}
-use Rattle.nx_left_on.specs.Example.{example_watches, first_watch, kept_bytes, one_entry}
-use Rattle.nx_left_on.specs.Example.{second_watch}
+use Rattle.nx_left_on.specs.Example.{first_acting, first_moment, first_watch, kept_bytes, lines_at}
+use Rattle.nx_left_on.specs.Example.{one_entry, second_acting, second_watch}
 use Rattle.nx_left_on.specs.LeftOn.{AreFewOver, CutWatch, HasEndedAt, IsHeardInTimeOver, IsSentIn, elements_in}
 use Rattle.nx_left_on.specs.LeftOn.{in_force_in}
 use Rattle.nx_left_on.proofs.lemmas.chains.Chains.{entries-append, entries_on, none-remembered}
 use Rattle.nx_left_on.proofs.lemmas.chains.Found.{begins-itself, one-ended, some-ended, to_end-begin}
+use Rattle.nx_left_on.proofs.lemmas.chains.Keeps.{keeps-all, keeps-behind, one-told}
 use Rattle.nx_left_on.proofs.lemmas.chains.Links.{copies-append, put-append}
 use Rattle.nx_left_on.proofs.lemmas.chains.Once.{unknown-from_nothing}
+use Rattle.nx_left_on.proofs.lemmas.entries.Judging.{puts-with}
 
 -- ---- the lines of a watch: this moment, and the elements
 
-abbrev lines_heard : ℕ → List Line
-lines_heard n = moment n ∷ bit_lines bits
-
-events-are : (n : ℕ) → events_on Zero (lines_heard n) ≡ at_moment n ∷ events
+events-are : (n : ℕ) → events_on Zero (lines_at n) ≡ at_moment n ∷ events
 events-are n = ap (λ es. at_moment n ∷ es) (events-lines bits)
 
-same : (n : ℕ) → elements_among events ≡ elements_among (events_on Zero (lines_heard n))
+same : (n : ℕ) → elements_among events ≡ elements_among (events_on Zero (lines_at n))
 unfolding elements_among
 same n = sym (ap elements_among (events-are n))
 
 -- the other channels are given the moment alone
 none-among : (channel : Channel) → same_channel Zero channel ≡ false → (n : ℕ)
-    → elements_among (events_on channel (lines_heard n)) ≡ []
+    → elements_among (events_on channel (lines_at n)) ≡ []
 unfolding elements_among
 none-among channel h n =
     ap elements_among (ap (λ es. at_moment n ∷ es) (events-others channel h bits))
 
--- once a moment was said, lines of elements act
-elements-act : (first : ℕ) (moments indices : List ℕ) → nat_lt 0 (length moments) ≡ true
+-- lines of elements act
+elements-act : (first : ℕ) (moments indices : List ℕ)
     → acting_behind first moments (map Some (map (bit_line bits) indices))
     ≡ map (bit_line bits) indices
-elements-act first moments [] some = refl
-elements-act first moments (i ∷ indices) some =
-    let line = bit_line bits i in
-    let rest = map (bit_line bits) indices in
-    ap (λ b. cond b (line ∷ []) [] ++ acting_behind first (moments ++ []) (map Some rest)) some
-    ∙ ap (λ l. line ∷ l)
-    (elements-act first (moments ++ []) indices
-    (ap (λ ms. nat_lt 0 (length ms)) (append-nil moments) ∙ some))
+elements-act first moments [] = refl
+elements-act first moments (i ∷ indices) =
+    ap (λ l. bit_line bits i ∷ l) (elements-act first (moments ++ []) indices)
 
 abbrev said_on : ℕ → List (Option Line)
-said_on n = map Some (lines_heard n)
+said_on n = map Some (lines_at n)
 
-lines-act : (first n : ℕ) → first ≤ n → n ≤ 1735706400
-    → lines_heard n ≡ acting_lines first (said_on n)
-lines-act first n low high =
-    let range : nat_le n last_moment ≡ true = le-leb n last_moment (omega (arith, high)) in
+lines-act : (start : StartMoments) (n : ℕ) → start.newest ≤ n → n ≤ last_moment
+    → lines_at n ≡ acting_lines start (said_on n)
+lines-act start n low high =
+    let first = start.newest in
+    let range : nat_le n last_moment ≡ true = le-leb n last_moment high in
     let moments = moment_said (Some (moment n)) in
-    let some : nat_lt 0 (length moments) ≡ true =
-    ap (λ b. nat_lt 0 (length (cond b (n ∷ []) []))) range in
-    sym (ap (λ b. cond b (moment n ∷ []) []
-    ++ acting_behind first moments (map Some (bit_lines bits)))
+    let rest = map Some (bit_lines bits) in
+    sym (ap (λ b. acting_behind first [] (Some (moment n) ∷ cond b rest (with_start start rest)))
+    range
+    ∙ ap (λ b. cond b (moment n ∷ []) [] ++ acting_behind first moments rest)
     (and_from (nat_le n last_moment) (nat_le first n) range (le-leb first n low))
-    ∙ ap (λ l. moment n ∷ l) (elements-act first moments _ some))
+    ∙ ap (λ l. moment n ∷ l) (elements-act first moments _))
 
 -- ---- the copy in them
 
@@ -136,16 +133,16 @@ sent-there : IsSentAt (example_parts first_bits []) example_message 1189
 sent-there = subst (IsSentAt (example_parts first_bits []) example_message) place-is
     (example_sent first_bits [])
 
-stands-in : (n : ℕ) → IsNow (elements_among (events_on Zero (lines_heard n))) [] (locked 0 28)
+stands-in : (n : ℕ) → IsNow (elements_among (events_on Zero (lines_at n))) [] (locked 0 28)
 stands-in n = subst (λ (b : List Bool). IsNow b [] (locked 0 28)) (same n) stands_is
 
 found-to_end : (n : ℕ)
-    → found_to_end (elements_among (events_on Zero (lines_heard n))) [] (locked 0 28)
+    → found_to_end (elements_among (events_on Zero (lines_at n))) [] (locked 0 28)
     ≡ copy_heard ∷ []
 found-to_end n =
     sym (ap (λ (b : List Bool). found_to_end b [] (locked 0 28)) (same n)) ∙ copy-is
 
-cut-heard : (n : ℕ) → IsCut (elements_among (events_on Zero (lines_heard n)))
+cut-heard : (n : ℕ) → IsCut (elements_among (events_on Zero (lines_at n)))
     (example_parts first_bits [])
 cut-heard n = subst (λ (b : List Bool). IsCut b (example_parts first_bits [])) (same n) cut_is
 
@@ -157,9 +154,9 @@ only-one (x ∷ []) back copy other e c =
     let head : x ≡ copy = cc in ap (λ y. y ∷ []) head
 only-one (x ∷ y ∷ front) back copy other e c = cc
 
-ended-first : (n : ℕ) → HadEnded (events_on Zero (lines_heard n)) (copy_heard ∷ [])
+ended-first : (n : ℕ) → HadEnded (events_on Zero (lines_at n)) (copy_heard ∷ [])
 ended-first n =
-    let all = elements_among (events_on Zero (lines_heard n)) in
+    let all = elements_among (events_on Zero (lines_at n)) in
     let ended = ended_so_far all [] (locked 0 28) in
     record {
       locks = [];
@@ -173,9 +170,9 @@ ended-first n =
     }
 
 ended-none : (channel : Channel) → same_channel Zero channel ≡ false → (n : ℕ)
-    → HadEnded (events_on channel (lines_heard n)) []
+    → HadEnded (events_on channel (lines_at n)) []
 ended-none channel h n =
-    let events = events_on channel (lines_heard n) in
+    let events = events_on channel (lines_at n) in
     let f = found-none events (none-among channel h n) in
     let s = some-ended events in
     subst (HadEnded events)
@@ -189,7 +186,7 @@ ended-none channel h n =
 -- ---- what a watch of them judges and prints, whatever it starts with
 
 -- the copy with its moment
-abbrev copy_then : ℕ → TaggedCopy
+abbrev pub copy_then : ℕ → TaggedCopy
 copy_then n = heard_at n ea01 Full (codes "TEST\n")
 
 module _ (starts : Starts) (n : ℕ) (selects : starts.refused Zero ≡ none_refused) where
@@ -197,7 +194,7 @@ module _ (starts : Starts) (n : ℕ) (selects : starts.refused Zero ≡ none_ref
   first = first_setting (start_on starts Zero)
 
   abbrev given : List Event
-  given = events_on Zero (lines_heard n)
+  given = events_on Zero (lines_at n)
 
   in-force : setting_at first given 1189 ≡ record { moment = n; refused = none_refused }
   unfolding settings
@@ -243,7 +240,7 @@ module _ (starts : Starts) (n : ℕ) (selects : starts.refused Zero ≡ none_ref
   }
 
   none-printed : (channel : Channel) → same_channel Zero channel ≡ false
-      → HasPrinted (start_on starts channel) (events_on channel (lines_heard n)) []
+      → HasPrinted (start_on starts channel) (events_on channel (lines_at n)) []
   unfolding tagged_copies printed_copies
   none-printed channel h =
       let e = ended-none channel h n in
@@ -253,26 +250,26 @@ module _ (starts : Starts) (n : ℕ) (selects : starts.refused Zero ≡ none_ref
         now = e.now;
         stands = e.stands;
         printed = ap (λ copies. printed_copies start.entries
-            (tagged_copies (first_setting start) (events_on channel (lines_heard n)) copies))
+            (tagged_copies (first_setting start) (events_on channel (lines_at n)) copies))
             e.whole;
       }
 
-  in-turn : PrintsInTurn starts (given_by (lines_heard n)) (map (marked Zero) shown)
+  in-turn : PrintsInTurn starts (given_by (lines_at n)) (map (marked Zero) shown)
   in-turn =
-      let all = given_by (lines_heard n) in
+      let all = given_by (lines_at n) in
       let s = some-in_turn starts all in
       let on-0 : copies_on Zero s.0 ≡ shown =
       one_printed (start_on starts Zero) given (copies_on Zero s.0) shown (s.1.each Zero)
       printed-ended in
       let is : s.0 ≡ map (marked Zero) (copies_on Zero s.0) =
       of-one Zero s.0 (λ other h. one_printed (start_on starts other)
-      (events_on other (lines_heard n)) (copies_on other s.0) [] (s.1.each other)
+      (events_on other (lines_at n)) (copies_on other s.0) [] (s.1.each other)
       (none-printed other h)) in
       subst (PrintsInTurn starts all) (is ∙ ap (map (marked Zero)) on-0) s.1
 
-  to-end : PrintAllToEnd starts (given_by (lines_heard n)) (map (marked Zero) shown)
+  to-end : PrintAllToEnd starts (given_by (lines_at n)) (map (marked Zero) shown)
   to-end =
-      printed-alone Zero starts (given_by (lines_heard n)) shown (λ other h. none-among other h n)
+      printed-alone Zero starts (given_by (lines_at n)) shown (λ other h. none-among other h n)
       printed-closed
 
 -- ---- the log that holds the entry
@@ -318,60 +315,48 @@ one-stands =
       };
     }
 
--- ---- with what the two watches start
+-- ---- with what the first watch starts, and what it prints
 
 first-entries : first_watch.starts.entries Zero ≡ []
 unfolding kept_entries
 first-entries = refl
 
-first-moment : first_watch.starts.moment ≡ 0
+first-start : first_watch.starts.moment ≡ 0
 unfolding kept_entries
-first-moment = refl
+first-start = refl
 
-one-remembered : remembered_on Zero one_entry ≡ entry_of first_copy ∷ []
+pub one-remembered : remembered_on Zero one_entry ≡ entry_of first_copy ∷ []
 unfolding kept_entries is_kept
 one-remembered = refl
 
-second-entries : second_watch.starts.entries Zero ≡ entry_of first_copy ∷ []
-unfolding kept_entries is_kept
-second-entries = refl
-
-second-moment : second_watch.starts.moment ≡ 1735692000
-unfolding kept_entries is_kept
-second-moment = refl
-
-first-shown : printed_copies [] (copy_then 1735692000 ∷ []) ≡ first_copy ∷ []
+first-shown : printed_copies [] (copy_then first_moment ∷ []) ≡ first_copy ∷ []
 unfolding printed_copies if_printed is_printed
 first-shown = refl
 
-second-shown : printed_copies (entry_of first_copy ∷ []) (copy_then 1735706400 ∷ []) ≡ []
-unfolding printed_copies if_printed is_printed
-second-shown = refl
-
 -- ---- what a watch has that hears these lines
 
-record Hears (starts : Starts) (lines : List Line) (n : ℕ) : Type 0 where
-  acts : lines ≡ acting_lines starts.moment (said_on n)
-  ended : (channel : Channel) → HadEnded (events_on channel lines) (found_on channel)
-  found : (channel : Channel) → AreFoundIn (events_on channel lines) (found_on channel)
-  cut : IsCut (elements_among (events_on Zero lines)) (example_parts first_bits [])
-  long : 1189 < length (elements_among (events_on Zero lines))
-  force : setting_at (first_setting (start_on starts Zero)) (events_on Zero lines) 1189
+pub record Hears (starts : Starts) (lines : List Line) (n : ℕ) : Type 0 where
+  pub acts : lines ≡ acting_lines (moments_at n starts) (said_on n)
+  pub ended : (channel : Channel) → HadEnded (events_on channel lines) (found_on channel)
+  pub found : (channel : Channel) → AreFoundIn (events_on channel lines) (found_on channel)
+  pub cut : IsCut (elements_among (events_on Zero lines)) (example_parts first_bits [])
+  pub long : 1189 < length (elements_among (events_on Zero lines))
+  pub force : setting_at (first_setting (start_on starts Zero)) (events_on Zero lines) 1189
       ≡ record { moment = n; refused = none_refused }
-  copies : tagged_copies (first_setting (start_on starts Zero)) (events_on Zero lines)
+  pub copies : tagged_copies (first_setting (start_on starts Zero)) (events_on Zero lines)
       (copy_heard ∷ []) ≡ copy_then n ∷ []
-  turn : PrintsInTurn starts (given_by lines)
+  pub turn : PrintsInTurn starts (given_by lines)
       (map (marked Zero) (printed_copies (starts.entries Zero) (copy_then n ∷ [])))
-  all : PrintAllToEnd starts (given_by lines)
+  pub all : PrintAllToEnd starts (given_by lines)
       (map (marked Zero) (printed_copies (starts.entries Zero) (copy_then n ∷ [])))
 
 ended-on : (n : ℕ) (channel : Channel)
-    → HadEnded (events_on channel (lines_heard n)) (found_on channel)
+    → HadEnded (events_on channel (lines_at n)) (found_on channel)
 ended-on n Zero = ended-first n
 ended-on n One = ended-none One refl n
 ended-on n Two = ended-none Two refl n
 
-found-first : (n : ℕ) → AreFoundIn (events_on Zero (lines_heard n)) (copy_heard ∷ [])
+found-first : (n : ℕ) → AreFoundIn (events_on Zero (lines_at n)) (copy_heard ∷ [])
 found-first n = record {
   locks = [];
   now = locked 0 28;
@@ -380,20 +365,20 @@ found-first n = record {
 }
 
 found-in : (n : ℕ) (channel : Channel)
-    → AreFoundIn (events_on channel (lines_heard n)) (found_on channel)
+    → AreFoundIn (events_on channel (lines_at n)) (found_on channel)
 found-in n Zero = found-first n
-found-in n One = found-none (events_on One (lines_heard n)) (none-among One refl n)
-found-in n Two = found-none (events_on Two (lines_heard n)) (none-among Two refl n)
+found-in n One = found-none (events_on One (lines_at n)) (none-among One refl n)
+found-in n Two = found-none (events_on Two (lines_at n)) (none-among Two refl n)
 
-long-in : (n : ℕ) → 1189 < length (elements_among (events_on Zero (lines_heard n)))
+long-in : (n : ℕ) → 1189 < length (elements_among (events_on Zero (lines_at n)))
 long-in n =
     subst (λ (b : List Bool). 1189 < length b) (sym events_are ∙ same n)
     (omega (arith, place-within, place-is))
 
 hears-lines : (starts : Starts) (n : ℕ) → starts.refused Zero ≡ none_refused
-    → starts.moment ≤ n → n ≤ 1735706400 → Hears starts (lines_heard n) n
+    → starts.moment ≤ n → n ≤ last_moment → Hears starts (lines_at n) n
 hears-lines starts n selects low high = record {
-  acts = lines-act starts.moment n low high;
+  acts = lines-act (moments_at n starts) n low high;
   ended = ended-on n;
   found = found-in n;
   cut = cut-heard n;
@@ -405,39 +390,11 @@ hears-lines starts n selects low high = record {
 }
 
 -- the same of the lines with none behind them
-hears-all : (starts : Starts) (n : ℕ) → starts.refused Zero ≡ none_refused
-    → starts.moment ≤ n → n ≤ 1735706400 → Hears starts (lines_heard n ++ []) n
+pub hears-all : (starts : Starts) (n : ℕ) → starts.refused Zero ≡ none_refused
+    → starts.moment ≤ n → n ≤ last_moment → Hears starts (lines_at n ++ []) n
 hears-all starts n selects low high =
-    subst (λ lines. Hears starts lines n) (sym (append-nil (lines_heard n)))
+    subst (λ lines. Hears starts lines n) (sym (append-nil (lines_at n)))
     (hears-lines starts n selects low high)
-
-first-low : first_watch.starts.moment ≤ 1735692000
-first-low = subst (λ (m : ℕ). m ≤ 1735692000) (sym first-moment) (lit≤ tt)
-
-second-low : second_watch.starts.moment ≤ 1735706400
-second-low = subst (λ (m : ℕ). m ≤ 1735706400) (sym second-moment) (lit≤ tt)
-
-first-sure : Hears first_watch.starts first_watch.sure 1735692000
-first-sure = hears-lines first_watch.starts 1735692000 refl first-low (lit≤ tt)
-
-first-hears : Hears first_watch.starts (lines_of first_watch) 1735692000
-first-hears = hears-all first_watch.starts 1735692000 refl first-low (lit≤ tt)
-
-second-sure : Hears second_watch.starts second_watch.sure 1735706400
-second-sure = hears-lines second_watch.starts 1735706400 refl second-low (lit≤ tt)
-
-second-hears : Hears second_watch.starts (lines_of second_watch) 1735706400
-second-hears = hears-all second_watch.starts 1735706400 refl second-low (lit≤ tt)
-
--- ---- the two watches
-
-first-shows : printed_copies (first_watch.starts.entries Zero) (copy_then 1735692000 ∷ [])
-    ≡ first_copy ∷ []
-first-shows = ap (λ es. printed_copies es (copy_then 1735692000 ∷ [])) first-entries ∙ first-shown
-
-second-shows : printed_copies (second_watch.starts.entries Zero) (copy_then 1735706400 ∷ []) ≡ []
-second-shows =
-    ap (λ es. printed_copies es (copy_then 1735706400 ∷ [])) second-entries ∙ second-shown
 
 -- what had ended in lines is this, so it is a beginning of it
 ended-begins : (events : List Event) (copies others : List FoundCopy) → HadEnded events copies
@@ -449,6 +406,50 @@ none-shown : (entries : List MemoryEntry) (setting : Setting) (heard : List Even
     → [] ≡ printed_copies entries (tagged_copies setting heard [])
 unfolding printed_copies tagged_copies
 none-shown entries setting heard = refl
+
+-- ---- the first watch
+
+first-low : first_watch.starts.moment ≤ first_moment
+first-low = subst (λ (m : ℕ). m ≤ first_moment) (sym first-start) (lit≤ tt)
+
+first-sure : Hears first_watch.starts first_watch.sure first_moment
+first-sure = hears-lines first_watch.starts first_moment refl first-low (lit≤ tt)
+
+pub first-hears : Hears first_watch.starts (lines_of first_watch) first_moment
+first-hears = hears-all first_watch.starts first_moment refl first-low (lit≤ tt)
+
+first-shows : printed_copies (first_watch.starts.entries Zero) (copy_then first_moment ∷ [])
+    ≡ first_copy ∷ []
+first-shows = ap (λ es. printed_copies es (copy_then first_moment ∷ [])) first-entries ∙ first-shown
+
+-- what its lines print in turn is the one entry
+first-prints : PrintsInTurn first_watch.starts (given_by first_watch.sure) one_entry
+first-prints =
+    subst (λ (cs : List TaggedCopy). PrintsInTurn first_watch.starts
+    (given_by first_watch.sure) (map (marked Zero) cs)) first-shows first-sure.turn
+
+first-turn : PrintsInTurn first_watch.starts (given_by first_acting) one_entry
+first-turn =
+    subst (λ lines. PrintsInTurn first_watch.starts (given_by lines) one_entry) first-sure.acts
+    first-prints
+
+-- A crash leaves its bytes behind a moment at which all its lines had been read.
+pub first-left : IsLeftBy first_moment [] stopped first_acting first_acting one_entry kept_bytes
+first-left =
+    keeps-behind first_moment [] one_entry (said_on first_moment) (said_on first_moment) kept_bytes
+    1 unread first-turn (record {
+      begins = begins-itself (said_on first_moment);
+      surely = one_entry;
+      in_turn = first-turn;
+      least = lit≤ tt;
+    }) one-stands
+
+-- so it is this watch
+pub first-is : first_watch ≡ with_copies first-left.watch found_on found_on
+first-is =
+    ap (λ lines. record first_watch { sure = lines }) first-sure.acts
+    ∙ one-told first_moment [] stopped first_acting one_entry kept_bytes found_on found_on
+    first-left
 
 first-judges : (channel : Channel) → Judges channel first_watch
 first-judges channel = record {
@@ -466,90 +467,62 @@ first-judges channel = record {
     put-on One = none-shown (first_watch.starts.entries One) _ _
     put-on Two = none-shown (first_watch.starts.entries Two) _ _
 
-second-judges : (channel : Channel) → Judges channel second_watch
-second-judges channel = record {
-  found = second-hears.found channel;
-  begins = begins-itself (found_on channel);
-  put = put-on channel;
-  surely = λ ended h. ended-begins (events_on channel second_watch.sure) (found_on channel) ended
-      (second-sure.ended channel) h;
-}
-  where
-    put-on : (channel : Channel) → []
-        ≡ printed_copies (second_watch.starts.entries channel) (copies_in channel second_watch)
-    put-on Zero =
-        sym (ap (printed_copies (second_watch.starts.entries Zero)) second-hears.copies
-        ∙ second-shows)
-    put-on One = none-shown (second_watch.starts.entries One) _ _
-    put-on Two = none-shown (second_watch.starts.entries Two) _ _
-
 first-goes : GoesOn [] first_watch
 first-goes = record {
-  puts = record {
-    begins = refl;
-    said = said_on 1735692000;
-    acted = first-hears.acts;
-    printed = one_entry;
-    prints = subst (λ (cs : List TaggedCopy). PrintsInTurn first_watch.starts
-        (given_by (lines_of first_watch)) (map (marked Zero) cs)) first-shows first-hears.turn;
-    most = begins-itself one_entry;
-    surely = one_entry;
-    in_turn = subst (λ (cs : List TaggedCopy). PrintsInTurn first_watch.starts
-        (given_by first_watch.sure) (map (marked Zero) cs)) first-shows first-sure.turn;
-    least = begins-itself one_entry;
-    all = tt;
-    stands = one-stands;
-  };
+  puts = subst (Puts []) (sym first-is)
+      (puts-with [] first-left.watch found_on found_on first-left.puts);
   judges = first-judges;
 }
 
-second-goes : GoesOn one_entry second_watch
-second-goes = record {
-  puts = record {
-    begins = refl;
-    said = said_on 1735706400;
-    acted = second-hears.acts;
-    printed = [];
-    prints = subst (λ (cs : List TaggedCopy). PrintAllToEnd second_watch.starts
-        (given_by (lines_of second_watch)) (map (marked Zero) cs)) second-shows second-hears.all;
-    most = begins-itself [];
-    surely = [];
-    in_turn = subst (λ (cs : List TaggedCopy). PrintsInTurn second_watch.starts
-        (given_by second_watch.sure) (map (marked Zero) cs)) second-shows second-sure.turn;
-    least = begins-itself [];
-    all = (refl, refl);
-    stands = one-stands;
-  };
-  judges = second-judges;
+-- ---- the second watch, less than 66 hours later
+
+-- At this moment it starts with the one entry, and prints nothing.
+pub record IsSecond (n : ℕ) : Type 0 where
+  pub low : first_moment ≤ n
+  pub near : n < first_moment + seconds_known
+  pub high : n ≤ last_moment
+  pub entries : (second_watch n).starts.entries Zero ≡ entry_of first_copy ∷ []
+  pub start : (second_watch n).starts.moment ≡ first_moment
+  pub shown : printed_copies (entry_of first_copy ∷ []) (copy_then n ∷ []) ≡ []
+
+-- four hours later, and 66 hours less a second
+pub four-hours : IsSecond 1735706400
+unfolding kept_entries is_kept printed_copies if_printed is_printed
+four-hours = record {
+  low = lit≤ tt;
+  near = lit< tt;
+  high = lit≤ tt;
+  entries = refl;
+  start = refl;
+  shown = refl;
 }
 
-pub is-chain : IsChain [] example_watches
-is-chain = (first-goes, (second-goes, tt))
+pub almost-66-hours : IsSecond 1735929599
+unfolding kept_entries is_kept printed_copies if_printed is_printed
+almost-66-hours = record {
+  low = lit≤ tt;
+  near = lit< tt;
+  high = lit≤ tt;
+  entries = refl;
+  start = refl;
+  shown = refl;
+}
 
 -- no MOMENT lies before an entry
-none-newest : newest_moment (remembered_on Zero []) ≡ 0
+pub none-newest : newest_moment (remembered_on Zero []) ≡ 0
 none-newest = ap newest_moment (none-remembered Zero)
 
-pub clocks-near : ClocksAreNear Zero [] example_watches
-clocks-near = (
-  omega (arith, none-newest),
-  (omega (arith, ap newest_moment one-remembered), tt),
-)
-
--- ---- the message in them
+-- ---- the message in both
 
 abbrev cut_of : Watch → CutWatch
 cut_of watch =
     record { watch = watch; unheard = []; parts = example_parts first_bits [] }
 
-abbrev cuts : List CutWatch
-cuts = cut_of first_watch ∷ cut_of second_watch ∷ []
-
 -- what each of the two watches has
 record IsOne (one : CutWatch) : Type 0 where
   n : ℕ
-  low : 1735692000 ≤ n
-  high : n ≤ 1735706400
+  low : first_moment ≤ n
+  near : n < first_moment + seconds_known
   none : one.unheard ≡ []
   parts : one.parts ≡ example_parts first_bits []
   found : one.watch.found ≡ found_on
@@ -557,46 +530,17 @@ record IsOne (one : CutWatch) : Type 0 where
 
 is-first : IsOne (cut_of first_watch)
 is-first = record {
-  n = 1735692000;
+  n = first_moment;
   low = lit≤ tt;
-  high = lit≤ tt;
+  near = lit< tt;
   none = refl;
   parts = refl;
   found = refl;
   hears = first-hears;
 }
 
-is-second : IsOne (cut_of second_watch)
-is-second = record {
-  n = 1735706400;
-  low = lit≤ tt;
-  high = lit≤ tt;
-  none = refl;
-  parts = refl;
-  found = refl;
-  hears = second-hears;
-}
-
-is-one : (one : CutWatch) → Contains cuts one → IsOne one
-is-one one c = All-contains IsOne cuts one
-    (All-cons IsOne (cut_of first_watch) (cut_of second_watch ∷ []) is-first
-    (All-cons IsOne (cut_of second_watch) [] is-second (All-nil IsOne))) c
-
--- each sending is at the same element of its watch
-sent-at : (one : CutWatch) (at : ℕ) (s : IsSentIn Zero cuts example_message one at)
-    → in_force_in Zero one at ≡ record { moment = (is-one one s.among).n; refused = none_refused }
-sent-at one at s =
-    let h = is-one one s.among in
-    let there : IsSentAt (example_parts first_bits []) example_message at =
-    subst (λ (ps : List Part). IsSentAt ps example_message at) h.parts s.sent in
-    ap (in_force_in Zero one) (one-sending at there ∙ place-is) ∙ h.hears.force
-
-two-copies : length (all_copies Zero example_watches) ≡ 2
-unfolding tagged_copies
-two-copies = refl
-
 -- copies make no more entries than there are of them
-made-few : (entries : List MemoryEntry) (copies : List TaggedCopy)
+pub made-few : (entries : List MemoryEntry) (copies : List TaggedCopy)
     → length (entries_made entries copies) ≤ length copies
 unfolding entries_made entry_made
 made-few entries [] = omega arith
@@ -607,38 +551,6 @@ made-few entries (copy ∷ copies) =
       | true ↦ omega arith
       | false ↦ omega arith
     ]
-
-one-put : length (entries_on Zero (all_put example_watches)) ≡ 1
-unfolding kept_entries is_kept
-one-put = refl
-
--- so few entries are made in all
-few-made : AreFewOver Zero example_watches example_message.identity
-few-made later before behind entry named made same =
-    let put = entries_on Zero (all_put later.before) in
-    let rest = later.watch ∷ later.after in
-    let parts : entries_on Zero (all_put example_watches)
-    ≡ put ++ entries_on Zero (all_put rest) =
-    ap (λ l. entries_on Zero (all_put l)) later.among
-    ∙ ap (entries_on Zero) (put-append later.before rest)
-    ∙ entries-append Zero (all_put later.before) (all_put rest) in
-    let copies : all_copies Zero example_watches
-    ≡ all_copies Zero later.before ++ (copies_in Zero later.watch ++ all_copies Zero later.after) =
-    ap (all_copies Zero) later.among ∙ copies-append Zero later.before rest in
-    omega (
-      arith,
-      one-put,
-      two-copies,
-      ap length parts ∙ length-append put (entries_on Zero (all_put rest)),
-      ap length copies
-          ∙ length-append (all_copies Zero later.before)
-          (copies_in Zero later.watch ++ all_copies Zero later.after),
-      length-append (copies_in Zero later.watch) (all_copies Zero later.after),
-      ap length later.judged ∙ length-append later.earlier (later.copy ∷ later.later),
-      made-few (later.watch.starts.entries Zero) later.earlier,
-      sym (length-append put (entries_made (later.watch.starts.entries Zero) later.earlier))
-          ∙ ap length made ∙ length-append before (entry ∷ behind),
-    )
 
 -- the one copy has ended
 has-ended : (starts : Starts) (lines : List Line) (n : ℕ) → Hears starts lines n
@@ -651,37 +563,175 @@ has-ended starts lines n h = record {
   here = refl;
 }
 
-pub heard-in-time : IsHeardInTimeOver Zero example_watches example_message
-heard-in-time = record {
-  cuts = cuts;
-  whole = refl;
-  cut = λ one there.
-      let o = is-one one there in
-      let heard = elements_in Zero one.watch in
-      subst (λ ps. IsCut (heard ++ one.unheard) ps) (sym o.parts)
-      (subst (λ bs. IsCut bs (example_parts first_bits []))
-      (sym (append-nil heard) ∙ ap (λ bs. heard ++ bs) (sym o.none)) o.hears.cut);
-  at = cut_of first_watch;
-  place = 1189;
-  sent = record { among = (0, lit< tt, refl); sent = sent-there; heard = first-hears.long };
-  surely = has-ended first_watch.starts first_watch.sure 1735692000 first-sure;
-  numbered = lit< tt;
-  alone = λ one copy among there named.
-      let o = is-one one among in
-      let is = one_in (copy_heard ∷ []) copy_heard copy refl (0, lit< tt, refl)
-      (subst (λ (found : Channel → List FoundCopy). Contains (found Zero) copy) o.found there) in
-      let at : 1189 ≡ copy.place = ap (λ (c : FoundCopy). c.place) is in (
-        subst (λ (ps : List Part). IsSentAt ps example_message copy.place) (sym o.parts)
-            (subst (IsSentAt (example_parts first_bits []) example_message) at sent-there),
-        subst (HasEndedAt (events_in Zero one.watch)) at
-            (has-ended one.watch.starts (lines_of one.watch) o.n o.hears),
-      );
-  selected = λ one at s. ap (λ (f : Setting). admits f.refused example_message.identity)
-      (sent-at one at s) ∙ all_selected;
-  close = λ one other at place s t.
-      let m = ap (λ (f : Setting). f.moment) (sent-at one at s) in
-      let n = ap (λ (f : Setting). f.moment) (sent-at other place t) in
-      omega (arith, m, n, (is-one one s.among).high, (is-one other t.among).low);
-  unknown = unknown-from_nothing example_watches Zero example_message.identity is-chain;
-  few = few-made;
-}
+module _ (n : ℕ) (is : IsSecond n) where
+  abbrev second : Watch
+  second = second_watch n
+
+  abbrev both : List Watch
+  both = first_watch ∷ second ∷ []
+
+  low : second.starts.moment ≤ n
+  low = subst (λ (m : ℕ). m ≤ n) (sym is.start) is.low
+
+  second-sure : Hears second.starts second.sure n
+  second-sure = hears-lines second.starts n refl low is.high
+
+  pub second-hears : Hears second.starts (lines_of second) n
+  second-hears = hears-all second.starts n refl low is.high
+
+  second-shows : printed_copies (second.starts.entries Zero) (copy_then n ∷ []) ≡ []
+  second-shows = ap (λ es. printed_copies es (copy_then n ∷ [])) is.entries ∙ is.shown
+
+  second-prints : PrintAllToEnd second.starts (given_by second.sure) []
+  second-prints =
+      subst (λ (cs : List TaggedCopy). PrintAllToEnd second.starts
+      (given_by second.sure) (map (marked Zero) cs)) second-shows second-sure.all
+
+  second-to_end : PrintAllToEnd second.starts (given_by (second_acting n)) []
+  second-to_end =
+      subst (λ lines. PrintAllToEnd second.starts (given_by lines) []) second-sure.acts
+      second-prints
+
+  -- it answers at the end of its lines
+  pub second-left : IsLeftBy n one_entry answered (second_acting n) (second_acting n) []
+      kept_bytes
+  second-left =
+      keeps-all n one_entry [] (said_on n) kept_bytes at_end second-to_end one-stands
+
+  pub second-is : second ≡ with_copies second-left.watch found_on found_on
+  second-is =
+      ap (λ lines. record (second_watch n) { sure = lines }) second-sure.acts
+      ∙ one-told n one_entry answered (second_acting n) [] kept_bytes found_on found_on second-left
+
+  second-judges : (channel : Channel) → Judges channel second
+  second-judges channel = record {
+    found = second-hears.found channel;
+    begins = begins-itself (found_on channel);
+    put = put-on channel;
+    surely = λ ended h. ended-begins (events_on channel second.sure) (found_on channel) ended
+        (second-sure.ended channel) h;
+  }
+    where
+      put-on : (channel : Channel) → []
+          ≡ printed_copies (second.starts.entries channel) (copies_in channel second)
+      put-on Zero =
+          sym (ap (printed_copies (second.starts.entries Zero)) second-hears.copies ∙ second-shows)
+      put-on One = none-shown (second.starts.entries One) _ _
+      put-on Two = none-shown (second.starts.entries Two) _ _
+
+  second-goes : GoesOn one_entry second
+  second-goes = record {
+    puts = subst (Puts one_entry) (sym second-is)
+        (puts-with one_entry second-left.watch found_on found_on second-left.puts);
+    judges = second-judges;
+  }
+
+  pub is-chain : IsChain [] both
+  is-chain = (first-goes, (second-goes, tt))
+
+  pub clocks-near : ClocksAreNear Zero [] both
+  clocks-near = (
+    omega (arith, none-newest),
+    (omega (arith, ap newest_moment one-remembered, is.low), tt),
+  )
+
+  abbrev cuts : List CutWatch
+  cuts = cut_of first_watch ∷ cut_of second ∷ []
+
+  is-second : IsOne (cut_of second)
+  is-second = record {
+    n = n;
+    low = is.low;
+    near = is.near;
+    none = refl;
+    parts = refl;
+    found = refl;
+    hears = second-hears;
+  }
+
+  is-one : (one : CutWatch) → Contains cuts one → IsOne one
+  is-one one c = All-contains IsOne cuts one
+      (All-cons IsOne (cut_of first_watch) (cut_of second ∷ []) is-first
+      (All-cons IsOne (cut_of second) [] is-second (All-nil IsOne))) c
+
+  -- each sending is at the same element of its watch
+  sent-at : (one : CutWatch) (at : ℕ) (s : IsSentIn Zero cuts example_message one at)
+      → in_force_in Zero one at
+      ≡ record { moment = (is-one one s.among).n; refused = none_refused }
+  sent-at one at s =
+      let h = is-one one s.among in
+      let there : IsSentAt (example_parts first_bits []) example_message at =
+      subst (λ (ps : List Part). IsSentAt ps example_message at) h.parts s.sent in
+      ap (in_force_in Zero one) (one-sending at there ∙ place-is) ∙ h.hears.force
+
+  two-copies : length (all_copies Zero both) ≡ 2
+  unfolding tagged_copies
+  two-copies = refl
+
+  one-put : length (entries_on Zero (all_put both)) ≡ 1
+  unfolding kept_entries is_kept
+  one-put = refl
+
+  -- so few entries are made in all
+  few-made : AreFewOver Zero both example_message.identity
+  few-made later before behind entry named made same =
+      let put = entries_on Zero (all_put later.before) in
+      let rest = later.watch ∷ later.after in
+      let parts : entries_on Zero (all_put both)
+      ≡ put ++ entries_on Zero (all_put rest) =
+      ap (λ l. entries_on Zero (all_put l)) later.among
+      ∙ ap (entries_on Zero) (put-append later.before rest)
+      ∙ entries-append Zero (all_put later.before) (all_put rest) in
+      let copies : all_copies Zero both
+      ≡ all_copies Zero later.before
+      ++ (copies_in Zero later.watch ++ all_copies Zero later.after) =
+      ap (all_copies Zero) later.among ∙ copies-append Zero later.before rest in
+      omega (
+        arith,
+        one-put,
+        two-copies,
+        ap length parts ∙ length-append put (entries_on Zero (all_put rest)),
+        ap length copies
+            ∙ length-append (all_copies Zero later.before)
+            (copies_in Zero later.watch ++ all_copies Zero later.after),
+        length-append (copies_in Zero later.watch) (all_copies Zero later.after),
+        ap length later.judged ∙ length-append later.earlier (later.copy ∷ later.later),
+        made-few (later.watch.starts.entries Zero) later.earlier,
+        sym (length-append put (entries_made (later.watch.starts.entries Zero) later.earlier))
+            ∙ ap length made ∙ length-append before (entry ∷ behind),
+      )
+
+  pub heard-in-time : IsHeardInTimeOver Zero both example_message
+  heard-in-time = record {
+    cuts = cuts;
+    whole = refl;
+    cut = λ one there.
+        let o = is-one one there in
+        let heard = elements_in Zero one.watch in
+        subst (λ ps. IsCut (heard ++ one.unheard) ps) (sym o.parts)
+        (subst (λ bs. IsCut bs (example_parts first_bits []))
+        (sym (append-nil heard) ∙ ap (λ bs. heard ++ bs) (sym o.none)) o.hears.cut);
+    at = cut_of first_watch;
+    place = 1189;
+    sent = record { among = (0, lit< tt, refl); sent = sent-there; heard = first-hears.long };
+    surely = has-ended first_watch.starts first_watch.sure first_moment first-sure;
+    numbered = lit< tt;
+    alone = λ one copy among there named.
+        let o = is-one one among in
+        let is = one_in (copy_heard ∷ []) copy_heard copy refl (0, lit< tt, refl)
+        (subst (λ (found : Channel → List FoundCopy). Contains (found Zero) copy) o.found there) in
+        let at : 1189 ≡ copy.place = ap (λ (c : FoundCopy). c.place) is in (
+          subst (λ (ps : List Part). IsSentAt ps example_message copy.place) (sym o.parts)
+              (subst (IsSentAt (example_parts first_bits []) example_message) at sent-there),
+          subst (HasEndedAt (events_in Zero one.watch)) at
+              (has-ended one.watch.starts (lines_of one.watch) o.n o.hears),
+        );
+    selected = λ one at s. ap (λ (f : Setting). admits f.refused example_message.identity)
+        (sent-at one at s) ∙ all_selected;
+    close = λ one other at place s t.
+        let m = ap (λ (f : Setting). f.moment) (sent-at one at s) in
+        let n = ap (λ (f : Setting). f.moment) (sent-at other place t) in
+        omega (arith, m, n, (is-one one s.among).near, (is-one other t.among).low);
+    unknown = unknown-from_nothing both Zero example_message.identity is-chain;
+    few = few-made;
+  }

@@ -7,3 +7,4 @@ pub mod Keeps
 pub mod Later
 pub mod Links
 pub mod Once
+pub mod Stood

@@ -1,10 +1,11 @@
 //! What a watch keeps, over a file in memory.
 
 use super::{EA01, FIRST, LOG_OF_EA01, SECOND, expect_text, sent, shown};
-use nx_disk::{Noted, Tear, TornFile};
+use nx_disk::{LeftBefore, Noted, Tear, TornFile};
 use nx_fec::Counting;
-use nx_watch::{WatchFault, WatchReport, watch};
+use nx_watch::{StampedReader, WatchFault, WatchReport, watch};
 use std::alloc::Global;
+use std::io::{Read, Result as IoResult};
 use std::process::Abort;
 
 /// The moment 66 hours after the first.
@@ -30,15 +31,47 @@ struct Watched {
     told: Vec<u8>,
 }
 
+/// Gives bytes in pieces of so many.
+#[derive(Drop)]
+struct Pieces<'a> {
+    rest: &'a [u8],
+    length: usize,
+}
+
+impl Read for Pieces<'_> {
+    fn read(&mut self, buf: &mut [u8]) -> IoResult<usize> {
+        let count = self.rest.len().min(self.length).min(buf.len());
+        let (given, rest) = self.rest.split_at(count);
+        buf[..count].copy_from_slice(given);
+        self.rest = rest;
+        Ok(count)
+    }
+}
+
 /// A watch of a file that starts at a moment.
 fn watch_file(alloc: Global, file: TornFile, moment: u64, input: &[u8]) -> Watched {
+    watch_pieces(alloc, file, moment, input, input.len())
+}
+
+/// A watch whose input comes in pieces of so many bytes.
+fn watch_pieces(
+    alloc: Global,
+    file: TornFile,
+    moment: u64,
+    input: &[u8],
+    length: usize,
+) -> Watched {
     let mut writer = Counting::new(Vec::new(alloc));
     let mut notices = Counting::new(Vec::new(alloc));
+    let pieces = Pieces {
+        rest: input,
+        length,
+    };
     let (answer, device) = watch(
         alloc,
         moment,
-        Noted::new(file),
-        &mut Counting::new(input),
+        Noted::new(file, LeftBefore::any()),
+        &mut StampedReader::new(Counting::new(pieces)),
         &mut writer,
         &mut notices,
     );
@@ -87,8 +120,24 @@ fn an_entry_is_kept_once(rt: HostRuntime) {
     let mut twice = KEPT.to_vec(alloc).expect(&rt, "memory");
     twice.truncate(43);
     twice.extend_from_slice(KEPT).expect(&rt, "memory");
-    let cases: [(&str, &[u8], u64, &[u8], u64, &[u8]); 7] = [
+    let cases: [(&str, &[u8], u64, &[u8], u64, &[u8]); 9] = [
         ("kept-x", b"", FIRST, &first, 1, KEPT),
+        (
+            "watch-no-moment",
+            b"",
+            FIRST,
+            behind_moment(&first),
+            1,
+            KEPT,
+        ),
+        (
+            "no moment, and kept before",
+            KEPT,
+            SECOND,
+            behind_moment(&first),
+            0,
+            KEPT,
+        ),
         ("kept-repeat", KEPT, FIRST, &second, 0, KEPT),
         ("kept-after-66-hours", KEPT, FIRST, &again, 1, KEPT_TWICE),
         ("kept-torn", &torn, FIRST, b"", 0, KEPT),
@@ -98,7 +147,7 @@ fn an_entry_is_kept_once(rt: HostRuntime) {
     ];
     for (row, file, moment, input, put, left) in cases {
         let seen = watch_file(alloc, file_of(&rt, alloc, file), moment, input);
-        let lines = if input.is_empty() { 0 } else { 4 };
+        let lines = input.iter().filter(|byte| **byte == b'\n').count() as u64;
         assert_eq!(&rt; seen.answer, Ok(report(lines, 0, None, put)), "{row}");
         expect_text(&rt, row, seen.file.bytes(), left);
         expect_text(&rt, row, &seen.written, b"");
@@ -196,10 +245,13 @@ fn lines_without_effect_are_told(rt: HostRuntime) {
         ),
     ];
     for (row, file, input, answer, left, told) in cases {
-        let seen = watch_file(alloc, file_of(&rt, alloc, file), FIRST, input);
-        assert_eq!(&rt; seen.answer, answer, "{row}");
-        expect_text(&rt, row, seen.file.bytes(), left);
-        expect_text(&rt, row, &seen.told, told);
+        for length in [1, 7, 600, 65_536] {
+            let file = file_of(&rt, alloc, file);
+            let seen = watch_pieces(alloc, file, FIRST, input, length);
+            assert_eq!(&rt; seen.answer, answer, "{row}, in pieces of {length}");
+            expect_text(&rt, row, seen.file.bytes(), left);
+            expect_text(&rt, row, &seen.told, told);
+        }
     }
 }
 

@@ -5,4 +5,5 @@ pub mod Law
 pub mod Reading
 pub mod Run
 pub mod Scanning
+pub mod Starting
 pub mod Telling

@@ -4,5 +4,6 @@ pub mod Heard
 pub mod Keeping
 pub mod Opening
 pub mod Remembering
+pub mod Stamping
 pub mod Start
 pub mod LoggingListener

@@ -12,6 +12,10 @@ use Rattle.nx_watch.specs.Watch.{longest_entry}
 use Rattle.nx_watch.specs.LineRun.{WereGiven}
 use Rattle.nx_watch.specs.declared.kept_log.keeper.Keeper.{Keeper}
 
+-- a keeper with the log of this one, which so many texts had been put into
+abbrev pub keeper_since : {D : Type 0} → Keeper D → ℕ → Keeper D
+keeper_since past count = record { log = past.log; put = count; has_failed = false }
+
 -- the bytes of a file stand for these texts of entries
 abbrev pub StandsForTexts : List (List ℕ) → List ℕ → Type 0
 StandsForTexts texts file = StandsFor IsWholeEntry longest_entry texts file
@@ -36,7 +40,7 @@ module _ {D : Type 0} (disk : TellsOfDisk D) where
   -- All these texts were put behind those that the log kept at the start, and none was given to a
   -- writer.
   pub record AllKept (start now : Keeper D) (texts : List (List ℕ)) (given : List ℕ) : Type 0 where
-    pub put : now.put ≡ count_of (length texts)
+    pub put : now.put ≡ count_of (start.put + length texts)
     pub none : given ≡ []
     pub well : disk.faults now.log.device ≡ disk.faults start.log.device
     pub explained : (content : List ℕ) → disk.explains content now.log.device
@@ -67,9 +71,11 @@ module _ {D : Type 0} (disk : TellsOfDisk D) where
   HasKeptSo false start now texts given = AllKept start now texts given
   HasKeptSo true start now texts given = SomeKept start now texts given
 
-  -- since start the keeper was given these texts, and gave these bytes to a writer
-  abbrev pub HasKept : Keeper D → Keeper D → List (List ℕ) → List ℕ → Type 0
-  HasKept start now texts given = HasKeptSo now.has_failed start now texts given
+  -- The keeper was given these texts, of which the first ones had been put at the start, as many as
+  -- it says. Of the others it gave these bytes to a writer.
+  pub record HasKept (start now : Keeper D) (texts : List (List ℕ)) (given : List ℕ) : Type 0 where
+    pub before : start.put ≤ length texts
+    pub since : HasKeptSo now.has_failed start now (drop start.put texts) given
 
   -- and its writer was given them
   abbrev pub KeepsWith : {W : Type 0} → (W → Option (List ℕ)) → Keeper D → Keeper D

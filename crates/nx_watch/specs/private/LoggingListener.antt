@@ -60,15 +60,15 @@ module _ {D : Type 0} (disk : TellsOfDisk D) where
     pub each : AllZip IsLoggedAs copies texts
     pub kept : KeepsWith disk contents start now before after texts
 
-  -- One that had heard and kept nothing ran over its input: with what it had at hand, by each first
-  -- content of the file, it answers so of the entries that its log kept. The outcome has its cause,
-  -- and the file after it tells of itself what it told before.
-  pub record HasRun {R W E : Type 0} (logging : LoggingListener D)
+  -- One that had heard and kept nothing ran over its input, and started at this moment: with what
+  -- it had at hand, by each first content of the file, it answers so of the entries that its log
+  -- kept. The outcome has its cause, and the file after it tells of itself what it told before.
+  pub record HasRun {R W E : Type 0} (started : ℕ) (logging : LoggingListener D)
       (at_hand : List ℕ → WatchDevices D R W E) (outcome : Result WatchReport WatchFault)
       (device : D) : Type 0 where
     pub answers : (content : List ℕ) (entries : List MarkedCopy) (texts : List (List ℕ))
         → AllZip IsLoggedAs entries texts → KeepsTexts disk content texts logging.keeper
-        → AnswersStarted (at_hand content) (starts_of logging.listener) entries outcome
+        → AnswersStarted (at_hand content) started (starts_of logging.listener) entries outcome
     pub cause : HasCause disk outcome logging.keeper.log.device device
     pub explained : (content : List ℕ) → disk.explains content device
         → disk.explains content logging.keeper.log.device

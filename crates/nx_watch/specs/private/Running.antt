@@ -5,6 +5,7 @@ use Rattle.nx_watch.specs.AnyLines.{AreLines, cut_line}
 use Rattle.nx_watch.specs.LineRun.{AnswersRun, AreCounted, HasTaken, HasTold, Standing, first_told}
 use Rattle.nx_watch.specs.LineRun.{told_of}
 use Rattle.nx_watch.specs.declared.lines.line_effects.LineEffects.{LineEffects}
+use Rattle.nx_watch.specs.declared.lines.line_effects.StartMoments.{StartMoments}
 use Rattle.nx_watch.specs.declared.lines.line_run.LineRun.{LineRun}
 use Rattle.nx_watch.specs.declared.lines.line_run.LinesWatched.{LinesWatched}
 use Rattle.nx_watch.specs.declared.lines.line_run.WatchEnd.{WatchEnd}
@@ -12,22 +13,24 @@ use Rattle.nx_watch.specs.private.Effects.{IsKept}
 use Rattle.nx_watch.specs.private.Scanning.{IsScanning}
 
 -- this is kept of these lines, and the first of them without effect was told
-pub record TellsFirst (first : ℕ) (kept : LineEffects) (old new : Option (List ℕ)) (failures : ℕ)
-    (lines : List (Option Line)) : Type 0 where
+pub record TellsFirst (first : StartMoments) (kept : LineEffects) (old new : Option (List ℕ))
+    (failures : ℕ) (lines : List (Option Line))
+    : Type 0 where
   pub kept_so : IsKept first lines kept
   pub told : HasTold old new failures (first_told kept.first_without)
 
 -- the run stands so behind these bytes: all lines with their ends were read, and those that act
 -- were taken
-pub record IsRunning {T : Type 0} (stands : Standing T) (start now : T) (first : ℕ) (run : LineRun)
-    (old new : Option (List ℕ)) (failures : ℕ) (bytes : List ℕ) : Type 0 where
+pub record IsRunning {T : Type 0} (stands : Standing T) (start now : T) (first : StartMoments)
+    (run : LineRun) (old new : Option (List ℕ)) (failures : ℕ) (bytes : List ℕ)
+    : Type 0 where
   pub lines : List (Option Line)
   pub scans : IsScanning run.scanner bytes lines
   pub taken : HasTaken stands start now first lines
   pub tells : TellsFirst first run.effects old new failures lines
 
 -- the run is over with this end, in these bytes
-abbrev pub EndsRun : {T : Type 0} → Standing T → T → T → ℕ → LineEffects
+abbrev pub EndsRun : {T : Type 0} → Standing T → T → T → StartMoments → LineEffects
     → Option (List ℕ) → Option (List ℕ) → ℕ → WatchEnd → List ℕ → Type 0
 EndsRun stands start now first kept old new failures end bytes =
     AnswersRun (record {
@@ -40,8 +43,9 @@ EndsRun stands start now first kept old new failures end bytes =
     }) (Err end) bytes
 
 -- the input ended: these are the counts of the lines, a cut one too, and all was told
-pub record EndsInput (first : ℕ) (bytes : List ℕ) (lines : List (Option Line))
-    (old new : Option (List ℕ)) (failures : ℕ) (counts : LinesWatched) : Type 0 where
+pub record EndsInput (first : StartMoments) (bytes : List ℕ) (lines : List (Option Line))
+    (old new : Option (List ℕ)) (failures : ℕ) (counts : LinesWatched)
+    : Type 0 where
   pub rest : List ℕ
   pub are : AreLines bytes lines rest
   pub counted : AreCounted first (lines ++ cut_line rest) counts

@@ -82,6 +82,7 @@ fn found_in(bytes: &[u8]) -> Option<(Channel, MemoryEntry)>
 }
 
 impl RecordTaker for LogMemory {
+    ghost use Rattle.std.specs.Prelude.{◌≡◌};
     ghost use Rattle.nx_log.specs.Entries.{IsWholeEntry};
     ghost use Rattle.nx_watch.specs.private.Remembering.{RemembersMore};
 
@@ -89,10 +90,15 @@ impl RecordTaker for LogMemory {
 
     ghost takes = { RemembersMore };
 
+    ghost hears_of_cut = { λ before line bytes after. after ≡ before };
+
     fn take(&mut self, bytes: &[u8]) {
         match found_in(bytes) {
             Some((channel, entry)) => self.enter(channel, entry),
             None => {}
         }
     }
+
+    /// What is cut is no entry that counts, so nothing is remembered of it.
+    fn hear_of_cut(&mut self, _line: u64, _bytes: &[u8]) {}
 }

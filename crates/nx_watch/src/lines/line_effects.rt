@@ -1,25 +1,39 @@
 //! Which lines act, and which one ends the watch.
 
-ghost use Rattle.std.specs.Prelude.{◌≡◌, ◌+◌, ◌^◌, ◌<◌, ◌≤◌, ℕ, List, [], ◌∷◌, ◌++◌, Option, Some, None, IsSome, true, if◌then◌else◌};
-ghost use Rattle.nx_fec.specs.air_files.AirFile.{Line, moment};
+ghost use Rattle.std.specs.Prelude.{◌≡◌, ◌+◌, ◌^◌, ◌<◌, ◌≤◌, ℕ, Bool, List, [], ◌∷◌, ◌++◌, Option, Some, None, IsSome, true, if◌then◌else◌};
+ghost use Rattle.nx_fec.specs.air_files.AirFile.{Line, elements, moment};
 ghost use Rattle.nx_fec.specs.air_files.Scanner.{kind_of};
+ghost use Rattle.nx_fec.specs.declared.air_files.channel.Channel.{Channel};
 ghost use Rattle.nx_memory.specs.Selection.{is_vital};
 ghost use Rattle.nx_watch.specs.declared.lines.line_effects.LineEffects.{LineEffects as TheEffects};
-ghost use Rattle.nx_watch.specs.Acting.{acts, moment_said, moments_said};
+ghost use Rattle.nx_watch.specs.declared.lines.line_effects.StartMoments.{StartMoments as TheStart};
+ghost use Rattle.nx_watch.specs.Acting.{acts, moment_said, moments_behind};
 ghost use Rattle.nx_watch.specs.LineRun.{AreCounted};
-ghost use Rattle.nx_watch.specs.private.Effects.{is_acting, IsEffect, IsKept, KeepsMoments, SameCounts};
+ghost use Rattle.nx_watch.specs.private.Effects.{is_acting, IsEffect, IsKept, KeepsMoments, SameCounts, said_behind};
 
 use crate::lines::line_run::LinesWatched;
 use nx_envelope::{LAST_MOMENT, Letter};
 use nx_fec::LineKind;
 use nx_memory::{LIFETIME, Selection};
 
+/// The moments with which a watch starts, in whole seconds since 1970-01-01 00:00:00 UTC.
+#[derive(Clone, Copy, Debug, PartialEq, Eq)]
+pub struct StartMoments {
+    /// The newest one that it remembers, or 0. It is in force at first.
+    pub newest: u64,
+    /// The moment at which it starts. Elements that come before any moment set it, or the newest
+    /// remembered one where that is later. One past the year 2999 isn't set.
+    pub started: u64,
+}
+
 /// What is kept of the lines of a watch.
 #[derive(Clone, Copy, Debug)]
 pub(crate) struct LineEffects {
     /// The moment in force.
     moment: u64,
-    /// Whether a line said a moment in range.
+    /// The moment at which the watch started.
+    started: u64,
+    /// Whether a line said a moment in range, or set the one of the start.
     has_moment: bool,
     /// Whether the last moment in range went back by 66 hours or more.
     went_far_back: bool,
@@ -36,6 +50,8 @@ pub(crate) struct LineEffects {
 pub(crate) enum Effect {
     /// It acts.
     Acts,
+    /// It acts, behind this moment, which it sets.
+    Sets(u64),
     /// It has no effect.
     Nothing,
     /// It has no effect, and ends the watch: it goes back from the last moment to the given one.
@@ -43,12 +59,13 @@ pub(crate) enum Effect {
 }
 
 impl LineEffects {
-    /// Before the first line, with this moment in force.
-    pub(crate) fn new(first: u64) -> LineEffects
+    /// Before the first line of a watch that starts so.
+    pub(crate) fn new(first: StartMoments) -> LineEffects
         ensures { IsKept first [] result }
     {
         LineEffects {
-            moment: first,
+            moment: first.newest,
+            started: first.started,
             has_moment: false,
             went_far_back: false,
             lines: 0,
@@ -80,7 +97,7 @@ impl LineEffects {
 
     /// The counts of these lines.
     pub(crate) fn counts(&self) -> LinesWatched
-        ensures { (first : ℕ) (lines : List (Option Line)) → IsKept first lines self.now
+        ensures { (first : TheStart) (lines : List (Option Line)) → IsKept first lines self.now
             → AreCounted first lines result }
     {
         LinesWatched {
@@ -95,10 +112,10 @@ impl LineEffects {
     pub(crate) fn line(&mut self, kind: LineKind) -> Effect
         requires room { self.old.lines < 2 ^ 63 }
         requires fewer { self.old.without_effect ≤ self.old.lines }
-        ensures kept { (first : ℕ) (lines : List (Option Line)) (line : Line)
+        ensures kept { (first : TheStart) (lines : List (Option Line)) (line : Line)
             → kind_of line ≡ kind → IsKept first lines self.old
             → IsKept first (lines ++ Some line ∷ []) self.new
-            × IsEffect first (moments_said lines) (Some line) result }
+            × IsEffect first (moments_behind first lines) (Some line) result }
         ensures lines { self.new.lines ≡ self.old.lines + 1 }
         ensures fewer { self.new.without_effect ≤ self.new.lines }
         ensures first { IsSome self.old.first_without
@@ -114,7 +131,7 @@ impl LineEffects {
     pub(crate) fn not_understood(&mut self)
         requires room { self.old.lines < 2 ^ 63 }
         requires fewer { self.old.without_effect ≤ self.old.lines }
-        ensures kept { (first : ℕ) (lines : List (Option Line)) → IsKept first lines self.old
+        ensures kept { (first : TheStart) (lines : List (Option Line)) → IsKept first lines self.old
             → IsKept first (lines ++ None ∷ []) self.new }
         ensures lines { self.new.lines ≡ self.old.lines + 1 }
         ensures fewer { self.new.without_effect ≤ self.new.lines }
@@ -124,17 +141,17 @@ impl LineEffects {
         self.count(false);
     }
 
-    /// Keeps the moment that a line says, if it says one, and answers what the line does.
+    /// Keeps the moment that a line says or sets, if it does, and answers what the line does.
     #[inline(always)]
     fn effect_of(&mut self, kind: LineKind) -> Effect
-        ensures kept { (first : ℕ) (moments : List ℕ) (line : Line)
+        ensures kept { (first : TheStart) (moments : List ℕ) (line : Line)
             → kind_of line ≡ kind → KeepsMoments first moments self.old
-            → KeepsMoments first (moments ++ moment_said (Some line)) self.new
+            → KeepsMoments first (moments ++ said_behind first moments (Some line)) self.new
             × IsEffect first moments (Some line) result }
         ensures counts { SameCounts self.old self.new }
     {
         match kind {
-            LineKind::Elements(_) => acting_if(self.has_moment),
+            LineKind::Elements(_) => self.effect_of_elements(),
             LineKind::Moment(given) => self.effect_of_moment(given),
             LineKind::RefuseSubject(_, byte) => acting_if(!is_vital_subject(byte)),
             LineKind::RefuseStation(_, _)
@@ -143,9 +160,29 @@ impl LineEffects {
         }
     }
 
+    /// Keeps the moment that elements set, where they come first, and answers what they do.
+    #[inline(always)]
+    fn effect_of_elements(&mut self) -> Effect
+        ensures kept { (first : TheStart) (moments : List ℕ) (mark : Option Channel)
+            (bits : List Bool) → KeepsMoments first moments self.old
+            → KeepsMoments first
+            (moments ++ said_behind first moments (Some (elements mark bits))) self.new
+            × IsEffect first moments (Some (elements mark bits)) result }
+        ensures counts { SameCounts self.old self.new }
+    {
+        if self.has_moment {
+            return Effect::Acts;
+        }
+        let given = self.moment.max(self.started);
+        if !self.effect_of_moment(given).is_acting() {
+            return Effect::Acts;
+        }
+        Effect::Sets(given)
+    }
+
     /// Keeps the moment that a line says, and answers what the line does.
     fn effect_of_moment(&mut self, given: u64) -> Effect
-        ensures kept { (first : ℕ) (moments : List ℕ) → KeepsMoments first moments self.old
+        ensures kept { (first : TheStart) (moments : List ℕ) → KeepsMoments first moments self.old
             → KeepsMoments first (moments ++ moment_said (Some (moment given))) self.new
             × IsEffect first moments (Some (moment given)) result }
         ensures counts { SameCounts self.old self.new }
@@ -173,10 +210,12 @@ impl LineEffects {
     fn count(&mut self, acted: bool)
         requires room { self.old.lines < 2 ^ 63 }
         requires fewer { self.old.without_effect ≤ self.old.lines }
-        ensures kept { (first : ℕ) (lines : List (Option Line)) (line : Option Line)
+        ensures kept { (first : TheStart) (lines : List (Option Line)) (line : Option Line)
             (before : TheEffects) → IsKept first lines before → SameCounts before self.old
-            → acted ≡ acts first (moments_said lines) line
-            → KeepsMoments first (moments_said lines ++ moment_said line) self.old
+            → acted ≡ acts first.newest (moments_behind first lines) line
+            → KeepsMoments first
+            (moments_behind first lines ++ said_behind first (moments_behind first lines) line)
+            self.old
             → IsKept first (lines ++ line ∷ []) self.new }
         ensures lines { self.new.lines ≡ self.old.lines + 1 }
         ensures fewer { self.new.without_effect ≤ self.new.lines }
@@ -201,7 +240,7 @@ impl Effect {
     fn is_acting(self) -> bool
         ensures { result ≡ is_acting self }
     {
-        matches!(self, Effect::Acts)
+        matches!(self, Effect::Acts | Effect::Sets(_))
     }
 }
 

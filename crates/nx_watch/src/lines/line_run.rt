@@ -1,21 +1,30 @@
 //! A run over the lines of any bytes, which goes on behind those that aren't understood. What runs
 //! for each line is inlined always; what is done for one that isn't understood never is.
 
-ghost use Rattle.std.specs.Prelude.{◌≡◌, ◌+◌, ◌<◌, ◌≤◌, ◌↔◌, ◌⊎◌, ℕ, List, [], ◌∷◌, ◌++◌, Option, IsErrOf, IsSomeAnd, IfOk, OnOk, MatchResult, None, Some, length, take, ◌^◌};
+ghost use Rattle.std.specs.Prelude.{◌≡◌, ◌+◌, ◌<◌, ◌≤◌, ◌↔◌, ◌⊎◌, ℕ, List, [], ◌∷◌, ◌++◌, Option, IsErrOf, IsSomeAnd, IfErr, IfOk, OnOk, MatchResult, None, Some, length, take, ◌^◌};
 ghost use Rattle.std.specs.Io.KnownBytes.{Consumes, IsAtEnd};
-ghost use Rattle.nx_fec.specs.air_files.AirFile.{IsLine, Line};
+ghost use Rattle.nx_fec.specs.air_files.AirFile.{IsLine, Line, moment};
 ghost use Rattle.nx_fec.specs.Transfers.{FailsOnce};
 ghost use Rattle.nx_watch.specs.Acting.{most_bytes};
 ghost use Rattle.nx_watch.specs.AnyLines.{AreLines};
 ghost use Rattle.nx_watch.specs.LineRun.{AnswersRun, AreCounted, HasTaken, HasTold, MayAct, StandsWith, WithWriter, told_of, with_writer};
 ghost use Rattle.nx_watch.specs.private.Running.{EndsInput, EndsRun, IsRunning, TellsFirst};
+ghost use Rattle.nx_receiver.specs.Listener.{starts_of};
+ghost use Rattle.nx_watch.specs.Stamps.{IsFresh, counted_of, stamps_of};
+ghost use Rattle.nx_watch.specs.private.LoggingListener.{KeepsLines};
 ghost use Rattle.nx_watch.specs.private.Scanning.{IsScanning};
+ghost use Rattle.nx_watch.specs.private.Stamping.{RunsStamped, StandsStamped, telling};
+ghost use Rattle.nx_watch.specs.declared.lines.line_effects.StartMoments.{StartMoments as TheStart};
+ghost use Rattle.nx_watch.specs.declared.logging_listener.LoggingListener.{LoggingListener as TheLoggingListener};
 ghost use Rattle.nx_watch.specs.declared.lines.line_run.WatchEnd.TheVariants.{Read as ReadFailed, Write as WriteEnd};
 
 use crate::lines::any_scanner::{AnyScanner, Ended};
-use crate::lines::line_effects::{Effect, LineEffects};
+use crate::lines::line_effects::{Effect, LineEffects, StartMoments};
 use crate::lines::telling::{tell_first, tell_number};
-use nx_fec::{CHUNK, Counting, Piece, Scanner, next_piece};
+use crate::logging_listener::LoggingListener;
+use crate::stamped::StampedReader;
+use nx_fec::{CHUNK, Counting, Piece, Scanner};
+use nx_kept::DiskFile;
 use std::io::{Read, Write};
 use thiserror::Error;
 
@@ -32,6 +41,14 @@ pub trait ActingTaker: Drop {
 
     /// What stood so at first stands so now, after these lines, for which these bytes were given.
     ghost stands: { Self → Self → List Line → List ℕ → Type 0 };
+
+    /// Sets the moment in force, as a line does that says it. It comes before the first elements,
+    /// where no line said one.
+    fn set_moment(&mut self, given: u64)
+        ensures set { (start : Self) (lines : List Line) (bytes : List ℕ)
+            → MayAct (first_moment start) lines (moment given)
+            → stands start self.old lines bytes
+            → stands start self.new (lines ++ moment given ∷ []) bytes };
 
     /// Takes the line that the scanner's last byte ended, and gives the writer its bytes. It takes
     /// the whole line also where a write fails, after which it doesn't call the writer.
@@ -73,39 +90,44 @@ pub enum WatchEnd {
 }
 
 /// Reads any bytes to their end, or up to `limit` of them, as lines, and gives each line that acts
-/// to the taker, all that it holds before each further read. `first` is the moment in force at
-/// first. Tells of the first line without effect before the next read, and of their number at the
-/// end. A failed write of what it tells is passed over. It takes no memory.
+/// to the receivers, all that it holds before each further read. `first` is the moments with which
+/// it starts. Tells of the first line without effect before the next read, and of their number at
+/// the end. A failed write of what it tells is passed over. It takes no memory.
 ///
 /// `Back` behind the line that ends the watch: its moment goes back by 66 hours or more, as the
 /// moment in range before it did. `Read` after a failed read. Every list of bytes has an answer.
-pub fn watch_lines<R: Read, W: Write, F: Write, T: ActingTaker>(
-    reader: &mut Counting<R>,
+pub(crate) fn watch_lines<R: Read, D: DiskFile + Drop, W: Write, F: Write>(
+    reader: &mut StampedReader<R, D, Counting<W>, Counting<F>>,
     writer: &mut Counting<W>,
     notices: &mut Counting<F>,
-    taker: &mut T,
-    first: u64,
+    logging: &mut LoggingListener<D>,
+    first: StartMoments,
     limit: u64,
 ) -> Result<LinesWatched, WatchEnd>
-    requires reader { reader.old.failures ≡ 0 }
+    requires reader { IsFresh reader.old }
     requires writer { writer.old.failures ≡ 0 }
     requires notices { notices.old.failures ≡ 0 }
     requires limit { limit ≤ most_bytes }
-    ensures watched { (start : T) → T.first_moment start ≡ first → T.stands start taker.old [] []
+    ensures watched { (start : TheLoggingListener D) → (starts_of start.listener).moment
+        ≡ first.newest
+        → KeepsLines D.DiskFile start logging.old [] []
         → (bytes : List ℕ)
-        × Consumes (R.remaining reader.old.inner) (R.remaining reader.new.inner) bytes
+        × Consumes (R.remaining (counted_of reader.old).inner)
+        (R.remaining (counted_of reader.new).inner) bytes
         × (length bytes ≤ limit)
         × AnswersRun (record {
-          stands = StandsWith T.stands W.contents;
+          stands = StandsStamped
+              (telling D.DiskFile W.contents F.contents (F.contents notices.old.inner)) first bytes
+              (stamps_of reader.new);
           start = with_writer start writer.old;
-          now = with_writer taker.new writer.new;
+          now = with_writer logging.new writer.new;
           first = first;
-          AtEnd = IsAtEnd (R.remaining reader.new.inner) ⊎ (length bytes ≡ limit);
+          AtEnd = IsAtEnd (R.remaining (counted_of reader.new).inner) ⊎ (length bytes ≡ limit);
           tells = λ lines. HasTold (F.contents notices.old.inner) (F.contents notices.new.inner)
               notices.new.failures (told_of first lines);
         }) result bytes }
-    ensures unread { IsErrOf result ReadFailed ↔ (reader.new.failures ≡ 1) }
-    ensures once { reader.new.failures ≤ 1 }
+    ensures unread { IsErrOf result ReadFailed ↔ ((counted_of reader.new).failures ≡ 1) }
+    ensures once { (counted_of reader.new).failures ≤ 1 }
     ensures unwritten { IsErrOf result WriteEnd ↔ (writer.new.failures ≡ 1) }
     ensures written_once { writer.new.failures ≤ 1 }
 {
@@ -113,7 +135,7 @@ pub fn watch_lines<R: Read, W: Write, F: Write, T: ActingTaker>(
         scanner: AnyScanner::new(),
         effects: LineEffects::new(first),
     };
-    match run.read_lines(reader, writer, notices, taker, limit) {
+    match run.read_lines(reader, writer, notices, logging, limit) {
         Ok(()) => Ok(run.end(notices)),
         Err(end) => {
             run.count(notices);
@@ -131,40 +153,47 @@ struct LineRun {
 
 impl LineRun {
     /// Reads the input to its end or its limit, or until the run is over.
-    fn read_lines<R: Read, W: Write, F: Write, T: ActingTaker>(
+    fn read_lines<R: Read, D: DiskFile + Drop, W: Write, F: Write>(
         &mut self,
-        reader: &mut Counting<R>,
+        reader: &mut StampedReader<R, D, Counting<W>, Counting<F>>,
         writer: &mut Counting<W>,
         notices: &mut Counting<F>,
-        taker: &mut T,
+        logging: &mut LoggingListener<D>,
         limit: u64,
     ) -> Result<(), WatchEnd>
-        requires reader { reader.old.failures ≡ 0 }
+        requires reader { IsFresh reader.old }
         requires writer { writer.old.failures ≡ 0 }
         requires limit { limit ≤ most_bytes }
         requires room { self.old.scanner.scanner.room ≡ most_bytes }
         requires lines { self.old.effects.lines ≡ 0 }
         requires fewer { self.old.effects.without_effect ≡ 0 }
-        ensures read { (start : WithWriter T W) (first : ℕ) (old : Option (List ℕ))
-            → T.first_moment start.taker ≡ first
-            → IsRunning (StandsWith T.stands W.contents) start (with_writer taker.old writer.old)
-            first self.old old
+        ensures read { (start : WithWriter (TheLoggingListener D) W) (first : TheStart)
+            (old : Option (List ℕ))
+            → (starts_of start.taker.listener).moment ≡ first.newest
+            → IsRunning (StandsWith (KeepsLines D.DiskFile) W.contents) start
+            (with_writer logging.old writer.old) first self.old old
             (F.contents notices.old.inner) notices.old.failures []
             → (bytes : List ℕ)
-            × Consumes (R.remaining reader.old.inner) (R.remaining reader.new.inner) bytes
+            × Consumes (R.remaining (counted_of reader.old).inner)
+            (R.remaining (counted_of reader.new).inner) bytes
             × (length bytes ≤ limit)
             × MatchResult result
-            (λ _. (IsAtEnd (R.remaining reader.new.inner) ⊎ (length bytes ≡ limit))
-            × IsRunning (StandsWith T.stands W.contents) start (with_writer taker.new writer.new)
-            first self.new old
-            (F.contents notices.new.inner) notices.new.failures bytes)
-            (λ end. EndsRun (StandsWith T.stands W.contents) start
-            (with_writer taker.new writer.new) first self.new.effects old
-            (F.contents notices.new.inner) notices.new.failures end bytes) }
+            (λ _. (IsAtEnd (R.remaining (counted_of reader.new).inner) ⊎ (length bytes ≡ limit))
+            × RunsStamped (telling D.DiskFile W.contents F.contents old) first bytes
+            self.new.effects.lines start
+            (λ since. IsRunning (StandsWith (KeepsLines D.DiskFile) W.contents) since
+            (with_writer logging.new writer.new) first self.new old
+            (F.contents notices.new.inner) notices.new.failures bytes) (stamps_of reader.new))
+            (λ end. RunsStamped (telling D.DiskFile W.contents F.contents old) first bytes
+            self.new.effects.lines start
+            (λ since. EndsRun (StandsWith (KeepsLines D.DiskFile) W.contents) since
+            (with_writer logging.new writer.new) first self.new.effects old
+            (F.contents notices.new.inner) notices.new.failures end bytes)
+            (stamps_of reader.new)) }
         ensures few { OnOk result (self.new.effects.lines < 2 ^ 63) }
         ensures fewer { OnOk result (self.new.effects.without_effect ≤ self.new.effects.lines) }
-        ensures unread { IsErrOf result ReadFailed ↔ (reader.new.failures ≡ 1) }
-        ensures once { reader.new.failures ≤ 1 }
+        ensures unread { IsErrOf result ReadFailed ↔ ((counted_of reader.new).failures ≡ 1) }
+        ensures once { (counted_of reader.new).failures ≤ 1 }
         ensures unwritten { IsErrOf result WriteEnd ↔ (writer.new.failures ≡ 1) }
         ensures written_once { writer.new.failures ≤ 1 }
     {
@@ -172,12 +201,13 @@ impl LineRun {
         let mut room = limit;
         while room > 0 {
             let most = (CHUNK as u64).min(room) as usize;
-            let count = match next_piece(reader, &mut buffer[..most]) {
+            let disk = &logging.keeper.log.device;
+            let count = match reader.next_piece(disk, writer, notices, &mut buffer[..most]) {
                 Piece::Bytes(count) => count,
                 Piece::End => return Ok(()),
                 Piece::Failed => return Err(WatchEnd::Read),
             };
-            if let Err(end) = self.take_piece(&buffer[..count], writer, notices, taker) {
+            if let Err(end) = self.take_piece(&buffer[..count], writer, notices, logging) {
                 return Err(end);
             }
             room -= count as u64;
@@ -199,9 +229,9 @@ impl LineRun {
         requires within { self.old.scanner.scanner.room ≤ most_bytes }
         requires few { self.old.effects.lines + length piece.now ≤ most_bytes }
         requires fewer { self.old.effects.without_effect ≤ self.old.effects.lines }
-        ensures taken { (start : WithWriter T W) (first : ℕ) (old : Option (List ℕ))
+        ensures taken { (start : WithWriter T W) (first : TheStart) (old : Option (List ℕ))
             (bytes : List ℕ)
-            → T.first_moment start.taker ≡ first
+            → T.first_moment start.taker ≡ first.newest
             → IsRunning (StandsWith T.stands W.contents) start (with_writer taker.old writer.old)
             first self.old old
             (F.contents notices.old.inner) notices.old.failures bytes
@@ -219,6 +249,7 @@ impl LineRun {
         ensures few { OnOk result
             (self.new.effects.lines ≤ self.old.effects.lines + length piece.now) }
         ensures fewer { OnOk result (self.new.effects.without_effect ≤ self.new.effects.lines) }
+        ensures grows { self.old.effects.lines ≤ self.new.effects.lines }
         ensures unread { IsErrOf result ReadFailed → ⊥ }
         ensures open { OnOk result (writer.new.failures ≡ 0) }
         ensures unwritten { IsErrOf result WriteEnd ↔ (writer.new.failures ≡ 1) }
@@ -250,9 +281,9 @@ impl LineRun {
         requires within { self.old.scanner.scanner.room ≤ most_bytes }
         requires few { self.old.effects.lines + length piece.now ≤ most_bytes }
         requires fewer { self.old.effects.without_effect ≤ self.old.effects.lines }
-        ensures taken { (start : WithWriter T W) (first : ℕ) (old : Option (List ℕ))
+        ensures taken { (start : WithWriter T W) (first : TheStart) (old : Option (List ℕ))
             (bytes : List ℕ)
-            → T.first_moment start.taker ≡ first
+            → T.first_moment start.taker ≡ first.newest
             → IsRunning (StandsWith T.stands W.contents) start (with_writer taker.old writer.old)
             first self.old old
             (F.contents notices.old.inner) notices.old.failures bytes
@@ -272,6 +303,7 @@ impl LineRun {
         ensures few { IfOk result (λ count.
             self.new.effects.lines ≤ self.old.effects.lines + count) }
         ensures fewer { OnOk result (self.new.effects.without_effect ≤ self.new.effects.lines) }
+        ensures grows { self.old.effects.lines ≤ self.new.effects.lines }
         ensures unread { IsErrOf result ReadFailed → ⊥ }
         ensures open { OnOk result (writer.new.failures ≡ 0) }
         ensures unwritten { IsErrOf result WriteEnd ↔ (writer.new.failures ≡ 1) }
@@ -296,8 +328,8 @@ impl LineRun {
     fn end<F: Write>(&mut self, notices: &mut Counting<F>) -> LinesWatched
         requires few { self.old.effects.lines < 2 ^ 63 }
         requires fewer { self.old.effects.without_effect ≤ self.old.effects.lines }
-        ensures { (first : ℕ) (old : Option (List ℕ)) (bytes : List ℕ) (lines : List (Option Line))
-            → IsScanning self.old.scanner bytes lines
+        ensures { (first : TheStart) (old : Option (List ℕ)) (bytes : List ℕ)
+            (lines : List (Option Line)) → IsScanning self.old.scanner bytes lines
             → TellsFirst first self.old.effects old (F.contents notices.old.inner)
             notices.old.failures lines
             → EndsInput first bytes lines old (F.contents notices.new.inner) notices.new.failures
@@ -312,14 +344,15 @@ impl LineRun {
 
     /// Tells how many lines had no effect, and answers the counts.
     fn count<F: Write>(&self, notices: &mut Counting<F>) -> LinesWatched
-        ensures counted { (first : ℕ) (old : Option (List ℕ)) (lines : List (Option Line))
+        ensures counted { (first : TheStart) (old : Option (List ℕ)) (lines : List (Option Line))
             → TellsFirst first self.now.effects old (F.contents notices.old.inner)
             notices.old.failures lines
             → AreCounted first lines result }
-        ensures told { (first : ℕ) (old : Option (List ℕ)) (lines : List (Option Line))
+        ensures told { (first : TheStart) (old : Option (List ℕ)) (lines : List (Option Line))
             → TellsFirst first self.now.effects old (F.contents notices.old.inner)
             notices.old.failures lines
-            → HasTold old (F.contents notices.new.inner) notices.new.failures (told_of first lines) }
+            → HasTold old (F.contents notices.new.inner) notices.new.failures
+            (told_of first lines) }
     {
         tell_number(self.effects.without_effect(), notices);
         self.effects.counts()
@@ -330,7 +363,7 @@ impl LineRun {
     fn pass_line<F: Write>(&mut self, notices: &mut Counting<F>)
         requires few { self.old.effects.lines < 2 ^ 63 }
         requires fewer { self.old.effects.without_effect ≤ self.old.effects.lines }
-        ensures tells { (first : ℕ) (old : Option (List ℕ)) (lines : List (Option Line))
+        ensures tells { (first : TheStart) (old : Option (List ℕ)) (lines : List (Option Line))
             → TellsFirst first self.old.effects old (F.contents notices.old.inner)
             notices.old.failures lines
             → TellsFirst first self.new.effects old (F.contents notices.new.inner)
@@ -342,6 +375,33 @@ impl LineRun {
         let before = self.effects.first_without();
         self.effects.not_understood();
         tell_first(before, self.effects.first_without(), notices);
+    }
+
+    /// Gives the taker the line that the last byte ended, which acts.
+    #[inline(always)]
+    fn take_acting<W: Write, T: ActingTaker>(
+        &self,
+        writer: &mut Counting<W>,
+        taker: &mut T,
+    ) -> Result<(), WatchEnd>
+        requires line { IsSomeAnd self.now.scanner.scanner.latest IsLine }
+        requires writer { writer.old.failures ≡ 0 }
+        ensures taken { (start : WithWriter T W) (lines : List Line) (line : Line)
+            → self.now.scanner.scanner.latest ≡ Some line
+            → MayAct (T.first_moment start.taker) lines line
+            → StandsWith T.stands W.contents start (with_writer taker.old writer.old) lines
+            → StandsWith T.stands W.contents start (with_writer taker.new writer.new)
+            (lines ++ line ∷ []) }
+        ensures ended { IfErr result (λ end. end ≡ WriteEnd) }
+        ensures unread { IsErrOf result ReadFailed → ⊥ }
+        ensures open { OnOk result (writer.new.failures ≡ 0) }
+        ensures unwritten { IsErrOf result WriteEnd ↔ (writer.new.failures ≡ 1) }
+        ensures written_once { writer.new.failures ≤ 1 }
+    {
+        match taker.take(&self.scanner.scanner, writer) {
+            Ok(()) => Ok(()),
+            Err(WriteFailed) => Err(WatchEnd::Write),
+        }
     }
 
     /// Takes the line of an air file that the last byte ended.
@@ -356,9 +416,10 @@ impl LineRun {
         requires writer { writer.old.failures ≡ 0 }
         requires few { self.old.effects.lines < 2 ^ 63 }
         requires fewer { self.old.effects.without_effect ≤ self.old.effects.lines }
-        ensures taken { (start : WithWriter T W) (first : ℕ) (old : Option (List ℕ))
+        ensures taken { (start : WithWriter T W) (first : TheStart) (old : Option (List ℕ))
             (lines : List (Option Line)) (line : Line)
-            → T.first_moment start.taker ≡ first → self.old.scanner.scanner.latest ≡ Some line
+            → T.first_moment start.taker ≡ first.newest
+            → self.old.scanner.scanner.latest ≡ Some line
             → HasTaken (StandsWith T.stands W.contents) start (with_writer taker.old writer.old)
             first lines
             → TellsFirst first self.old.effects old (F.contents notices.old.inner)
@@ -386,10 +447,11 @@ impl LineRun {
         };
         let before = self.effects.first_without();
         match self.effects.line(kind) {
-            Effect::Acts => match taker.take(&self.scanner.scanner, writer) {
-                Ok(()) => Ok(()),
-                Err(WriteFailed) => Err(WatchEnd::Write),
-            },
+            Effect::Acts => self.take_acting(writer, taker),
+            Effect::Sets(given) => {
+                taker.set_moment(given);
+                self.take_acting(writer, taker)
+            }
             Effect::Nothing => {
                 tell_first(before, self.effects.first_without(), notices);
                 Ok(())

@@ -1,14 +1,16 @@
-use Rattle.std.proofs.Common.{rules, List, ℕ, subst}
+use Rattle.std.proofs.Common.{rules, List, ℕ, inl, inr, subst}
 use Rattle.std.proofs.lemmas.Result.{err_from_is_err_and}
-use Rattle.nx_kept.specs.Kept.{IsDamaged, StandsFor}
-use Rattle.nx_kept.proofs.lemmas.Calls.{file_of, reads_leave, sync_reads}
-use Rattle.nx_kept.proofs.lemmas.Repairing.{read_cause, repaired}
+use Rattle.nx_kept.specs.Kept.{IsDamaged}
+use Rattle.nx_kept.proofs.lemmas.Calls.{file_of, sync_reads}
+use Rattle.nx_kept.proofs.lemmas.Pieces.{on_err}
+use Rattle.nx_kept.proofs.lemmas.Repairing.{read_cause, read_first, repaired}
 use Rattle.nx_kept.proofs.lemmas.Stages.{reads_both}
+use Rattle.nx_kept.proofs.lemmas.Settling.{all_of, settled_closed, settled_repaired}
 use Rattle.nx_kept.proofs.opening.settle.Goals as goal
 
 -- the file is being brought to the disk
-pub returns-in_err-sync-clause-any_moment : goal.returns-in_err-sync-clause-any_moment
-returns-in_err-sync-clause-any_moment g c = λ start records explains stands.
+pub returns-in_err-sync-clause-synced_first_err : goal.returns-in_err-sync-clause-synced_first_err
+returns-in_err-sync-clause-synced_first_err g c = λ start records explains stands.
     let d = g.D.DiskFile in
     let f = file_of (d.seen start) (d.may_leave start) d.moment (d.left_since start) in
     let first = sync_reads f (g.met.D.DiskFile.only_now start c.args.device.now)
@@ -17,7 +19,7 @@ returns-in_err-sync-clause-any_moment g c = λ start records explains stands.
       crash = c.sync.ensures.crash start;
       seen = c.sync.ensures.seen start;
     }) in
-    reads_leave f (StandsFor g.G.Grammar.is_record g.G.Grammar.LONGEST records) first
+    on_err c.from_residual-in_err-sync.result (inr first)
 
 -- which changes nothing
 pub returns-in_err-sync-clause-only_read_err : goal.returns-in_err-sync-clause-only_read_err
@@ -33,8 +35,8 @@ returns-in_err-sync-clause-only_read_err g c = λ start explains none.
     first
 
 -- it is being read
-pub returns-in_err-rest-clause-any_moment : goal.returns-in_err-rest-clause-any_moment
-returns-in_err-rest-clause-any_moment g c = λ start records explains stands.
+pub returns-in_err-rest-clause-synced_first_err : goal.returns-in_err-rest-clause-synced_first_err
+returns-in_err-rest-clause-synced_first_err g c = λ start records explains stands.
     let d = g.D.DiskFile in
     let f = file_of (d.seen start) (d.may_leave start) d.moment (d.left_since start) in
     let first = sync_reads f (g.met.D.DiskFile.only_now start c.args.device.now)
@@ -43,9 +45,9 @@ returns-in_err-rest-clause-any_moment g c = λ start records explains stands.
       crash = c.sync.ensures.crash start;
       seen = c.sync.ensures.seen start;
     }) in
-    let both = reads_both f.moment f.left_since f.may_leave f.seen c.args.device.now c.sync.new.self
-    c.scan.new.device first (c.scan.ensures.only_reads start) in
-    reads_leave f (StandsFor g.G.Grammar.is_record g.G.Grammar.LONGEST records) both
+    on_err c.from_residual-in_err-rest.result
+    (inl (read_first f g.G.Grammar.is_record g.G.Grammar.LONGEST records stands first
+    (c.in_ok-sync.ensures.durable start) (c.scan.ensures.only_reads start)))
 
 -- which changes nothing either
 pub returns-in_err-rest-clause-only_read_err : goal.returns-in_err-rest-clause-only_read_err
@@ -63,8 +65,9 @@ returns-in_err-rest-clause-only_read_err g c = λ start explains none.
     both
 
 -- its end is being put right
-pub returns-in_err-repair-clause-any_moment : goal.returns-in_err-repair-clause-any_moment
-returns-in_err-repair-clause-any_moment g c = λ start records explains stands.
+pub returns-in_err-repair-clause-synced_first_err :
+    goal.returns-in_err-repair-clause-synced_first_err
+returns-in_err-repair-clause-synced_first_err g c = λ start records explains stands.
     let d = g.D.DiskFile in
     let f = file_of (d.seen start) (d.may_leave start) d.moment (d.left_since start) in
     let first = sync_reads f (g.met.D.DiskFile.only_now start c.args.device.now)
@@ -73,15 +76,16 @@ returns-in_err-repair-clause-any_moment g c = λ start records explains stands.
       crash = c.sync.ensures.crash start;
       seen = c.sync.ensures.seen start;
     }) in
-    repaired f g.G.Grammar.is_record g.G.Grammar.LONGEST g.met.G.Grammar.some g.met.G.Grammar.one
-    records c.in_ok-rest.rest stands first (c.in_ok-sync.ensures.durable start)
+    on_err c.from_residual-in_err-repair.result
+    (inl (repaired f g.G.Grammar.is_record g.G.Grammar.LONGEST g.met.G.Grammar.some
+    g.met.G.Grammar.one records c.in_ok-rest.rest stands first (c.in_ok-sync.ensures.durable start)
     (c.scan.ensures.only_reads start)
     (c.in_ok-rest.ensures.found start (c.repair.ensures.explained start explains))
-    (c.repair.ensures.any_moment start)
+    (c.repair.ensures.any_moment start)))
 
 -- and was put right
-pub returns-clause-any_moment : goal.returns-clause-any_moment
-returns-clause-any_moment g c = λ start records explains stands.
+pub returns-clause-synced_first : goal.returns-clause-synced_first
+returns-clause-synced_first g c = λ start records explains stands.
     let d = g.D.DiskFile in
     let f = file_of (d.seen start) (d.may_leave start) d.moment (d.left_since start) in
     let first = sync_reads f (g.met.D.DiskFile.only_now start c.args.device.now)
@@ -97,8 +101,8 @@ returns-clause-any_moment g c = λ start records explains stands.
     (c.repair.ensures.any_moment start)
 
 -- a log at rest was only read
-pub returns-then-rest-clause-any_moment : goal.returns-then-rest-clause-any_moment
-returns-then-rest-clause-any_moment g c = λ start records explains stands.
+pub returns-then-rest-clause-synced_first : goal.returns-then-rest-clause-synced_first
+returns-then-rest-clause-synced_first g c = λ start records explains stands.
     let d = g.D.DiskFile in
     let f = file_of (d.seen start) (d.may_leave start) d.moment (d.left_since start) in
     let first = sync_reads f (g.met.D.DiskFile.only_now start c.args.device.now)
@@ -107,9 +111,8 @@ returns-then-rest-clause-any_moment g c = λ start records explains stands.
       crash = c.sync.ensures.crash start;
       seen = c.sync.ensures.seen start;
     }) in
-    let both = reads_both f.moment f.left_since f.may_leave f.seen c.args.device.now c.sync.new.self
-    c.scan.new.device first (c.scan.ensures.only_reads start) in
-    reads_leave f (StandsFor g.G.Grammar.is_record g.G.Grammar.LONGEST records) both
+    read_first f g.G.Grammar.is_record g.G.Grammar.LONGEST records stands first
+    (c.in_ok-sync.ensures.durable start) (c.scan.ensures.only_reads start)
 
 -- its bytes too
 pub returns-then-rest-clause-only_read : goal.returns-then-rest-clause-only_read
@@ -144,3 +147,70 @@ returns-in_err-rest-clause-cause g c =
     rw p.1 (rw p.2 (read_cause g.D.DiskFile.faults g.D.DiskFile.has_failed_to_read
     g.D.DiskFile.has_failed_to_write c.in_err-rest.field-0.0 c.args.device.now c.sync.new.self
     c.scan.new.device c.in_ok-sync.ensures.faults.ok c.in_err-rest.ensures.cause))
+
+-- a closed gate is left
+pub returns-then-rest-clause-settled : goal.returns-then-rest-clause-settled
+returns-then-rest-clause-settled g c = λ start explains.
+    let d = g.D.DiskFile in
+    let f = file_of (d.seen start) (d.may_leave start) d.moment (d.left_since start) in
+    let first = sync_reads f (g.met.D.DiskFile.only_now start c.args.device.now)
+    (record {
+      time = c.sync.ensures.time start;
+      crash = c.sync.ensures.crash start;
+      seen = c.sync.ensures.seen start;
+    }) in
+    settled_closed f g.G.Grammar.is_record g.G.Grammar.LONGEST g.T.RecordTaker.takes
+    g.T.RecordTaker.hears_of_cut first (c.in_ok-sync.ensures.durable start)
+    (c.scan.ensures.only_reads start) c.args.taker.now c.scan.new.taker
+    c.in_ok-rest.rest (c.in_ok-rest.ensures.found start explains) (search rules)
+
+-- or made
+pub returns-clause-settled : goal.returns-clause-settled
+returns-clause-settled g c = λ start explains.
+    let d = g.D.DiskFile in
+    let f = file_of (d.seen start) (d.may_leave start) d.moment (d.left_since start) in
+    let first = sync_reads f (g.met.D.DiskFile.only_now start c.args.device.now)
+    (record {
+      time = c.sync.ensures.time start;
+      crash = c.sync.ensures.crash start;
+      seen = c.sync.ensures.seen start;
+    }) in
+    settled_repaired f g.G.Grammar.is_record g.G.Grammar.LONGEST g.T.RecordTaker.takes
+    g.T.RecordTaker.hears_of_cut first (c.in_ok-sync.ensures.durable start)
+    (c.scan.ensures.only_reads start) c.args.taker.now c.scan.new.taker
+    c.in_ok-rest.rest (c.in_ok-rest.ensures.found start (c.repair.ensures.explained start explains))
+    (c.in_ok-repair.ensures.repaired start) (c.in_ok-repair.ensures.durable start)
+
+-- and where that failed, what was to be cut had been heard of
+pub returns-in_err-repair-clause-taken_err : goal.returns-in_err-repair-clause-taken_err
+returns-in_err-repair-clause-taken_err g c = λ start explains.
+    let d = g.D.DiskFile in
+    let f = file_of (d.seen start) (d.may_leave start) d.moment (d.left_since start) in
+    let first = sync_reads f (g.met.D.DiskFile.only_now start c.args.device.now)
+    (record {
+      time = c.sync.ensures.time start;
+      crash = c.sync.ensures.crash start;
+      seen = c.sync.ensures.seen start;
+    }) in
+    on_err c.from_residual-in_err-repair.result
+    (inr (all_of f g.G.Grammar.is_record g.G.Grammar.LONGEST g.T.RecordTaker.takes
+    g.T.RecordTaker.hears_of_cut first (c.in_ok-sync.ensures.durable start)
+    (c.scan.ensures.only_reads start) c.args.taker.now c.scan.new.taker
+    c.in_ok-rest.rest (c.in_ok-rest.ensures.found start
+    (c.repair.ensures.explained start explains))))
+
+pub returns-in_err-repair-clause-told_first : goal.returns-in_err-repair-clause-told_first
+returns-in_err-repair-clause-told_first g c = λ start explains same_fault.
+    let d = g.D.DiskFile in
+    let f = file_of (d.seen start) (d.may_leave start) d.moment (d.left_since start) in
+    let first = sync_reads f (g.met.D.DiskFile.only_now start c.args.device.now)
+    (record {
+      time = c.sync.ensures.time start;
+      crash = c.sync.ensures.crash start;
+      seen = c.sync.ensures.seen start;
+    }) in
+    inr (all_of f g.G.Grammar.is_record g.G.Grammar.LONGEST g.T.RecordTaker.takes
+    g.T.RecordTaker.hears_of_cut first (c.in_ok-sync.ensures.durable start)
+    (c.scan.ensures.only_reads start) c.args.taker.now c.scan.new.taker
+    c.in_ok-rest.rest (c.in_ok-rest.ensures.found start
+    (c.repair.ensures.explained start explains)))

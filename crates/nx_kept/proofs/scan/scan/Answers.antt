@@ -5,7 +5,7 @@ use Rattle.nx_kept.specs.Kept.{line_feed, IsDamaged}
 use Rattle.nx_kept.specs.private.Scan.{IsAtRecord}
 use Rattle.nx_kept.proofs.lemmas.Stages.{reads_on}
 use Rattle.nx_kept.proofs.lemmas.Steps.{record_fits, record_there}
-use Rattle.nx_kept.proofs.lemmas.Scanning.{reached_more, reached_damage}
+use Rattle.nx_kept.proofs.lemmas.Scanning.{reached_damage, reached_end, reached_more}
 use Rattle.nx_kept.proofs.scan.scan.Goals as goal
 
 pub returns-in_default-clause-only_reads : goal.returns-in_default-clause-only_reads
@@ -184,3 +184,22 @@ returns-in-Tail-clause-closed_in_range g c = λ closed.
       length-take c.in-Ok.count c.read_at.new.room,
       c.in-Ok.ensures.in_range,
     )
+
+pub returns-in-Tail-clause-found : goal.returns-in-Tail-clause-found
+returns-in-Tail-clause-found g c = λ start explains.
+    let told = c.in-Ok.ensures.bytes start explains in
+    let asked : length c.gates.buffer ≡ g.G.Grammar.LONGEST + 3 =
+    omega (arith, c.requires.buffer, c.gates.auto.buffer) in
+    let shown : take c.in-Ok.count c.read_at.new.room ≡ take (g.G.Grammar.LONGEST + 3)
+    (drop c.gates.gate (g.D.DiskFile.seen start c.args.device.now)) =
+    told ∙ ap (λ (n : ℕ). take n (drop c.gates.gate (g.D.DiskFile.seen start c.gates.device))) asked
+    ∙ ap (λ (l : List ℕ). take (g.G.Grammar.LONGEST + 3) (drop c.gates.gate l))
+    (c.gates.invariant.reads start).same in
+    let is = c.in-Tail.ensures (drop c.gates.gate (g.D.DiskFile.seen start c.args.device.now))
+    shown in
+    reached_end g.G.Grammar.is_record g.T.RecordTaker.takes g.G.Grammar.LONGEST
+    (g.D.DiskFile.seen start c.args.device.now) c.gates.gate c.gates.line c.args.taker.now
+    g.T.RecordTaker.hears_of_cut c.gates.taker c.tell_of_cut.new.taker
+    (take c.in-Ok.count c.read_at.new.room) c.is_closed_gate-is_closed.result
+    (c.gates.invariant.reached start (c.read_at.ensures.explained start explains)) shown is
+    c.is_closed_gate-is_closed.ensures c.tell_of_cut.ensures

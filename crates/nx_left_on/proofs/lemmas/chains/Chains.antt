@@ -25,7 +25,7 @@ use Rattle.nx_receiver.proofs.lemmas.receiver.Logged.{printed_copies-append}
 use Rattle.nx_watch.specs.Start.{remembered_at}
 use Rattle.nx_left_on.specs.Chain.{ClocksAreNear, GoesOn, IsChain, Watch, all_copies, all_put}
 use Rattle.nx_left_on.specs.Chain.{copies_in, events_in, lines_of, start_in}
-use Rattle.nx_watch.specs.Watch.{all_saved_at}
+use Rattle.nx_watch.specs.Watch.{all_saved_at, moments_at}
 use Rattle.nx_left_on.proofs.lemmas.Acting.{acting-act}
 use Rattle.nx_left_on.proofs.lemmas.entries.Climbing.{Climbs, lines-rise}
 use Rattle.nx_left_on.proofs.lemmas.entries.Entering.{content-after}
@@ -84,6 +84,12 @@ newest-before saved channel =
 
 -- ---- a watch
 
+-- no clock of a chain is 66 hours behind
+pub near-now : (channel : Channel) (log : List MarkedCopy) (watch : Watch) (watches : List Watch)
+    → ClocksAreNear channel log (watch ∷ watches)
+    → newest_moment (remembered_on channel log) < watch.moment + seconds_known
+near-now channel log watch watches near = omega (arith, near.0)
+
 -- with what a watch starts on a channel
 pub start-is : (channel : Channel) (log : List MarkedCopy) (watch : Watch) → GoesOn log watch
     → watch.starts.entries channel ≡ remembered_at watch.moment (remembered_on channel log)
@@ -106,7 +112,8 @@ watch-climbs channel log watch goes =
     let events = events_in channel watch in
     within-climb first events (watch.judged channel)
     (lines-rise channel watch.starts.moment (lines_of watch)
-    (acting-act watch.starts.moment goes.puts.said (lines_of watch) goes.puts.acted))
+    (acting-act (moments_at watch.moment watch.starts) goes.puts.said (lines_of watch)
+    goes.puts.acted))
     (front-within events (watch.judged channel) (watch.found channel) j.begins
     (found-within watch.ending events (watch.found channel) j.found))
 
@@ -159,18 +166,20 @@ content-chain log (watch ∷ watches) channel content chain near =
     subst (λ those. IsContent (remembered_on channel those))
     (append_assoc log watch.put (all_put watches))
     (content-chain (log ++ watch.put) watches channel
-    (content-next channel log watch chain.0 content near.0) chain.1 near.1)
+    (content-next channel log watch chain.0 content (near-now channel log watch watches near))
+    chain.1 near.1)
 
 pub remembers-chain : (log : List MarkedCopy) (before after : List Watch) (watch : Watch)
     (channel : Channel) → IsContent (remembered_on channel log)
     → IsChain log (before ++ watch ∷ after) → ClocksAreNear channel log (before ++ watch ∷ after)
     → watch.starts.entries channel ≡ remembered_on channel (log ++ all_put before)
 remembers-chain log [] after watch channel content chain near =
-    starts-with channel log watch chain.0 content near.0
+    starts-with channel log watch chain.0 content (near-now channel log watch after near)
     ∙ ap (remembered_on channel) (sym (append-nil log))
 remembers-chain log (one ∷ before) after watch channel content chain near =
     remembers-chain (log ++ one.put) before after watch channel
-    (content-next channel log one chain.0 content near.0) chain.1 near.1
+    (content-next channel log one chain.0 content
+    (near-now channel log one (before ++ watch ∷ after) near)) chain.1 near.1
     ∙ ap (remembered_on channel) (append_assoc log one.put (all_put before))
 
 prints-after : (log : List MarkedCopy) (watches : List Watch) (channel : Channel)
@@ -183,14 +192,15 @@ prints-after log [] channel content chain near = refl
 prints-after log (watch ∷ watches) channel content chain near =
     let entries = entries_on channel log in
     let copies = copies_in channel watch in
+    let soon = near-now channel log watch watches near in
     copies_on-append channel watch.put (all_put watches)
     ∙ ap (λ l. l ++ copies_on channel (all_put watches))
-    (puts-on channel log watch chain.0 content near.0)
+    (puts-on channel log watch chain.0 content soon)
     ∙ ap (λ l. printed_copies entries copies ++ l)
     (prints-after (log ++ watch.put) watches channel
-    (content-next channel log watch chain.0 content near.0) chain.1 near.1
+    (content-next channel log watch chain.0 content soon) chain.1 near.1
     ∙ ap (λ es. printed_copies es (all_copies channel watches))
-    (enters-on channel log watch chain.0 content near.0))
+    (enters-on channel log watch chain.0 content soon))
     ∙ sym (printed_copies-append entries copies (all_copies channel watches))
 
 pub prints-chain : (log : List MarkedCopy) (watches : List Watch) (channel : Channel)

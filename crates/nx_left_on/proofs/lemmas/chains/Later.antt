@@ -21,7 +21,7 @@ use Rattle.nx_left_on.specs.Chain.{ClocksAreNear, IsChain, Watch, all_copies, al
 use Rattle.nx_left_on.specs.Chain.{copies_in}
 use Rattle.nx_left_on.specs.LeftOn.{AreFewOver, JudgedCopy, made_before}
 use Rattle.nx_left_on.proofs.lemmas.chains.Chains.{entries-append, entries_on, newest-start, start-is}
-use Rattle.nx_left_on.proofs.lemmas.chains.Chains.{watch-climbs}
+use Rattle.nx_left_on.proofs.lemmas.chains.Chains.{near-now, watch-climbs}
 use Rattle.nx_left_on.proofs.lemmas.entries.Keeping.{AllFind, all-climb, all-kept, all-printed, bears}
 use Rattle.nx_left_on.proofs.lemmas.entries.Keeping.{kept-back, none-first}
 use Rattle.nx_left_on.proofs.lemmas.chains.Links.{all-back, all-front, copies_of-append, find-first}
@@ -137,7 +137,7 @@ module _ (channel : Channel) (identity : Identity) (entry : MemoryEntry)
       let start : Stands entry (length behind) known =
       subst (Stands entry (length behind)) (sym (start-is channel log watch goes))
       (stands-remembered watch.moment entry (length behind) (entries_on channel log) small
-      h.clocks.0 stands) in
+      (near-now channel log watch next h.clocks) stands) in
       let soon : All IsRecent copies =
       all-front IsRecent copies (all_copies channel next) h.recent in
       let find : AllFind identity entry known start.behind copies =

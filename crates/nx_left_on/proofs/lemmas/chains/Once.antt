@@ -402,8 +402,9 @@ module _ (log : List MarkedCopy) (watches : List Watch) (channel : Channel) (mes
       → All (IsRecentTo message.identity at.copy) copies =
       λ copies all. All-weaker IfNamed (IsRecentTo message.identity at.copy)
       (λ copy is bearing. close_of copy at.copy (is bearing) of) copies all in
+      let numbered : 0 < message.identity.number = omega (arith, h.numbered) in
       let one = first-put log watches channel message.identity chain clocks h.unknown h.few
-      h.numbered f (good_of at.copy of) (selected_of at.copy of)
+      numbered f (good_of at.copy of) (selected_of at.copy of)
       (recent at.later (All-tail IfNamed at.copy at.later from))
       (recent (all_copies channel at.after)
       (all-back IfNamed (copies_in channel at.watch) (all_copies channel at.after) behind)) in

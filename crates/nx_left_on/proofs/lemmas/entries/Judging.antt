@@ -19,7 +19,7 @@ use Rattle.nx_receiver.proofs.lemmas.receiver.Logged.{ended_placed, printed_copi
 use Rattle.nx_receiver.proofs.lemmas.receiver.Logged.{tagged_copies-more}
 use Rattle.nx_left_on.specs.Chain.{AreFoundOf, Ending, GoesOn, HadEnded, PrintOf, Puts}
 use Rattle.nx_left_on.specs.Chain.{Watch, answered, events_in, lines_of, start_in, stopped}
-use Rattle.nx_left_on.specs.Chain.{stopped_closing}
+use Rattle.nx_left_on.specs.Chain.{stopped_closing, with_copies}
 use Rattle.nx_left_on.proofs.lemmas.chains.Found.{begins-more, ended-begin, ended-found, one-ended}
 use Rattle.nx_left_on.proofs.lemmas.chains.Found.{some-ended}
 
@@ -220,28 +220,34 @@ has-judged log watch channel p =
           subst (λ l. Begins l c.kept) (one-ended sure ended others had h) c.first;
     }
 
+-- what is put doesn't tell which copies are found and judged
+pub puts-with : (log : List MarkedCopy) (watch : Watch) (found judged : Channel → List FoundCopy)
+    → Puts log watch → Puts log (with_copies watch found judged)
+puts-with log watch found judged p = record {
+  begins = p.begins;
+  said = p.said;
+  acted = p.acted;
+  printed = p.printed;
+  prints = p.prints;
+  most = p.most;
+  surely = p.surely;
+  in_turn = p.in_turn;
+  least = p.least;
+  all = p.all;
+  stands = p.stands;
+}
+
 pub goes-on : (log : List MarkedCopy) (watch : Watch) → Puts log watch
-    → (found judged : Channel → List FoundCopy)
-    × GoesOn log (record watch { found = found; judged = judged })
-goes-on log watch p = (
-  λ channel. (has-judged log watch channel p).found,
-  λ channel. (has-judged log watch channel p).judged,
-  record {
-    puts = record {
-      begins = p.begins;
-      said = p.said;
-      acted = p.acted;
-      printed = p.printed;
-      prints = p.prints;
-      most = p.most;
-      surely = p.surely;
-      in_turn = p.in_turn;
-      least = p.least;
-      all = p.all;
-      stands = p.stands;
-    };
-    judges = λ channel.
-        let h = has-judged log watch channel p in
-        record { found = h.are; begins = h.begins; put = h.put; surely = h.surely };
-  },
-)
+    → (found judged : Channel → List FoundCopy) × GoesOn log (with_copies watch found judged)
+goes-on log watch p =
+    let found : Channel → List FoundCopy = λ channel. (has-judged log watch channel p).found in
+    let judged : Channel → List FoundCopy = λ channel. (has-judged log watch channel p).judged in (
+      found,
+      judged,
+      record {
+        puts = puts-with log watch found judged p;
+        judges = λ channel.
+            let h = has-judged log watch channel p in
+            record { found = h.are; begins = h.begins; put = h.put; surely = h.surely };
+      },
+    )

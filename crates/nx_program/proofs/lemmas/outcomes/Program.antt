@@ -28,6 +28,7 @@ use Rattle.nx_disk.specs.declared.file.FileFault.{FileFault}
 use Rattle.nx_disk.specs.declared.file.FileFault.TheVariants as file
 use Rattle.nx_watch.specs.declared.watch_fault.WatchFault.{WatchFault}
 use Rattle.nx_watch.specs.declared.watch_fault.WatchFault.TheVariants as watch
+use Rattle.nx_watch.specs.Stamp.{Stamp}
 use Rattle.nx_watch.specs.declared.watch_report.WatchReport.{WatchReport}
 use Rattle.nx_program.specs.declared.watch_command.WatchFailure.{WatchFailure}
 use Rattle.nx_program.specs.declared.watch_command.WatchFailure.TheVariants.{Ended, Unopened}
@@ -59,23 +60,24 @@ pub exits-fresh : {R W F D E : Type 0} (arguments : List Text) (remaining : R �
     (files : F) (gives : F → List ℕ → Result D FileFault → Type 0) (disk_after : Option D)
     (tells : TellsOfDisk D) (told : E → Option (List ℕ)) (errors : E)
     (faults faults_after : CountedDevice E)
+    (stamps : List (Stamp D (CountedDevice W) (CountedDevice E)))
     (status : ℕ)
     → reader.inner ≡ input → reader.failures ≡ 0 → writer.inner ≡ output → writer.failures ≡ 0
     → faults.inner ≡ errors → faults.failures ≡ 0
     → Exits arguments (devices remaining contents reader reader_after writer writer_after)
-    (beside files gives disk_after tells told faults faults_after) status
+    (beside files gives disk_after tells told faults faults_after stamps) status
     → Exits arguments (devices remaining contents (fresh_device input) reader_after
     (fresh_device output) writer_after)
-    (beside files gives disk_after tells told (fresh_device errors) faults_after) status
+    (beside files gives disk_after tells told (fresh_device errors) faults_after stamps) status
 exits-fresh {R} {W} {F} {D} {E} arguments remaining contents input reader reader_after output writer
     writer_after files gives disk_after tells told errors faults faults_after
-    status input_is unread output_is unwritten errors_is untold exits =
+    stamps status input_is unread output_is unwritten errors_is untold exits =
     let P : Devices R W → Type 0 = λ d. Exits arguments d
-    (beside files gives disk_after tells told (fresh_device errors) faults_after) status in
+    (beside files gives disk_after tells told (fresh_device errors) faults_after stamps) status in
     let on : CountedDevice R → CountedDevice W
     → Devices R W = λ r w. devices remaining contents r reader_after w writer_after in
     let Q : CountedDevice E → Type 0 = λ e. Exits arguments (on reader writer)
-    (beside files gives disk_after tells told e faults_after) status in
+    (beside files gives disk_after tells told e faults_after stamps) status in
     subst P (ap₂ on (fresh-is reader input input_is unread)
     (fresh-is writer output output_is unwritten))
     (subst Q (fresh-is faults errors errors_is untold) exits)
@@ -183,13 +185,14 @@ outcome-status (Ok done) = inl refl
 outcome-status (Err why) = inr (fault-status why)
 
 -- a run exits with one of the statuses
-pub status-exits : {R W F D E : Type 0} (arguments : List Text) (d : Devices R W) (b : Beside F D E)
+pub status-exits : {R W F D E : Type 0} (arguments : List Text) (d : Devices R W)
+    (b : Beside F D W E)
     (status : ℕ) → Exits arguments d b status → IsStatus status
 status-exits arguments d b status exits =
     let P : ℕ → Type 0 = λ n. IsStatus n in
     subst P (sym exits.status_is) (outcome-status exits.outcome)
 
-success-ends : {R W F D E : Type 0} (arguments : List Text) (d : Devices R W) (b : Beside F D E)
+success-ends : {R W F D E : Type 0} (arguments : List Text) (d : Devices R W) (b : Beside F D W E)
     (outcome : Result (Unit {0}) Fault)
     → EndsRun arguments d b outcome → status_of outcome ≡ 0 → Succeeds arguments d b
 success-ends arguments d b (Ok done) ends zero = ends
@@ -200,13 +203,13 @@ success-ends arguments d b (Err why) ends zero = elim (fault-status why) [
 
 -- status 0 is a success
 pub success-exits : {R W F D E : Type 0} (arguments : List Text) (d : Devices R W)
-    (b : Beside F D E)
+    (b : Beside F D W E)
     (status : ℕ) → Exits arguments d b status → status ≡ 0 → Succeeds arguments d b
 success-exits arguments d b status exits zero =
     success-ends arguments d b exits.outcome exits.ends (sym exits.status_is ∙ zero)
 
 -- a watch doesn't end with the status of arguments
-watch-arguments : {R W F D E : Type 0} (d : Devices R W) (b : Beside F D E) (name : Text)
+watch-arguments : {R W F D E : Type 0} (d : Devices R W) (b : Beside F D W E) (name : Text)
     (moment : ℕ)
     (outcome : Result (Unit {0}) Fault) → WatchesLog d b name moment outcome
     → status_of outcome ≡ 64 → ⊥
@@ -244,7 +247,7 @@ arguments-end arguments d (Err (fault.Call why)) ends is = elim (call-status why
 
 -- status 64 is a refusal of the arguments
 pub arguments-exit : {R W F D E : Type 0} (arguments : List Text) (d : Devices R W)
-    (b : Beside F D E)
+    (b : Beside F D W E)
     (status : ℕ) → Exits arguments d b status → status ≡ 64 → IsRefused arguments
 arguments-exit arguments d b status exits is = elim exits.ends [
   | inl runs ↦ absurd (watch-arguments d b runs.name runs.moment exits.outcome runs.watched
@@ -276,7 +279,7 @@ refused-ends arguments d (Err (fault.Call why)) ends refused = elim ends [
 
 -- arguments that are refused end with status 64, or with 1 for want of memory
 pub refused-exits : {R W F D E : Type 0} (arguments : List Text) (d : Devices R W)
-    (b : Beside F D E)
+    (b : Beside F D W E)
     (status : ℕ)
     → Exits arguments d b status
     → IsRefused arguments → (status ≡ 64) ⊎ (status ≡ 1)
@@ -289,14 +292,14 @@ refused-exits arguments d b status exits refused = elim exits.ends [
 ]
 
 -- what a call did that is no watch
-performs-streams : {R W F D E : Type 0} (call : Call) (d : Devices R W) (b : Beside F D E)
+performs-streams : {R W F D E : Type 0} (call : Call) (d : Devices R W) (b : Beside F D W E)
     → IsUnused b → PerformsOnStreams call d (Ok tt) → Performs call d b (Ok tt)
 performs-streams (Watch name moment) d b unused performed = absurd performed
 performs-streams call d b unused performed = (unused, performed)
 
 -- a success of arguments that name a call is the success of that call
 pub success-named : {R W F D E : Type 0} (arguments : List Text) (d : Devices R W)
-    (b : Beside F D E)
+    (b : Beside F D W E)
     (call : Call)
     → Names arguments call
     → Succeeds arguments d b → Performs call d b (Ok tt)

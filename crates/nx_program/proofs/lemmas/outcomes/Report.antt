@@ -3,12 +3,10 @@ use Rattle.std.proofs.Common.{◌≡◌, ◌≢◌, ◌≤◌, ◌<◌, ◌+◌,
 use Rattle.std.proofs.Common.{Result, Ok, Err, Option, Some, None, length, take, min, refl, sym, subst, ap, inl, inr}
 use Rattle.std.proofs.Common.{arith, append_assoc, length-append, if◌then◌else◌}
 use Rattle.std.specs.Prelude.{codes, decimal, string_bytes}
-use Rattle.std.specs.Fmt.Cut.{cut_to}
 use Rattle.std.specs.Io.KnownBytes.{Appends}
 use Rattle.std.proofs.KnownBytes.{Appends-nil, Appends-trans}
 use Rattle.std.proofs.Math.Seq.{take-append-add}
 use Rattle.std.proofs.lemmas.List.{take-append-le}
-use Rattle.std.proofs.lemmas.Bool.{le-leb}
 use Rattle.clap.specs.Words.{Text}
 use Rattle.nx_code.specs.Reading.{newline}
 use Rattle.nx_fec.specs.Transfers.{CountedDevice, Devices}
@@ -20,6 +18,7 @@ use Rattle.nx_watch.specs.Acting.{count_without, first_without}
 use Rattle.nx_watch.specs.LineRun.{HasTold, TellsOfLines, first_told, number_told, told_of}
 use Rattle.nx_program.specs.declared.fault.Fault.{Fault}
 use Rattle.nx_program.specs.declared.fault.Fault.TheVariants as fault
+use Rattle.nx_program.specs.FaultText.{call_fault_line, call_text}
 use Rattle.nx_program.specs.Program.{EndsRun, Exits, NamesWatch, Performs}
 use Rattle.nx_program.specs.Report.{Answers, IsFaultLine, IsFaultText, Reports, WritesLast, WritesOne}
 use Rattle.nx_program.specs.Status.{fault_status, status_of}
@@ -29,14 +28,9 @@ use Rattle.nx_program.specs.Arguments.{Names}
 use Rattle.nx_program.specs.declared.arguments.Call.{Call}
 use Rattle.nx_program.proofs.lemmas.outcomes.Program.{fault-status, success-exits, success-named}
 
--- a text that has room is not cut
-pub cut_to-fits : (room : ℕ) (text : List ℕ) → length text ≤ room → cut_to room text ≡ text
-unfolding cut_to
-cut_to-fits room text fits = rw (le-leb (length text) room fits) refl
-
 -- how the program ended is part of what it answers
 pub answers-exits : {R W F D E : Type 0} (arguments : List Text) (d : Devices R W)
-    (b : Beside F D E)
+    (b : Beside F D W E)
     (status : ℕ) (answers : Answers arguments d b status)
     → Exits arguments d (with_faults b answers.behind_call) status
 answers-exits arguments d b status answers = record {
@@ -63,7 +57,7 @@ fault-text fault.Station = (_, refl)
 fault-text fault.Kind = (_, refl)
 fault-text (fault.Value report) = (string_bytes report, refl)
 fault-text (fault.Watch name why) = (watch_fault_line name why, refl)
-fault-text (fault.Call why) = (codes "navtex: " ++ newline ∷ [], record { shown = []; whole = refl })
+fault-text (fault.Call why) = (call_fault_line why, refl)
 
 -- the line of a failed watch is one
 record EndsLine (text : List ℕ) : Type 0 where
@@ -128,7 +122,7 @@ text-line fault.Station text other is = absurd (other refl)
 text-line fault.Kind text other is = absurd (other refl)
 text-line (fault.Value report) text other is = absurd (other refl)
 text-line (fault.Watch name why) text other is = subst IsFaultLine (sym is) (watch-line name why)
-text-line (fault.Call why) text other is = is
+text-line (fault.Call why) text other is = record { shown = call_text why; whole = is }
 
 -- a line behind another is still one text that begins and ends as a line does
 behind-another : (more text : List ℕ) → IsFaultLine text
@@ -224,15 +218,15 @@ module _ {E : Type 0} (contents : E → Option (List ℕ)) (told : List ℕ)
       (behind-part old mid h.1 h.0 h.2 h.3 text is)
 
 -- what was told on standard error before a fault was reported
-nothing-told : {F D E : Type 0} (b : Beside F D E) → b.faults.failures ≡ 0 → IsUnused b
+nothing-told : {F D W E : Type 0} (b : Beside F D W E) → b.faults.failures ≡ 0 → IsUnused b
     → TellsOfLines (b.contents b.faults.inner) (b.contents b.faults_after.inner)
     b.faults_after.failures
 nothing-told {F} {D} {E} b none unused =
     subst (λ (e : CountedDevice E). TellsOfLines (b.contents b.faults.inner) (b.contents e.inner)
     e.failures) (sym unused.untold)
-    (0, [], inl (none, Appends-nil (b.contents b.faults.inner)))
+    (record { newest = 0; started = 0 }, [], inl (none, Appends-nil (b.contents b.faults.inner)))
 
-watch-told : {R W F D E : Type 0} (d : Devices R W) (b : Beside F D E) (name : Text) (moment : ℕ)
+watch-told : {R W F D E : Type 0} (d : Devices R W) (b : Beside F D W E) (name : Text) (moment : ℕ)
     (outcome : Result (Unit {0}) Fault) → b.faults.failures ≡ 0
     → WatchesLog d b name moment outcome
     → TellsOfLines (b.contents b.faults.inner) (b.contents b.faults_after.inner)
@@ -240,7 +234,7 @@ watch-told : {R W F D E : Type 0} (d : Devices R W) (b : Beside F D E) (name : T
 watch-told d b name moment outcome none (Err why, gives, opened) = nothing-told b none opened.2
 watch-told d b name moment outcome none (Ok disk, gives, opened) = opened.3.told
 
-pub ends-told : {R W F D E : Type 0} (arguments : List Text) (d : Devices R W) (b : Beside F D E)
+pub ends-told : {R W F D E : Type 0} (arguments : List Text) (d : Devices R W) (b : Beside F D W E)
     (outcome : Result (Unit {0}) Fault) → b.faults.failures ≡ 0 → EndsRun arguments d b outcome
     → TellsOfLines (b.contents b.faults.inner) (b.contents b.faults_after.inner)
     b.faults_after.failures
@@ -264,8 +258,15 @@ reported-line contents old mid new (Err why) status is told reports not_zero =
     (text-line why text (λ arguments. other (is ∙ arguments)) is_text))
     old mid new line.0 line.1 told.2 reports
 
+-- the same device in both has the same content and the same failures
+pub inner-same : {D : Type 0} (a b : CountedDevice D) → a ≡ b → a.inner ≡ b.inner
+inner-same {D} a b same = ap (λ (e : CountedDevice D). e.inner) same
+
+pub failures-same : {D : Type 0} (a b : CountedDevice D) → a ≡ b → a.failures ≡ b.failures
+failures-same {D} a b same = ap (λ (e : CountedDevice D). e.failures) same
+
 pub answers-reported : {R W F D E : Type 0} (arguments : List Text) (d : Devices R W)
-    (b : Beside F D E)
+    (b : Beside F D W E)
     (status : ℕ) → b.faults.failures ≡ 0 → Answers arguments d b status → status ≢ 0
     → WritesOne (λ text. status ≢ 64 → IsFaultLine text) b.contents b.faults b.faults_after
 answers-reported arguments d b status none answers not_zero =
@@ -275,7 +276,7 @@ answers-reported arguments d b status none answers not_zero =
     answers.reported not_zero
 
 -- and a success nothing, but for a watch
-silent-outcome : {R W F D E : Type 0} (arguments : List Text) (d : Devices R W) (b : Beside F D E)
+silent-outcome : {R W F D E : Type 0} (arguments : List Text) (d : Devices R W) (b : Beside F D W E)
     (behind_call : CountedDevice E) (outcome : Result (Unit {0}) Fault)
     → EndsRun arguments d (with_faults b behind_call) outcome
     → Reports b.contents behind_call b.faults_after outcome → status_of outcome ≡ 0
@@ -287,7 +288,7 @@ silent-outcome arguments d b behind_call (Ok done) (inr ends) reports zero none 
     reports ∙ ends.0.untold
 
 pub answers-silent : {R W F D E : Type 0} (arguments : List Text) (d : Devices R W)
-    (b : Beside F D E)
+    (b : Beside F D W E)
     (status : ℕ) → Answers arguments d b status → (NamesWatch arguments → ⊥) → status ≡ 0
     → b.faults_after ≡ b.faults
 answers-silent arguments d b status answers none zero =
@@ -303,7 +304,7 @@ reported-nothing contents old new (Ok done) reports zero = reports
 reported-nothing contents old new (Err why) reports zero = absurd (failed why zero)
 
 pub answers-called : {R W F D E : Type 0} (arguments : List Text) (d : Devices R W)
-    (b : Beside F D E)
+    (b : Beside F D W E)
     (status : ℕ) → Answers arguments d b status → (call : Call) → Names arguments call → status ≡ 0
     → Performs call d b (Ok tt)
 answers-called {R} {W} {F} {D} {E} arguments d b status answers call named zero =
@@ -316,17 +317,34 @@ answers-called {R} {W} {F} {D} {E} arguments d b status answers call named zero 
 
 -- ---- where no log can be opened, no file is handed back
 
-watch-none : {R W F D E : Type 0} (d : Devices R W) (b : Beside F D E) (name : Text) (moment : ℕ)
+watch-none : {R W F D E : Type 0} (d : Devices R W) (b : Beside F D W E) (name : Text) (moment : ℕ)
     (outcome : Result (Unit {0}) Fault)
     → ((disk : D) → b.gives b.files name (Ok disk) → ⊥)
     → WatchesLog d b name moment outcome → b.disk_after ≡ None
 watch-none d b name moment outcome never (Err why, gives, opened) = opened.2.unopened
 watch-none d b name moment outcome never (Ok disk, gives, opened) = absurd (never disk gives)
 
-pub ends-none : {R W F D E : Type 0} (arguments : List Text) (d : Devices R W) (b : Beside F D E)
+pub ends-none : {R W F D E : Type 0} (arguments : List Text) (d : Devices R W) (b : Beside F D W E)
     (outcome : Result (Unit {0}) Fault)
     → ((name : Text) (disk : D) → b.gives b.files name (Ok disk) → ⊥)
     → EndsRun arguments d b outcome → b.disk_after ≡ None
 ends-none arguments d b outcome never (inl runs) =
     watch-none d b runs.name runs.moment outcome (never runs.name) runs.watched
 ends-none arguments d b outcome never (inr ends) = ends.0.unopened
+
+-- and no read is stamped
+watch-unstamped : {R W F D E : Type 0} (d : Devices R W) (b : Beside F D W E) (name : Text)
+    (moment : ℕ) (outcome : Result (Unit {0}) Fault)
+    → ((disk : D) → b.gives b.files name (Ok disk) → ⊥)
+    → WatchesLog d b name moment outcome → b.stamps ≡ []
+watch-unstamped d b name moment outcome never (Err why, gives, opened) = opened.2.unstamped
+watch-unstamped d b name moment outcome never (Ok disk, gives, opened) = absurd (never disk gives)
+
+pub ends-unstamped : {R W F D E : Type 0} (arguments : List Text) (d : Devices R W)
+    (b : Beside F D W E)
+    (outcome : Result (Unit {0}) Fault)
+    → ((name : Text) (disk : D) → b.gives b.files name (Ok disk) → ⊥)
+    → EndsRun arguments d b outcome → b.stamps ≡ []
+ends-unstamped arguments d b outcome never (inl runs) =
+    watch-unstamped d b runs.name runs.moment outcome (never runs.name) runs.watched
+ends-unstamped arguments d b outcome never (inr ends) = ends.0.unstamped

@@ -5,7 +5,7 @@ use Rattle.nx_program.proofs.program.exit_status.Goals as goal
 
 pub returns-in-Ok : goal.returns-in-Ok
 returns-in-Ok g c = record {
-  outcome = c.obey-outcome.result.0;
+  outcome = c.obey-outcome.result.outcome;
   behind_call = c.obey-outcome.new.faults;
   ends = c.obey-outcome.ensures;
   reported = subst (Reports g.E.Write.contents c.obey-outcome.new.faults c.obey-outcome.new.faults)
@@ -15,7 +15,7 @@ returns-in-Ok g c = record {
 
 pub returns-in-Err : goal.returns-in-Err
 returns-in-Err g c = record {
-  outcome = c.obey-outcome.result.0;
+  outcome = c.obey-outcome.result.outcome;
   behind_call = c.obey-outcome.new.faults;
   ends = c.obey-outcome.ensures;
   reported = subst (Reports g.E.Write.contents c.obey-outcome.new.faults c.report.new.faults)

@@ -2,8 +2,9 @@ use Rattle.std.proofs.Common.{inr, map, refl}
 use Rattle.nx_program.proofs.program.obey.Goals as goal
 
 pub returns-in-Err : goal.returns-in-Err
-returns-in-Err g c = inr (
-  record { unopened = refl; untold = refl },
-  c.obey_on_streams-in-Err.ensures (map g.S.AsStr.text c.args.arguments.now) tt
-      c.in-Err.ensures.refused,
-)
+returns-in-Err g c =
+    let unstamped = c.obey_unstamped-in-Err.ensures in
+    inr (
+      record { unopened = unstamped.unopened; unstamped = unstamped.unstamped; untold = refl },
+      unstamped.ended (map g.S.AsStr.text c.args.arguments.now) tt c.in-Err.ensures.refused,
+    )

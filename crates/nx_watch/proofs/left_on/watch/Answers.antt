@@ -1,7 +1,8 @@
-use Rattle.std.proofs.Common.{◌≡◌, ◌≤◌, ◌∙◌, [], ℕ, Result, Err, ap, inl, refl, subst, sym}
+use Rattle.std.proofs.Common.{◌≡◌, ◌≤◌, ◌∙◌, [], ℕ, Result, Err, ap, arith, inl, refl, subst, sym}
 use Rattle.std.specs.Prelude.{unwrap_or}
 use Rattle.std.specs.List.{AllZip}
 use Rattle.nx_kept.specs.Log.{Keeps}
+use Rattle.nx_kept.specs.Taker.{Took, cut_of}
 use Rattle.nx_log.specs.Entries.{IsWholeEntry}
 use Rattle.nx_log.specs.Logged.{IsLoggedAs}
 use Rattle.nx_envelope.specs.Moment.{last_moment}
@@ -10,11 +11,14 @@ use Rattle.nx_watch.specs.declared.watch_report.WatchReport.{WatchReport}
 use Rattle.nx_watch.specs.declared.watch_fault.WatchFault.{WatchFault}
 use Rattle.nx_watch.specs.declared.watch_fault.WatchFault.TheVariants.{Damaged, Memory}
 use Rattle.nx_receiver.specs.copies.Shares.{Starts, starts_from}
-use Rattle.nx_watch.specs.Watch.{AnswersStarted, HasCause, starts_at}
+use Rattle.nx_watch.specs.Watch.{AnswersStarted, HasCause, RefusesLog, starts_at}
+use Rattle.nx_watch.specs.Stamps.{counted_of, stamps_of}
+use Rattle.nx_watch.specs.declared.lines.line_effects.StartMoments.{StartMoments}
 use Rattle.nx_watch.specs.private.Keeping.{HasKept}
 use Rattle.nx_watch.proofs.lemmas.log.Keeping.{fresh-keeper, keeps-stands, kept-none}
-use Rattle.nx_watch.proofs.lemmas.log.Opening.{answers-opening, answers-watch, cause-behind, cause-opening, damage-named, entries-of, has-opened, not-damaged, same-texts, started-before, started-so}
-use Rattle.nx_watch.proofs.lemmas.log.Remembering.{took-all}
+use Rattle.nx_watch.proofs.lemmas.log.Opening.{answers-opening, answers-watch, cause-behind, cause-opening, damage-named, entries-of, has-opened, not-damaged, refuses, same-texts, started-before, started-so}
+use Rattle.nx_watch.proofs.lemmas.log.Remembering.{heard-nothing, took-all}
+use Rattle.nx_watch.specs.private.Remembering.{RemembersMore}
 use Rattle.nx_watch.proofs.lemmas.lines.Run.{nothing}
 use Rattle.nx_watch.proofs.left_on.watch.Goals as goal
 use Rattle.nx_watch.proofs.left_on.watch.Goals.{After-run}
@@ -35,9 +39,11 @@ returns-in-Err-clause-watched g c = λ start entries ex stands.
     let disk = g.D.DiskFile in
     let fault = c.in-Err.fault in
     let opened = has-opened disk start c.args.device c.in-Err.device g.R.Read.remaining
-    c.args.reader.now c.args.reader.now g.W.Write.contents c.args.writer.now c.args.writer.now
+    (counted_of c.args.reader.now) (counted_of c.args.reader.now) g.W.Write.contents
+    c.args.writer.now c.args.writer.now
     g.F.Write.contents c.args.notices.now c.args.notices.now entries stands.texts stands.each
-    (c.in-Err.ensures.any_moment_err start stands.texts ex stands.stands) refl refl refl in
+    (c.in-Err.ensures.any_moment_err start stands.texts ex stands.stands) refl refl refl
+    (stamps_of c.args.reader.now) c.requires.reader.none_made in
     rw c.fault_of.ensures
     (answers-opening _ c.args.moment entries fault opened
     (λ line e. (c.in-Err.ensures.damaged start line ex e).1.not_as_they_are
@@ -48,6 +54,13 @@ returns-in-Err-clause-damaged g c = λ start line ex e.
     c.in-Err.ensures.damaged start line ex
     (damage-named c.in-Err.fault line (sym c.fault_of.ensures
     ∙ same-fault c.fault_of.result line e))
+
+pub returns-in-Err-clause-refused : goal.returns-in-Err-clause-refused
+returns-in-Err-clause-refused g c = λ start ex none.
+    let disk = g.D.DiskFile in
+    subst (λ f. RefusesLog (disk.seen start c.args.device) (Err f)) (sym c.fault_of.ensures)
+    (refuses (disk.seen start c.args.device) c.in-Err.fault
+    (λ line e. c.in-Err.ensures.damaged start line ex e))
 
 pub returns-in-Err-clause-foreign : goal.returns-in-Err-clause-foreign
 returns-in-Err-clause-foreign g c = λ start ex none.
@@ -67,19 +80,40 @@ returns-in_default-clause-watched g c = λ start entries ex stands.
     let log = c.in-Ok.log in
     let explained = subst (disk.explains start) c.answer.ensures.device ex in
     let opened = has-opened disk start c.args.device log.device g.R.Read.remaining
-    c.args.reader.now c.args.reader.now g.W.Write.contents c.args.writer.now c.args.writer.now
+    (counted_of c.args.reader.now) (counted_of c.args.reader.now) g.W.Write.contents
+    c.args.writer.now c.args.writer.now
     g.F.Write.contents c.args.notices.now c.args.notices.now entries stands.texts stands.each
-    (c.in-Ok.ensures.any_moment start stands.texts explained stands.stands) refl refl refl in
+    (c.in-Ok.ensures.any_moment start stands.texts explained stands.stands) refl refl refl
+    (stamps_of c.args.reader.now) c.requires.reader.none_made in
     rw (c.answer.ensures.well refl, c.answer.ensures.device) opened
 
 pub returns-in_default-clause-damaged : goal.returns-in_default-clause-damaged
 returns-in_default-clause-damaged g c = λ start line ex e.
     absurd (apart line (sym (c.answer.ensures.well refl) ∙ e))
 
+pub returns-in_default-clause-refused : goal.returns-in_default-clause-refused
+returns-in_default-clause-refused g c = λ start ex none.
+    let disk = g.D.DiskFile in
+    let opened = c.in-Ok.ensures.opened start (subst (disk.explains start) c.answer.ensures.device
+    ex) in
+    let o = opened.all in
+    absurd (none (
+      o.records,
+      record {
+        front = o.front;
+        tail = o.tail;
+        kept = o.kept;
+        end = o.end;
+        split = o.split;
+      },
+    ))
+
 pub returns-in_default-clause-foreign : goal.returns-in_default-clause-foreign
 returns-in_default-clause-foreign g c = λ start ex none.
     let disk = g.D.DiskFile in
-    let o = c.in-Ok.ensures.opened start (subst (disk.explains start) c.answer.ensures.device ex) in
+    let opened = c.in-Ok.ensures.opened start (subst (disk.explains start) c.answer.ensures.device
+    ex) in
+    let o = opened.all in
     absurd (none (
       o.records,
       record {
@@ -106,7 +140,7 @@ returns-in_default-clause-explained g c = λ start ex.
 
 -- the run begins with a listener that has heard and kept nothing
 begins : (g : _) → (c : After-run g)
-    → (c.unwrap_or-first.result ≡ (starts_of c.in-Ok-starting.listener).moment)
+    → (c.unwrap_or.result ≡ (starts_of c.in-Ok-starting.listener).moment)
     × ((starts_of c.in-Ok-starting.listener).moment ≤ last_moment)
     × HearsGiven (starts_of c.in-Ok-starting.listener) c.in-Ok-starting.listener [] []
     × HasKept g.D.DiskFile (fresh-keeper c.in-Ok.log) (fresh-keeper c.in-Ok.log) [] []
@@ -114,13 +148,16 @@ begins g c =
     let disk = g.D.DiskFile in
     let listener = c.in-Ok-starting.listener in
     let start = c.in-Ok-starting.ensures.start in (
-      c.unwrap_or-first.ensures ∙ ap (λ o. unwrap_or o 0) c.newest.ensures
+      c.unwrap_or.ensures ∙ ap (λ o. unwrap_or o 0) c.newest.ensures
           ∙ sym (ap (λ (s : Starts). s.moment) start),
       subst (λ (s : Starts). s.moment ≤ last_moment) (sym start) c.in-Ok-starting.ensures.range,
       subst (λ (s : Starts). HearsGiven s listener [] []) (sym start)
           c.in-Ok-starting.ensures.heard,
-      kept-none disk (fresh-keeper c.in-Ok.log) refl refl
-          (λ content file left. g.met.D.DiskFile.only_now content c.in-Ok.log.device file left),
+      record {
+        before = omega arith;
+        since = kept-none disk (fresh-keeper c.in-Ok.log) 0 refl refl
+            (λ content file left. g.met.D.DiskFile.only_now content c.in-Ok.log.device file left);
+      },
     )
 
 pub returns-clause-watched : goal.returns-clause-watched
@@ -128,25 +165,29 @@ returns-clause-watched g c = λ start entries ex stands.
     let disk = g.D.DiskFile in
     let log = c.in-Ok.log in
     let b = begins g (goal.at.returns-clause-watched g c).After-run in
-    let run = c.run.ensures.runs b.0 b.1 b.2 b.3 in
+    let run = c.run.ensures.runs b.0 refl b.1 b.2 b.3 in
     let explained = run.explained start ex in
-    let o = c.in-Ok.ensures.opened start explained in
+    let opened = c.in-Ok.ensures.opened start explained in
+    let o = opened.all in
     let same = same-texts stands.texts o.records o.front o.tail (disk.seen start c.args.device)
     stands.stands o.kept o.end o.split in
     let each = subst (AllZip IsLoggedAs entries) same stands.each in
     let keeps : Keeps (disk.seen start) (disk.may_leave start) IsWholeEntry o.records log =
-    record { front = o.front; kept = o.kept; at_rest = o.at_rest } in
+    record { front = o.front; kept = o.kept; at_rest = opened.at_rest } in
     let saved = c.saved_at-saved.ensures entries
     (took-all c.new-memory.result c.open.new.taker entries o.records c.new-memory.ensures each
-    o.taken) in
+    (subst (Took RemembersMore c.new-memory.result o.records)
+    (sym (heard-nothing _ (cut_of o.tail) o.given c.open.new.taker o.heard)) o.taken)) in
     let starts : starts_of c.in-Ok-starting.listener ≡ starts_at c.args.moment entries =
     c.in-Ok-starting.ensures.start ∙ ap starts_from saved in
     let answer = run.answers start entries o.records each keeps in
     answers-watch _ entries c.args.moment c.run.result.0
     (started-before disk start c.args.device log.device c.run.result.1 g.R.Read.remaining
-    c.args.reader.now c.run.new.reader g.W.Write.contents c.args.writer.now c.run.new.writer
-    g.F.Write.contents c.args.notices.now c.run.new.notices (starts_at c.args.moment entries)
-    entries o.records c.run.result.0 each
+    (counted_of c.args.reader.now) (counted_of c.run.new.reader) g.W.Write.contents
+    c.args.writer.now c.run.new.writer
+    g.F.Write.contents c.args.notices.now c.run.new.notices (stamps_of c.run.new.reader)
+    (starts_at c.args.moment entries)
+    entries o.records c.run.result.0 each c.in-Ok.ensures.faults
     (c.in-Ok.ensures.any_moment start o.records explained (record {
       front = o.front;
       tail = o.tail;
@@ -163,32 +204,51 @@ returns-clause-cause g c =
     let b = begins g (goal.at.returns-clause-cause g c).After-run in
     cause-behind disk c.run.result.0 c.args.device c.in-Ok.log.device c.run.result.1
     c.in-Ok.ensures.faults
-    (c.run.ensures.runs b.0 b.1 b.2 b.3).cause
+    (c.run.ensures.runs b.0 refl b.1 b.2 b.3).cause
 
 pub returns-clause-explained : goal.returns-clause-explained
 returns-clause-explained g c = λ start ex.
     let b = begins g (goal.at.returns-clause-explained g c).After-run in
-    c.in-Ok.ensures.explained start ((c.run.ensures.runs b.0 b.1 b.2 b.3).explained start ex)
+    c.in-Ok.ensures.explained start ((c.run.ensures.runs b.0 refl b.1 b.2 b.3).explained start ex)
 
 pub returns-clause-damaged : goal.returns-clause-damaged
 returns-clause-damaged g c = λ start line ex e.
     let disk = g.D.DiskFile in
     let log = c.in-Ok.log in
     let b = begins g (goal.at.returns-clause-damaged g c).After-run in
-    let run = c.run.ensures.runs b.0 b.1 b.2 b.3 in
-    let o = c.in-Ok.ensures.opened start (run.explained start ex) in
+    let run = c.run.ensures.runs b.0 refl b.1 b.2 b.3 in
+    let opened = c.in-Ok.ensures.opened start (run.explained start ex) in
+    let o = opened.all in
     let found = entries-of o.records o.front o.kept in
     let keeps : Keeps (disk.seen start) (disk.may_leave start) IsWholeEntry o.records log =
-    record { front = o.front; kept = o.kept; at_rest = o.at_rest } in
+    record { front = o.front; kept = o.kept; at_rest = opened.at_rest } in
     let answer = run.answers start found.0 o.records found.1 keeps in
-    absurd (not-damaged _ found.0 (starts_of c.in-Ok-starting.listener) line
-    (subst (AnswersStarted _ (starts_of c.in-Ok-starting.listener) found.0) e answer))
+    absurd (not-damaged _ found.0 c.args.moment (starts_of c.in-Ok-starting.listener) line
+    (subst (AnswersStarted _ c.args.moment (starts_of c.in-Ok-starting.listener) found.0) e answer))
+
+pub returns-clause-refused : goal.returns-clause-refused
+returns-clause-refused g c = λ start ex none.
+    let b = begins g (goal.at.returns-clause-refused g c).After-run in
+    let run = c.run.ensures.runs b.0 refl b.1 b.2 b.3 in
+    let opened = c.in-Ok.ensures.opened start (run.explained start ex) in
+    let o = opened.all in
+    absurd (none (
+      o.records,
+      record {
+        front = o.front;
+        tail = o.tail;
+        kept = o.kept;
+        end = o.end;
+        split = o.split;
+      },
+    ))
 
 pub returns-clause-foreign : goal.returns-clause-foreign
 returns-clause-foreign g c = λ start ex none.
     let b = begins g (goal.at.returns-clause-foreign g c).After-run in
-    let run = c.run.ensures.runs b.0 b.1 b.2 b.3 in
-    let o = c.in-Ok.ensures.opened start (run.explained start ex) in
+    let run = c.run.ensures.runs b.0 refl b.1 b.2 b.3 in
+    let opened = c.in-Ok.ensures.opened start (run.explained start ex) in
+    let o = opened.all in
     absurd (none (
       o.records,
       record {
@@ -202,13 +262,17 @@ returns-clause-foreign g c = λ start ex none.
 
 -- ---- what was told
 
+-- where no line is told of, the moments of the start are any
+abbrev no-start : StartMoments
+no-start = record { newest = 0; started = 0 }
+
 pub returns-in-Err-clause-told : goal.returns-in-Err-clause-told
 returns-in-Err-clause-told g c =
-    (0, [], inl (c.requires.notices, nothing (g.F.Write.contents c.args.notices.now.inner)))
+    (no-start, [], inl (c.requires.notices, nothing (g.F.Write.contents c.args.notices.now.inner)))
 
 pub returns-in_default-clause-told : goal.returns-in_default-clause-told
 returns-in_default-clause-told g c =
-    (0, [], inl (c.requires.notices, nothing (g.F.Write.contents c.args.notices.now.inner)))
+    (no-start, [], inl (c.requires.notices, nothing (g.F.Write.contents c.args.notices.now.inner)))
 
 pub returns-clause-told : goal.returns-clause-told
 returns-clause-told g c =

@@ -1,7 +1,7 @@
 -- One more line, and what it does.
 use Rattle.std.proofs.Common.{◌≡◌, ℕ, ◌+◌, ◌-◌, ◌≤◌, ◌<◌, suc, Bool, true, false, not, cond, ◌&&◌}
 use Rattle.std.proofs.Common.{List, [], ◌∷◌, ◌++◌, length, take, get_or, Option, Some, None, max}
-use Rattle.std.proofs.Common.{nat_lt, nat_le, refl, sym, ap, ◌∙◌, subst, append_assoc, append-nil}
+use Rattle.std.proofs.Common.{nat_lt, nat_le, refl, sym, ap, ap₂, ◌∙◌, subst, append_assoc, append-nil}
 use Rattle.std.proofs.Common.{arith, length-append, zero-add, add-zero, ◌⊎◌, inl, inr}
 use Rattle.std.specs.List.{count_by, position_from}
 use Rattle.std.specs.Option.{is_some}
@@ -9,21 +9,23 @@ use Rattle.std.proofs.Math.Seq.{get_or-append_seam}
 use Rattle.std.proofs.lemmas.Bool.{le-leb}
 use Rattle.std.proofs.lemmas.Bool.Decides.{nat_tests}
 use Rattle.std.proofs.lemmas.List.{take-append-le, take_all}
-use Rattle.std.proofs.lemmas.List.Concat.{flat_map-append}
 use Rattle.std.proofs.lemmas.List.Sums.{sum_by-append}
 use Rattle.nx_envelope.specs.Moment.{last_moment}
 use Rattle.nx_fec.specs.air_files.AirFile.{Line, moment, elements, refuse_station, accept_station}
 use Rattle.nx_fec.specs.air_files.AirFile.{refuse_subject, accept_subject}
 use Rattle.nx_fec.specs.air_files.Scanner.{kind_of}
-use Rattle.nx_fec.specs.declared.air_files.lines.LineKind.TheVariants.{Moment}
-use Rattle.nx_watch.specs.Acting.{acts, effects}
+use Rattle.nx_fec.specs.declared.air_files.channel.Channel.{Channel}
+use Rattle.nx_fec.specs.declared.air_files.lines.LineKind.TheVariants.{Elements, Moment}
+use Rattle.nx_watch.specs.Acting.{acts, effects, given}
 use Rattle.nx_watch.specs.Acting.{in_force, is_far_back}
-use Rattle.nx_watch.specs.Acting.{moment_said, moments_said, went_far_back}
+use Rattle.nx_watch.specs.Acting.{moment_said, moments_behind, went_far_back}
+use Rattle.nx_watch.specs.declared.lines.line_effects.StartMoments.{StartMoments}
 use Rattle.nx_watch.specs.declared.lines.line_effects.LineEffects.{LineEffects}
 use Rattle.nx_watch.specs.declared.lines.line_effects.Effect.{Effect}
-use Rattle.nx_watch.specs.declared.lines.line_effects.Effect.TheVariants.{Acts, Nothing, Ends}
+use Rattle.nx_watch.specs.declared.lines.line_effects.Effect.TheVariants.{Acts, Nothing, Sets, Ends}
 use Rattle.nx_watch.specs.private.Effects.{is_acting, IsEffect, IsKept, KeepsMoments}
-use Rattle.nx_watch.specs.private.Effects.{SameCounts}
+use Rattle.nx_watch.specs.private.Effects.{SameCounts, said_behind, sets}
+use Rattle.nx_watch.proofs.lemmas.lines.Starting.{is-setting, moments_behind-more, more-than-none}
 
 -- ---- one more moment
 
@@ -66,24 +68,28 @@ has-more moments n =
     grind (arith, nat_tests)
 
 -- a moment in range
-pub next-moment : (first : ℕ) (moments : List ℕ) (kept now : LineEffects) (n : ℕ)
+pub next-moment : (first : StartMoments) (moments : List ℕ) (kept now : LineEffects) (n : ℕ)
     → n ≤ last_moment → KeepsMoments first moments kept → now.moment ≡ max kept.moment n
-    → now.has_moment ≡ true → now.went_far_back ≡ nat_le (n + 237600) kept.moment
+    → now.started ≡ kept.started → now.has_moment ≡ true
+    → now.went_far_back ≡ nat_le (n + 237600) kept.moment
     → KeepsMoments first (moments ++ moment_said (Some (moment n))) now
-next-moment first moments kept now n h k force has far =
+next-moment first moments kept now n h k force started has far =
     subst (λ l. KeepsMoments first (moments ++ l) now) (sym (said-in n h)) (record {
-      moment = force ∙ ap (λ m. max m n) k.moment ∙ sym (in_force-more first moments n);
+      moment = force ∙ ap (λ m. max m n) k.moment ∙ sym (in_force-more first.newest moments n);
+      started = started ∙ k.started;
       has_moment = has ∙ sym (has-more moments n);
       far_back = far ∙ ap (λ m. nat_le (n + 237600) m) k.moment
-          ∙ sym (went-more first moments n);
+          ∙ sym (went-more first.newest moments n);
     })
 
 -- nothing changed in what is kept of moments
-pub keeps-on : (first : ℕ) (moments : List ℕ) (old new : LineEffects)
-    → KeepsMoments first moments old → new.moment ≡ old.moment → new.has_moment ≡ old.has_moment
-    → new.went_far_back ≡ old.went_far_back → KeepsMoments first moments new
-keeps-on first moments old new k force has far = record {
+pub keeps-on : (first : StartMoments) (moments : List ℕ) (old new : LineEffects)
+    → KeepsMoments first moments old → new.moment ≡ old.moment → new.started ≡ old.started
+    → new.has_moment ≡ old.has_moment → new.went_far_back ≡ old.went_far_back
+    → KeepsMoments first moments new
+keeps-on first moments old new k force started has far = record {
   moment = force ∙ k.moment;
+  started = started ∙ k.started;
   has_moment = has ∙ k.has_moment;
   far_back = far ∙ k.far_back;
 }
@@ -101,30 +107,33 @@ not_second true b h = h
 not_second false b h = refl
 
 -- a moment in range that goes back, and doesn't end the watch
-pub goes-back : (first : ℕ) (moments : List ℕ) (kept : LineEffects) (n : ℕ)
+pub goes-back : (first : StartMoments) (moments : List ℕ) (kept : LineEffects) (n : ℕ)
     → KeepsMoments first moments kept → n < kept.moment
     → ((n + 237600 ≤ kept.moment) × (kept.went_far_back ≡ false)) ⊎ (kept.moment < n + 237600)
-    → ((nat_le n last_moment && nat_le (in_force first moments) n) ≡ false)
-    × ((nat_le n last_moment && is_far_back first moments n && went_far_back first moments) ≡ false)
+    → ((nat_le n last_moment && nat_le (in_force first.newest moments) n) ≡ false)
+    × ((nat_le n last_moment && is_far_back first.newest moments n
+    && went_far_back first.newest moments) ≡ false)
 goes-back first moments kept n k back (inl h) =
-    let lt : n < in_force first moments = omega (arith, k.moment, back) in (
-      not_second (nat_le n last_moment) (nat_le (in_force first moments) n)
+    let lt : n < in_force first.newest moments = omega (arith, k.moment, back) in (
+      not_second (nat_le n last_moment) (nat_le (in_force first.newest moments) n)
           (grind (arith, nat_tests)),
       not_second _ _ (sym k.far_back ∙ h.1),
     )
 goes-back first moments kept n k back (inr h) =
-    let lt : n < in_force first moments = omega (arith, k.moment, back) in
-    let near : in_force first moments < n + 237600 = omega (arith, k.moment, h) in
-    let not_far : is_far_back first moments n ≡ false = grind (arith, nat_tests) in (
-      not_second (nat_le n last_moment) (nat_le (in_force first moments) n)
+    let lt : n < in_force first.newest moments = omega (arith, k.moment, back) in
+    let near : in_force first.newest moments < n + 237600 = omega (arith, k.moment, h) in
+    let not_far : is_far_back first.newest moments n ≡ false = grind (arith, nat_tests) in (
+      not_second (nat_le n last_moment) (nat_le (in_force first.newest moments) n)
           (grind (arith, nat_tests)),
       not_first _ _ (not_second _ _ not_far),
     )
 
 -- an effect says whether a line acts
-pub acting-is : (first : ℕ) (moments : List ℕ) (line : Option Line) (effect : Effect)
-    → IsEffect first moments line effect → is_acting effect ≡ acts first moments line
+pub acting-is : (first : StartMoments) (moments : List ℕ) (line : Option Line) (effect : Effect)
+    → IsEffect first moments line effect → is_acting effect ≡ acts first.newest moments line
 acting-is first moments line Acts h = sym h.0
+acting-is first moments line (Sets n) h =
+    ap (acts first.newest moments) (sym (is-setting first moments line h.0).is)
 acting-is first moments line Nothing h = sym h.0
 acting-is first moments line (Ends last given) h = sym h.0
 
@@ -137,31 +146,95 @@ moment-kind (accept_station mark letter) n h = cc
 moment-kind (refuse_subject mark letter) n h = cc
 moment-kind (accept_subject mark letter) n h = cc
 
+-- whether both hold, where the second does
+first-only : (a b : Bool) → b ≡ true → (a && b) ≡ a
+first-only true b h = h
+first-only false b h = refl
+
+-- elements set the moment of the start where they come behind none, if it acts
+pub record SetsFirst (first : StartMoments) (moments : List ℕ) (line : Option Line)
+    (now : LineEffects) (n : ℕ) (acting : Bool)
+    : Type 0 where
+  pub keeps : KeepsMoments first (moments ++ said_behind first moments line) now
+  pub does : sets first moments line ≡ acting
+  pub is : n ≡ given first
+
+pub sets-first : (first : StartMoments) (moments : List ℕ) (mark : Option Channel)
+    (bits : List Bool) (kept now : LineEffects) (effect : Effect) (n : ℕ)
+    → kept.has_moment ≡ false → KeepsMoments first moments kept → n ≡ max kept.moment kept.started
+    → KeepsMoments first (moments ++ moment_said (Some (moment n))) now
+    → IsEffect first moments (Some (moment n)) effect
+    → SetsFirst first moments (Some (elements mark bits)) now n (is_acting effect)
+sets-first first [] mark bits kept now effect n none k is next does =
+    let same : n ≡ given first = is ∙ ap₂ max k.moment k.started in
+    let low : first.newest ≤ n = omega (arith, same) in
+    record {
+      keeps = subst (λ m. KeepsMoments first (moment_said (Some (moment m))) now) same next;
+      does = ap (λ m. nat_le m last_moment) (sym same)
+          ∙ sym (first-only (nat_le n last_moment) (nat_le first.newest n)
+          (le-leb first.newest n low))
+          ∙ sym (acting-is first [] (Some (moment n)) effect does);
+      is = same;
+    }
+sets-first first (m ∷ moments) mark bits kept now effect n none k is next does =
+    let some : false ≡ true = sym none ∙ k.has_moment ∙ more-than-none (length moments) in cc
+
+-- and not where they come behind one
+pub sets-none : (first : StartMoments) (moments : List ℕ) (mark : Option Channel) (bits : List Bool)
+    (kept : LineEffects) → kept.has_moment ≡ true → KeepsMoments first moments kept
+    → KeepsMoments first (moments ++ said_behind first moments (Some (elements mark bits))) kept
+    × (sets first moments (Some (elements mark bits)) ≡ false)
+sets-none first moments mark bits kept some k =
+    let idle : sets first moments (Some (elements mark bits)) ≡ false =
+    ap (λ b. not b && nat_le (given first) last_moment) (sym k.has_moment ∙ some) in (
+      subst (λ l. KeepsMoments first l kept)
+          (sym (ap (λ b. moments ++ cond b (given first ∷ []) []) idle ∙ append-nil moments)) k,
+      idle,
+    )
+
+-- a line that doesn't act sets none
+pub idle-unset : (first : StartMoments) (moments : List ℕ) (line : Option Line)
+    → acts first.newest moments line ≡ false → sets first moments line ≡ false
+idle-unset first moments None h = refl
+idle-unset first moments (Some (moment n)) h = refl
+idle-unset first moments (Some (elements mark bits)) h = cc
+idle-unset first moments (Some (refuse_station mark letter)) h = refl
+idle-unset first moments (Some (accept_station mark letter)) h = refl
+idle-unset first moments (Some (refuse_subject mark letter)) h = refl
+idle-unset first moments (Some (accept_subject mark letter)) h = refl
+
+-- a line that is one of elements
+pub elements-kind : (line : Line) (mark : Option Channel) → kind_of line ≡ Elements mark
+    → (bits : List Bool) × (line ≡ elements mark bits)
+elements-kind (elements other bits) mark h = (bits, cc)
+elements-kind (moment m) mark h = cc
+elements-kind (refuse_station other letter) mark h = cc
+elements-kind (accept_station other letter) mark h = cc
+elements-kind (refuse_subject other letter) mark h = cc
+elements-kind (accept_subject other letter) mark h = cc
+
 -- ---- one more line
 
--- the moments that one more line says
-pub moments_said-more : (lines : List (Option Line)) (line : Option Line)
-    → moments_said (lines ++ line ∷ []) ≡ moments_said lines ++ moment_said line
-moments_said-more lines line =
-    flat_map-append moment_said lines (line ∷ [])
-    ∙ ap (λ l. moments_said lines ++ l) (append-nil (moment_said line))
+-- what one more line does, behind these first ones and the others
+abbrev behind : StartMoments → List (Option Line) → Option Line → Bool
+behind first lines line = acts first.newest (moments_behind first lines) line
 
-effects-append : (first : ℕ) (moments : List ℕ) (lines : List (Option Line)) (line : Option Line)
-    → effects first moments (lines ++ line ∷ [])
-    ≡ effects first moments lines ++ acts first (moments ++ moments_said lines) line ∷ []
-effects-append first moments [] line =
-    ap (λ l. acts first l line ∷ []) (sym (append-nil moments))
-effects-append first moments (l ∷ lines) line =
-    ap (λ e. acts first moments l ∷ e)
-    (effects-append first (moments ++ moment_said l) lines line
-    ∙ ap (λ m. effects first (moments ++ moment_said l) lines ++ acts first m line ∷ [])
-    (append_assoc moments (moment_said l) (moments_said lines)))
+effects-append : (first : StartMoments) (before lines : List (Option Line)) (line : Option Line)
+    → effects first before (lines ++ line ∷ [])
+    ≡ effects first before lines ++ behind first (before ++ lines) line ∷ []
+effects-append first before [] line =
+    ap (λ l. behind first l line ∷ []) (sym (append-nil before))
+effects-append first before (l ∷ lines) line =
+    ap (λ e. behind first before l ∷ e)
+    (effects-append first (before ++ l ∷ []) lines line
+    ∙ ap (λ m. effects first (before ++ l ∷ []) lines ++ behind first m line ∷ [])
+    (append_assoc before (l ∷ []) lines))
 
-length-effects : (first : ℕ) (moments : List ℕ) (lines : List (Option Line))
-    → length (effects first moments lines) ≡ length lines
-length-effects first moments [] = refl
-length-effects first moments (line ∷ lines) =
-    ap suc (length-effects first (moments ++ moment_said line) lines)
+length-effects : (first : StartMoments) (before lines : List (Option Line))
+    → length (effects first before lines) ≡ length lines
+length-effects first before [] = refl
+length-effects first before (line ∷ lines) =
+    ap suc (length-effects first (before ++ line ∷ []) lines)
 
 position-yes : (at : ℕ) (es : List Bool) → position_from not at (es ++ true ∷ [])
     ≡ position_from not at es
@@ -188,11 +261,12 @@ later-one es None h some = cc
 later-one es (Some n) h some = position-more 1 es false n h
 
 -- one more line that acts
-pub counts-acting : (first : ℕ) (lines : List (Option Line)) (line : Option Line)
+pub counts-acting : (first : StartMoments) (lines : List (Option Line)) (line : Option Line)
     (before old new : LineEffects)
     → IsKept first lines before → SameCounts before old
-    → acts first (moments_said lines) line ≡ true
-    → KeepsMoments first (moments_said lines ++ moment_said line) new
+    → acts first.newest (moments_behind first lines) line ≡ true
+    → KeepsMoments first
+    (moments_behind first lines ++ said_behind first (moments_behind first lines) line) new
     → new.lines ≡ old.lines + 1 → new.without_effect ≡ old.without_effect
     → new.first_without ≡ old.first_without
     → IsKept first (lines ++ line ∷ []) new
@@ -201,7 +275,8 @@ counts-acting first lines line before old new kept same acting moments more with
     let behind : effects first [] (lines ++ line ∷ []) ≡ es ++ true ∷ [] =
     effects-append first [] lines line ∙ ap (λ e. es ++ e ∷ []) acting in
     record {
-      moments = subst (λ l. KeepsMoments first l new) (sym (moments_said-more lines line)) moments;
+      moments = subst (λ l. KeepsMoments first l new) (sym (moments_behind-more first lines line))
+          moments;
       counted = more ∙ ap (λ n. n + 1) (same.lines ∙ kept.counted)
           ∙ sym (length-append lines (line ∷ []));
       without = without ∙ same.without ∙ kept.without
@@ -212,11 +287,12 @@ counts-acting first lines line before old new kept same acting moments more with
     }
 
 -- one more line that doesn't
-pub counts-idle : (first : ℕ) (lines : List (Option Line)) (line : Option Line)
+pub counts-idle : (first : StartMoments) (lines : List (Option Line)) (line : Option Line)
     (before old new : LineEffects)
     → IsKept first lines before → SameCounts before old
-    → acts first (moments_said lines) line ≡ false
-    → KeepsMoments first (moments_said lines ++ moment_said line) new
+    → acts first.newest (moments_behind first lines) line ≡ false
+    → KeepsMoments first
+    (moments_behind first lines ++ said_behind first (moments_behind first lines) line) new
     → new.lines ≡ old.lines + 1 → new.without_effect ≡ old.without_effect + 1
     → (position_from not 1 (effects first [] lines ++ false ∷ []) ≡ new.first_without)
     → IsKept first (lines ++ line ∷ []) new
@@ -225,7 +301,8 @@ counts-idle first lines line before old new kept same idle moments more without 
     let behind : effects first [] (lines ++ line ∷ []) ≡ es ++ false ∷ [] =
     effects-append first [] lines line ∙ ap (λ e. es ++ e ∷ []) idle in
     record {
-      moments = subst (λ l. KeepsMoments first l new) (sym (moments_said-more lines line)) moments;
+      moments = subst (λ l. KeepsMoments first l new) (sym (moments_behind-more first lines line))
+          moments;
       counted = more ∙ ap (λ n. n + 1) (same.lines ∙ kept.counted)
           ∙ sym (length-append lines (line ∷ []));
       without = without ∙ ap (λ n. n + 1) (same.without ∙ kept.without)
@@ -234,7 +311,7 @@ counts-idle first lines line before old new kept same idle moments more without 
     }
 
 -- it is the first one
-pub first-idle : (first : ℕ) (lines : List (Option Line)) (before old : LineEffects)
+pub first-idle : (first : StartMoments) (lines : List (Option Line)) (before old : LineEffects)
     → IsKept first lines before → SameCounts before old → old.first_without ≡ None
     → position_from not 1 (effects first [] lines ++ false ∷ []) ≡ Some (old.lines + 1)
 first-idle first lines before old kept same none =
@@ -243,7 +320,7 @@ first-idle first lines before old kept same none =
     ∙ ap (λ n. Some (n + 1)) (length-effects first [] lines ∙ sym (same.lines ∙ kept.counted))
 
 -- it isn't
-pub later-idle : (first : ℕ) (lines : List (Option Line)) (before old : LineEffects)
+pub later-idle : (first : StartMoments) (lines : List (Option Line)) (before old : LineEffects)
     → IsKept first lines before → SameCounts before old → is_some old.first_without ≡ true
     → position_from not 1 (effects first [] lines ++ false ∷ []) ≡ old.first_without
 later-idle first lines before old kept same some =

@@ -11,14 +11,14 @@ pub says-no_end : (text : List ℕ) (said : Option Line) → Says text said → 
 says-no_end text None h = h.0
 says-no_end text (Some line) h = subst HasNoEnd (sym h.1) (spelling-IsBeginning line h.0).none
 
-says-one : (text : List ℕ) (a b : Option Line) → Says text a → Says text b → a ≡ b
+pub says-one : (text : List ℕ) (a b : Option Line) → Says text a → Says text b → a ≡ b
 says-one text None None h k = refl
 says-one text None (Some line) h k = absurd (h.1 line k.0 k.1)
 says-one text (Some line) None h k = absurd (k.1 line h.0 h.1)
 says-one text (Some one) (Some other) h k =
     ap Some (spelling-injective one other h.0 k.0 (sym h.1 ∙ k.1))
 
-regroup : (text : List ℕ) (texts : List (List ℕ)) (rest : List ℕ)
+pub regroup : (text : List ℕ) (texts : List (List ℕ)) (rest : List ℕ)
     → flat_map ended (text ∷ texts) ++ rest ≡ text ++ (10 ∷ (flat_map ended texts ++ rest))
 regroup text texts rest = append_assoc (ended text) (flat_map ended texts) rest
     ∙ append_assoc text (10 ∷ []) (flat_map ended texts ++ rest)

@@ -3,20 +3,23 @@ use Rattle.std.proofs.Common.{◌≡◌, ◌+◌, ℕ, ◌≤◌, ◌<◌, Bool,
 use Rattle.std.proofs.Common.{[], ◌∷◌, ◌++◌, map, take, drop, Option, Some, None, max}
 use Rattle.std.proofs.Common.{option_to_list, nat_le, refl, sym, ap, ◌∙◌, subst, append_assoc}
 use Rattle.std.proofs.Common.{append-nil, arith, Err, inl}
-use Rattle.std.specs.Prelude.{IsSome, IsSomeAnd}
+use Rattle.std.specs.Prelude.{IfErr, IsSome, IsSomeAnd, MatchResult}
 use Rattle.std.specs.Io.KnownBytes.{Appends}
-use Rattle.std.proofs.lemmas.Bool.{and_parts, leb-false, leb-true}
+use Rattle.std.proofs.lemmas.Bool.{and_parts, le-leb, leb-false, leb-true}
 use Rattle.std.proofs.lemmas.List.{map-append, take-append-drop}
 use Rattle.std.proofs.lemmas.List.Concat.{flat_map-append}
 use Rattle.nx_envelope.specs.Moment.{last_moment}
 use Rattle.nx_fec.specs.air_files.AirFile.{IsLine, Line, moment, elements, refuse_station, accept_station}
 use Rattle.nx_fec.specs.air_files.AirFile.{refuse_subject, accept_subject}
 use Rattle.nx_fec.specs.air_files.Scanner.{kind_kept, kind_of}
+use Rattle.nx_fec.specs.declared.air_files.channel.Channel.{Channel}
 use Rattle.nx_fec.specs.declared.air_files.lines.LineKind.{LineKind}
 use Rattle.nx_memory.specs.Memory.{seconds_known}
 use Rattle.nx_memory.specs.Selection.{is_vital}
-use Rattle.nx_watch.specs.Acting.{acting_behind, acting_lines, acts, ends_watch, goes_on}
-use Rattle.nx_watch.specs.Acting.{goes_on_behind, in_force, is_far_back, moment_said, moments_said, went_far_back}
+use Rattle.nx_watch.specs.Acting.{acting_behind, acting_lines, acts, ends_watch, given, goes_on}
+use Rattle.nx_watch.specs.Acting.{goes_on_behind, in_force, is_far_back, moment_said, moments_behind}
+use Rattle.nx_watch.specs.Acting.{moments_said, went_far_back, with_start}
+use Rattle.nx_watch.specs.declared.lines.line_effects.StartMoments.{StartMoments}
 use Rattle.nx_watch.specs.AnyLines.{AreLines, cut_line}
 use Rattle.nx_watch.specs.LineRun.{AnswersRun, AreCounted, HasTaken, HasTold, MayAct, RunOverLines}
 use Rattle.nx_watch.specs.LineRun.{Giving, Standing, StandsWith, first_told, told_of}
@@ -25,12 +28,14 @@ use Rattle.nx_fec.specs.Transfers.{CountedDevice}
 use Rattle.nx_watch.specs.declared.lines.line_run.LinesWatched.{LinesWatched}
 use Rattle.nx_watch.specs.declared.lines.line_run.WatchEnd.{WatchEnd}
 use Rattle.nx_watch.specs.declared.lines.line_run.WatchEnd.TheVariants.{Read, Back, Write}
-use Rattle.nx_watch.specs.private.Effects.{IsKept}
+use Rattle.nx_watch.specs.private.Effects.{IsKept, sets}
 use Rattle.nx_watch.specs.declared.lines.any_scanner.Ended.{Ended}
+use Rattle.nx_watch.specs.declared.lines.line_effects.LineEffects.{LineEffects}
 use Rattle.nx_watch.specs.declared.lines.line_run.LineRun.{LineRun}
-use Rattle.nx_watch.specs.private.Running.{EndsInput, IsRunning, TellsFirst}
+use Rattle.nx_watch.specs.private.Running.{EndsInput, EndsRun, IsRunning, TellsFirst}
 use Rattle.nx_watch.specs.private.Scanning.{IsScanning, lines_ended}
-use Rattle.nx_watch.proofs.lemmas.lines.Acting.{both}
+use Rattle.nx_watch.proofs.lemmas.lines.Acting.{both, idle-unset, not_second}
+use Rattle.nx_watch.proofs.lemmas.lines.Starting.{is-setting, set-before, set_line, unset-behind}
 
 -- ---- one more line
 
@@ -63,29 +68,133 @@ acting-append first moments (l ∷ lines) line =
     ∙ sym (append_assoc head rest
     (cond (acts first (moments ++ moments_said (l ∷ lines)) line) (option_to_list line) []))
 
-pub taken-acting : {T : Type 0} (stands : Standing T) (start now : T) (first : ℕ)
+-- a line that says a moment out of range changes nothing
+skipped-acting : (first : ℕ) (moments : List ℕ) (front back : List (Option Line)) (n : ℕ)
+    → nat_le n last_moment ≡ false
+    → acting_behind first moments (front ++ Some (moment n) ∷ back)
+    ≡ acting_behind first moments (front ++ back)
+skipped-acting first moments [] back n out =
+    ap (λ b. cond (b && nat_le (in_force first moments) n) (moment n ∷ []) []
+    ++ acting_behind first (moments ++ cond b (n ∷ []) []) back) out
+    ∙ ap (λ m. acting_behind first m back) (append-nil moments)
+skipped-acting first moments (line ∷ front) back n out =
+    ap (λ l. cond (acts first moments line) (option_to_list line) [] ++ l)
+    (skipped-acting first (moments ++ moment_said line) front back n out)
+
+skipped-on : (first : ℕ) (moments : List ℕ) (front back : List (Option Line)) (n : ℕ)
+    → nat_le n last_moment ≡ false
+    → goes_on_behind first moments (front ++ Some (moment n) ∷ back)
+    ≡ goes_on_behind first moments (front ++ back)
+skipped-on first moments [] back n out =
+    ap (λ b. not (b && is_far_back first moments n && went_far_back first moments)
+    && goes_on_behind first (moments ++ cond b (n ∷ []) []) back) out
+    ∙ ap (λ m. goes_on_behind first m back) (append-nil moments)
+skipped-on first moments (line ∷ front) back n out =
+    ap (λ b. not (ends_watch first moments line) && b)
+    (skipped-on first (moments ++ moment_said line) front back n out)
+
+-- one more line, behind which no moment is set
+acting-unset : (first : StartMoments) (lines : List (Option Line)) (line : Option Line)
+    → sets first (moments_behind first lines) line ≡ false
+    → acting_lines first (lines ++ line ∷ [])
+    ≡ acting_lines first lines
+    ++ cond (acts first.newest (moments_behind first lines) line) (option_to_list line) []
+acting-unset first lines line unset =
+    unset-behind (acting_behind first.newest []) first lines line unset
+    (λ out. skipped-acting first.newest [] (with_start first lines) (line ∷ []) (given first) out)
+    ∙ acting-append first.newest [] (with_start first lines) line
+
+on-unset : (first : StartMoments) (lines : List (Option Line)) (line : Option Line)
+    → sets first (moments_behind first lines) line ≡ false → goes_on first lines ≡ true
+    → ends_watch first.newest (moments_behind first lines) line ≡ false
+    → goes_on first (lines ++ line ∷ []) ≡ true
+on-unset first lines line unset on stays =
+    unset-behind (goes_on_behind first.newest []) first lines line unset
+    (λ out. skipped-on first.newest [] (with_start first lines) (line ∷ []) (given first) out)
+    ∙ goes_on-append first.newest [] (with_start first lines) line on stays
+
+-- the moment that is set acts
+set-acts : (first : StartMoments) (lines : List (Option Line)) (line : Option Line)
+    → sets first (moments_behind first lines) line ≡ true
+    → acts first.newest (moments_behind first lines) (set_line first) ≡ true
+set-acts first lines line h =
+    let s = is-setting first (moments_behind first lines) line h in
+    let low : first.newest ≤ given first = omega arith in
+    ap (λ m. acts first.newest m (set_line first)) s.first
+    ∙ both _ _ s.in_range (le-leb first.newest (given first) low)
+
+-- one more line, before which it is set
+acting-set : (first : StartMoments) (lines : List (Option Line)) (line : Line)
+    → sets first (moments_behind first lines) (Some line) ≡ true
+    → acting_lines first (lines ++ Some line ∷ [])
+    ≡ (acting_lines first lines ++ moment (given first) ∷ []) ++ line ∷ []
+acting-set first lines line h =
+    let whole = with_start first lines in
+    let s = is-setting first (moments_behind first lines) (Some line) h in
+    let behind = moments_said (whole ++ set_line first ∷ []) in
+    let acting : acts first.newest behind (Some line) ≡ true = ap (acts first.newest behind) s.is in
+    ap (acting_behind first.newest []) (set-before first lines (Some line) h
+    ∙ sym (append_assoc whole (set_line first ∷ []) (Some line ∷ [])))
+    ∙ acting-append first.newest [] (whole ++ set_line first ∷ []) (Some line)
+    ∙ ap (λ b. acting_behind first.newest [] (whole ++ set_line first ∷ [])
+    ++ cond b (line ∷ []) []) acting
+    ∙ ap (λ l. l ++ line ∷ []) (acting-append first.newest [] whole (set_line first)
+    ∙ ap (λ b. acting_lines first lines ++ cond b (moment (given first) ∷ []) [])
+    (set-acts first lines (Some line) h))
+
+on-set : (first : StartMoments) (lines : List (Option Line)) (line : Option Line)
+    → sets first (moments_behind first lines) line ≡ true → goes_on first lines ≡ true
+    → goes_on first (lines ++ line ∷ []) ≡ true
+on-set first lines line h on =
+    let whole = with_start first lines in
+    let s = is-setting first (moments_behind first lines) line h in
+    let quiet : ends_watch first.newest (moments_behind first lines) (set_line first) ≡ false =
+    ap (λ m. ends_watch first.newest m (set_line first)) s.first ∙ not_second _ _ refl in
+    let stays : ends_watch first.newest (moments_said (whole ++ set_line first ∷ [])) line ≡ false =
+    ap (ends_watch first.newest (moments_said (whole ++ set_line first ∷ []))) s.is in
+    ap (goes_on_behind first.newest []) (set-before first lines line h
+    ∙ sym (append_assoc whole (set_line first ∷ []) (line ∷ [])))
+    ∙ goes_on-append first.newest [] (whole ++ set_line first ∷ []) line
+    (goes_on-append first.newest [] whole (set_line first) on quiet) stays
+
+pub taken-acting : {T : Type 0} (stands : Standing T) (start now : T) (first : StartMoments)
     (lines : List (Option Line)) (line : Line)
-    → goes_on first lines ≡ true → acts first (moments_said lines) (Some line) ≡ true
-    → ends_watch first (moments_said lines) (Some line) ≡ false
+    → goes_on first lines ≡ true
+    → acts first.newest (moments_behind first lines) (Some line) ≡ true
+    → ends_watch first.newest (moments_behind first lines) (Some line) ≡ false
+    → sets first (moments_behind first lines) (Some line) ≡ false
     → stands start now (acting_lines first lines ++ line ∷ [])
     → HasTaken stands start now first (lines ++ Some line ∷ [])
-taken-acting stands start now first lines line on acting stays stood = record {
-  on = goes_on-append first [] lines (Some line) on stays;
-  stood = subst (stands start now) (sym (acting-append first [] lines (Some line)
+taken-acting stands start now first lines line on acting stays unset stood = record {
+  on = on-unset first lines (Some line) unset on stays;
+  stood = subst (stands start now) (sym (acting-unset first lines (Some line) unset
       ∙ ap (λ b. acting_lines first lines ++ cond b (line ∷ []) []) acting)) stood;
 }
 
-pub taken-idle : {T : Type 0} (stands : Standing T) (start now : T) (first : ℕ)
-    (lines : List (Option Line)) (line : Option Line)
-    → HasTaken stands start now first lines → acts first (moments_said lines) line ≡ false
-    → ends_watch first (moments_said lines) line ≡ false
-    → HasTaken stands start now first (lines ++ line ∷ [])
-taken-idle stands start now first lines line taken idle stays = record {
-  on = goes_on-append first [] lines line taken.on stays;
-  stood = subst (stands start now) (sym (acting-append first [] lines line
-      ∙ ap (λ b. acting_lines first lines ++ cond b (option_to_list line) []) idle
-      ∙ append-nil (acting_lines first lines))) taken.stood;
+pub taken-set : {T : Type 0} (stands : Standing T) (start now : T) (first : StartMoments)
+    (lines : List (Option Line)) (line : Line)
+    → goes_on first lines ≡ true → sets first (moments_behind first lines) (Some line) ≡ true
+    → stands start now ((acting_lines first lines ++ moment (given first) ∷ []) ++ line ∷ [])
+    → HasTaken stands start now first (lines ++ Some line ∷ [])
+taken-set stands start now first lines line on h stood = record {
+  on = on-set first lines (Some line) h on;
+  stood = subst (stands start now) (sym (acting-set first lines line h)) stood;
 }
+
+pub taken-idle : {T : Type 0} (stands : Standing T) (start now : T) (first : StartMoments)
+    (lines : List (Option Line)) (line : Option Line)
+    → HasTaken stands start now first lines
+    → acts first.newest (moments_behind first lines) line ≡ false
+    → ends_watch first.newest (moments_behind first lines) line ≡ false
+    → HasTaken stands start now first (lines ++ line ∷ [])
+taken-idle stands start now first lines line taken idle stays =
+    let unset = idle-unset first (moments_behind first lines) line idle in
+    record {
+      on = on-unset first lines line unset taken.on stays;
+      stood = subst (stands start now) (sym (acting-unset first lines line unset
+          ∙ ap (λ b. acting_lines first lines ++ cond b (option_to_list line) []) idle
+          ∙ append-nil (acting_lines first lines))) taken.stood;
+    }
 
 -- ---- a line that acts may act behind those that acted
 
@@ -153,7 +262,7 @@ force-behind first moments (line ∷ lines) =
 
 pub may-act : (first : ℕ) (lines : List (Option Line)) (line : Line)
     → acts first (moments_said lines) (Some line) ≡ true
-    → MayAct first (acting_lines first lines) line
+    → MayAct first (acting_behind first [] lines) line
 may-act first lines (moment n) h =
     let parts = and_parts (nat_le n last_moment) (nat_le (in_force first (moments_said lines)) n) h
     in (
@@ -170,6 +279,45 @@ may-act first lines (refuse_subject mark letter) h = not-true (is_vital letter) 
     not-true true k = cc
     not-true false k = refl
 may-act first lines (accept_subject mark letter) h = tt
+
+-- elements may
+pub elements-may : (first : ℕ) (lines : List Line) (line : Line) (mark : Option Channel)
+    (bits : List Bool) → Some line ≡ Some (elements mark bits) → MayAct first lines line
+elements-may first lines line mark bits is =
+    let same : line ≡ elements mark bits = cc in
+    subst (MayAct first lines) (sym same) tt
+
+-- and so may the moment that is set
+pub may-set : (first : StartMoments) (lines : List (Option Line)) (line : Option Line)
+    → sets first (moments_behind first lines) line ≡ true
+    → MayAct first.newest (acting_lines first lines) (moment (given first))
+may-set first lines line h =
+    may-act first.newest (with_start first lines) (moment (given first))
+    (set-acts first lines line h)
+
+-- a line that acts was taken, and the run goes on or is over
+pub known-ends : {T : Type 0} (stands : Standing T) (start now : T) (first : StartMoments)
+    (lines : List (Option Line)) (line : Line) (kept : LineEffects) (old new : Option (List ℕ))
+    (failures : ℕ) (result : Result (Unit {0}) WatchEnd)
+    → IfErr result (λ end. end ≡ Write) → goes_on first lines ≡ true
+    → HasTaken stands start now first (lines ++ Some line ∷ [])
+    → TellsFirst first kept old new failures (lines ++ Some line ∷ [])
+    → MatchResult result (λ _. HasTaken stands start now first (lines ++ Some line ∷ [])
+    × TellsFirst first kept old new failures (lines ++ Some line ∷ []))
+    (λ end. (front bytes : List ℕ) → AreLines front (lines ++ Some line ∷ []) []
+    → (more : List ℕ) → bytes ≡ front ++ more
+    → EndsRun stands start now first kept old new failures end bytes)
+known-ends stands start now first lines line kept old new failures (Ok done) is on taken tells =
+    (taken, tells)
+known-ends stands start now first lines line kept old new failures (Err end) is on taken tells =
+    λ front bytes are more whole.
+    subst (λ e. EndsRun stands start now first kept old new failures e bytes) (sym is) (
+      lines,
+      line,
+      record { front = front; more = more; whole = whole; are = are; on = on },
+      taken,
+      tells,
+    )
 
 -- ---- what is told of one more line
 
@@ -193,8 +341,9 @@ some-line (Some line) h = (line, refl)
 
 -- ---- a run behind more bytes
 
-pub run-of : {T : Type 0} (stands : Standing T) (start now : T) (first : ℕ) (run : LineRun)
-    (old new : Option (List ℕ)) (failures : ℕ) (bytes : List ℕ) (lines more : List (Option Line))
+pub run-of : {T : Type 0} (stands : Standing T) (start now : T) (first : StartMoments)
+    (run : LineRun) (old new : Option (List ℕ)) (failures : ℕ) (bytes : List ℕ)
+    (lines more : List (Option Line))
     (ended : Ended) (latest : Option Line)
     → lines_ended ended latest ≡ more
     → IsScanning run.scanner bytes (lines ++ lines_ended ended latest)
@@ -220,7 +369,7 @@ whole-behind bytes piece more front tail count h =
     ∙ append_assoc front tail (drop count piece ++ more)
 
 -- the input ended, with or without a line that it cuts
-pub ends-input : (first : ℕ) (bytes : List ℕ) (lines more : List (Option Line))
+pub ends-input : (first : StartMoments) (bytes : List ℕ) (lines more : List (Option Line))
     (old new : Option (List ℕ)) (failures : ℕ) (counts : LinesWatched) (rest : List ℕ)
     → AreLines bytes lines rest → cut_line rest ≡ more → AreCounted first (lines ++ more) counts
     → HasTold old new failures (told_of first (lines ++ more))
@@ -271,8 +420,8 @@ stands-with stands contents start now writer stood none = (
 )
 
 -- a run before its first line
-pub run-starts : {T : Type 0} (stands : Standing T) (start now : T) (first : ℕ) (run : LineRun)
-    (contents : Option (List ℕ)) (failures : ℕ) → IsScanning run.scanner [] []
+pub run-starts : {T : Type 0} (stands : Standing T) (start now : T) (first : StartMoments)
+    (run : LineRun) (contents : Option (List ℕ)) (failures : ℕ) → IsScanning run.scanner [] []
     → IsKept first [] run.effects → stands start now [] → failures ≡ 0
     → IsRunning stands start now first run contents contents failures []
 run-starts stands start now first run contents failures scans kept stood none = record {
@@ -291,17 +440,18 @@ run-starts stands start now first run contents failures scans kept stood none = 
 
 -- ---- the lines of a run, with a cut one and with the one that ends the watch
 
-pub acting-cut : (first : ℕ) (lines : List (Option Line)) (rest : List ℕ)
+pub acting-cut : (first : StartMoments) (lines : List (Option Line)) (rest : List ℕ)
     → acting_lines first (lines ++ cut_line rest) ≡ acting_lines first lines
 acting-cut first lines [] = ap (acting_lines first) (append-nil lines)
 acting-cut first lines (byte ∷ rest) =
-    acting-append first [] lines None ∙ append-nil (acting_lines first lines)
+    acting-unset first lines None refl ∙ append-nil (acting_lines first lines)
 
-pub acting-idle : (first : ℕ) (lines : List (Option Line)) (line : Line)
-    → acts first (moments_said lines) (Some line) ≡ false
+pub acting-idle : (first : StartMoments) (lines : List (Option Line)) (line : Line)
+    → acts first.newest (moments_behind first lines) (Some line) ≡ false
     → acting_lines first (lines ++ Some line ∷ []) ≡ acting_lines first lines
 acting-idle first lines line idle =
-    acting-append first [] lines (Some line)
+    acting-unset first lines (Some line)
+    (idle-unset first (moments_behind first lines) (Some line) idle)
     ∙ ap (λ b. acting_lines first lines ++ cond b (line ∷ []) []) idle
     ∙ append-nil (acting_lines first lines)
 

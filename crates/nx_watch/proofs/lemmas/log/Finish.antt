@@ -1,10 +1,12 @@
 -- What a watch answers in the end.
-use Rattle.std.proofs.Common.{◌≡◌, ◌⊎◌, ◌↔◌, inl, inr, ⊎_elim, ℕ, ◌+◌, ◌≤◌, suc, zero, Bool, true, false, List}
+use Rattle.std.proofs.Common.{◌≡◌, ◌⊎◌, ◌↔◌, inl, inr, ⊎_elim, ℕ, ◌+◌, ◌∙◌, ◌≤◌, suc, zero, Bool, true, false, List}
 use Rattle.std.proofs.Common.{[], ◌∷◌, ◌++◌, length, take, drop, Option, Result, Ok, Err, refl, sym, ap}
 use Rattle.std.proofs.Common.{subst, arith}
-use Rattle.std.specs.List.{AllZip}
-use Rattle.std.specs.Io.KnownBytes.{Consumes, IsAtEnd}
-use Rattle.std.proofs.lemmas.List.Elements.{All-nil}
+use Rattle.std.proofs.Common.{append_assoc, length-drop, map}
+use Rattle.std.specs.List.{All, AllZip, flat_map}
+use Rattle.std.specs.Io.KnownBytes.{Appends, Consumes, IsAtEnd}
+use Rattle.std.proofs.lemmas.List.{drop_at, map-append}
+use Rattle.std.proofs.lemmas.List.Elements.{All-nil, All-weaker}
 use Rattle.nx_envelope.specs.Moment.{last_moment}
 use Rattle.nx_fec.specs.air_files.AirFile.{Line}
 use Rattle.nx_fec.specs.Transfers.{CountedDevice, devices}
@@ -13,23 +15,31 @@ use Rattle.nx_kept.specs.Kept.{closed_gate}
 use Rattle.nx_kept.specs.declared.disk.DiskFile.{Ghosts as TellsOfDisk}
 use Rattle.nx_kept.proofs.lemmas.Stages.{weaker}
 use Rattle.nx_log.specs.Logged.{IsLoggedAs}
-use Rattle.nx_receiver.specs.air_file_runs.Listen.{given_by}
+use Rattle.nx_fec.specs.declared.air_files.channel.Channel.TheVariants.{Zero, One, Two}
+use Rattle.nx_receiver.specs.air_file_runs.Listen.{given_by, given_of}
+use Rattle.nx_receiver.specs.copies.InTurn.{PrintAllToEnd, PrintsInTurn}
+use Rattle.nx_receiver.proofs.lemmas.channels.One.{one-in_turn, one-to_end}
+use Rattle.nx_receiver.proofs.lemmas.channels.Some.{later-some}
 use Rattle.nx_receiver.specs.Listener.{HearsGiven, starts_of}
 use Rattle.nx_receiver.specs.copies.Log.{IsLog}
-use Rattle.nx_receiver.specs.copies.Shares.{MarkedCopy, Starts}
-use Rattle.nx_watch.specs.Acting.{acting_lines, most_bytes}
-use Rattle.nx_watch.specs.Watch.{AnswersStarted, AnswersStop, HasCause, HasRead, HasWatched, KeepsAll, KeepsSome, LeavesAtAnyMoment}
-use Rattle.nx_watch.specs.Watch.{PrintsUntil, StandsForEntries, Stop, WatchDevices, at_end, back, unread, unwritten}
-use Rattle.nx_watch.specs.LineRun.{HasTold, WereGiven, told_of}
+use Rattle.nx_receiver.specs.copies.Shares.{MarkedCopy, Starts, marked}
+use Rattle.nx_watch.specs.Acting.{acting_lines, first_without, goes_on, most_bytes}
+use Rattle.nx_watch.specs.declared.lines.line_effects.StartMoments.{StartMoments}
+use Rattle.nx_watch.specs.Watch.{AnswersStarted, AnswersStop, FailsWrites, HadKept, HadWritten, HasCause, HasRead, HasWatched, KeepsAll, KeepsSome, LeavesAtAnyMoment, StoodAt}
+use Rattle.nx_watch.specs.Watch.{PrintsUntil, StandsForEntries, Stop, WatchDevices, at_end, back, moments_at, unread, unwritten}
+use Rattle.nx_watch.specs.LineRun.{HasTold, StandsWith, WereGiven, WithWriter, first_told, told_of, with_writer}
+use Rattle.nx_watch.specs.Stamp.{Stamp}
 use Rattle.nx_watch.specs.declared.kept_log.keeper.Keeper.{Keeper}
 use Rattle.nx_watch.specs.declared.watch_report.WatchReport.{WatchReport}
 use Rattle.nx_watch.specs.declared.watch_fault.WatchFault.{WatchFault}
 use Rattle.nx_watch.specs.declared.watch_fault.WatchFault.TheVariants as fault
-use Rattle.nx_watch.specs.private.Keeping.{AllKept, HasKept, HasKeptSo, KeepsTexts, SomeKept, StandsForFirst, StandsForTexts}
-use Rattle.nx_watch.specs.private.LoggingListener.{HasRun, IsLineInRange, KeepsLines}
+use Rattle.nx_watch.specs.private.Keeping.{AllKept, HasKept, HasKeptSo, KeepsTexts, SomeKept, StandsForFirst, StandsForTexts, keeper_since}
+use Rattle.nx_watch.specs.private.Stamping.{StandsStamped, WasRunning, telling}
+use Rattle.nx_watch.specs.private.LoggingListener.{HasClosed, HasRun, IsLineInRange, KeepsLines}
 use Rattle.nx_watch.specs.declared.logging_listener.LoggingListener.{LoggingListener}
-use Rattle.nx_watch.proofs.lemmas.log.Keeping.{keeps-stands}
+use Rattle.nx_watch.proofs.lemmas.log.Keeping.{all-new, keeps-stands}
 use Rattle.nx_watch.proofs.lemmas.log.LoggingListener.{log-of}
+use Rattle.nx_watch.proofs.lemmas.log.Stamping.{says-too}
 
 -- ---- entries and their bytes, side by side
 
@@ -86,12 +96,22 @@ all-entries entries copies texts more file h k stands = record {
   stands = stands;
 }
 
+take-append-more : (n k : ℕ) (copies more : List MarkedCopy) → length copies ≡ n
+    → take (n + k) (copies ++ more) ≡ copies ++ take k more
+take-append-more n k [] more e = ap (λ m. take m more) (omega (arith, e))
+take-append-more n k (one ∷ copies) more e =
+    let m = length copies in
+    let is : n + k ≡ suc (m + k) = omega (arith, e) in
+    ap (λ x. take x (one ∷ (copies ++ more))) is
+    ∙ ap (λ l. one ∷ l) (take-append-more m k copies more refl)
+
 -- ---- the answer
 
 module _ {D R W E : Type 0} (disk : TellsOfDisk D) (content : List ℕ) (start : Keeper D)
     (remaining : R → Option (List ℕ)) (reader reader_after : CountedDevice R)
     (contents : W → Option (List ℕ)) (writer writer_after : CountedDevice W)
     (told : E → Option (List ℕ)) (notices notices_after : CountedDevice E)
+    (stamps : List (Stamp D (CountedDevice W) (CountedDevice E)))
   where
     abbrev pub at-hand : D → WatchDevices D R W E
     at-hand after =
@@ -104,6 +124,7 @@ module _ {D R W E : Type 0} (disk : TellsOfDisk D) (content : List ℕ) (start :
           told = told;
           notices = notices;
           notices_after = notices_after;
+          stamps = stamps;
         }
 
     all-kept : (entries copies : List MarkedCopy) (texts more : List (List ℕ)) (now : Keeper D)
@@ -113,6 +134,13 @@ module _ {D R W E : Type 0} (disk : TellsOfDisk D) (content : List ℕ) (start :
         → KeepsAll (at-hand now.log.device) entries copies
     all-kept entries copies texts more now given each zip keeps kept wrote =
         let k = kept.kept content texts keeps in record {
+          rests = record {
+            texts = texts ++ more;
+            each = zip-append entries copies texts more each zip;
+            front = k.front;
+            kept = k.kept;
+            whole = k.at_rest.file;
+          };
           found = all-entries entries copies texts more (disk.seen content now.log.device) each zip
               (record {
                 front = k.front;
@@ -156,10 +184,10 @@ module _ {D R W E : Type 0} (disk : TellsOfDisk D) (content : List ℕ) (start :
     pub moments-of : (entries copies : List MarkedCopy) (texts more : List (List ℕ))
         (now : Keeper D) (given : List ℕ) → AllZip IsLoggedAs entries texts
         → AllZip IsLoggedAs copies more → KeepsTexts disk content texts start
-        → HasKept disk start now more given
-        → LeavesAtAnyMoment (at-hand now.log.device) (λ file. (count : ℕ) × (count ≤ length copies)
-        × StandsForEntries (entries ++ take count copies) file)
-    moments-of entries copies texts more now given each zip keeps kept =
+        → HasKeptSo disk now.has_failed start now more given
+        → LeavesAtAnyMoment (at-hand now.log.device) entries (λ file. (count : ℕ)
+        × (count ≤ length copies) × StandsForEntries (entries ++ take count copies) file)
+    moments-of entries copies texts more now given each zip keeps kept = λ first.
         weaker disk.moment (disk.left_since content) (disk.may_leave content) _
         (StandsForFirst texts more) start.log.device now.log.device
         (moments-so now.has_failed more now given kept texts keeps)
@@ -169,25 +197,25 @@ module _ {D R W E : Type 0} (disk : TellsOfDisk D) (content : List ℕ) (start :
           first-entries entries copies texts more s.0 file each zip s.2,
         ))
 
-    pub answers-started : (starts : Starts) (entries copies : List MarkedCopy)
+    pub answers-started : (started : ℕ) (starts : Starts) (entries copies : List MarkedCopy)
         (texts more : List (List ℕ)) (now : Keeper D) (given : List ℕ) (stop : Stop)
         (lines : List (Option Line)) (outcome : Result WatchReport WatchFault)
         → AllZip IsLoggedAs entries texts → AllZip IsLoggedAs copies more
-        → KeepsTexts disk content texts start → HasKept disk start now more given
+        → KeepsTexts disk content texts start
+        → HasKeptSo disk now.has_failed start now more given
         → WereGiven contents writer writer_after given
-        → HasWatched (at-hand now.log.device) starts entries stop lines copies
+        → HasWatched (at-hand now.log.device) started starts entries stop lines copies
         → (now.has_failed ≡ true → outcome ≡ Err fault.Disk)
         → (now.has_failed ≡ false → AllKept disk start now more given
-        → AnswersStop starts.moment stop lines copies outcome)
-        → AnswersStarted (at-hand now.log.device) starts entries outcome
-    answers-started starts entries copies texts more now given stop lines outcome each zip keeps
-        kept
-        wrote watched failed well =
+        → AnswersStop (moments_at started starts) stop lines copies outcome)
+        → AnswersStarted (at-hand now.log.device) started starts entries outcome
+    answers-started started starts entries copies texts more now given stop lines outcome each zip
+        keeps kept wrote watched failed well =
         (stop, lines, copies, watched, so now.has_failed refl kept)
       where
         so : (b : Bool) → now.has_failed ≡ b → HasKeptSo disk b start now more given
             → (KeepsAll (at-hand now.log.device) entries copies
-            × AnswersStop starts.moment stop lines copies outcome)
+            × AnswersStop (moments_at started starts) stop lines copies outcome)
             ⊎ (KeepsSome (at-hand now.log.device) entries copies × (outcome ≡ Err fault.Disk))
         so false is k =
             inl (all-kept entries copies texts more now given each zip keeps k wrote, well is k)
@@ -198,7 +226,8 @@ module _ {D R W E : Type 0} (disk : TellsOfDisk D) (content : List ℕ) (start :
 
 module _ {D : Type 0} (disk : TellsOfDisk D) where
   pub cause-of : (start now : Keeper D) (more : List (List ℕ)) (given : List ℕ)
-      (outcome : Result WatchReport WatchFault) → HasKept disk start now more given
+      (outcome : Result WatchReport WatchFault)
+      → HasKeptSo disk now.has_failed start now more given
       → (now.has_failed ≡ true → outcome ≡ Err fault.Disk)
       → (now.has_failed ≡ false → AllKept disk start now more given
       → HasCause disk outcome start.log.device now.log.device)
@@ -213,7 +242,7 @@ module _ {D : Type 0} (disk : TellsOfDisk D) where
           (sym (failed is)) k.failed
 
   pub explained-of : (start now : Keeper D) (more : List (List ℕ)) (given : List ℕ)
-      → HasKept disk start now more given → (content : List ℕ)
+      → HasKeptSo disk now.has_failed start now more given → (content : List ℕ)
       → disk.explains content now.log.device → disk.explains content start.log.device
   explained-of start now more given kept = so now.has_failed kept
     where
@@ -227,20 +256,16 @@ module _ {D : Type 0} (disk : TellsOfDisk D) where
 pub end-apart : at_end ≡ unread → ⊥
 end-apart e = cc
 
-pub end-written : at_end ≡ unwritten → ⊥
-end-written e = cc
-
 pub back-apart : (line last given : ℕ) → back line last given ≡ unread → ⊥
 back-apart line last given e = cc
 
-pub back-written : (line last given : ℕ) → back line last given ≡ unwritten → ⊥
-back-written line last given e = cc
-
-pub unread-written : unread ≡ unwritten → ⊥
-unread-written e = cc
-
 pub unwritten-apart : unwritten ≡ unread → ⊥
 unwritten-apart e = cc
+
+-- one at most, and not one, is none
+pub none-failed : (n : ℕ) → n ≤ 1 → (n ≡ 1 → ⊥) → n ≡ 0
+none-failed zero few other = refl
+none-failed (suc n) few other = absurd (other (omega (arith, few)))
 
 -- before the first line
 pub stands-first : {D : Type 0} (disk : TellsOfDisk D) (logging : LoggingListener D)
@@ -260,7 +285,7 @@ stands-first disk logging range heard kept = record {
 
 -- where a watch answers how it stopped, the disk isn't blamed
 stop-cause : {D : Type 0} (disk : TellsOfDisk D) (old new : D)
-    (first : ℕ) (stop : Stop) (lines : List (Option Line)) (copies : List MarkedCopy)
+    (first : StartMoments) (stop : Stop) (lines : List (Option Line)) (copies : List MarkedCopy)
     (outcome : Result WatchReport WatchFault) → AnswersStop first stop lines copies outcome
     → disk.faults new ≡ disk.faults old → HasCause disk outcome old new
 stop-cause disk old new first stop lines copies (Ok report) h well = well
@@ -287,10 +312,120 @@ stop-cause disk old new first unread lines copies (Err fault.Disk) h well =
 stop-cause disk old new first unwritten lines copies (Err fault.Disk) h well =
     absurd h
 
-module _ {D R W E : Type 0} (disk : TellsOfDisk D) (logging : LoggingListener D) (first : ℕ)
+-- From this start on the keeper was given the texts of these copies.
+pub record KeepsOn {D W : Type 0} (disk : TellsOfDisk D) (now : Keeper D) (copies : List MarkedCopy)
+    (since : WithWriter (LoggingListener D) W)
+    : Type 0 where
+  pub texts : List (List ℕ)
+  pub each : AllZip IsLoggedAs copies texts
+  pub given : List ℕ
+  pub kept : HasKept disk since.taker.keeper now texts given
+
+-- where the end closed what stood open, from there on too
+pub closed-on : {D W : Type 0} (disk : TellsOfDisk D) (contents : W → Option (List ℕ))
+    (starts : Starts) (since : WithWriter (LoggingListener D) W) (now : Keeper D)
+    (writer : CountedDevice W) (lines : List Line) (copies : List MarkedCopy)
+    → starts_of since.taker.listener ≡ starts → PrintAllToEnd starts (given_by lines) copies
+    → HasClosed disk contents (starts_of since.taker.listener) since.taker.keeper now since.writer
+    writer lines
+    → KeepsOn disk now copies since
+closed-on disk contents starts since now writer lines copies is printed h = record {
+  texts = h.texts;
+  each = subst (λ l. AllZip IsLoggedAs l h.texts)
+      (one-to_end starts (given_by lines) h.copies copies
+      (subst (λ s. PrintAllToEnd s (given_by lines) h.copies) is h.printed) printed) h.each;
+  given = h.kept.0;
+  kept = h.kept.1;
+}
+
+-- and where it didn't
+pub heard-on : {D W : Type 0} (disk : TellsOfDisk D) (contents : W → Option (List ℕ))
+    (starts : Starts) (since now : WithWriter (LoggingListener D) W) (keeper : Keeper D)
+    (lines : List Line) (copies : List MarkedCopy)
+    → starts_of since.taker.listener ≡ starts → PrintsInTurn starts (given_by lines) copies
+    → keeper ≡ now.taker.keeper → StandsWith (KeepsLines disk) contents since now lines
+    → KeepsOn disk keeper copies since
+heard-on disk contents starts since now keeper lines copies is printed same h = record {
+  texts = h.1.texts;
+  each = subst (λ l. AllZip IsLoggedAs l h.1.texts)
+      (one-in_turn starts (given_by lines) h.1.copies copies
+      (subst (λ s. PrintsInTurn s (given_by lines) h.1.copies) is h.1.heard.in_turn) printed)
+      h.1.each;
+  given = h.0;
+  kept = subst (λ k. HasKept disk since.taker.keeper k h.1.texts h.0) (sym same) h.1.kept;
+}
+
+-- what stood at the reads of a run that stands so now, and of which the copies were kept so
+pub stamps-keep : {D W N : Type 0} (disk : TellsOfDisk D) (contents : W → Option (List ℕ))
+    (told : N → Option (List ℕ)) (old : Option (List ℕ)) (first : StartMoments)
+    (start now : WithWriter (LoggingListener D) W) (bytes : List ℕ) (keeper : Keeper D)
+    (acting all : List Line) (copies : List MarkedCopy)
+    (stamps : List (Stamp D (CountedDevice W) (CountedDevice N))) → all ≡ acting
+    → ((since : WithWriter (LoggingListener D) W) → since.taker.listener ≡ start.taker.listener
+    → StandsWith (KeepsLines disk) contents since now acting → KeepsOn disk keeper copies since)
+    → StandsStamped (telling disk contents told old) first bytes stamps start now acting
+    → All (WasRunning (telling disk contents told old) start first bytes
+    (λ whole. (later : List Line) × (all ≡ acting_lines first whole ++ later))
+    (KeepsOn disk keeper copies)) stamps
+stamps-keep disk contents told old first start now bytes keeper acting all copies stamps is step h =
+    says-too disk contents told old first start bytes
+    (λ whole. (later : List Line) × (acting ≡ acting_lines first whole ++ later))
+    (λ whole. (later : List Line) × (all ≡ acting_lines first whole ++ later))
+    (λ since. StandsWith (KeepsLines disk) contents since now acting)
+    (KeepsOn disk keeper copies) (λ at w. (w.behind.0, is ∙ w.behind.1)) step stamps h.at_reads
+
+moments-since : {D : Type 0} (disk : TellsOfDisk D) (content : List ℕ) (start now : Keeper D)
+    (before texts : List (List ℕ)) (given : List ℕ) → HasKept disk start now texts given
+    → KeepsTexts disk content before start
+    → LeavesOnly disk.moment (disk.left_since content) start.log.device now.log.device
+    (StandsForFirst before (drop start.put texts))
+moments-since disk content start now before texts given h keeps = so now.has_failed h.since
+  where
+    so : (b : Bool) → HasKeptSo disk b start now (drop start.put texts) given
+        → LeavesOnly disk.moment (disk.left_since content) start.log.device now.log.device
+        (StandsForFirst before (drop start.put texts))
+    so false k = k.any_moment content before keeps
+    so true k = k.any_moment content before keeps
+
+-- what is printed of a beginning of some lines begins what is printed of all
+pub printed-first : (starts : Starts) (stop : Stop) (all whole later : List Line)
+    (printed copies : List MarkedCopy) → all ≡ whole ++ later
+    → PrintsInTurn starts (given_by whole) printed → PrintsUntil stop starts (given_by all) copies
+    → (more : List MarkedCopy) × (copies ≡ printed ++ more)
+printed-first starts stop all whole later printed copies is h k =
+    let goes = later-some starts (given_by whole) (given_by later) printed h in
+    let turn = subst (λ g. PrintsInTurn starts g (printed ++ goes.more))
+    (sym (ap given_by is ∙ map-append given_of whole later)) goes.in_turn in
+    so stop k goes.more turn
+  where
+    to-end : (more : List MarkedCopy) → PrintsInTurn starts (given_by all) (printed ++ more)
+        → (p : PrintAllToEnd starts (given_by all) copies)
+        → (more : List MarkedCopy) × (copies ≡ printed ++ more)
+    to-end more turn p = (
+      more ++ flat_map (λ channel. map (marked channel) (p.closed channel)) (Zero ∷ One ∷ Two ∷ []),
+      p.whole
+          ∙ ap (λ l. l ++ flat_map (λ channel. map (marked channel) (p.closed channel))
+          (Zero ∷ One ∷ Two ∷ [])) (one-in_turn starts (given_by all) p.ended (printed ++ more)
+          p.in_turn turn)
+          ∙ append_assoc printed more _,
+    )
+
+    so : (stop : Stop) → PrintsUntil stop starts (given_by all) copies
+        → (more : List MarkedCopy) → PrintsInTurn starts (given_by all) (printed ++ more)
+        → (more : List MarkedCopy) × (copies ≡ printed ++ more)
+    so at_end p more turn = to-end more turn p
+    so (back line last given) p more turn = to-end more turn p
+    so unread p more turn =
+        (more, one-in_turn starts (given_by all) copies (printed ++ more) p turn)
+    so unwritten p more turn =
+        (more, one-in_turn starts (given_by all) copies (printed ++ more) p turn)
+
+module _ {D R W E : Type 0} (disk : TellsOfDisk D) (logging : LoggingListener D)
+    (first : StartMoments)
     (remaining : R → Option (List ℕ)) (reader reader_after : CountedDevice R)
     (contents : W → Option (List ℕ)) (writer writer_after : CountedDevice W)
     (told : E → Option (List ℕ)) (notices notices_after : CountedDevice E)
+    (stamps : List (Stamp D (CountedDevice W) (CountedDevice E)))
   where
     -- A run stopped so: its lines print these copies, of which it gave the texts to its keeper, and
     -- this is the keeper that it left.
@@ -310,7 +445,12 @@ module _ {D R W E : Type 0} (disk : TellsOfDisk D) (logging : LoggingListener D)
       pub printed : PrintsUntil stop (starts_of logging.listener)
           (given_by (acting_lines first lines)) copies
       pub failed_read : (stop ≡ unread) ↔ (reader_after.failures ≡ 1)
-      pub failed_write : stop ≡ unwritten → writer_after.failures ≡ 1
+      pub failed_write : FailsWrites stop writer_after.failures
+      pub stamped : All (WasRunning (telling disk contents told (told notices.inner))
+          (with_writer logging writer) first bytes
+          (λ whole. (later : List Line)
+          × (acting_lines first lines ≡ acting_lines first whole ++ later))
+          (KeepsOn disk now copies)) stamps
       pub said : HasTold (told notices.inner) (told notices_after.inner) notices_after.failures
           (told_of first lines)
 
@@ -325,21 +465,130 @@ module _ {D R W E : Type 0} (disk : TellsOfDisk D) (logging : LoggingListener D)
           told = told;
           notices = notices;
           notices_after = notices_after;
+          stamps = stamps;
         }
 
+    -- what stood at a read
+    stood-at : (stop : Stop) (now : Keeper D) (h : HasStopped stop now)
+        → first ≡ moments_at first.started (starts_of logging.listener) → logging.keeper.put ≡ 0
+        → (content : List ℕ) (entries : List MarkedCopy) (texts : List (List ℕ))
+        → AllZip IsLoggedAs entries texts → KeepsTexts disk content texts logging.keeper
+        → (at : Stamp D (CountedDevice W) (CountedDevice E))
+        → WasRunning (telling disk contents told (told notices.inner))
+        (with_writer logging writer) first h.bytes
+        (λ whole. (later : List Line)
+        × (acting_lines first h.lines ≡ acting_lines first whole ++ later))
+        (KeepsOn disk now h.copies) at
+        → StoodAt (at-hand-with now.log.device content) first.started (starts_of logging.listener)
+        entries h.bytes h.copies at
+    stood-at stop now h is none content entries texts each keeps at w = record {
+      within = w.within;
+      lines = w.lines;
+      rest = w.rest;
+      whole = w.whole;
+      on = subst (λ f. goes_on f w.lines ≡ true) is w.on;
+      printed = printed;
+      prints = subst (λ f. PrintsInTurn (starts_of logging.listener)
+          (given_by (acting_lines f w.lines)) printed) is w.stood.1.heard.in_turn;
+      kept = kept-at w.past.keeper.has_failed refl
+          (all-new disk logging.keeper w.past.keeper w.stood.1.texts w.stood.0 none w.stood.1.kept);
+      told = subst (λ f. HasTold (told notices.inner) (told at.notices.inner) at.notices.failures
+          (first_told (first_without f w.lines))) is w.told_first;
+    }
+      where
+        printed : List MarkedCopy
+        printed = w.stood.1.copies
+
+        size : length printed ≡ length w.stood.1.texts
+        size = zip-length printed w.stood.1.texts w.stood.1.each
+
+        goes : (more : List MarkedCopy) × (h.copies ≡ printed ++ more)
+        goes = printed-first (starts_of logging.listener) stop (acting_lines first h.lines)
+            (acting_lines first w.lines) w.behind.0 printed h.copies w.behind.1
+            w.stood.1.heard.in_turn h.printed
+
+        left-at : w.past.keeper.has_failed ≡ false
+            → KeepsTexts disk content (texts ++ w.stood.1.texts) w.past.keeper → (file : List ℕ)
+            → disk.left_since content now.log.device (disk.moment at.disk) file
+            → (count : ℕ) × (length printed ≤ count) × (count ≤ length h.copies)
+            × StandsForEntries (entries ++ take count h.copies) file
+        left-at well keeps file left =
+            let on = w.went_on well in
+            let n = length w.stood.1.texts in
+            let start = keeper_since w.past.keeper n in
+            let moments = moments-since disk content start now (texts ++ w.stood.1.texts) on.texts
+            on.given on.kept keeps in
+            let s = moments.each file (subst (λ (d : D). disk.left_since content now.log.device
+            (disk.moment d) file) w.device left) in
+            let all = zip-length h.copies on.texts on.each in
+            let more = goes.0 in
+            let cut : drop n h.copies ≡ more =
+            ap (drop n) goes.1 ∙ drop_at printed more n size in
+            let first_more : take (n + s.0) h.copies ≡ printed ++ take s.0 more =
+            ap (take (n + s.0)) goes.1 ∙ take-append-more n s.0 printed more size in (
+              n + s.0,
+              omega (arith, size),
+              omega (arith, s.1, all, length-drop n on.texts, on.kept.before),
+              record {
+                texts = (texts ++ w.stood.1.texts) ++ take s.0 (drop n on.texts);
+                each = subst (λ l. AllZip IsLoggedAs l
+                    ((texts ++ w.stood.1.texts) ++ take s.0 (drop n on.texts)))
+                    (append_assoc entries printed (take s.0 more)
+                    ∙ ap (λ l. entries ++ l) (sym first_more))
+                    (zip-append (entries ++ printed) (take s.0 more) (texts ++ w.stood.1.texts)
+                    (take s.0 (drop n on.texts))
+                    (zip-append entries printed texts w.stood.1.texts each w.stood.1.each)
+                    (zip-take s.0 more (drop n on.texts)
+                    (subst (λ l. AllZip IsLoggedAs l (drop n on.texts)) cut
+                    (zip-drop n h.copies on.texts on.each))));
+                stands = s.2;
+              },
+            )
+
+        appends : HasTold (contents writer.inner) (contents at.writer.inner) at.writer.failures
+            w.stood.0
+            → Appends (contents writer.inner) (contents at.writer.inner) w.stood.0
+        appends (inl t) = t.1
+        appends (inr t) = absurd (omega (arith, w.well, t.0))
+
+        kept-at : (b : Bool) → w.past.keeper.has_failed ≡ b
+            → HasKeptSo disk b logging.keeper w.past.keeper w.stood.1.texts w.stood.0
+            → HadKept (at-hand-with now.log.device content) entries printed h.copies at
+            ⊎ HadWritten (at-hand-with now.log.device content) printed at
+        kept-at false well k = inl (record {
+          well = ap disk.faults w.device ∙ k.well;
+          silent = w.stood.2.uncalled k.none;
+          left = left-at well (k.kept content texts keeps);
+        })
+        kept-at true failed k = inr (record {
+          failed = ap disk.faults w.device ∙ k.failed.once;
+          count = k.count;
+          fewer = omega (arith, k.fewer, size);
+          log = w.stood.0;
+          spelled = subst (IsLog (drop k.count printed)) (sym k.rest)
+              (log-of (drop k.count printed) (drop k.count w.stood.1.texts)
+              (zip-drop k.count printed w.stood.1.texts w.stood.1.each));
+          written = appends w.stood.2.written;
+          well = w.well;
+        })
+
     answers-stopped : (stop : Stop) (now : Keeper D) (h : HasStopped stop now)
-        (outcome : Result WatchReport WatchFault) → first ≡ (starts_of logging.listener).moment
+        (outcome : Result WatchReport WatchFault)
+        → first ≡ moments_at first.started (starts_of logging.listener)
+        → logging.keeper.put ≡ 0
         → (now.has_failed ≡ true → outcome ≡ Err fault.Disk)
         → (now.has_failed ≡ false → AllKept disk logging.keeper now h.texts h.given
         → AnswersStop first stop h.lines h.copies outcome)
         → (content : List ℕ) (entries : List MarkedCopy) (texts : List (List ℕ))
         → AllZip IsLoggedAs entries texts → KeepsTexts disk content texts logging.keeper
-        → AnswersStarted (at-hand-with now.log.device content) (starts_of logging.listener) entries
-        outcome
-    answers-stopped stop now h outcome is failed well content entries texts each keeps =
+        → AnswersStarted (at-hand-with now.log.device content) first.started
+        (starts_of logging.listener) entries outcome
+    answers-stopped stop now h outcome is none failed well content entries texts each keeps =
+        let so = all-new disk logging.keeper now h.texts h.given none h.kept in
         answers-started disk content logging.keeper remaining reader reader_after contents writer
-        writer_after told notices notices_after (starts_of logging.listener) entries h.copies texts
-        h.texts now h.given stop h.lines outcome each h.each keeps h.kept h.wrote (record {
+        writer_after told notices notices_after stamps first.started (starts_of logging.listener)
+        entries h.copies
+        texts h.texts now h.given stop h.lines outcome each h.each keeps so h.wrote (record {
           bytes = h.bytes;
           consumed = h.consumed;
           within = h.within;
@@ -348,8 +597,10 @@ module _ {D R W E : Type 0} (disk : TellsOfDisk D) (logging : LoggingListener D)
           printed = subst (λ f. PrintsUntil stop (starts_of logging.listener)
               (given_by (acting_lines f h.lines)) h.copies) is h.printed;
           any_moment = moments-of disk content logging.keeper remaining reader reader_after contents
-              writer writer_after told notices notices_after entries h.copies texts h.texts now
-              h.given each h.each keeps h.kept;
+              writer writer_after told notices notices_after stamps entries h.copies texts h.texts
+              now h.given each h.each keeps so;
+          before_each_read = All-weaker _ _ (λ at w. stood-at stop now h is none content entries
+              texts each keeps at w) stamps h.stamped;
           failed_read = h.failed_read;
           failed_write = h.failed_write;
           notices_told = subst (λ f. HasTold (told notices.inner) (told notices_after.inner)
@@ -357,22 +608,28 @@ module _ {D R W E : Type 0} (disk : TellsOfDisk D) (logging : LoggingListener D)
         }) failed
         (λ w all. subst (λ f. AnswersStop f stop h.lines h.copies outcome) is (well w all))
 
+    start-is : first.newest ≡ (starts_of logging.listener).moment
+        → first ≡ moments_at first.started (starts_of logging.listener)
+    start-is is = ap (λ (n : ℕ). record { newest = n; started = first.started }) is
+
     -- what such a run answers, whose device is that of its keeper
     pub has-run : (stop : Stop) (now : Keeper D) (h : HasStopped stop now)
         (outcome : Result WatchReport WatchFault) (device : D)
-        → first ≡ (starts_of logging.listener).moment → device ≡ now.log.device
+        → first.newest ≡ (starts_of logging.listener).moment → logging.keeper.put ≡ 0
+        → device ≡ now.log.device
         → (now.has_failed ≡ true → outcome ≡ Err fault.Disk)
         → (now.has_failed ≡ false → AllKept disk logging.keeper now h.texts h.given
         → AnswersStop first stop h.lines h.copies outcome)
-        → HasRun disk logging (at-hand-with device) outcome device
-    has-run stop now h outcome device is same failed well =
-        subst (λ (d : D). HasRun disk logging (at-hand-with d) outcome d) (sym same)
+        → HasRun disk first.started logging (at-hand-with device) outcome device
+    has-run stop now h outcome device is none same failed well =
+        let so = all-new disk logging.keeper now h.texts h.given none h.kept in
+        subst (λ (d : D). HasRun disk first.started logging (at-hand-with d) outcome d) (sym same)
         (record {
-          answers = answers-stopped stop now h outcome is failed well;
-          cause = cause-of disk logging.keeper now h.texts h.given outcome h.kept failed
+          answers = answers-stopped stop now h outcome (start-is is) none failed well;
+          cause = cause-of disk logging.keeper now h.texts h.given outcome so failed
               (λ w all. stop-cause disk logging.keeper.log.device
               now.log.device first stop h.lines h.copies outcome (well w all) all.well);
-          explained = explained-of disk logging.keeper now h.texts h.given h.kept;
+          explained = explained-of disk logging.keeper now h.texts h.given so;
         })
 
 -- a writer whose write failed was given bytes, so not all was kept

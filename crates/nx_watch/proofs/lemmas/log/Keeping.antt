@@ -1,10 +1,10 @@
 -- Entries that are kept one behind the other.
 use Rattle.std.proofs.Common.{◌≡◌, inl, inr, ⊎_elim, ℕ, ◌+◌, ◌≤◌, suc, true, false, List}
 use Rattle.std.proofs.Common.{[], ◌∷◌, ◌++◌, length, take, drop, Option, refl, sym, ◌∙◌, ap, subst, arith}
-use Rattle.std.proofs.Common.{append_assoc, append-nil, length-append}
+use Rattle.std.proofs.Common.{append_assoc, append-nil, length-append, length-drop}
 use Rattle.std.specs.List.{concat}
 use Rattle.std.proofs.lemmas.List.Folds.{concat-append}
-use Rattle.std.proofs.lemmas.List.{take_all, take_at, take-append-le, drop_at, drop-append-le}
+use Rattle.std.proofs.lemmas.List.{take_all, take_at, take-append-le, drop_all, drop_at, drop-append-le}
 use Rattle.nx_fec.specs.Transfers.{CountedDevice, count_of}
 use Rattle.nx_kept.specs.Disk.{FailedOnce, LeavesOnly}
 use Rattle.nx_kept.specs.Kept.{closed_gate, WithOrWithout}
@@ -14,7 +14,7 @@ use Rattle.nx_receiver.proofs.lemmas.listening.Listener.{counts-on}
 use Rattle.nx_watch.specs.Watch.{longest_entry}
 use Rattle.nx_watch.specs.LineRun.{HasTold, WereGiven}
 use Rattle.nx_watch.specs.private.Entries.{entry_some}
-use Rattle.nx_watch.specs.private.Keeping.{AllKept, HasKept, HasKeptSo, KeepsTexts, LeavesFirst, SomeKept, StandsForFirst, StandsForTexts}
+use Rattle.nx_watch.specs.private.Keeping.{AllKept, HasKept, HasKeptSo, KeepsTexts, LeavesFirst, SomeKept, StandsForFirst, StandsForTexts, keeper_since}
 use Rattle.nx_kept.specs.declared.log.KeptLog.{KeptLog}
 use Rattle.nx_kept.specs.declared.disk.DiskFile.{Ghosts as TellsOfDisk}
 use Rattle.nx_watch.specs.declared.kept_log.keeper.Keeper.{Keeper}
@@ -77,15 +77,17 @@ module _ {D : Type 0} (disk : TellsOfDisk D) where
     split = k.at_rest.durable file left ∙ k.at_rest.file;
   }
 
-  -- a keeper that was given nothing
-  pub kept-none : (keeper : Keeper D) → keeper.has_failed ≡ false → keeper.put ≡ 0
+  -- a keeper that was given nothing since
+  pub kept-none : (keeper : Keeper D) (count : ℕ) → keeper.has_failed ≡ false
+      → keeper.put ≡ count_of count
       → ((content file : List ℕ)
       → disk.left_since content keeper.log.device (disk.moment keeper.log.device) file
       → disk.may_leave content keeper.log.device file)
-      → HasKept disk keeper keeper [] []
-  kept-none keeper well none only_now = subst (λ b. HasKeptSo disk b keeper keeper [] []) (sym well)
+      → HasKeptSo disk keeper.has_failed (keeper_since keeper count) keeper [] []
+  kept-none keeper count well put only_now =
+      subst (λ b. HasKeptSo disk b (keeper_since keeper count) keeper [] []) (sym well)
       (record {
-        put = none;
+        put = put ∙ ap count_of (omega arith);
         none = refl;
         well = refl;
         explained = λ content e. e;
@@ -108,6 +110,45 @@ module _ {D : Type 0} (disk : TellsOfDisk D) where
         subst (λ l. StandsForTexts l file) (sym (append-nil before))
             (keeps-stands content before keeper k file (only_now content file left)),
       )
+
+  -- nothing was put before the first
+  pub all-new : (start now : Keeper D) (texts : List (List ℕ)) (given : List ℕ) → start.put ≡ 0
+      → HasKept disk start now texts given
+      → HasKeptSo disk now.has_failed start now texts given
+  all-new start now texts given none h =
+      let all : drop start.put texts ≡ texts = ap (λ n. drop n texts) none in
+      subst (λ l. HasKeptSo disk now.has_failed start now l given) all h.since
+
+  -- one that begins with what was put so far
+  pub kept-since : (start past : Keeper D) (texts : List (List ℕ)) (given : List ℕ)
+      → past.has_failed ≡ false
+      → ((content file : List ℕ)
+      → disk.left_since content past.log.device (disk.moment past.log.device) file
+      → disk.may_leave content past.log.device file)
+      → HasKept disk start past texts given
+      → HasKept disk (keeper_since past (length texts)) past texts []
+  kept-since start past texts given well only_now h =
+      let all : AllKept disk start past (drop start.put texts) given =
+      subst (λ b. HasKeptSo disk b start past (drop start.put texts) given) well h.since in
+      let size : start.put + length (drop start.put texts) ≡ length texts =
+      omega (arith, length-drop start.put texts, h.before) in
+      record {
+        before = omega arith;
+        since = subst (λ l. HasKeptSo disk past.has_failed (keeper_since past (length texts)) past l
+            []) (sym (drop_all (length texts) texts (omega arith)))
+            (kept-none past (length texts) well (all.put ∙ ap count_of size) only_now);
+      }
+
+  -- one more, behind those that had been put at the start
+  pub kept-behind : (start now : Keeper D) (texts : List (List ℕ)) (entry given : List ℕ)
+      → start.put ≤ length texts
+      → HasKeptSo disk now.has_failed start now (drop start.put texts ++ entry ∷ []) given
+      → HasKept disk start now (texts ++ entry ∷ []) given
+  kept-behind start now texts entry given fits h = record {
+    before = omega (arith, fits, one-more texts entry);
+    since = subst (λ l. HasKeptSo disk now.has_failed start now l given)
+        (sym (drop-append-le start.put texts (entry ∷ []) fits)) h;
+  }
 
   -- one entry more was put, or its put failed: what a crash leaves meanwhile
   moments-more : (start old now : Keeper D) (texts : List (List ℕ)) (entry given : List ℕ)
@@ -140,12 +181,13 @@ module _ {D : Type 0} (disk : TellsOfDisk D) where
       → LeavesOnly disk.moment (disk.left_since content) old.log.device now.log.device
       (WithOrWithout IsWholeEntry longest_entry records entry))
       → AllKept disk start old texts given
-      → HasKept disk start now (texts ++ entry ∷ []) (given ++ [])
+      → HasKeptSo disk now.has_failed start now (texts ++ entry ∷ []) (given ++ [])
   put-kept start old now texts entry given well put same explained kept moments all =
       subst (λ b. HasKeptSo disk b start now (texts ++ entry ∷ []) (given ++ [])) (sym well)
       (record {
-        put = counts-on old.put now.put (length texts) 1 (length (texts ++ entry ∷ [])) all.put put
-            (one-more texts entry);
+        put = counts-on old.put now.put (start.put + length texts) 1
+            (start.put + length (texts ++ entry ∷ [])) all.put put
+            (omega (arith, one-more texts entry));
         none = append-nil given ∙ all.none;
         well = same ∙ all.well;
         explained = λ content e. all.explained content (explained content e);
@@ -167,7 +209,7 @@ module _ {D : Type 0} (disk : TellsOfDisk D) where
       → LeavesOnly disk.moment (disk.left_since content) old.log.device now.log.device
       (WithOrWithout IsWholeEntry longest_entry records entry))
       → AllKept disk start old texts given
-      → HasKept disk start now (texts ++ entry ∷ []) (given ++ entry)
+      → HasKeptSo disk now.has_failed start now (texts ++ entry ∷ []) (given ++ entry)
   put-failed start old now texts entry given failed once explained counts_now moments all =
       subst (λ b. HasKeptSo disk b start now (texts ++ entry ∷ []) (given ++ entry)) (sym failed)
       (record {

@@ -170,8 +170,29 @@ pub log-of : (copies : List MarkedCopy) (texts : List (List ℕ)) → AllZip IsL
     → IsLog copies (concat texts)
 log-of copies texts h = record { entries = texts; each = each-entry copies texts h; joined = refl }
 
+-- one line more, which brings no copies
+pub line-kept : {D : Type 0} (disk : TellsOfDisk D) (start old new : LoggingListener D)
+    (lines : List Line) (given : List ℕ) (line : Line)
+    → new.keeper ≡ old.keeper → IsLineInRange line
+    → ((copies : List MarkedCopy)
+    → HearsGiven (starts_of start.listener) old.listener (given_by lines) copies
+    → HearsGiven (starts_of start.listener) new.listener (given_by lines ++ given_of line ∷ [])
+    copies)
+    → KeepsLines disk start old lines given → KeepsLines disk start new (lines ++ line ∷ []) given
+line-kept disk start old new lines given line same within step s = record {
+  first = s.first;
+  in_range = All-append IsLineInRange lines (line ∷ []) s.in_range
+      (All-cons IsLineInRange line [] within (All-nil IsLineInRange));
+  copies = s.copies;
+  heard = subst (λ g. HearsGiven (starts_of start.listener) new.listener g s.copies)
+      (sym (given_by-one lines line)) (step s.copies s.heard);
+  texts = s.texts;
+  each = s.each;
+  kept = subst (λ k. HasKept disk start.keeper k s.texts given) (sym same) s.kept;
+}
+
 module _ {D W : Type 0} (disk : TellsOfDisk D) (contents : W → Option (List ℕ)) where
-  -- one line more, which brings no copies
+  -- the same beside a writer
   pub next-line : (start : WithWriter (LoggingListener D) W) (old new : LoggingListener D)
       (writer : CountedDevice W) (lines : List Line) (line : Line)
       → new.keeper ≡ old.keeper → IsLineInRange line
@@ -182,21 +203,7 @@ module _ {D W : Type 0} (disk : TellsOfDisk D) (contents : W → Option (List �
       → StandsWith (KeepsLines disk) contents start (with_writer old writer) lines
       → StandsWith (KeepsLines disk) contents start (with_writer new writer) (lines ++ line ∷ [])
   next-line start old new writer lines line same within step h =
-      let s = h.1 in (
-        h.0,
-        record {
-          first = s.first;
-          in_range = All-append IsLineInRange lines (line ∷ []) s.in_range
-              (All-cons IsLineInRange line [] within (All-nil IsLineInRange));
-          copies = s.copies;
-          heard = subst (λ g. HearsGiven (starts_of start.taker.listener) new.listener g s.copies)
-              (sym (given_by-one lines line)) (step s.copies s.heard);
-          texts = s.texts;
-          each = s.each;
-          kept = subst (λ k. HasKept disk start.taker.keeper k s.texts h.0) (sym same) s.kept;
-        },
-        h.2,
-      )
+      (h.0, line-kept disk start.taker old new lines h.0 line same within step h.1, h.2)
 
   -- the same of a line that says a command, which was taken for its channel and its letter
   pub next-command : (start : WithWriter (LoggingListener D) W) (old new : LoggingListener D)

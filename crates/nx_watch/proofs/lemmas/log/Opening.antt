@@ -3,10 +3,11 @@ use Rattle.std.proofs.Common.{◌≡◌, ◌⊎◌, inl, inr, ⊎_elim, ℕ, suc
 use Rattle.std.proofs.Common.{◌∷◌, ◌++◌, length, take, Option, Result, Ok, Err, refl, sym, ◌∙◌, ap, subst}
 use Rattle.std.proofs.Common.{append-nil, arith}
 use Rattle.std.specs.List.{AllZip}
+use Rattle.std.proofs.lemmas.List.Elements.{All-weaker}
 use Rattle.nx_fec.specs.air_files.AirFile.{Line}
 use Rattle.nx_fec.specs.Transfers.{CountedDevice, devices}
 use Rattle.nx_kept.specs.Disk.{LeavesOnly}
-use Rattle.nx_kept.specs.Kept.{IsBehindOpenGates, IsTail}
+use Rattle.nx_kept.specs.Kept.{IsBehindOpenGates, IsDamaged, IsTail}
 use Rattle.nx_kept.specs.Open as opening
 use Rattle.nx_kept.specs.declared.disk.DiskFile.{Ghosts as TellsOfDisk}
 use Rattle.nx_kept.specs.declared.fault.OpenFault.{OpenFault}
@@ -16,8 +17,10 @@ use Rattle.nx_kept.proofs.lemmas.Stages.{joined, weaker}
 use Rattle.nx_log.specs.Entries.{IsWholeEntry}
 use Rattle.nx_log.specs.Logged.{IsLoggedAs}
 use Rattle.nx_receiver.specs.copies.Shares.{MarkedCopy, Starts}
-use Rattle.nx_watch.specs.Watch.{AnswersStarted, AnswersStop, AnswersWatch, HasCause, HasOpened, StandsForEntries, Stop}
-use Rattle.nx_watch.specs.Watch.{WatchDevices, at_end, back, longest_entry, starts_at, unread, unwritten}
+use Rattle.nx_watch.specs.Stamp.{Stamp}
+use Rattle.nx_watch.specs.declared.lines.line_effects.StartMoments.{StartMoments}
+use Rattle.nx_watch.specs.Watch.{AnswersStarted, AnswersStop, AnswersWatch, HasCause, HasOpened, RefusesLog, StandsForEntries, StoodAt, Stop}
+use Rattle.nx_watch.specs.Watch.{WatchDevices, at_end, back, longest_entry, moments_at, starts_at, unread, unwritten}
 use Rattle.nx_watch.specs.declared.watch_report.WatchReport.{WatchReport}
 use Rattle.nx_watch.specs.declared.watch_fault.WatchFault.{WatchFault}
 use Rattle.nx_watch.specs.declared.watch_fault.WatchFault.TheVariants.{Open, Damaged, Disk, Memory, Read, Back}
@@ -55,6 +58,7 @@ module _ {D R W E : Type 0} (disk : TellsOfDisk D) (content : List ℕ) (old new
         → LeavesOnly disk.moment (disk.left_since content) old new
         (λ c. disk.may_leave content old c ⊎ StandsForTexts texts c)
         → reader_after ≡ reader → writer_after ≡ writer → notices_after ≡ notices
+        → (stamps : List (Stamp D (CountedDevice W) (CountedDevice E))) → stamps ≡ []
         → HasOpened (record {
           tells = disk;
           start = content;
@@ -64,12 +68,15 @@ module _ {D R W E : Type 0} (disk : TellsOfDisk D) (content : List ℕ) (old new
           told = told;
           notices = notices;
           notices_after = notices_after;
+          stamps = stamps;
         }) entries
-    has-opened entries texts each moments r w f = record {
-      any_moment = weaker disk.moment (disk.left_since content) (disk.may_leave content) _ _ old new
-          moments (λ c h. ⊎_elim (λ left. inl left)
+    has-opened entries texts each moments r w f stamps none = record {
+      any_moment = λ first.
+          weaker disk.moment (disk.left_since content) (disk.may_leave content) _ _ old new
+          moments (λ c h. ⊎_elim (λ left. ⊎_elim (λ s. inr s) (λ s. inl s) (first c left))
           (λ s. inr (record { texts = texts; each = each; stands = s })) h);
       unread = r;
+      unstamped = none;
       unwritten = w;
       untold = f;
     }
@@ -99,6 +106,15 @@ damage-named why.Disk line e = cc
 damage-named (why.Damaged other) line e = cc
 damage-named why.Memory line e = cc
 
+-- a log that can't be opened is refused
+pub refuses : (file : List ℕ) (fault : OpenFault)
+    → ((line : ℕ) → fault ≡ why.Damaged line → IsDamaged IsWholeEntry longest_entry line file)
+    → RefusesLog file (Err (fault_answered fault))
+refuses file why.Read damaged = tt
+refuses file why.Disk damaged = tt
+refuses file (why.Damaged line) damaged = damaged line refl
+refuses file why.Memory damaged = tt
+
 -- why a watch answers so that was opened without a fault
 pub cause-behind : {D : Type 0} (disk : TellsOfDisk D) (outcome : Result WatchReport WatchFault)
     (old mid new : D) → disk.faults mid ≡ disk.faults old → HasCause disk outcome mid new
@@ -119,67 +135,71 @@ cause-behind disk (Err (Back line last given)) old mid new same h = h ∙ same
 abbrev err : WatchFault → Result WatchReport WatchFault
 err fault = Err fault
 
-never-open : (first : ℕ) (stop : Stop) (lines : List (Option Line)) (copies : List MarkedCopy)
-    → AnswersStop first stop lines copies (Err Open) → ⊥
+never-open : (first : StartMoments) (stop : Stop) (lines : List (Option Line))
+    (copies : List MarkedCopy) → AnswersStop first stop lines copies (Err Open) → ⊥
 never-open first at_end lines copies h = h
 never-open first (back line last given) lines copies h = h
 never-open first unread lines copies h = h
 never-open first unwritten lines copies h = h
 
-never-memory : (first : ℕ) (stop : Stop) (lines : List (Option Line)) (copies : List MarkedCopy)
-    → AnswersStop first stop lines copies (Err Memory) → ⊥
+never-memory : (first : StartMoments) (stop : Stop) (lines : List (Option Line))
+    (copies : List MarkedCopy) → AnswersStop first stop lines copies (Err Memory) → ⊥
 never-memory first at_end lines copies h = h
 never-memory first (back line last given) lines copies h = h
 never-memory first unread lines copies h = h
 never-memory first unwritten lines copies h = h
 
-never-damaged : (first : ℕ) (stop : Stop) (lines : List (Option Line)) (copies : List MarkedCopy)
-    (line : ℕ) → AnswersStop first stop lines copies (Err (Damaged line)) → ⊥
+never-damaged : (first : StartMoments) (stop : Stop) (lines : List (Option Line))
+    (copies : List MarkedCopy) (line : ℕ) → AnswersStop first stop lines copies (Err (Damaged line))
+    → ⊥
 never-damaged first at_end lines copies line h = h
 never-damaged first (back number last given) lines copies line h = h
 never-damaged first unread lines copies line h = h
 never-damaged first unwritten lines copies line h = h
 
 module _ {D R W E : Type 0} (d : WatchDevices D R W E) (entries : List MarkedCopy) where
-  pub not-damaged : (starts : Starts) (line : ℕ)
-      → AnswersStarted d starts entries (Err (Damaged line)) → ⊥
-  not-damaged starts line h = ⊎_elim
-      (λ k. never-damaged starts.moment h.0 h.1 h.2 line k.1) (λ k. other k.1) h.4
+  pub not-damaged : (now : ℕ) (starts : Starts) (line : ℕ)
+      → AnswersStarted d now starts entries (Err (Damaged line)) → ⊥
+  not-damaged now starts line h = ⊎_elim
+      (λ k. never-damaged (moments_at now starts) h.0 h.1 h.2 line k.1) (λ k. other k.1) h.4
     where
       other : err (Damaged line) ≡ err Disk → ⊥
       other e = cc
 
   pub answers-watch : (now : ℕ) (outcome : Result WatchReport WatchFault)
-      → AnswersStarted d (starts_at now entries) entries outcome
+      → AnswersStarted d now (starts_at now entries) entries outcome
       → AnswersWatch d now entries outcome
   answers-watch now (Ok report) h = h
   answers-watch now (Err Read) h = h
   answers-watch now (Err (Back line last given)) h = h
   answers-watch now (Err Disk) h = inr h
-  answers-watch now (Err (Damaged line)) h = not-damaged (starts_at now entries) line h
+  answers-watch now (Err (Damaged line)) h = not-damaged now (starts_at now entries) line h
   answers-watch now (Err Open) h = absurd (⊎_elim
-      (λ k. never-open (starts_at now entries).moment h.0 h.1 h.2 k.1) (λ k. other k.1) h.4)
+      (λ k. never-open (moments_at now (starts_at now entries)) h.0 h.1 h.2 k.1)
+      (λ k. other k.1) h.4)
     where
       other : err Open ≡ err Disk → ⊥
       other e = cc
   answers-watch now (Err Memory) h = absurd (⊎_elim
-      (λ k. never-memory (starts_at now entries).moment h.0 h.1 h.2 k.1) (λ k. other k.1) h.4)
+      (λ k. never-memory (moments_at now (starts_at now entries)) h.0 h.1 h.2 k.1)
+      (λ k. other k.1) h.4)
     where
       other : err Memory ≡ err Disk → ⊥
       other e = cc
 
 -- a watch that started so started as this says
 pub started-so : {D R W E : Type 0} (d : WatchDevices D R W E) (entries : List MarkedCopy)
-    (outcome : Result WatchReport WatchFault) {starts same : Starts} → starts ≡ same
-    → AnswersStarted d starts entries outcome → AnswersStarted d same entries outcome
-started-so d entries outcome is answer =
-    subst (λ s. AnswersStarted d s entries outcome) is answer
+    (outcome : Result WatchReport WatchFault) {now : ℕ} {starts same : Starts} → starts ≡ same
+    → AnswersStarted d now starts entries outcome → AnswersStarted d now same entries outcome
+started-so d entries outcome {now} is answer =
+    subst (λ s. AnswersStarted d now s entries outcome) is answer
 
 -- what was answered of the open log is answered of the file before it was opened
 module _ {D R W E : Type 0} (disk : TellsOfDisk D) (content : List ℕ) (old mid new : D)
     (remaining : R → Option (List ℕ)) (reader reader_after : CountedDevice R)
     (contents : W → Option (List ℕ)) (writer writer_after : CountedDevice W)
     (told : E → Option (List ℕ)) (notices notices_after : CountedDevice E)
+    (stamps : List (Stamp D (CountedDevice W) (CountedDevice E)))
   where
     abbrev devices-from : D → WatchDevices D R W E
     devices-from from = record {
@@ -191,16 +211,50 @@ module _ {D R W E : Type 0} (disk : TellsOfDisk D) (content : List ℕ) (old mid
       told = told;
       notices = notices;
       notices_after = notices_after;
+      stamps = stamps;
     }
 
-    pub started-before : (starts : Starts) (entries : List MarkedCopy) (texts : List (List ℕ))
-        (outcome : Result WatchReport WatchFault) → AllZip IsLoggedAs entries texts
+    -- what stood at a read
+    stood-before : (now : ℕ) (starts : Starts) (entries copies : List MarkedCopy) (bytes : List ℕ)
+        → disk.faults mid ≡ disk.faults old
+        → (at : Stamp D (CountedDevice W) (CountedDevice E))
+        → StoodAt (devices-from mid) now starts entries bytes copies at
+        → StoodAt (devices-from old) now starts entries bytes copies at
+    stood-before now starts entries copies bytes same at h = record {
+      within = h.within;
+      lines = h.lines;
+      rest = h.rest;
+      whole = h.whole;
+      on = h.on;
+      printed = h.printed;
+      prints = h.prints;
+      kept = ⊎_elim (λ k. inl (record {
+        well = k.well ∙ same;
+        silent = k.silent;
+        left = k.left;
+      }))
+          (λ k. inr (record {
+            failed = k.failed ∙ ap suc same;
+            count = k.count;
+            fewer = k.fewer;
+            log = k.log;
+            spelled = k.spelled;
+            written = k.written;
+            well = k.well;
+          })) h.kept;
+      told = h.told;
+    }
+
+    pub started-before : {now : ℕ} (starts : Starts) (entries : List MarkedCopy)
+        (texts : List (List ℕ)) (outcome : Result WatchReport WatchFault)
+        → AllZip IsLoggedAs entries texts
+        → disk.faults mid ≡ disk.faults old
         → LeavesOnly disk.moment (disk.left_since content) old mid
         (λ c. disk.may_leave content old c ⊎ StandsForTexts texts c)
         → ((c : List ℕ) → disk.may_leave content mid c → StandsForTexts texts c)
-        → AnswersStarted (devices-from mid) starts entries outcome
-        → AnswersStarted (devices-from old) starts entries outcome
-    started-before starts entries texts outcome each opened rests h =
+        → AnswersStarted (devices-from mid) now starts entries outcome
+        → AnswersStarted (devices-from old) now starts entries outcome
+    started-before {now} starts entries texts outcome each same opened rests h =
         let w = h.3 in (
           h.0,
           h.1,
@@ -211,19 +265,28 @@ module _ {D R W E : Type 0} (disk : TellsOfDisk D) (content : List ℕ) (old mid
             within = w.within;
             read = w.read;
             printed = w.printed;
-            any_moment =
+            before_each_read =
+                All-weaker _ _ (stood-before now starts entries h.2 w.bytes same) stamps
+                w.before_each_read;
+            any_moment = λ first.
                 joined disk.moment (disk.left_since content) (disk.may_leave content) _ _ old mid
                 new
                 (weaker disk.moment (disk.left_since content) (disk.may_leave content) _ _ old mid
-                opened (λ c o. ⊎_elim (λ left. inl left) (λ s. inr (none c s)) o))
-                w.any_moment
-                (λ c o. ⊎_elim (λ left. inr (none c (rests c left))) (λ s. inr s) o);
+                opened (λ c o. ⊎_elim (λ left. ⊎_elim (λ s. inr (before c s)) (λ s. inl s)
+                (first c left)) (λ s. inr (none c s)) o))
+                (w.any_moment (λ c left. inl (stood c (rests c left))))
+                (λ c o. o);
             failed_read = w.failed_read;
             failed_write = w.failed_write;
             notices_told = w.notices_told;
           },
           ⊎_elim (λ k. inl (
-            record { found = k.0.found; left = k.0.left; silent = k.0.silent },
+            record {
+              rests = k.0.rests;
+              found = k.0.found;
+              left = k.0.left;
+              silent = k.0.silent;
+            },
             k.1,
           ))
               (λ k. inr (
@@ -239,11 +302,17 @@ module _ {D R W E : Type 0} (disk : TellsOfDisk D) (content : List ℕ) (old mid
               )) h.4,
         )
       where
-        none : (c : List ℕ) → StandsForTexts texts c
+        stood : (c : List ℕ) → StandsForTexts texts c → StandsForEntries entries c
+        stood c s = record { texts = texts; each = each; stands = s }
+
+        before : (c : List ℕ) → StandsForEntries entries c
             → (count : ℕ) × (count ≤ length h.2) × StandsForEntries (entries ++ take count h.2) c
-        none c s = (
+        before c s = (
           0,
           omega arith,
-          subst (λ l. StandsForEntries l c) (sym (append-nil entries))
-              (record { texts = texts; each = each; stands = s }),
+          subst (λ l. StandsForEntries l c) (sym (append-nil entries)) s,
         )
+
+        none : (c : List ℕ) → StandsForTexts texts c
+            → (count : ℕ) × (count ≤ length h.2) × StandsForEntries (entries ++ take count h.2) c
+        none c s = before c (stood c s)

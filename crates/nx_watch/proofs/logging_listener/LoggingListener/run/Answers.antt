@@ -1,21 +1,22 @@
-use Rattle.std.proofs.Common.{◌≡◌, ◌≤◌, ◌⊎◌, ◌∙◌, ◌++◌, ◌∷◌, [], ℕ, Result, Some, Ok, Err, refl, sym, subst, ap, length, length-append}
+use Rattle.std.proofs.Common.{◌≡◌, ◌≤◌, ◌⊎◌, ◌∙◌, ◌++◌, ◌∷◌, [], ℕ, Result, Some, Ok, Err, refl, sym, subst, ap, arith, length, length-append}
 use Rattle.std.specs.Io.KnownBytes.{IsAtEnd}
 use Rattle.nx_fec.specs.Transfers.{count_of}
 use Rattle.nx_envelope.specs.Moment.{last_moment}
 use Rattle.nx_fec.specs.air_files.AirFile.{moment}
 use Rattle.nx_receiver.specs.copies.InTurn.{PrintAllToEnd}
 use Rattle.nx_receiver.specs.air_file_runs.Listen.{given_by}
-use Rattle.nx_receiver.specs.Listener.{HearsGiven, starts_of}
-use Rattle.nx_watch.specs.Acting.{acting_lines, moments_said, most_bytes}
+use Rattle.nx_receiver.specs.Listener.{HearsGiven, Listening, starts_of}
+use Rattle.nx_watch.specs.Acting.{acting_lines, moments_behind, most_bytes}
 use Rattle.nx_watch.specs.AnyLines.{cut_line}
 use Rattle.nx_watch.specs.Watch.{AnswersStop, at_end, back, unread, unwritten}
-use Rattle.nx_watch.specs.LineRun.{AnswersRun, HasTold, RunOverLines, StandsWith, TellsOfLines, told_of, with_writer}
-use Rattle.nx_watch.specs.private.LoggingListener.{KeepsLines}
+use Rattle.nx_watch.specs.LineRun.{AnswersRun, HasTold, RunOverLines, TellsOfLines, told_of, with_writer}
+use Rattle.nx_watch.specs.Stamps.{counted_of, stamps_of}
+use Rattle.nx_watch.specs.private.Stamping.{StandsStamped, telling}
 use Rattle.nx_watch.specs.declared.lines.line_run.LinesWatched.{LinesWatched}
 use Rattle.nx_watch.specs.declared.lines.line_run.WatchEnd.{WatchEnd}
 use Rattle.nx_watch.specs.declared.lines.line_run.WatchEnd.TheVariants.{Read, Back, Write}
 use Rattle.nx_watch.specs.private.Keeping.{HasKept}
-use Rattle.nx_watch.proofs.lemmas.log.Finish.{back-apart, back-written, end-apart, end-written, has-run, stands-first, unread-written, unwritten-apart, wrote-some, zip-length}
+use Rattle.nx_watch.proofs.lemmas.log.Finish.{back-apart, closed-on, end-apart, has-run, heard-on, none-failed, stamps-keep, stands-first, unwritten-apart, wrote-some, zip-length}
 use Rattle.nx_watch.proofs.lemmas.lines.Run.{acting-cut, acting-idle, ends-idle, tells-some}
 use Rattle.nx_watch.proofs.logging_listener.LoggingListener.run.Goals as goal
 use Rattle.nx_watch.proofs.logging_listener.LoggingListener.run.Goals.{After-watch_lines}
@@ -36,16 +37,21 @@ apart-Back line last given e = cc
 apart-Write : err Write ≡ err Read → ⊥
 apart-Write e = cc
 
+apart-Written : err Read ≡ err Write → ⊥
+apart-Written e = cc
+
 pub returns-in-Ok-clause-runs : goal.returns-in-Ok-clause-runs
-returns-in-Ok-clause-runs g c = λ is range heard kept.
+returns-in-Ok-clause-runs g c = λ is none range heard kept.
     let disk = g.D.DiskFile in
     let self = c.args.self in
     let start = with_writer self c.args.writer.now in
     let w = c.in-Ok.ensures.watched self (sym is) (stands-first disk self range heard kept) in
-    let closed = c.close.ensures.closed start (acting_lines c.args.first w.3.1) w.3.4.stood in
-    has-run disk self c.args.first g.R.Read.remaining c.args.reader.now c.watch_lines.new.reader
+    let acting = acting_lines c.args.first w.3.1 in
+    let closed = c.close.ensures.closed start acting w.3.4.stood.stands in
+    has-run disk self c.args.first g.R.Read.remaining (counted_of c.args.reader.now)
+    (counted_of c.watch_lines.new.reader)
     g.W.Write.contents c.args.writer.now c.close.new.writer g.F.Write.contents c.args.notices.now
-    c.watch_lines.new.notices at_end c.close.result (record {
+    c.watch_lines.new.notices (stamps_of c.watch_lines.new.reader) at_end c.close.result (record {
       lines = w.3.1 ++ cut_line w.3.2;
       copies = closed.copies;
       texts = closed.texts;
@@ -63,41 +69,60 @@ returns-in-Ok-clause-runs g c = λ is range heard kept.
         λ e. absurd (end-apart e),
         λ f. absurd (apart-Ok c.in-Ok.counts (sym c.in-Ok.is ∙ c.watch_lines.ensures.unread.1 f)),
       );
-      failed_write = λ e. absurd (end-written e);
+      failed_write = c.close.ensures.once;
+      stamped = stamps-keep disk g.W.Write.contents g.F.Write.contents
+          (g.F.Write.contents c.args.notices.now.inner) c.args.first start
+          (with_writer c.watch_lines.new.logging c.watch_lines.new.writer) w.0 c.close.result acting
+          (acting_lines c.args.first (w.3.1 ++ cut_line w.3.2)) closed.copies
+          (stamps_of c.watch_lines.new.reader) (acting-cut c.args.first w.3.1 w.3.2)
+          (λ since same k. closed-on disk g.W.Write.contents (starts_of self.listener) since
+          c.close.result c.close.new.writer acting closed.copies
+          (ap (λ (l : Listening). starts_of l) same) closed.printed
+          (c.close.ensures.closed since acting k)) w.3.4.stood;
       said = w.3.6;
-    }) c.answer.result.0 c.answer.result.1 is c.answer.ensures.device c.answer.ensures.failed
+    }) c.answer.result.0 c.answer.result.1 is none c.answer.ensures.device c.answer.ensures.failed
     (λ well all. subst (AnswersStop c.args.first at_end (w.3.1 ++ cut_line w.3.2) closed.copies)
     (sym (c.answer.ensures.well well)) (
       w.3.5.lines_counted,
       w.3.5.without,
       w.3.5.first_one,
-      all.put ∙ ap count_of (sym (zip-length closed.copies closed.texts closed.each)),
+      all.put ∙ ap count_of (omega (
+        arith,
+        none,
+        zip-length closed.copies closed.texts closed.each,
+      )),
     ))
 
 pub returns-in-Back-clause-runs : goal.returns-in-Back-clause-runs
-returns-in-Back-clause-runs g c = λ is range heard kept.
+returns-in-Back-clause-runs g c = λ is none range heard kept.
     let disk = g.D.DiskFile in
     let self = c.args.self in
     let start = with_writer self c.args.writer.now in
     let lines-read = c.watch_lines.new in
     let w = c.in-Err.ensures.watched self (sym is) (stands-first disk self range heard kept) in
     let r : RunOverLines _ = record {
-      stands = StandsWith (KeepsLines disk) g.W.Write.contents;
+      stands = StandsStamped (telling disk g.W.Write.contents g.F.Write.contents
+          (g.F.Write.contents c.args.notices.now.inner)) c.args.first w.0
+          (stamps_of lines-read.reader);
       start = start;
-      now = with_writer lines-read.taker lines-read.writer;
+      now = with_writer lines-read.logging lines-read.writer;
       first = c.args.first;
-      AtEnd = IsAtEnd (g.R.Read.remaining lines-read.reader.inner) ⊎ (length w.0 ≡ most_bytes);
+      AtEnd = IsAtEnd (g.R.Read.remaining (counted_of lines-read.reader).inner) ⊎
+          (length w.0 ≡ most_bytes);
       tells = λ lines. HasTold (g.F.Write.contents c.args.notices.now.inner)
           (g.F.Write.contents lines-read.notices.inner) lines-read.notices.failures
           (told_of c.args.first lines);
     } in
     let ended = subst (λ e. AnswersRun r (Err e) w.0) c.in-Back.is w.3 in
-    let closed = c.close-in-Back.ensures.closed start (acting_lines c.args.first ended.0) ended.5 in
+    let acting = acting_lines c.args.first ended.0 in
+    let closed = c.close-in-Back.ensures.closed start acting ended.5.stands in
     let stop = back c.in-Back.line c.in-Back.last c.in-Back.given in
     let lines = ended.0 ++ Some (moment c.in-Back.given) ∷ [] in
-    has-run disk self c.args.first g.R.Read.remaining c.args.reader.now lines-read.reader
+    has-run disk self c.args.first g.R.Read.remaining (counted_of c.args.reader.now)
+    (counted_of lines-read.reader)
     g.W.Write.contents c.args.writer.now c.close-in-Back.new.writer g.F.Write.contents
-    c.args.notices.now lines-read.notices stop c.close-in-Back.result (record {
+    c.args.notices.now lines-read.notices (stamps_of lines-read.reader) stop c.close-in-Back.result
+    (record {
       lines = lines;
       copies = closed.copies;
       texts = closed.texts;
@@ -118,41 +143,57 @@ returns-in-Back-clause-runs g c = λ is range heard kept.
       );
       printed = subst (λ l. PrintAllToEnd (starts_of self.listener) (given_by l) closed.copies)
           (sym (acting-idle c.args.first ended.0 (moment c.in-Back.given)
-          (ends-idle c.args.first (moments_said ended.0) c.in-Back.given ended.2))) closed.printed;
+          (ends-idle c.args.first.newest (moments_behind c.args.first ended.0) c.in-Back.given
+          ended.2))) closed.printed;
       failed_read = (
         λ e. absurd (back-apart _ _ _ e),
         λ f. absurd (apart-Back _ _ _ (sym (c.in-Err.is ∙ ap Err c.in-Back.is)
             ∙ c.watch_lines.ensures.unread.1 f)),
       );
-      failed_write = λ e. absurd (back-written _ _ _ e);
+      failed_write = c.close-in-Back.ensures.once;
+      stamped = stamps-keep disk g.W.Write.contents g.F.Write.contents
+          (g.F.Write.contents c.args.notices.now.inner) c.args.first start
+          (with_writer lines-read.logging lines-read.writer) w.0 c.close-in-Back.result acting
+          (acting_lines c.args.first lines) closed.copies
+          (stamps_of lines-read.reader) (acting-idle c.args.first ended.0 (moment c.in-Back.given)
+          (ends-idle c.args.first.newest (moments_behind c.args.first ended.0) c.in-Back.given
+          ended.2))
+          (λ since same k. closed-on disk g.W.Write.contents (starts_of self.listener) since
+          c.close-in-Back.result c.close-in-Back.new.writer acting closed.copies
+          (ap (λ (l : Listening). starts_of l) same) closed.printed
+          (c.close-in-Back.ensures.closed since acting k)) ended.5;
       said = ended.6;
-    }) c.answer-in-Back.result.0 c.answer-in-Back.result.1 is c.answer-in-Back.ensures.device
+    }) c.answer-in-Back.result.0 c.answer-in-Back.result.1 is none c.answer-in-Back.ensures.device
     c.answer-in-Back.ensures.failed
     (λ well all. subst (AnswersStop c.args.first stop lines closed.copies)
     (sym (c.answer-in-Back.ensures.well well)) (refl, refl, refl))
 
 pub returns-in-Read-clause-runs : goal.returns-in-Read-clause-runs
-returns-in-Read-clause-runs g c = λ is range heard kept.
+returns-in-Read-clause-runs g c = λ is none range heard kept.
     let disk = g.D.DiskFile in
     let self = c.args.self in
     let start = with_writer self c.args.writer.now in
     let lines-read = c.watch_lines.new in
     let w = c.in-Err.ensures.watched self (sym is) (stands-first disk self range heard kept) in
     let r : RunOverLines _ = record {
-      stands = StandsWith (KeepsLines disk) g.W.Write.contents;
+      stands = StandsStamped (telling disk g.W.Write.contents g.F.Write.contents
+          (g.F.Write.contents c.args.notices.now.inner)) c.args.first w.0
+          (stamps_of lines-read.reader);
       start = start;
-      now = with_writer lines-read.taker lines-read.writer;
+      now = with_writer lines-read.logging lines-read.writer;
       first = c.args.first;
-      AtEnd = IsAtEnd (g.R.Read.remaining lines-read.reader.inner) ⊎ (length w.0 ≡ most_bytes);
+      AtEnd = IsAtEnd (g.R.Read.remaining (counted_of lines-read.reader).inner) ⊎
+          (length w.0 ≡ most_bytes);
       tells = λ lines. HasTold (g.F.Write.contents c.args.notices.now.inner)
           (g.F.Write.contents lines-read.notices.inner) lines-read.notices.failures
           (told_of c.args.first lines);
     } in
     let ended = subst (λ e. AnswersRun r (Err e) w.0) c.in-Read.is w.3 in
-    let stood = ended.3.stood in
-    has-run disk self c.args.first g.R.Read.remaining c.args.reader.now lines-read.reader
+    let stood = ended.3.stood.stands in
+    has-run disk self c.args.first g.R.Read.remaining (counted_of c.args.reader.now)
+    (counted_of lines-read.reader)
     g.W.Write.contents c.args.writer.now lines-read.writer g.F.Write.contents c.args.notices.now
-    lines-read.notices unread c.into_keeper.result (record {
+    lines-read.notices (stamps_of lines-read.reader) unread c.into_keeper.result (record {
       lines = ended.0;
       copies = stood.1.copies;
       texts = stood.1.texts;
@@ -168,37 +209,53 @@ returns-in-Read-clause-runs g c = λ is range heard kept.
       printed = stood.1.heard.in_turn;
       failed_read =
           (λ e. c.watch_lines.ensures.unread.0 (c.in-Err.is ∙ ap Err c.in-Read.is), λ f. refl);
-      failed_write = λ e. absurd (unread-written e);
+      failed_write = none-failed _ c.watch_lines.ensures.written_once
+          (λ f. absurd (apart-Written (sym (c.in-Err.is ∙ ap Err c.in-Read.is)
+          ∙ c.watch_lines.ensures.unwritten.1 f)));
+      stamped = stamps-keep disk g.W.Write.contents g.F.Write.contents
+          (g.F.Write.contents c.args.notices.now.inner) c.args.first start
+          (with_writer lines-read.logging lines-read.writer) w.0 c.into_keeper.result
+          (acting_lines c.args.first ended.0) (acting_lines c.args.first ended.0) stood.1.copies
+          (stamps_of lines-read.reader) refl
+          (λ since same k. heard-on disk g.W.Write.contents (starts_of self.listener) since
+          (with_writer lines-read.logging lines-read.writer) c.into_keeper.result
+          (acting_lines c.args.first ended.0) stood.1.copies
+          (ap (λ (l : Listening). starts_of l) same) stood.1.heard.in_turn c.into_keeper.ensures k)
+          ended.3.stood;
       said = ended.4;
-    }) c.answer-in-Read.result.0 c.answer-in-Read.result.1 is c.answer-in-Read.ensures.device
+    }) c.answer-in-Read.result.0 c.answer-in-Read.result.1 is none c.answer-in-Read.ensures.device
     c.answer-in-Read.ensures.failed
     (λ well all. subst (AnswersStop c.args.first unread ended.0 stood.1.copies)
     (sym (c.answer-in-Read.ensures.well well)) tt)
 
 pub returns-in-Write-clause-runs : goal.returns-in-Write-clause-runs
-returns-in-Write-clause-runs g c = λ is range heard kept.
+returns-in-Write-clause-runs g c = λ is none range heard kept.
     let disk = g.D.DiskFile in
     let self = c.args.self in
     let start = with_writer self c.args.writer.now in
     let lines-read = c.watch_lines.new in
     let w = c.in-Err.ensures.watched self (sym is) (stands-first disk self range heard kept) in
     let r : RunOverLines _ = record {
-      stands = StandsWith (KeepsLines disk) g.W.Write.contents;
+      stands = StandsStamped (telling disk g.W.Write.contents g.F.Write.contents
+          (g.F.Write.contents c.args.notices.now.inner)) c.args.first w.0
+          (stamps_of lines-read.reader);
       start = start;
-      now = with_writer lines-read.taker lines-read.writer;
+      now = with_writer lines-read.logging lines-read.writer;
       first = c.args.first;
-      AtEnd = IsAtEnd (g.R.Read.remaining lines-read.reader.inner) ⊎ (length w.0 ≡ most_bytes);
+      AtEnd = IsAtEnd (g.R.Read.remaining (counted_of lines-read.reader).inner) ⊎
+          (length w.0 ≡ most_bytes);
       tells = λ lines. HasTold (g.F.Write.contents c.args.notices.now.inner)
           (g.F.Write.contents lines-read.notices.inner) lines-read.notices.failures
           (told_of c.args.first lines);
     } in
     let ended = subst (λ e. AnswersRun r (Err e) w.0) c.in-Write.is w.3 in
-    let stood = ended.3.stood in
+    let stood = ended.3.stood.stands in
     let keeper = c.into_keeper-in-Write.result in
     let unwritten_one = c.watch_lines.ensures.unwritten.0 (c.in-Err.is ∙ ap Err c.in-Write.is) in
-    has-run disk self c.args.first g.R.Read.remaining c.args.reader.now lines-read.reader
+    has-run disk self c.args.first g.R.Read.remaining (counted_of c.args.reader.now)
+    (counted_of lines-read.reader)
     g.W.Write.contents c.args.writer.now lines-read.writer g.F.Write.contents c.args.notices.now
-    lines-read.notices unwritten keeper (record {
+    lines-read.notices (stamps_of lines-read.reader) unwritten keeper (record {
       lines = ended.0 ++ Some ended.1 ∷ [];
       copies = stood.1.copies;
       texts = stood.1.texts;
@@ -217,16 +274,28 @@ returns-in-Write-clause-runs g c = λ is range heard kept.
         λ f. absurd (apart-Write (sym (c.in-Err.is ∙ ap Err c.in-Write.is)
             ∙ c.watch_lines.ensures.unread.1 f)),
       );
-      failed_write = λ e. unwritten_one;
+      failed_write = unwritten_one;
+      stamped = stamps-keep disk g.W.Write.contents g.F.Write.contents
+          (g.F.Write.contents c.args.notices.now.inner) c.args.first start
+          (with_writer lines-read.logging lines-read.writer) w.0 keeper
+          (acting_lines c.args.first (ended.0 ++ Some ended.1 ∷ []))
+          (acting_lines c.args.first (ended.0 ++ Some ended.1 ∷ [])) stood.1.copies
+          (stamps_of lines-read.reader) refl
+          (λ since same k. heard-on disk g.W.Write.contents (starts_of self.listener) since
+          (with_writer lines-read.logging lines-read.writer) keeper
+          (acting_lines c.args.first (ended.0 ++ Some ended.1 ∷ [])) stood.1.copies
+          (ap (λ (l : Listening). starts_of l) same) stood.1.heard.in_turn
+          c.into_keeper-in-Write.ensures k) ended.3.stood;
       said = ended.4;
-    }) c.answer-in-Write.result.0 c.answer-in-Write.result.1 is c.answer-in-Write.ensures.device
+    }) c.answer-in-Write.result.0 c.answer-in-Write.result.1 is none
+    c.answer-in-Write.ensures.device
     c.answer-in-Write.ensures.failed
     (λ well all. absurd (wrote-some self.keeper keeper _ _ _ _ c.requires.writer unwritten_one
     stood.2 all))
 
 -- what was told, however the run ended
 tells : (g : _) → (c : After-watch_lines g)
-    → c.args.first ≡ (starts_of c.args.self.listener).moment
+    → c.args.first.newest ≡ (starts_of c.args.self.listener).moment
     → (starts_of c.args.self.listener).moment ≤ last_moment
     → HearsGiven (starts_of c.args.self.listener) c.args.self.listener [] []
     → HasKept g.D.DiskFile c.args.self.keeper c.args.self.keeper [] []
@@ -238,11 +307,14 @@ tells g c is range heard kept =
     let w = c.watch_lines.ensures.watched c.args.self (sym is)
     (stands-first disk c.args.self range heard kept) in
     let r : RunOverLines _ = record {
-      stands = StandsWith (KeepsLines disk) g.W.Write.contents;
+      stands = StandsStamped (telling disk g.W.Write.contents g.F.Write.contents
+          (g.F.Write.contents c.args.notices.now.inner)) c.args.first w.0
+          (stamps_of lines-read.reader);
       start = with_writer c.args.self c.args.writer.now;
-      now = with_writer lines-read.taker lines-read.writer;
+      now = with_writer lines-read.logging lines-read.writer;
       first = c.args.first;
-      AtEnd = IsAtEnd (g.R.Read.remaining lines-read.reader.inner) ⊎ (length w.0 ≡ most_bytes);
+      AtEnd = IsAtEnd (g.R.Read.remaining (counted_of lines-read.reader).inner) ⊎
+          (length w.0 ≡ most_bytes);
       tells = λ lines. HasTold (g.F.Write.contents c.args.notices.now.inner)
           (g.F.Write.contents lines-read.notices.inner) lines-read.notices.failures
           (told_of c.args.first lines);

@@ -11,13 +11,15 @@ pub returns-then-given-last-clause-kept : goal.returns-then-given-last-clause-ke
 returns-then-given-last-clause-kept c = λ first moments k.
     let n = c.args.given in
     let range = c.if-given-gt-LAST_MOMENT.false in
-    let not_back : in_force first moments ≤ n = omega (arith, k.moment, c.if-given-last.true) in
-    let near : is_far_back first moments n ≡ false = grind (arith, nat_tests) in (
+    let not_back : in_force first.newest moments ≤ n =
+    omega (arith, k.moment, c.if-given-last.true) in
+    let near : is_far_back first.newest moments n ≡ false = grind (arith, nat_tests) in (
       next-moment first moments c.args.self.now _ n range k
-          (omega (arith, c.if-given-last.true)) refl refl,
+          (omega (arith, c.if-given-last.true)) refl refl refl,
       (
         both _ _ (le-leb n last_moment range) (le-leb _ n not_back),
         not_first _ _ (not_second _ _ near),
+        refl,
       ),
     )
 
@@ -25,13 +27,13 @@ pub returns-then-went_far_back-clause-kept : goal.returns-then-went_far_back-cla
 returns-then-went_far_back-clause-kept c = λ first moments k.
     let n = c.args.given in
     let range = c.if-given-gt-LAST_MOMENT.false in
-    let back : nat_le (in_force first moments) n ≡ false =
-    let lt : n < in_force first moments = omega (arith, k.moment, c.if-given-last.false) in
+    let back : nat_le (in_force first.newest moments) n ≡ false =
+    let lt : n < in_force first.newest moments = omega (arith, k.moment, c.if-given-last.false) in
     grind (arith, nat_tests) in
-    let far : is_far_back first moments n ≡ true = le-leb _ _
+    let far : is_far_back first.newest moments n ≡ true = le-leb _ _
     (omega (arith, k.moment, c.if-is_far_back.true)) in (
       next-moment first moments c.args.self.now _ n range k
-          (omega (arith, c.if-given-last.false)) refl refl,
+          (omega (arith, c.if-given-last.false)) refl refl refl,
       (
         not_second _ _ back,
         both _ _ (both _ _ (le-leb n last_moment range) far)
@@ -51,6 +53,6 @@ returns-clause-kept c = λ first moments k.
       | else-is_far_back-via-else-is_far_back w ↦ inr w.if-is_far_back.false
     ]) in (
       next-moment first moments c.args.self.now _ n c.if-given-gt-LAST_MOMENT.false k
-          (omega (arith, c.if-given-last.false)) refl refl,
+          (omega (arith, c.if-given-last.false)) refl refl refl,
       does,
     )

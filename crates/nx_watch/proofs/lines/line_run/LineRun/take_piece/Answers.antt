@@ -20,6 +20,7 @@ loop-at-preserved g c = record {
   inside = omega (arith, c.in-Ok.ensures.all, c.loop-at.invariant.inside);
   room = omega (arith, c.in-Ok.ensures.room, c.loop-at.invariant.room);
   within = c.in-Ok.ensures.within;
+  grows = omega (arith, c.loop-at.invariant.grows, c.take_line.ensures.grows);
   few = omega (arith, c.in-Ok.ensures.few, c.loop-at.invariant.few);
   fewer = c.in-Ok.ensures.fewer;
   taken = λ start first old bytes force h.

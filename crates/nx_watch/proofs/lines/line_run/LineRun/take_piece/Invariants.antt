@@ -1,6 +1,7 @@
 use Rattle.std.proofs.Common.{◌≡◌, ◌+◌, ◌-◌, ◌≤◌, ℕ, Option, List, ◌++◌, length, take}
 use Rattle.nx_watch.specs.Acting.{most_bytes}
 use Rattle.nx_watch.specs.LineRun.{StandsWith, WithWriter, with_writer}
+use Rattle.nx_watch.specs.declared.lines.line_effects.StartMoments.{StartMoments}
 use Rattle.nx_watch.specs.private.Running.{IsRunning}
 use Rattle.nx_watch.proofs.lines.line_run.LineRun.take_piece.Given as goal
 
@@ -11,11 +12,12 @@ invariant-loop-at g l = record {
   inside : l.at ≤ length l.piece;
   room : l.fn.self.scanner.scanner.room ≤ l.self.scanner.scanner.room + l.at;
   within : l.self.scanner.scanner.room ≤ most_bytes;
+  grows : l.fn.self.effects.lines ≤ l.self.effects.lines;
   few : l.self.effects.lines ≤ l.fn.self.effects.lines + l.at;
   fewer : l.self.effects.without_effect ≤ l.self.effects.lines;
-  taken : (start : WithWriter g.row.T.Denot g.row.W.Denot) (first : ℕ) (old : Option (List ℕ))
-      (bytes : List ℕ)
-      → g.T.ActingTaker.first_moment start.taker ≡ first
+  taken : (start : WithWriter g.row.T.Denot g.row.W.Denot) (first : StartMoments)
+      (old : Option (List ℕ)) (bytes : List ℕ)
+      → g.T.ActingTaker.first_moment start.taker ≡ first.newest
       → IsRunning (StandsWith g.T.ActingTaker.stands g.W.Write.contents) start
       (with_writer l.fn.taker l.fn.writer) first l.fn.self old
       (g.F.Write.contents l.fn.notices.inner) l.fn.notices.failures bytes

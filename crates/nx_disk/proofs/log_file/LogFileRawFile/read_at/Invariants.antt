@@ -1,5 +1,5 @@
 use Rattle.std.proofs.Common.{length, ◌-◌, ◌≤◌}
-use Rattle.nx_disk.proofs.file.LogFileRawFile.read_at.Given as goal
+use Rattle.nx_disk.proofs.log_file.LogFileRawFile.read_at.Given as goal
 
 abbrev pub invariant-fill : goal.invariant-fill
 invariant-fill g l = l.got ≤ length l.room

@@ -1,0 +1,149 @@
+//! The calls that a log makes of the system, all of them. No contract can say what a call does on a
+//! disk, so these lines are read by people: before each call stands what to ask there. What follows
+//! from the calls is proved elsewhere, once each does what its name says.
+
+ghost use Rattle.std.specs.Prelude.{IfOk};
+ghost use Rattle.nx_disk.specs.Fresh.{IsFresh};
+
+use crate::file::FileFault;
+use crate::history::LeftBefore;
+use crate::noted::{Noted, RawFile};
+use nx_kept::{DiskFailed, DiskFile};
+use std::alloc::Global;
+use std::fs::{self, File, Files, OpenOptions};
+use std::io;
+use std::os::fd::AsRawFd;
+use std::os::unix::fs::{FileExt, MetadataExt};
+use std::path::Path;
+
+/// An open regular file, locked for as long as it is open, and its name.
+#[derive(Drop)]
+pub struct LogFile<'a, R> {
+    file: File,
+    files: &'a R,
+    path: String,
+    /// Its file system, and its number there, by which a name leads to it.
+    device: u64,
+    inode: u64,
+}
+
+/// Opens the regular file of that name, or makes it, and locks it. Its folder is brought to the
+/// disk, so that a crash doesn't lose a file that was made. Its own bytes are brought to the disk
+/// by the first call of a `KeptLog`. A link at the name is followed. No call of it was made then,
+/// and a crash may leave what it holds, or one of the files of `left`.
+pub fn open<'a, R: Files<File = File>>(
+    alloc: Global,
+    files: &'a R,
+    path: &str,
+    left: LeftBefore,
+) -> Result<Noted<LogFile<'a, R>>, FileFault>
+    ensures { IfOk result (λ file. IsFresh ⟦<Noted<LogFile<'a, R>> as DiskFile>⟧ left.files file) }
+{
+    // Is it the whole name, however long?
+    let path = String::from_str(alloc, path)?;
+    let mut file = open_or_make(files, path.as_str())?;
+    // Is its descriptor above the three of the standard streams? (What is meant for one that was
+    // closed must not land in the log.) Is the lower one closed?
+    if file.as_raw_fd() <= 2 {
+        file = file.try_clone()?;
+    }
+    // Is all but a regular file refused, and a regular file of any size taken?
+    let found = file.metadata()?;
+    if !found.is_file() {
+        return Err(FileFault::Open);
+    }
+    // Is the lock exclusive, is it not waited for, and is it kept until the file is closed?
+    file.try_lock()?;
+    let log = LogFile {
+        file,
+        files,
+        path,
+        device: found.dev(),
+        inode: found.ino(),
+    };
+    // Does the name lead to this file now that it is locked?
+    if !log.is_named() {
+        return Err(FileFault::Open);
+    }
+    // Is the folder brought to the disk before a byte is written?
+    sync_folder(files, log.path.as_str())?;
+    Ok(Noted::new(log, left))
+}
+
+fn open_or_make<R: Files<File = File>>(files: &R, path: &str) -> io::Result<File> {
+    match fs::metadata(files, path) {
+        // Is nothing but a regular file opened? (To open a pipe or a device may do something, or
+        // wait.)
+        Ok(found) if !found.is_file() => Err(io::ErrorKind::Unsupported.into()),
+        // Is a file that is there opened to read and to write, and nothing of it cut?
+        Ok(_) => OpenOptions::new().read(true).write(true).open(files, path),
+        // Is one made only where there is none, also if another is made meanwhile?
+        Err(error) if error.kind() == io::ErrorKind::NotFound => OpenOptions::new()
+            .read(true)
+            .write(true)
+            .create_new(true)
+            .open(files, path),
+        Err(error) => Err(error),
+    }
+}
+
+fn sync_folder<R: Files<File = File>>(files: &R, path: &str) -> io::Result<()> {
+    // Is it the folder in which the name stands, also where the name has no folder?
+    let folder = match Path::new(path).parent() {
+        Some(folder) if !folder.as_str().is_empty() => folder,
+        _ => Path::new("."),
+    };
+    // Is that folder brought to the disk, and a fault told?
+    File::open(files, folder)?.sync_all()
+}
+
+impl<R: Files> LogFile<'_, R> {
+    /// Whether the name still leads to the open file.
+    fn is_named(&self) -> bool {
+        // Are both compared, those of the name with those of the file that was locked?
+        fs::metadata(self.files, self.path.as_str()).is_ok_and(|named| named.dev() == self.device
+            && named.ino() == self.inode)
+    }
+}
+
+impl<R: Files> RawFile for LogFile<'_, R> {
+    fn read_at(&mut self, at: u64, room: &mut [u8]) -> Result<usize, DiskFailed> {
+        let mut got = 0;
+        'fill: while got < room.len() {
+            // Are these the bytes behind those that were got, of this place of this file?
+            let Ok(count) = self
+                .file
+                .read_at(&mut room[got..], at.wrapping_add(got as u64))
+            else {
+                return Err(DiskFailed);
+            };
+            // Are there fewer than the room takes only at the end of the file?
+            if count == 0 {
+                break;
+            }
+            got += count;
+        }
+        Ok(got)
+    }
+
+    fn write_at(&mut self, at: u64, bytes: &[u8]) -> Result<(), DiskFailed> {
+        // Are all bytes written, however many, at this place and no other, and is a fault told?
+        self.file.write_all_at(bytes, at).map_err(|_| DiskFailed)
+    }
+
+    fn cut(&mut self, size: u64) -> Result<(), DiskFailed> {
+        // Is the file this long then, whatever its size, with the bytes up to there as they were?
+        self.file.set_len(size).map_err(|_| DiskFailed)
+    }
+
+    /// Fails also where the name doesn't lead to the open file any more: what is written there
+    /// nobody would find.
+    fn sync(&mut self) -> Result<(), DiskFailed> {
+        // Is this file brought to the disk, its length too, and is a fault told?
+        if self.file.sync_all().is_ok() && self.is_named() {
+            Ok(())
+        } else {
+            Err(DiskFailed)
+        }
+    }
+}

@@ -1,0 +1,321 @@
+-- What stood at a read of a watch: a crash behind it leaves a watch that is sure of the lines that
+-- were whole by then.
+use Rattle.std.proofs.Common.{◌≡◌, ◌⊎◌, inl, inr, ℕ, ◌≤◌, Bool, true, false, not, ◌&&◌, List, [], ◌∷◌}
+use Rattle.std.proofs.Common.{◌++◌, length, take, drop, Option, Some, refl, sym, ap, ◌∙◌, subst, arith}
+use Rattle.std.proofs.Common.{append-nil, append_assoc, cond, length-append, nat_le, None}
+use Rattle.std.specs.List.{Contains, flat_map}
+use Rattle.std.specs.Prelude.{Result, Ok, Err}
+use Rattle.std.proofs.Math.Seq.{take-append_seam}
+use Rattle.std.proofs.lemmas.List.{take-append-drop, take_all}
+use Rattle.std.proofs.lemmas.List.Elements.{All-contains}
+use Rattle.nx_code.specs.Lists.{Begins}
+use Rattle.nx_envelope.specs.Moment.{last_moment}
+use Rattle.nx_fec.specs.air_files.AirFile.{Line, accept_station, accept_subject, elements, moment}
+use Rattle.nx_fec.specs.air_files.AirFile.{refuse_station, refuse_subject}
+use Rattle.nx_fec.specs.Transfers.{CountedDevice, IsReadOut}
+use Rattle.nx_receiver.specs.air_file_runs.Listen.{given_by}
+use Rattle.nx_receiver.specs.copies.InTurn.{PrintsInTurn}
+use Rattle.nx_receiver.specs.copies.Shares.{MarkedCopy}
+use Rattle.nx_watch.specs.Acting.{ends_watch, goes_on, goes_on_behind, moment_said, moments_behind}
+use Rattle.nx_watch.specs.Acting.{moments_said, with_start}
+use Rattle.nx_watch.specs.AnyLines.{AreLines, cut_line, ended}
+use Rattle.nx_watch.specs.LineRun.{StopsBehind}
+use Rattle.nx_watch.specs.Stamp.{Stamp}
+use Rattle.nx_watch.specs.Watch.{HasRead, HasWatched, HadKept, PrintsUntil, StandsForEntries, StoodAt}
+use Rattle.nx_watch.specs.Watch.{Stop, WatchDevices, at_end, back, moments_at, starts_at, unread}
+use Rattle.nx_watch.specs.Watch.{unwritten}
+use Rattle.nx_watch.specs.declared.lines.line_effects.StartMoments.{StartMoments}
+use Rattle.nx_watch.proofs.lemmas.lines.AnyLine.{AreLines-append}
+use Rattle.nx_watch.proofs.lemmas.lines.Law.{AreLines-one}
+use Rattle.nx_watch.proofs.lemmas.lines.Reading.{AreLines-some}
+use Rattle.nx_watch.specs.Watch.{AnswersStarted, AnswersWatch, HasOpened}
+use Rattle.nx_watch.specs.declared.watch_report.WatchReport.{WatchReport}
+use Rattle.nx_watch.specs.declared.watch_fault.WatchFault.{WatchFault}
+use Rattle.nx_watch.specs.declared.watch_fault.WatchFault.TheVariants.{Open, Damaged, Disk, Memory}
+use Rattle.nx_watch.specs.declared.watch_fault.WatchFault.TheVariants.{Read, Back}
+use Rattle.nx_left_on.specs.AtHand.{WasLeftBehind}
+use Rattle.nx_left_on.specs.Chain.{IsLeftBehind, IsLeftBy, acting_at, kept_some_at}
+use Rattle.nx_left_on.proofs.lemmas.chains.Found.{begins-itself, begins-more}
+use Rattle.nx_left_on.proofs.lemmas.chains.Keeps.{acting-begins, keeps-behind, turn-begins}
+
+-- ---- the lines of a beginning of some bytes
+
+-- they begin the lines of all
+lines-begin : (bytes : List ℕ) (count : ℕ) (front all : List (Option Line)) (rest end : List ℕ)
+    → AreLines (take count bytes) front rest → AreLines bytes all end → Begins front all
+lines-begin bytes count front all rest end h k =
+    let texts = flat_map ended h.texts in
+    let after = rest ++ drop count bytes in
+    let more = AreLines-some after in
+    let whole : bytes ≡ texts ++ after =
+    sym (take-append-drop count bytes) ∙ ap (λ l. l ++ drop count bytes) h.whole
+    ∙ append_assoc texts rest (drop count bytes) in
+    let are : AreLines texts front [] =
+    record { texts = h.texts; whole = sym (append-nil texts); each = h.each; part = tt } in
+    let joined : AreLines bytes (front ++ more.0) more.1 =
+    subst (λ b. AreLines b (front ++ more.0) more.1) (sym whole)
+    (AreLines-append texts after front more.0 more.1 are more.2) in
+    (more.0, (AreLines-one bytes all (front ++ more.0) end more.1 k joined).0)
+
+-- the lines that a run took begin them too
+record AllLines (bytes : List ℕ) (front : List (Option Line)) : Type 0 where
+  all : List (Option Line)
+  rest : List ℕ
+  are : AreLines bytes all rest
+  begins : Begins front all
+
+all-lines : (first : StartMoments) (bytes : List ℕ) (before : List (Option Line)) (line : Line)
+    → StopsBehind first bytes before line → AllLines bytes (before ++ Some line ∷ [])
+all-lines first bytes before line s =
+    let more = AreLines-some s.more in
+    let front = before ++ Some line ∷ [] in
+    record {
+      all = front ++ more.0;
+      rest = more.1;
+      are = subst (λ b. AreLines b (front ++ more.0) more.1) (sym s.whole)
+          (AreLines-append s.front s.more front more.0 more.1 s.are more.2);
+      begins = (more.0, refl);
+    }
+
+-- of two beginnings of a list one begins the other
+begins-either : {A : Type 0} (one other all : List A) → Begins one all → Begins other all
+    → Begins one other ⊎ Begins other one
+begins-either [] other all h k = inl (other, refl)
+begins-either (x ∷ one) [] all h k = inr (x ∷ one, refl)
+begins-either (x ∷ one) (y ∷ other) all h k =
+    let both : x ∷ (one ++ h.0) ≡ y ∷ (other ++ k.0) = sym h.1 ∙ k.1 in
+    let head : x ≡ y = cc in
+    let tail : one ++ h.0 ≡ other ++ k.0 = cc in
+    elim (begins-either one other (one ++ h.0) (h.0, refl) (k.0, tail)) [
+      | inl b ↦ inl (b.0, ap (λ z. z ∷ other) (sym head) ∙ ap (λ l. x ∷ l) b.1)
+      | inr b ↦ inr (b.0, ap (λ z. z ∷ one) head ∙ ap (λ l. y ∷ l) b.1)
+    ]
+
+-- ---- lines behind which a watch goes on
+
+right-true : (a b : Bool) → (a && b) ≡ true → b ≡ true
+right-true true b e = e
+right-true false b e = cc
+
+left-true : (a b : Bool) → (a && b) ≡ true → a ≡ true
+left-true true b e = refl
+left-true false b e = cc
+
+not-false : (b : Bool) → not b ≡ true → b ≡ false
+not-false true e = cc
+not-false false e = refl
+
+-- none of them ends it
+on-behind : (first : ℕ) (moments : List ℕ) (before more : List (Option Line)) (line : Option Line)
+    → goes_on_behind first moments (before ++ line ∷ more) ≡ true
+    → ends_watch first (moments ++ moments_said before) line ≡ false
+on-behind first moments [] more line on =
+    ap (λ ms. ends_watch first ms line) (append-nil moments)
+    ∙ not-false (ends_watch first moments line)
+    (left-true (not (ends_watch first moments line))
+    (goes_on_behind first (moments ++ moment_said line) more) on)
+on-behind first moments (l ∷ before) more line on =
+    ap (λ ms. ends_watch first ms line)
+    (sym (append_assoc moments (moment_said l) (moments_said before)))
+    ∙ on-behind first (moments ++ moment_said l) before more line
+    (right-true (not (ends_watch first moments l))
+    (goes_on_behind first (moments ++ moment_said l) (before ++ line ∷ more)) on)
+
+-- A line that says a moment stands behind those before it, with the moment that the watch sets too.
+with-moment : (start : StartMoments) (before : List (Option Line)) (n : ℕ)
+    (more : List (Option Line))
+    → (rest : List (Option Line))
+    × (with_start start (before ++ Some (moment n) ∷ more)
+    ≡ with_start start before ++ Some (moment n) ∷ rest)
+with-moment start [] n more = (_, refl)
+with-moment start (Some (elements mark bits) ∷ before) n more = (more, refl)
+with-moment start (Some (moment m) ∷ before) n more =
+    let next = with-moment start before n more in
+    elim (nat_le m last_moment) as (λ b. (rest : List (Option Line))
+    × (Some (moment m) ∷ cond b (before ++ Some (moment n) ∷ more)
+    (with_start start (before ++ Some (moment n) ∷ more))
+    ≡ (Some (moment m) ∷ cond b before (with_start start before)) ++ Some (moment n) ∷ rest)) [
+      | true ↦ (more, refl)
+      | false ↦ (next.0, ap (λ l. Some (moment m) ∷ l) next.1)
+    ]
+with-moment start (None ∷ before) n more =
+    let next = with-moment start before n more in (next.0, ap (λ l. None ∷ l) next.1)
+with-moment start (Some (refuse_station mark letter) ∷ before) n more =
+    let next = with-moment start before n more in
+    (next.0, ap (λ l. Some (refuse_station mark letter) ∷ l) next.1)
+with-moment start (Some (accept_station mark letter) ∷ before) n more =
+    let next = with-moment start before n more in
+    (next.0, ap (λ l. Some (accept_station mark letter) ∷ l) next.1)
+with-moment start (Some (refuse_subject mark letter) ∷ before) n more =
+    let next = with-moment start before n more in
+    (next.0, ap (λ l. Some (refuse_subject mark letter) ∷ l) next.1)
+with-moment start (Some (accept_subject mark letter) ∷ before) n more =
+    let next = with-moment start before n more in
+    (next.0, ap (λ l. Some (accept_subject mark letter) ∷ l) next.1)
+
+-- So the line that ended a watch isn't among them.
+ends-behind : (start : StartMoments) (before by_then : List (Option Line)) (n : ℕ)
+    → ends_watch start.newest (moments_behind start before) (Some (moment n)) ≡ true
+    → goes_on start by_then ≡ true → Begins (before ++ Some (moment n) ∷ []) by_then → ⊥
+ends-behind start before by_then n ends on b =
+    let whole : by_then ≡ before ++ Some (moment n) ∷ b.0 =
+    b.1 ∙ append_assoc before (Some (moment n) ∷ []) b.0 in
+    let next = with-moment start before n b.0 in
+    let stays = on-behind start.newest [] (with_start start before) next.0 (Some (moment n))
+    (subst (λ lines. goes_on_behind start.newest [] lines ≡ true)
+    (ap (with_start start) whole ∙ next.1) on) in
+    let odd : true ≡ false = sym ends ∙ stays in
+    cc
+
+-- The lines that were whole at some moment begin those that a watch read; or these begin them, and
+-- it stopped at a failed write.
+abbrev IsBefore : Stop → List (Option Line) → List (Option Line) → Type 0
+IsBefore stop by_then lines =
+    Begins by_then lines ⊎ (Begins lines by_then × (stop ≡ unwritten))
+
+whole-before : (AtEnd : Type 0) (first : StartMoments) (stop : Stop) (bytes : List ℕ)
+    (lines by_then : List (Option Line)) (count : ℕ) (rest : List ℕ)
+    → HasRead AtEnd first stop bytes lines → AreLines (take count bytes) by_then rest
+    → goes_on first by_then ≡ true → IsBefore stop by_then lines
+whole-before AtEnd first at_end bytes lines by_then count rest h are on =
+    let b = lines-begin bytes count by_then h.1 rest h.2 are h.3 in
+    inl (begins-more by_then h.1 lines b (cut_line h.2, h.4))
+whole-before AtEnd first (back line last given) bytes lines by_then count rest h are on =
+    let s = all-lines first bytes h.0 (moment given) h.2 in
+    let front = h.0 ++ Some (moment given) ∷ [] in
+    elim (begins-either by_then front s.all
+    (lines-begin bytes count by_then s.all rest s.rest are s.are) s.begins) [
+      | inl b ↦ inl (subst (Begins by_then) (sym h.1) b)
+      | inr b ↦ absurd (ends-behind first h.0 by_then given h.3 on b)
+    ]
+whole-before AtEnd first unread bytes lines by_then count rest h are on =
+    inl (lines-begin bytes count by_then lines rest h.0 are h.1)
+whole-before AtEnd first unwritten bytes lines by_then count rest h are on =
+    let s = all-lines first bytes h.0 h.1 h.3 in
+    let front = h.0 ++ Some h.1 ∷ [] in
+    elim (begins-either by_then front s.all
+    (lines-begin bytes count by_then s.all rest s.rest are s.are) s.begins) [
+      | inl b ↦ inl (subst (Begins by_then) (sym h.2) b)
+      | inr b ↦ inr (subst (λ l. Begins l by_then) (sym h.2) b, refl)
+    ]
+
+-- ---- what a crash leaves
+
+module _ (now : ℕ) (entries copies printed : List MarkedCopy) (lines by_then : List (Option Line))
+    (file : List ℕ) (count : ℕ)
+    (prints : PrintsInTurn (starts_at now entries) (given_by (acting_at now entries by_then))
+    printed) (least : length printed ≤ count) (most : count ≤ length copies)
+    (stands : StandsForEntries (entries ++ take count copies) file)
+  where
+    -- the sure lines: those that were whole, or all
+    abbrev IsSureOf : Stop → List (Option Line) → Type 0
+    IsSureOf stop sure =
+        IsLeftBy now entries (kept_some_at stop) (acting_at now entries lines)
+        (acting_at now entries sure) (take count copies) file
+
+    sure-whole : (stop : Stop)
+        → PrintsUntil stop (starts_at now entries) (given_by (acting_at now entries lines)) copies
+        → Begins by_then lines → IsSureOf stop by_then
+    sure-whole stop h b =
+        keeps-behind now entries copies lines by_then file count stop h
+        (record { begins = b; surely = printed; in_turn = prints; least = least }) stands
+
+    sure-all : (stop : Stop)
+        → PrintsUntil stop (starts_at now entries) (given_by (acting_at now entries lines)) copies
+        → Begins lines by_then → stop ≡ unwritten → IsSureOf stop lines
+    sure-all stop h b e =
+        let turn : PrintsInTurn (starts_at now entries) (given_by (acting_at now entries lines))
+        copies = subst (λ s. PrintsUntil s (starts_at now entries)
+        (given_by (acting_at now entries lines)) copies) e h in
+        let more = acting-begins (moments_at now (starts_at now entries)) lines by_then b in
+        let begun = turn-begins (starts_at now entries) (acting_at now entries lines) more.0 copies
+        printed turn (subst (λ ls. PrintsInTurn (starts_at now entries) (given_by ls) printed)
+        more.1 prints) in
+        keeps-behind now entries copies lines lines file count stop h
+        (record {
+          begins = begins-itself lines;
+          surely = copies;
+          in_turn = turn;
+          least =
+              omega (arith, least, ap length begun.1 ∙ length-append copies begun.0);
+        }) stands
+
+    sure-of : (stop : Stop)
+        → PrintsUntil stop (starts_at now entries) (given_by (acting_at now entries lines)) copies
+        → IsBefore stop by_then lines → IsSureOf stop (take (length by_then) lines)
+    sure-of stop h (inl b) =
+        subst (IsSureOf stop)
+        (sym (ap (take (length by_then)) b.1 ∙ take-append_seam by_then b.0))
+        (sure-whole stop h b)
+    sure-of stop h (inr k) =
+        let enough : length lines ≤ length by_then =
+        omega (arith, ap length k.0.1 ∙ length-append lines k.0.0) in
+        subst (IsSureOf stop) (sym (take_all (length by_then) lines enough))
+        (sure-all stop h k.0 k.1)
+
+-- behind a read of the input by which no put had failed
+pub left-behind : {D R W N : Type 0} (d : WatchDevices D R W N) (now : ℕ)
+    (entries copies : List MarkedCopy) (stop : Stop) (lines : List (Option Line))
+    (at : Stamp D (CountedDevice W) (CountedDevice N)) (file : List ℕ)
+    (watched : HasWatched d now (starts_at now entries) entries stop lines copies)
+    → Contains d.stamps at → d.tells.faults at.disk ≡ d.tells.faults d.disk
+    → d.tells.left_since d.start d.disk_after (d.tells.moment at.disk) file
+    → IsLeftBehind now entries stop lines watched.bytes at.read file
+left-behind d now entries copies stop lines at file watched there well crash =
+    let stood = All-contains (StoodAt d now (starts_at now entries) entries watched.bytes copies)
+    d.stamps at watched.before_each_read there in
+    let kept : HadKept d entries stood.printed copies at = elim stood.kept [
+      | inl kept ↦ kept
+      | inr written ↦ absurd (omega (arith, well, written.failed))
+    ] in
+    let left = kept.left file crash in
+    let before = whole-before (IsReadOut d.streams ⊎ (length watched.bytes ≡ 9223372036854775807))
+    (moments_at now (starts_at now entries)) stop watched.bytes lines stood.lines at.read stood.rest
+    watched.read stood.whole stood.on in
+    record {
+      by_then = stood.lines;
+      rest = stood.rest;
+      whole = stood.whole;
+      put = take left.0 copies;
+      left = sure-of now entries copies stood.printed lines stood.lines file left.0 stood.prints
+          left.1 left.2 left.3 stop watched.printed before;
+    }
+
+-- ---- whatever the watch answers
+
+none-stamped : {A : Type 0} (list : List A) (one : A) → list ≡ [] → Contains list one → ⊥
+none-stamped list one e c =
+    let odd : 0 ≡ length list = sym (ap length e) in omega (arith, odd, c.1)
+
+module _ {D R W N : Type 0} (d : WatchDevices D R W N) (now : ℕ) (entries : List MarkedCopy)
+    (at : Stamp D (CountedDevice W) (CountedDevice N)) (file : List ℕ)
+    (there : Contains d.stamps at)
+    (well : d.tells.faults at.disk ≡ d.tells.faults d.disk)
+    (crash : d.tells.left_since d.start d.disk_after (d.tells.moment at.disk) file)
+  where
+    started-left : (outcome : Result WatchReport WatchFault)
+        → AnswersStarted d now (starts_at now entries) entries outcome
+        → WasLeftBehind d now entries at.read file
+    started-left outcome s = record {
+      bytes = s.3.bytes;
+      consumed = s.3.consumed;
+      stop = s.0;
+      lines = s.1;
+      left = left-behind d now entries s.2 s.0 s.1 at file s.3 there well crash;
+    }
+
+    opened-left : HasOpened d entries → WasLeftBehind d now entries at.read file
+    opened-left o = absurd (none-stamped d.stamps at o.unstamped there)
+
+    pub answer-left : (outcome : Result WatchReport WatchFault)
+        → AnswersWatch d now entries outcome → WasLeftBehind d now entries at.read file
+    answer-left (Err Open) h = opened-left h
+    answer-left (Err Memory) h = opened-left h
+    answer-left (Err (Damaged line)) h = absurd h
+    answer-left (Err Disk) h = elim h [
+      | inl o ↦ opened-left o
+      | inr s ↦ started-left (Err Disk) s
+    ]
+    answer-left (Err Read) h = started-left (Err Read) h
+    answer-left (Err (Back line last given)) h = started-left (Err (Back line last given)) h
+    answer-left (Ok report) h = started-left (Ok report) h

@@ -1,0 +1,32 @@
+-- What stood at each read of the input of a watch (this profile).
+use Rattle.std.specs.Prelude.{◌≡◌, ℕ, List, []}
+use Rattle.nx_fec.specs.Transfers.{CountedDevice}
+use Rattle.nx_fec.specs.declared.devices.pieces.Piece.{Piece}
+use Rattle.nx_fec.specs.declared.devices.pieces.Piece.TheVariants.{End, Failed, Bytes}
+use Rattle.nx_watch.specs.declared.stamped.StampedReader.{StampedReader}
+use Rattle.nx_watch.specs.Stamp.{Stamp}
+
+-- how many bytes a read gave
+abbrev pub size_of_piece : Piece → ℕ
+size_of_piece End = 0
+size_of_piece Failed = 0
+size_of_piece (Bytes count) = count
+
+module _ {R D W N : Type 0} where
+  -- the counted reader that a stamped one reads from
+  abbrev pub counted_of : StampedReader R D W N → CountedDevice R
+  counted_of reader = reader.reader
+
+  -- how many bytes it gave
+  abbrev pub bytes_given : StampedReader R D W N → ℕ
+  bytes_given reader = reader.given
+
+  -- what stood at each of its reads, the last one first
+  abbrev pub stamps_of : StampedReader R D W N → List (Stamp D W N)
+  stamps_of reader = reader.stamps.items
+
+  -- it made no read yet, and no call failed
+  pub record IsFresh (reader : StampedReader R D W N) : Type 0 where
+    pub well : reader.reader.failures ≡ 0
+    pub none_given : reader.given ≡ 0
+    pub none_made : reader.stamps.items ≡ []

@@ -1,0 +1,80 @@
+//! A reader that notes what stood at each of its reads.
+
+ghost use Rattle.std.specs.Prelude.{◌≡◌, ◌+◌, ◌<◌, [], ◌∷◌, length};
+ghost use Rattle.nx_fec.specs.Transfers.{IsNextPiece, count_of};
+ghost use Rattle.nx_watch.specs.Stamp.{stamp};
+ghost use Rattle.nx_watch.specs.Stamps.{bytes_given, counted_of, size_of_piece, stamps_of};
+
+use crate::stamped::stamps::Stamps;
+use nx_fec::{Counting, Piece, next_piece};
+use std::io::Read;
+
+mod stamps;
+
+/// A counted reader that notes, for clauses alone, what stood at each of its reads: how many bytes
+/// had come before it, and the disk file, the output and the notices. Nothing else makes a stamp.
+#[derive(Drop)]
+pub struct StampedReader<R, D, W, N> {
+    reader: Counting<R>,
+    /// How many bytes it gave, at most the greatest u64.
+    given: u64,
+    stamps: Stamps<D, W, N>,
+}
+
+impl<R, D, W, N> StampedReader<R, D, W, N> {
+    /// A reader of which no read was made yet.
+    pub fn new(reader: Counting<R>) -> Self
+        ensures reader { counted_of result ≡ reader }
+        ensures given { bytes_given result ≡ 0 }
+        ensures stamps { stamps_of result ≡ [] }
+    {
+        StampedReader {
+            reader,
+            given: 0,
+            stamps: Stamps::new(),
+        }
+    }
+
+    /// The counted reader.
+    pub fn into_inner(self) -> Counting<R>
+        ensures { result ≡ counted_of self }
+    {
+        let StampedReader {
+            reader,
+            given: _,
+            stamps: _,
+        } = self;
+        reader
+    }
+}
+
+impl<R: Read, D, W, N> StampedReader<R, D, W, N> {
+    /// Reads the next piece, and notes what stood as it was asked for.
+    pub fn next_piece(&mut self, disk: &D, writer: &W, notices: &N, buffer: &mut [u8]) -> Piece
+        requires none { (counted_of self.old).failures ≡ 0 }
+        requires room { 0 < length buffer.old }
+        ensures piece { IsNextPiece R.remaining (counted_of self.old) (counted_of self.new)
+            buffer.new result }
+        ensures given { bytes_given self.new
+            ≡ count_of (bytes_given self.old + size_of_piece result) }
+        ensures stamped { stamps_of self.new
+            ≡ stamp (bytes_given self.old) disk.now writer.now notices.now
+            ∷ stamps_of self.old }
+    {
+        self.stamps = self.stamps.and(&self.given, disk, writer, notices);
+        let piece = next_piece(&mut self.reader, buffer);
+        self.given = self.given.saturating_add(size_of(&piece));
+        piece
+    }
+}
+
+/// How many bytes a read gave.
+fn size_of(piece: &Piece) -> u64
+    ensures { result ≡ size_of_piece piece.now }
+{
+    match piece {
+        Piece::Bytes(count) => *count as u64,
+        Piece::End => 0,
+        Piece::Failed => 0,
+    }
+}
