@@ -5,7 +5,8 @@ ghost use Rattle.nx_envelope.specs.Moment.{IsShownAs, last_moment};
 ghost use Rattle.nx_envelope.specs.private.CivilTimes.{IsCivilTime, IsMomentOf};
 
 use crate::digit::two_digits;
-use jiff_core::civil::{Date, Time};
+use jiff::civil::{Date, Time};
+use jiff_core::civil::{Date as CoreDate, Time as CoreTime};
 
 /// The last moment, 2999-12-31 23:59:59, in seconds since 1970-01-01 00:00:00 UTC.
 pub const LAST_MOMENT: u64 = 32_503_679_999;
@@ -42,17 +43,18 @@ fn civil_time(moment: u64) -> Option<CivilTime>
     if moment > LAST_MOMENT {
         return None;
     }
-    let Ok(date) = Date::from_unix_epoch_day((moment / DAY) as i64) else {
+    let Ok(date) = CoreDate::from_unix_epoch_day((moment / DAY) as i64) else {
         return None;
     };
-    let time = Time::from_second((moment % DAY) as u32, 0);
+    let date = Date::from_plain(date);
+    let time = Time::from_plain(CoreTime::from_second((moment % DAY) as u32, 0));
     Some(CivilTime {
-        year: date.year as u16,
-        month: date.month,
-        day: date.day,
-        hour: time.hour,
-        minute: time.minute,
-        second: time.second,
+        year: date.year() as u16,
+        month: date.month() as u8,
+        day: date.day() as u8,
+        hour: time.hour() as u8,
+        minute: time.minute() as u8,
+        second: time.second() as u8,
     })
 }
 

@@ -1,6 +1,6 @@
 -- What a moment's civil time is, from the number of its day.
 use Rattle.std.proofs.Common.{◌≡◌, ℕ, ◌/◌, ◌%◌, subst, arith, ℤ, pos, negsuc, ◌+ℤ◌, ◌*ℤ◌, ◌≤ℤ◌, unsigned_abs}
-use Rattle.std.proofs.Common.{w16, to_z, of_z, refl}
+use Rattle.std.proofs.Common.{w8, w16, to_z, of_z, refl, ◌<◌}
 use Rattle.std.proofs.lemmas.Int.{by_lt_z}
 use Rattle.jiff_core.specs.declared.civil.date.Date.{Date}
 use Rattle.jiff_core.specs.declared.civil.time.Time.{Time}
@@ -9,6 +9,7 @@ use Rattle.jiff_core.specs.Date.{epoch_day}
 use Rattle.jiff_core.specs.Time.{time_seconds}
 use Rattle.jiff_core.proofs.CalendarLemmas.{day_count-epoch, day_count-lt_year}
 use Rattle.jiff_core.proofs.CalendarLemmas.{days_from_civil-day_count}
+use Rattle.jiff_core.proofs.CalendarLemmas.{days_in_month_bounds}
 use Rattle.jiff_core.proofs.DateLemmas.{civil}
 use Rattle.jiff_core.proofs.SignedLemmas.{back_small, signed_arith}
 
@@ -48,3 +49,11 @@ moment_of_day d time moment e f =
     subst (λ (year : ℤ). days_from_civil year d.month d.day *ℤ pos 86400
     +ℤ pos (time_seconds time) ≡ pos moment) (year_of_day d moment e)
     (omega (arith, signed_arith, e, f))
+
+-- a number below 128 stands as it is where it is cast to a byte
+pub as_byte : (n : ℕ) → n < 128 → unsigned_abs (to_z w8 (of_z w8 (pos n))) ≡ n
+as_byte n low = rw (back_small w8 (pos n) (omega (arith, signed_arith, low))) refl
+
+-- and so does the day of a date
+pub day_below_128 : (d : Date) → d.day < 128
+day_below_128 d = omega (arith, d.day_in, days_in_month_bounds d.year d.month)
