@@ -15,44 +15,54 @@ use Rattle.nx_receiver.specs.copies.FoundCopies.{TaggedCopy}
 use Rattle.nx_receiver.specs.copies.InTurn.{PrintsInTurn}
 use Rattle.nx_receiver.specs.copies.Log.{IsEntry}
 use Rattle.nx_receiver.specs.Receiver.{Receiving, Stands, entry_list}
-use Rattle.nx_receiver.specs.copies.Shares.{Given, MarkedCopy, Starts, copies_on, marked, share, start_on}
+use Rattle.nx_receiver.specs.copies.Shares.{Given, MarkedCopy, Starts, copies_on, marked, share}
+use Rattle.nx_receiver.specs.copies.Shares.{start_on}
 use Rattle.nx_receiver.specs.copies.Shares.{to_all, to_one}
 use Rattle.nx_receiver.specs.declared.listener.LastEntries.{LastEntries}
 
--- the memory's entries, as a listener's receivers have them
-abbrev pub content : RingMemory → List MemoryEntry
-content memory = memory.content
-
--- what contracts see of a listener: the receiver of each channel, whether there was a moment, and
--- how many elements and entries it counted
-pub record Listening : Type 0 where
-  pub on_0 : Receiving RingMemory
-  pub on_1 : Receiving RingMemory
-  pub on_2 : Receiving RingMemory
+-- what contracts see of a listener over memories of this kind: the receiver of each channel,
+-- whether there was a moment, and how many elements and entries it counted
+pub record ListeningOver (M : Type 0) : Type 0 where
+  pub on_0 : Receiving M
+  pub on_1 : Receiving M
+  pub on_2 : Receiving M
   pub has_moment : Bool
   pub elements : ℕ
   pub entries : ℕ
 
+-- the listener of the program, whose memories are rings with a table
+abbrev pub Listening : Type 0
+Listening = ListeningOver RingMemory
+
+-- the entries of such a memory
+abbrev pub content : RingMemory → List MemoryEntry
+content memory = memory.content
+
 -- the receiver of a channel
-abbrev pub receiver_on : Listening → Channel → Receiving RingMemory
+abbrev pub receiver_on : {M : Type 0} → ListeningOver M → Channel → Receiving M
 receiver_on listener Zero = listener.on_0
 receiver_on listener One = listener.on_1
 receiver_on listener Two = listener.on_2
 
 -- the same listener with this as the receiver of a channel
-abbrev pub with_receiver : Listening → Channel → Receiving RingMemory → Listening
+abbrev pub with_receiver : {M : Type 0} → ListeningOver M → Channel → Receiving M
+    → ListeningOver M
 with_receiver listener Zero receiver = record listener { on_0 = receiver }
 with_receiver listener One receiver = record listener { on_1 = receiver }
 with_receiver listener Two receiver = record listener { on_2 = receiver }
 
 -- with what a listener starts that has heard nothing yet: what its receivers have, of which all
--- have one moment
-abbrev pub starts_of : Listening → Starts
-starts_of listener = record {
+-- have one moment; this tells the entries of a memory
+abbrev pub starts_over : {M : Type 0} → (M → List MemoryEntry) → ListeningOver M → Starts
+starts_over entries_of listener = record {
   moment = listener.on_0.hearer.moment;
-  entries = λ channel. content (receiver_on listener channel).memory;
+  entries = λ channel. entries_of (receiver_on listener channel).memory;
   refused = λ channel. (receiver_on listener channel).hearer.refused;
 }
+
+-- the same of the listener of the program
+abbrev pub starts_of : Listening → Starts
+starts_of = starts_over content
 
 -- the elements among what is given, of all channels
 abbrev pub elements_in : Given → List Bool
@@ -85,12 +95,12 @@ moment_in_force first (to_one channel events ∷ given) = moment_in_force first 
 -- each channel stands after the channel's share, with the copies of that channel, and has the
 -- moment in force. The copies are in the order in which they ended. The listener counted the
 -- elements and the entries, each at most to the greatest number of 64 bits, and there are no more
--- copies than elements.
-pub record HearsGiven (starts : Starts) (listener : Listening) (given : List Given)
-    (copies : List MarkedCopy)
+-- copies than elements. This tells the entries of a memory.
+pub record HearsOver {M : Type 0} (entries_of : M → List MemoryEntry) (starts : Starts)
+    (listener : ListeningOver M) (given : List Given) (copies : List MarkedCopy)
     : Type 0 where
   pub receivers : (channel : Channel)
-      → Stands content (start_on starts channel) (receiver_on listener channel)
+      → Stands entries_of (start_on starts channel) (receiver_on listener channel)
       (share channel given) (copies_on channel copies)
   pub moments : (channel : Channel)
       → (receiver_on listener channel).hearer.moment ≡ moment_in_force starts.moment given
@@ -98,6 +108,10 @@ pub record HearsGiven (starts : Starts) (listener : Listening) (given : List Giv
   pub elements : listener.elements ≡ count_of (length (elements_given given))
   pub entries : listener.entries ≡ count_of (length copies)
   pub few : length copies ≤ length (elements_given given)
+
+-- the same of the listener of the program
+abbrev pub HearsGiven : Starts → Listening → List Given → List MarkedCopy → Type 0
+HearsGiven = HearsOver content
 
 -- no copy, or one, of which these bytes are the entry
 abbrev pub IsSpelled : Channel → Bool → List TaggedCopy → List ℕ → Type 0

@@ -11,7 +11,7 @@ ghost use Rattle.nx_receiver.specs.Events as events;
 ghost use Rattle.nx_receiver.specs.Events.{Refuses, Start, at_moment, command};
 ghost use Rattle.nx_receiver.specs.copies.FoundCopies.{TaggedCopy, copy_of};
 ghost use Rattle.nx_receiver.specs.copies.InTurn.{PrintAllToEnd, PrintsInTurn};
-ghost use Rattle.nx_receiver.specs.Listener.{AreInRange, HearsGiven, IsSpelled, content, last_copies, moment_in_force, receiver_on, starts_of, then_command, then_elements, then_moment, with_receiver};
+ghost use Rattle.nx_receiver.specs.Listener.{AreInRange, HearsOver, IsSpelled, last_copies, moment_in_force, receiver_on, starts_over, then_command, then_elements, then_moment, with_receiver};
 ghost use Rattle.nx_receiver.specs.Receiver.{Stands, TakesEvent};
 ghost use Rattle.nx_receiver.specs.copies.Shares.{Given, MarkedCopy, Starts, marked, saved_of, share, start_on, starts_from};
 ghost use Rattle.nx_receiver.specs.private.Awaiting.{HearsUpTo};
@@ -20,24 +20,26 @@ ghost use Rattle.nx_receiver.specs.private.Listener.{HearsTo};
 use crate::copy_taker::Over;
 use crate::entry::Entry;
 use crate::fault::{MomentFault, ReceiverFault};
+use crate::fresh_recall::FreshRecall;
 use crate::receiver::Receiver;
 use crate::writing::MAX_ENTRY;
 use arrayvec::ArrayVec;
 use nx_envelope::Letter;
 use nx_fec::{Channel, PackedElements};
-use nx_memory::{RingRecall, Saved, SavedSet, Selection, Vital};
+use nx_memory::{Listed, Recall, RingRecall, Saved, SavedSet, Selection, Vital};
 use std::alloc::{AllocError, Global};
 use std::marker::Model;
 
 /// Three receivers, one for each channel, that hear elements as they come. A moment belongs to all
 /// of them, elements and commands to one. `listen` hears the lines of an air file with it.
 ///
-/// It holds what its receivers hold, whether there was a moment, and two counts.
+/// It holds what its receivers hold, whether there was a moment, and two counts. Its memories are
+/// rings with a table, which take a heap; or others, as the plain one, which takes none.
 #[derive(Drop)]
-pub struct Listener {
-    pub(crate) on_0: Receiver<RingRecall>,
-    pub(crate) on_1: Receiver<RingRecall>,
-    pub(crate) on_2: Receiver<RingRecall>,
+pub struct Listener<M: Recall = RingRecall> {
+    pub(crate) on_0: Receiver<M>,
+    pub(crate) on_1: Receiver<M>,
+    pub(crate) on_2: Receiver<M>,
     pub(crate) has_moment: bool,
     /// How many elements were heard, and how many entries were handed out, each at most the
     /// greatest u64.
@@ -45,14 +47,14 @@ pub struct Listener {
     pub(crate) entries: u64,
 }
 
-impl Model for Listener {
+impl<M: Recall> Model for Listener<M> {
     ghost use Rattle.std.specs.Coded.{codes};
     ghost use Rattle.nx_memory.specs.private.RefusedCode.{refused_code};
-    ghost use Rattle.nx_receiver.specs.Listener.{Listening};
+    ghost use Rattle.nx_receiver.specs.Listener.{ListeningOver};
 
-    ghost Value = { Listening };
+    ghost Value = { ListeningOver M };
 
-    ghost coded = { Prim.hlevel (codes, refused_code) };
+    ghost coded = { Prim.hlevel (codes, refused_code, M.code) };
 
     ghost view = { λ l. record {
       on_0 = l.on_0;
@@ -106,15 +108,16 @@ impl LastEntries {
     }
 }
 
-impl Listener {
+impl<M: FreshRecall> Listener<M> {
     /// A listener that has heard nothing, and starts with what is saved. The receiver of each
     /// channel starts with the saved entries and the saved selection of the channel. All three
     /// start at the greatest moment of an entry, or 0 where there is none. Takes all memory that it
     /// ever needs, and fails where there is none.
-    pub fn starting(alloc: Global, saved: &SavedSet) -> Result<Listener, AllocError>
+    pub fn starting(alloc: Global, saved: &SavedSet) -> Result<Listener<M>, AllocError>
         ensures heard { IfOk result (λ listener.
-            HearsGiven (starts_from saved.now) listener [] []) }
-        ensures start { IfOk result (λ listener. starts_of listener ≡ starts_from saved.now) }
+            HearsOver M.content (starts_from saved.now) listener [] []) }
+        ensures start { IfOk result (λ listener.
+            starts_over M.content listener ≡ starts_from saved.now) }
         ensures none { IfOk result (λ listener. listener.has_moment ≡ false) }
         ensures range { OnOk result ((starts_from saved.now).moment ≤ last_moment) }
     {
@@ -135,25 +138,29 @@ impl Listener {
             entries: 0,
         })
     }
+}
 
+impl<M: Listed> Listener<M> {
     /// What it leaves: of each channel the last 200 of all entries, those that it started with and
     /// those that were made, and what is selected now. Copies that stand open are no part of it.
     pub fn saved(&self) -> SavedSet
         ensures { (starts : Starts) (given : List Given) (copies : List MarkedCopy)
-            → HearsGiven starts self.now given copies → (channel : Channel)
+            → HearsOver M.content starts self.now given copies → (channel : Channel)
             → Leaves (start_on starts channel) (share channel given) (saved_of result channel) }
     {
         SavedSet::of(self.on_0.saved(), self.on_1.saved(), self.on_2.saved())
     }
+}
 
+impl<M: Recall> Listener<M> {
     /// Sets the moment of all channels, in whole seconds since 1970-01-01 00:00:00 UTC. `Range`
     /// where it is past 2999-12-31 23:59:59, else `Back` where it is before the one in force; the
     /// listener then stays as it was.
     pub fn set_moment(&mut self, moment: u64) -> Result<(), MomentFault>
         ensures heard { (starts : Starts) (given : List Given) (copies : List MarkedCopy)
-            → HearsGiven starts self.old given copies → MatchResult result
+            → HearsOver M.content starts self.old given copies → MatchResult result
             (λ _. (moment_in_force starts.moment given ≤ moment) × (moment ≤ last_moment)
-            × HearsGiven starts self.new (then_moment given moment) copies)
+            × HearsOver M.content starts self.new (then_moment given moment) copies)
             (λ fault. Refuses (moment_in_force starts.moment given) moment fault
             × (self.new ≡ self.old)) }
         ensures noted { OnOk result (self.new.has_moment ≡ true) }
@@ -167,7 +174,7 @@ impl Listener {
     /// does.
     fn set_moments(&mut self, moment: u64) -> Result<(), MomentFault>
         ensures stands { OnOk result ((channel : Channel)
-            → TakesEvent content (receiver_on self.old channel) (receiver_on self.new channel)
+            → TakesEvent M.content (receiver_on self.old channel) (receiver_on self.new channel)
             (at_moment moment)) }
         ensures taken { OnOk result
             ((self.old.on_0.hearer.moment ≤ moment) × (moment ≤ last_moment)) }
@@ -186,9 +193,9 @@ impl Listener {
     /// Refuses the station on a channel, for all its subjects, from here on.
     pub fn refuse_station(&mut self, channel: Channel, station: Letter)
         ensures heard { (starts : Starts) (given : List Given) (copies : List MarkedCopy)
-            → HearsGiven starts self.old given copies → HearsGiven starts self.new
+            → HearsOver M.content starts self.old given copies → HearsOver M.content starts self.new
             (then_command given channel (events.refuse_station station.byte)) copies }
-        ensures stands { TakesEvent content (receiver_on self.old channel)
+        ensures stands { TakesEvent M.content (receiver_on self.old channel)
             (receiver_on self.new channel) (command (events.refuse_station station.byte)) }
         ensures only { self.new ≡ with_receiver self.old channel (receiver_on self.new channel) }
     {
@@ -202,9 +209,9 @@ impl Listener {
     /// Refuses the station on a channel no longer, from here on.
     pub fn accept_station(&mut self, channel: Channel, station: Letter)
         ensures heard { (starts : Starts) (given : List Given) (copies : List MarkedCopy)
-            → HearsGiven starts self.old given copies → HearsGiven starts self.new
+            → HearsOver M.content starts self.old given copies → HearsOver M.content starts self.new
             (then_command given channel (events.accept_station station.byte)) copies }
-        ensures stands { TakesEvent content (receiver_on self.old channel)
+        ensures stands { TakesEvent M.content (receiver_on self.old channel)
             (receiver_on self.new channel) (command (events.accept_station station.byte)) }
         ensures only { self.new ≡ with_receiver self.old channel (receiver_on self.new channel) }
     {
@@ -219,14 +226,14 @@ impl Listener {
     /// or L (ITU-R M.540); the listener then stays as it was.
     pub fn refuse_subject(&mut self, channel: Channel, subject: Letter) -> Result<(), Vital>
         ensures heard { OnOk result ((starts : Starts) (given : List Given)
-            (copies : List MarkedCopy) → HearsGiven starts self.old given copies
-            → HearsGiven starts self.new
+            (copies : List MarkedCopy) → HearsOver M.content starts self.old given copies
+            → HearsOver M.content starts self.new
             (then_command given channel (events.refuse_subject subject.byte)) copies) }
         ensures vital { IsErr result ↔ IsTrue (is_vital subject.byte) }
         ensures fault { IfErr result (λ vital. vital.subject ≡ subject) }
         ensures unchanged { OnErr result (self.new ≡ self.old) }
         ensures stands { OnOk result
-            (TakesEvent content (receiver_on self.old channel) (receiver_on self.new channel)
+            (TakesEvent M.content (receiver_on self.old channel) (receiver_on self.new channel)
             (command (events.refuse_subject subject.byte))) }
         ensures only { self.new ≡ with_receiver self.old channel (receiver_on self.new channel) }
     {
@@ -240,9 +247,9 @@ impl Listener {
     /// Refuses the subject on a channel no longer, from here on.
     pub fn accept_subject(&mut self, channel: Channel, subject: Letter)
         ensures heard { (starts : Starts) (given : List Given) (copies : List MarkedCopy)
-            → HearsGiven starts self.old given copies → HearsGiven starts self.new
+            → HearsOver M.content starts self.old given copies → HearsOver M.content starts self.new
             (then_command given channel (events.accept_subject subject.byte)) copies }
-        ensures stands { TakesEvent content (receiver_on self.old channel)
+        ensures stands { TakesEvent M.content (receiver_on self.old channel)
             (receiver_on self.new channel) (command (events.accept_subject subject.byte)) }
         ensures only { self.new ≡ with_receiver self.old channel (receiver_on self.new channel) }
     {
@@ -269,13 +276,13 @@ impl Listener {
         ensures heard { (next : List TaggedCopy)
             × IsSpelled channel result.1 next entry.new.items
             × ((starts : Starts) (given : List Given) (part : List Bool) (copies : List MarkedCopy)
-            → HearsGiven starts self.old (then_elements given channel part) copies
-            → HearsGiven starts self.new
+            → HearsOver M.content starts self.old (then_elements given channel part) copies
+            → HearsOver M.content starts self.new
             (then_elements given channel (part ++ take result.0 (drop from packed.now)))
             (copies ++ map (marked channel) next)) }
         ensures first { (starts : Starts) (given : List Given) (part : List Bool)
             (copies : List MarkedCopy)
-            → HearsGiven starts self.old (then_elements given channel part) copies
+            → HearsOver M.content starts self.old (then_elements given channel part) copies
             → (k : ℕ) → k < result.0 → PrintsInTurn starts
             (then_elements given channel (part ++ take k (drop from packed.now))) copies }
         ensures within { from + result.0 ≤ length packed.now }
@@ -302,7 +309,7 @@ impl Listener {
         ensures within { from + result.0 ≤ length packed.now }
         ensures hears { (copies : List TaggedCopy)
             × IsSpelled channel result.1 copies entry.new.items
-            × HearsTo channel self.old self.new (drop from packed.now) result.0 copies }
+            × HearsTo M.content channel self.old self.new (drop from packed.now) result.0 copies }
         ensures all { result.1 ≡ false → from + result.0 ≡ length packed.now }
         ensures some { result.1 ≡ true → 0 < result.0 }
         ensures unchanged { result.1 ≡ false → entry.new ≡ entry.old }
@@ -326,7 +333,7 @@ impl Listener {
     ) -> (usize, Option<Over>)
         requires { from ≤ length packed.now }
         ensures within { from + result.0 ≤ length packed.now }
-        ensures stands { HearsUpTo content (receiver_on self.old channel)
+        ensures stands { HearsUpTo M.content (receiver_on self.old channel)
             (receiver_on self.new channel) (take result.0 (drop from packed.now)) result.1 }
         ensures some { from < length packed.now → 0 < result.0 }
         ensures only { self.new ≡ with_receiver self.old channel (receiver_on self.new channel) }
@@ -342,7 +349,7 @@ impl Listener {
     /// copy that stands open on each channel, where it is printed.
     pub fn close(self) -> LastEntries
         ensures printed { (starts : Starts) (given : List Given) (copies : List MarkedCopy)
-            → HearsGiven starts self given copies
+            → HearsOver M.content starts self given copies
             → PrintAllToEnd starts given (copies ++ last_copies result) }
         ensures range { AreInRange result }
         ensures moment_0 { IfSome result.on_0 (λ entry. entry.moment ≤ last_moment) }
@@ -368,19 +375,19 @@ fn kept_on(saved: &SavedSet, channel: Channel) -> (Selection, &Saved)
 
 /// A receiver that has heard nothing, and starts with this selection and the saved entries, at this
 /// moment.
-fn receiver_from(
+fn receiver_from<M: FreshRecall>(
     alloc: Global,
     selected: Selection,
     kept: &Saved,
     moment: u64,
-) -> Result<Receiver<RingRecall>, AllocError>
+) -> Result<Receiver<M>, AllocError>
     requires newest { newest_moment kept.now.entries ≤ moment }
     requires range { moment ≤ last_moment }
     ensures stands { (start : Start) → start.entries ≡ kept.now.entries → start.moment ≡ moment
-        → start.refused ≡ selected → IfOk result (λ r. Stands content start r [] []) }
-    ensures kept { IfOk result (λ r. content r.memory ≡ kept.now.entries) }
+        → start.refused ≡ selected → IfOk result (λ r. Stands M.content start r [] []) }
+    ensures kept { IfOk result (λ r. M.content r.memory ≡ kept.now.entries) }
 {
-    let mut memory = RingRecall::new(alloc)?;
+    let mut memory = M::fresh(alloc)?;
     kept.load(&mut memory);
     match Receiver::starting(alloc, memory, moment, selected) {
         Ok(receiver) => Ok(receiver),

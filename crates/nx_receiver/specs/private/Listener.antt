@@ -9,12 +9,14 @@ use Rattle.nx_fec.specs.air_files.Channels.{same_channel}
 use Rattle.nx_fec.specs.Transfers.{WroteSome, count_of}
 use Rattle.nx_fec.specs.declared.air_files.channel.Channel.{Channel}
 use Rattle.nx_memory.specs.Selection.{is_vital}
+use Rattle.nx_memory.specs.declared.memories.entry.MemoryEntry.{MemoryEntry}
 use Rattle.nx_receiver.specs.Events as events
 use Rattle.nx_receiver.specs.Events.{Event, Start, elements_among, Refuses}
 use Rattle.nx_receiver.specs.copies.InTurn.{PrintAllToEnd, PrintsInTurn}
 use Rattle.nx_receiver.specs.air_file_runs.Listen.{AreTaken, given_by, has_moment, moment_after}
 use Rattle.nx_receiver.specs.copies.Log.{IsLog}
-use Rattle.nx_receiver.specs.Listener.{HearsGiven, Listening, content, elements_given, receiver_on, starts_of}
+use Rattle.nx_receiver.specs.Listener.{HearsGiven, Listening, ListeningOver, content}
+use Rattle.nx_receiver.specs.Listener.{elements_given, receiver_on, starts_of}
 use Rattle.nx_receiver.specs.Receiver.{HandsOutNoneBefore, Stands}
 use Rattle.nx_receiver.specs.copies.Shares.{Given, MarkedCopy, Starts, marked}
 use Rattle.nx_receiver.specs.private.Awaiting.{Awaits}
@@ -22,18 +24,21 @@ use Rattle.nx_receiver.specs.copies.FoundCopies.{TaggedCopy}
 use Rattle.nx_receiver.specs.declared.fault.MomentFault.{MomentFault}
 use Rattle.nx_receiver.specs.declared.air_file_runs.listening.Report.{Report}
 use Rattle.nx_receiver.specs.declared.air_file_runs.listen_fault.LineRefusal.{LineRefusal}
-use Rattle.nx_receiver.specs.declared.air_file_runs.listen_fault.LineRefusal.TheVariants.{NoMoment, Moment, Vital}
+use Rattle.nx_receiver.specs.declared.air_file_runs.listen_fault.LineRefusal.TheVariants.{NoMoment}
+use Rattle.nx_receiver.specs.declared.air_file_runs.listen_fault.LineRefusal.TheVariants.{Moment}
+use Rattle.nx_receiver.specs.declared.air_file_runs.listen_fault.LineRefusal.TheVariants.{Vital}
 use Rattle.nx_receiver.specs.declared.copy_taker.Over.{Over}
 
 -- The receiver of a channel, whatever it was given before, hears so many of these elements, and
 -- hands out these copies with the last of them, and none before.
-pub record HearsTo (channel : Channel) (old new : Listening) (bits : List Bool) (count : ℕ)
-    (copies : List TaggedCopy) : Type 0 where
+pub record HearsTo {M : Type 0} (entries_of : M → List MemoryEntry) (channel : Channel)
+    (old new : ListeningOver M) (bits : List Bool) (count : ℕ) (copies : List TaggedCopy)
+    : Type 0 where
   pub stands : (start : Start) (history : List Event) (log : List TaggedCopy)
-      → Stands content start (receiver_on old channel) history log
-      → Stands content start (receiver_on new channel)
+      → Stands entries_of start (receiver_on old channel) history log
+      → Stands entries_of start (receiver_on new channel)
       (history ++ events.elements (take count bits)) (log ++ copies)
-  pub first : HandsOutNoneBefore content (receiver_on old channel) bits count
+  pub first : HandsOutNoneBefore entries_of (receiver_on old channel) bits count
 
 -- After it was given this, a listener printed copies, of which these bytes are the log.
 pub record HearsLog (starts : Starts) (listener : Listening) (given : List Given) (bytes : List ℕ)

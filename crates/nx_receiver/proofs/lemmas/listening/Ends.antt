@@ -19,14 +19,16 @@ use Rattle.nx_receiver.specs.copies.FoundCopies.{TaggedCopy, copy_of}
 use Rattle.nx_receiver.specs.copies.InTurn.{PrintAllToEnd}
 use Rattle.nx_receiver.specs.copies.Log.{IsLog, PrintsToEnd}
 use Rattle.nx_receiver.specs.Receiver.{Receiving, Stands, entry_list}
-use Rattle.nx_receiver.specs.copies.Shares.{Given, MarkedCopy, Starts, copies_on, marked, share, start_on}
-use Rattle.nx_receiver.specs.Listener.{HearsGiven, last_copies}
+use Rattle.nx_receiver.specs.copies.Shares.{Given, MarkedCopy, Starts, copies_on, marked, share}
+use Rattle.nx_receiver.specs.copies.Shares.{start_on}
+use Rattle.nx_receiver.specs.Listener.{HearsOver, last_copies}
 use Rattle.nx_receiver.specs.private.Listener.{HasClosed, HasClosedSome, HearsLog}
-use Rattle.nx_receiver.specs.Listener.{Listening, content}
+use Rattle.nx_receiver.specs.Listener.{Listening, ListeningOver, content}
 use Rattle.nx_receiver.specs.declared.entry.Entry.{Entry}
 use Rattle.nx_receiver.specs.declared.listener.LastEntries.{LastEntries}
 use Rattle.nx_receiver.specs.declared.air_file_runs.listening.Report.{Report}
 use Rattle.nx_memory.specs.Ring.{RingMemory}
+use Rattle.nx_memory.specs.declared.memories.entry.MemoryEntry.{MemoryEntry}
 use Rattle.nx_receiver.proofs.lemmas.listening.Listener.{counts-on}
 use Rattle.nx_receiver.proofs.lemmas.receiver.Log.{logs_join, some_log}
 
@@ -44,27 +46,33 @@ abbrev pub marked_on : LastEntries → Channel → List MarkedCopy
 marked_on closing channel = map (marked channel) (closed_on closing channel)
 
 -- a receiver prints this entry, or none, at the end, whatever it was given; its moment is in range
-pub record Closes (receiver : Receiving RingMemory) (entry : Option Entry) : Type 0 where
+pub record Closes {M : Type 0} (entries_of : M → List MemoryEntry) (receiver : Receiving M)
+    (entry : Option Entry) : Type 0 where
   pub to_end : (start : Start) (events : List Event) (log : List TaggedCopy)
-      → Stands content start receiver events log
+      → Stands entries_of start receiver events log
       → PrintsToEnd start events (log ++ entry_list entry)
   pub moment : IfSome entry (λ entry. entry.moment ≤ last_moment)
 
 -- the receivers of a listener do
-pub record CloseAll (listener : Listening) (closing : LastEntries) : Type 0 where
-  pub on_0 : Closes listener.on_0 closing.on_0
-  pub on_1 : Closes listener.on_1 closing.on_1
-  pub on_2 : Closes listener.on_2 closing.on_2
+pub record CloseAll {M : Type 0} (entries_of : M → List MemoryEntry) (listener : ListeningOver M)
+    (closing : LastEntries) : Type 0 where
+  pub on_0 : Closes entries_of listener.on_0 closing.on_0
+  pub on_1 : Closes entries_of listener.on_1 closing.on_1
+  pub on_2 : Closes entries_of listener.on_2 closing.on_2
 
-pub closes-all : (now inside : Listening) (one two three : Option Entry) → inside ≡ now
-    → Closes inside.on_0 one → Closes inside.on_1 two → Closes inside.on_2 three
-    → CloseAll now (record { on_0 = one; on_1 = two; on_2 = three })
-closes-all now inside one two three e h i j =
-    subst (λ l. CloseAll l (record { on_0 = one; on_1 = two; on_2 = three })) e
+pub closes-all : {M : Type 0} {entries_of : M → List MemoryEntry} (now inside : ListeningOver M)
+    (one two three : Option Entry) → inside ≡ now
+    → Closes entries_of inside.on_0 one → Closes entries_of inside.on_1 two
+    → Closes entries_of inside.on_2 three
+    → CloseAll entries_of now (record { on_0 = one; on_1 = two; on_2 = three })
+closes-all {M} {entries_of} now inside one two three e h i j =
+    subst (λ l. CloseAll entries_of l (record { on_0 = one; on_1 = two; on_2 = three })) e
     (record { on_0 = h; on_1 = i; on_2 = j })
 
-close-on : (starts : Starts) (listener : Listening) (closing : LastEntries) (given : List Given)
-    (copies : List MarkedCopy) → CloseAll listener closing → HearsGiven starts listener given copies
+close-on : {M : Type 0} {entries_of : M → List MemoryEntry} (starts : Starts)
+    (listener : ListeningOver M) (closing : LastEntries) (given : List Given)
+    (copies : List MarkedCopy) → CloseAll entries_of listener closing
+    → HearsOver entries_of starts listener given copies
     → (channel : Channel) → PrintsToEnd (start_on starts channel) (share channel given)
     (copies_on channel copies ++ closed_on closing channel)
 close-on starts listener closing given copies c h Zero = c.on_0.to_end _ _ _ (h.receivers Zero)
@@ -76,8 +84,10 @@ abbrev pub all_copies : List MarkedCopy → LastEntries → List MarkedCopy
 all_copies copies closing =
     ((copies ++ marked_on closing Zero) ++ marked_on closing One) ++ marked_on closing Two
 
-print-all : (starts : Starts) (listener : Listening) (closing : LastEntries) (given : List Given)
-    (copies : List MarkedCopy) → CloseAll listener closing → HearsGiven starts listener given copies
+print-all : {M : Type 0} {entries_of : M → List MemoryEntry} (starts : Starts)
+    (listener : ListeningOver M) (closing : LastEntries) (given : List Given)
+    (copies : List MarkedCopy) → CloseAll entries_of listener closing
+    → HearsOver entries_of starts listener given copies
     → PrintAllToEnd starts given (all_copies copies closing)
 print-all starts listener closing given copies c h =
     let a = marked_on closing Zero in
@@ -93,9 +103,10 @@ print-all starts listener closing given copies c h =
     }
 
 -- the same, where those that the end prints are told by their entries
-pub prints-last : (starts : Starts) (listener : Listening) (closing : LastEntries)
-    (given : List Given) (copies : List MarkedCopy) → CloseAll listener closing
-    → HearsGiven starts listener given copies
+pub prints-last : {M : Type 0} {entries_of : M → List MemoryEntry} (starts : Starts)
+    (listener : ListeningOver M) (closing : LastEntries)
+    (given : List Given) (copies : List MarkedCopy) → CloseAll entries_of listener closing
+    → HearsOver entries_of starts listener given copies
     → PrintAllToEnd starts given (copies ++ last_copies closing)
 prints-last starts listener closing given copies c h =
     let a = marked_on closing Zero in
@@ -122,7 +133,7 @@ log-of entry channel h =
     some_log (map (marked channel) (entry_list entry)) (range-of entry channel h)
 
 in-range : (receiver : Receiving RingMemory) (entry : Option Entry) (channel : Channel)
-    → Closes receiver entry
+    → Closes content receiver entry
     → All (λ (one : MarkedCopy). one.copy.moment ≤ last_moment)
     (map (marked channel) (entry_list entry))
 in-range receiver entry channel h = range-of entry channel h.moment
@@ -142,7 +153,7 @@ bool-counted (Some entry) is k e f = f ∙ ap bool_byte e
 pub closed-all : (starts : Starts) (listener : Listening) (closing : LastEntries)
     (old new : Option (List ℕ)) (given : List Given) (bytes on_0 on_1 on_2 : List ℕ)
     (n first second : ℕ) (report : Report) (h : HearsLog starts listener given bytes)
-    → CloseAll listener closing
+    → CloseAll content listener closing
     → IsLog (marked_on closing Zero) on_0 → IsLog (marked_on closing One) on_1
     → IsLog (marked_on closing Two) on_2
     → Appends old new (((bytes ++ on_0) ++ on_1) ++ on_2)
@@ -213,7 +224,7 @@ some-closed starts old new given first rest log written printed spelled range so
 -- the entry that the end printed on channel 0 was written in part
 pub closed-part-0 : (starts : Starts) (listener : Listening) (closing : LastEntries)
     (old new : Option (List ℕ)) (given : List Given) (bytes on_0 : List ℕ) (written : ℕ)
-    → HearsLog starts listener given bytes → CloseAll listener closing
+    → HearsLog starts listener given bytes → CloseAll content listener closing
     → IsLog (marked_on closing Zero) on_0 → WroteSome old new (bytes ++ on_0) written
     → HasClosedSome starts old new given written
 closed-part-0 starts listener closing old new given bytes on_0 written h c is_0 some =
@@ -232,7 +243,7 @@ closed-part-0 starts listener closing old new given bytes on_0 written h c is_0 
 -- that on channel 1
 pub closed-part-1 : (starts : Starts) (listener : Listening) (closing : LastEntries)
     (old new : Option (List ℕ)) (given : List Given) (bytes on_0 on_1 : List ℕ) (written : ℕ)
-    → HearsLog starts listener given bytes → CloseAll listener closing
+    → HearsLog starts listener given bytes → CloseAll content listener closing
     → IsLog (marked_on closing Zero) on_0 → IsLog (marked_on closing One) on_1
     → WroteSome old new ((bytes ++ on_0) ++ on_1) written
     → HasClosedSome starts old new given written
@@ -249,7 +260,7 @@ closed-part-1 starts listener closing old new given bytes on_0 on_1 written h c 
 -- and that on channel 2
 pub closed-part-2 : (starts : Starts) (listener : Listening) (closing : LastEntries)
     (old new : Option (List ℕ)) (given : List Given) (bytes on_0 on_1 on_2 : List ℕ) (written : ℕ)
-    → HearsLog starts listener given bytes → CloseAll listener closing
+    → HearsLog starts listener given bytes → CloseAll content listener closing
     → IsLog (marked_on closing Zero) on_0 → IsLog (marked_on closing One) on_1
     → IsLog (marked_on closing Two) on_2
     → WroteSome old new (((bytes ++ on_0) ++ on_1) ++ on_2) written

@@ -21,28 +21,33 @@ use Rattle.nx_receiver.specs.Events.{Event, Setting, Start, element, first_setti
 use Rattle.nx_receiver.specs.Events.{setting_after_all}
 use Rattle.nx_receiver.specs.Events as fed
 use Rattle.nx_receiver.specs.copies.InTurn.{HavePrinted, PrintsInTurn}
-use Rattle.nx_receiver.specs.air_file_runs.Listen.{AreTaken, events_on, given_by, given_of, has_moment}
+use Rattle.nx_receiver.specs.air_file_runs.Listen.{AreTaken, events_on, given_by, given_of}
+use Rattle.nx_receiver.specs.air_file_runs.Listen.{has_moment}
 use Rattle.nx_receiver.specs.air_file_runs.Listen.{is_moment_line, moment_after}
 use Rattle.nx_receiver.specs.private.Taken.{AreTakenAfter, IsTakenAfter}
 use Rattle.nx_receiver.proofs.lemmas.listening.Taken.{are-taken, taken-each}
-use Rattle.nx_receiver.specs.Listener.{HearsGiven, IsSpelled, Listening, content}
+use Rattle.nx_receiver.specs.Listener.{HearsGiven, HearsOver, IsSpelled, Listening, ListeningOver}
+use Rattle.nx_receiver.specs.Listener.{content}
 use Rattle.nx_receiver.specs.Listener.{elements_given, elements_in, moment_in_force, receiver_on}
-use Rattle.nx_receiver.specs.Listener.{starts_of, then_command, then_elements, then_moment}
+use Rattle.nx_receiver.specs.Listener.{starts_over, then_command, then_elements, then_moment}
 use Rattle.nx_receiver.specs.Listener.{with_receiver}
 use Rattle.nx_receiver.specs.private.Listener.{BeginsListening, BeginsLog, HasFinished, HearsTo}
 use Rattle.nx_receiver.specs.private.Listener.{HearsLog, IsListening}
 use Rattle.nx_receiver.specs.private.ListenerBegins.{printed-so_far}
 use Rattle.nx_receiver.specs.copies.Log.{HasPrinted}
-use Rattle.nx_memory.specs.Ring.{RingMemory}
+use Rattle.nx_memory.specs.declared.memories.entry.MemoryEntry.{MemoryEntry}
 use Rattle.nx_receiver.specs.Receiver.{Receiving, Stands, TakesEvent}
 use Rattle.std.specs.Prelude.{Result, Ok, Err, OnOk}
-use Rattle.nx_receiver.specs.copies.Shares.{Given, MarkedCopy, Starts, copies_on, events_for, marked}
+use Rattle.nx_receiver.specs.copies.Shares.{Given, MarkedCopy, Starts, copies_on, events_for}
+use Rattle.nx_receiver.specs.copies.Shares.{marked}
 use Rattle.nx_receiver.specs.copies.Shares.{share, start_on, to_all, to_one}
 use Rattle.nx_receiver.specs.private.Awaiting.{Awaits, HandsOut, HearsUpTo}
 use Rattle.nx_receiver.specs.copies.FoundCopies.{TaggedCopy}
 use Rattle.nx_receiver.specs.declared.copy_taker.Over.{Over}
-use Rattle.nx_receiver.proofs.lemmas.channels.Shares.{copies_on-append, copies_on-marked, copies_on-other}
-use Rattle.nx_receiver.proofs.lemmas.channels.Shares.{in_turn-more, in_turn-none, in_turn-other, same_channel-refl}
+use Rattle.nx_receiver.proofs.lemmas.channels.Shares.{copies_on-append, copies_on-marked}
+use Rattle.nx_receiver.proofs.lemmas.channels.Shares.{copies_on-other}
+use Rattle.nx_receiver.proofs.lemmas.channels.Shares.{in_turn-more, in_turn-none, in_turn-other}
+use Rattle.nx_receiver.proofs.lemmas.channels.Shares.{same_channel-refl}
 use Rattle.nx_receiver.proofs.lemmas.channels.Shares.{share-one}
 use Rattle.nx_receiver.proofs.lemmas.receiver.Feeds.{nothing_awaited}
 use Rattle.nx_receiver.proofs.lemmas.receiver.Log.{logs_join, no-log}
@@ -89,54 +94,56 @@ on-each P Two here others One = others One refl
 on-each P Two here others Two = here
 
 -- two listeners with the same receivers have the same on each channel
-pub same-receivers : (old new : Listening) → old.on_0 ≡ new.on_0 → old.on_1 ≡ new.on_1
+pub same-receivers : {M : Type 0} (old new : ListeningOver M) → old.on_0 ≡ new.on_0
+    → old.on_1 ≡ new.on_1
     → old.on_2 ≡ new.on_2 → (channel : Channel)
     → receiver_on old channel ≡ receiver_on new channel
-same-receivers old new e f g Zero = e
-same-receivers old new e f g One = f
-same-receivers old new e f g Two = g
+same-receivers {M} old new e f g Zero = e
+same-receivers {M} old new e f g One = f
+same-receivers {M} old new e f g Two = g
 
 -- another receiver on a channel leaves those of the others, and all else
-with-other : (listener : Listening) (channel other : Channel) (new : Listening)
+with-other : {M : Type 0} (listener : ListeningOver M) (channel other : Channel)
+    (new : ListeningOver M)
     → new ≡ with_receiver listener channel (receiver_on new channel)
     → same_channel channel other ≡ false → receiver_on new other ≡ receiver_on listener other
-with-other listener Zero Zero new e h = cc
-with-other listener Zero One new e h = ap (λ (l : Listening). l.on_1) e
-with-other listener Zero Two new e h = ap (λ (l : Listening). l.on_2) e
-with-other listener One Zero new e h = ap (λ (l : Listening). l.on_0) e
-with-other listener One One new e h = cc
-with-other listener One Two new e h = ap (λ (l : Listening). l.on_2) e
-with-other listener Two Zero new e h = ap (λ (l : Listening). l.on_0) e
-with-other listener Two One new e h = ap (λ (l : Listening). l.on_1) e
-with-other listener Two Two new e h = cc
+with-other {M} listener Zero Zero new e h = cc
+with-other {M} listener Zero One new e h = ap (λ (l : ListeningOver M). l.on_1) e
+with-other {M} listener Zero Two new e h = ap (λ (l : ListeningOver M). l.on_2) e
+with-other {M} listener One Zero new e h = ap (λ (l : ListeningOver M). l.on_0) e
+with-other {M} listener One One new e h = cc
+with-other {M} listener One Two new e h = ap (λ (l : ListeningOver M). l.on_2) e
+with-other {M} listener Two Zero new e h = ap (λ (l : ListeningOver M). l.on_0) e
+with-other {M} listener Two One new e h = ap (λ (l : ListeningOver M). l.on_1) e
+with-other {M} listener Two Two new e h = cc
 
 -- a listener of which only the receiver of a channel is another
-pub record DiffersOn (channel : Channel) (old new : Listening) : Type 0 where
+pub record DiffersOn {M : Type 0} (channel : Channel) (old new : ListeningOver M) : Type 0 where
   pub others : (other : Channel) → same_channel channel other ≡ false
       → receiver_on new other ≡ receiver_on old other
   pub moment : new.has_moment ≡ old.has_moment
   pub elements : new.elements ≡ old.elements
   pub entries : new.entries ≡ old.entries
 
-pub differs-on : (channel : Channel) (old new : Listening)
+pub differs-on : {M : Type 0} (channel : Channel) (old new : ListeningOver M)
     → new ≡ with_receiver old channel (receiver_on new channel) → DiffersOn channel old new
-differs-on Zero old new e = record {
+differs-on {M} Zero old new e = record {
   others = λ other h. with-other old Zero other new e h;
-  moment = ap (λ (l : Listening). l.has_moment) e;
-  elements = ap (λ (l : Listening). l.elements) e;
-  entries = ap (λ (l : Listening). l.entries) e;
+  moment = ap (λ (l : ListeningOver M). l.has_moment) e;
+  elements = ap (λ (l : ListeningOver M). l.elements) e;
+  entries = ap (λ (l : ListeningOver M). l.entries) e;
 }
-differs-on One old new e = record {
+differs-on {M} One old new e = record {
   others = λ other h. with-other old One other new e h;
-  moment = ap (λ (l : Listening). l.has_moment) e;
-  elements = ap (λ (l : Listening). l.elements) e;
-  entries = ap (λ (l : Listening). l.entries) e;
+  moment = ap (λ (l : ListeningOver M). l.has_moment) e;
+  elements = ap (λ (l : ListeningOver M). l.elements) e;
+  entries = ap (λ (l : ListeningOver M). l.entries) e;
 }
-differs-on Two old new e = record {
+differs-on {M} Two old new e = record {
   others = λ other h. with-other old Two other new e h;
-  moment = ap (λ (l : Listening). l.has_moment) e;
-  elements = ap (λ (l : Listening). l.elements) e;
-  entries = ap (λ (l : Listening). l.entries) e;
+  moment = ap (λ (l : ListeningOver M). l.has_moment) e;
+  elements = ap (λ (l : ListeningOver M). l.elements) e;
+  entries = ap (λ (l : ListeningOver M). l.entries) e;
 }
 
 one-after : (starts : Starts) (first lines : List Line) (line : Line)
@@ -303,33 +310,36 @@ moment-next first was now events more given one e f same sets =
     ∙ sym (in_force-append first.moment given (one ∷ []))
 
 -- what is printed of the share of each channel, by how its receiver stands
-have-printed : (starts : Starts) (listener : Listening) (given : List Given)
+have-printed : {M : Type 0} {entries_of : M → List MemoryEntry} (starts : Starts)
+    (listener : ListeningOver M) (given : List Given)
     (copies : List MarkedCopy)
-    → ((channel : Channel) → Stands content (start_on starts channel)
+    → ((channel : Channel) → Stands entries_of (start_on starts channel)
     (receiver_on listener channel) (share channel given) (copies_on channel copies))
     → HavePrinted starts given copies
-have-printed starts listener given copies stands channel =
-    printed-so_far content (start_on starts channel) (receiver_on listener channel)
+have-printed {M} {entries_of} starts listener given copies stands channel =
+    printed-so_far entries_of (start_on starts channel) (receiver_on listener channel)
     (share channel given) (copies_on channel copies) (stands channel)
 
 -- one more is given, which has no elements and brings no copies
-pub hears-next : (starts : Starts) (old new : Listening) (given : List Given) (one : Given)
-    (copies : List MarkedCopy) → HearsGiven starts old given copies → elements_in one ≡ []
+pub hears-next : {M : Type 0} {entries_of : M → List MemoryEntry} (starts : Starts)
+    (old new : ListeningOver M) (given : List Given) (one : Given)
+    (copies : List MarkedCopy) → HearsOver entries_of starts old given copies → elements_in one ≡ []
     → SetsMoment one → new.elements ≡ old.elements → new.entries ≡ old.entries
     → ((channel : Channel) (log : List TaggedCopy)
-    → Stands content (start_on starts channel) (receiver_on old channel) (share channel given) log
-    → Stands content (start_on starts channel) (receiver_on new channel)
+    → Stands entries_of (start_on starts channel) (receiver_on old channel) (share channel given)
+    log
+    → Stands entries_of (start_on starts channel) (receiver_on new channel)
     (share channel given ++ events_for channel one) log)
-    → HearsGiven starts new (given ++ one ∷ []) copies
-hears-next starts old new given one copies h none sets heard printed stands =
+    → HearsOver entries_of starts new (given ++ one ∷ []) copies
+hears-next {M} {entries_of} starts old new given one copies h none sets heard printed stands =
     let all = given ++ one ∷ [] in
-    let next : (channel : Channel) → Stands content (start_on starts channel)
+    let next : (channel : Channel) → Stands entries_of (start_on starts channel)
     (receiver_on new channel) (share channel given ++ events_for channel one)
     (copies_on channel copies) =
     λ channel. stands channel (copies_on channel copies) (h.receivers channel) in
-    let each : (channel : Channel) → Stands content (start_on starts channel)
+    let each : (channel : Channel) → Stands entries_of (start_on starts channel)
     (receiver_on new channel) (share channel all) (copies_on channel copies) =
-    λ channel. subst (λ es. Stands content (start_on starts channel) (receiver_on new channel) es
+    λ channel. subst (λ es. Stands entries_of (start_on starts channel) (receiver_on new channel) es
     (copies_on channel copies)) (sym (share-one channel given one)) (next channel) in
     let same : elements_given all ≡ elements_given given =
     elements-one given one ∙ ap (λ bits. elements_given given ++ bits) none
@@ -359,31 +369,33 @@ others-events : (channel other : Channel) (events : List Event)
 others-events channel other events h = ap (λ b. cond b events []) h
 
 -- a command for a channel
-pub commanded : (starts : Starts) (old new : Listening) (given : List Given)
+pub commanded : {M : Type 0} {entries_of : M → List MemoryEntry} (starts : Starts)
+    (old new : ListeningOver M) (given : List Given)
     (copies : List MarkedCopy) (channel : Channel) (command : fed.Command)
-    → HearsGiven starts old given copies
+    → HearsOver entries_of starts old given copies
     → new ≡ with_receiver old channel (receiver_on new channel)
-    → TakesEvent content (receiver_on old channel) (receiver_on new channel) (fed.command command)
-    → HearsGiven starts new (then_command given channel command) copies
+    → TakesEvent entries_of (receiver_on old channel) (receiver_on new channel)
+    (fed.command command)
+    → HearsOver entries_of starts new (then_command given channel command) copies
 unfolding fed.elements_among
-commanded starts old new given copies channel command h only takes =
+commanded {M} {entries_of} starts old new given copies channel command h only takes =
     let differs = differs-on channel old new only in
     let one = to_one channel (fed.command command ∷ []) in
     hears-next starts old new given one copies h refl (command-sets channel command)
     differs.elements differs.entries
     (on-each (λ on. (log : List TaggedCopy)
-    → Stands content (start_on starts on) (receiver_on old on) (share on given) log
-    → Stands content (start_on starts on) (receiver_on new on)
+    → Stands entries_of (start_on starts on) (receiver_on old on) (share on given) log
+    → Stands entries_of (start_on starts on) (receiver_on new on)
     (share on given ++ events_for on one) log) channel
-    (λ log s. subst (λ es. Stands content (start_on starts channel) (receiver_on new channel)
+    (λ log s. subst (λ es. Stands entries_of (start_on starts channel) (receiver_on new channel)
     (share channel given ++ es) log) (sym (own-events channel (fed.command command ∷ [])))
     (takes (start_on starts channel) (share channel given) log s))
     (λ on not log s.
     let none : share on given ++ events_for on one ≡ share on given =
     ap (λ es. share on given ++ es) (others-events channel on (fed.command command ∷ []) not)
     ∙ append-nil (share on given) in
-    subst (λ es. Stands content (start_on starts on) (receiver_on new on) es log) (sym none)
-    (subst (λ r. Stands content (start_on starts on) r (share on given) log)
+    subst (λ es. Stands entries_of (start_on starts on) (receiver_on new on) es log) (sym none)
+    (subst (λ r. Stands entries_of (start_on starts on) r (share on given) log)
     (sym (differs.others on not)) s)))
 
 -- one more line is taken, as what it gives is
@@ -420,13 +432,14 @@ commanded-on starts old new lines line channel command bytes h taken gives other
     (sym gives) (commanded starts old new (given_by lines) copies channel command heard only takes))
 
 -- a moment for all channels
-pub set-all : (starts : Starts) (old new : Listening) (given : List Given)
-    (copies : List MarkedCopy) (n : ℕ) → HearsGiven starts old given copies
+pub set-all : {M : Type 0} {entries_of : M → List MemoryEntry} (starts : Starts)
+    (old new : ListeningOver M) (given : List Given)
+    (copies : List MarkedCopy) (n : ℕ) → HearsOver entries_of starts old given copies
     → new.elements ≡ old.elements → new.entries ≡ old.entries
-    → ((channel : Channel) → TakesEvent content (receiver_on old channel)
+    → ((channel : Channel) → TakesEvent entries_of (receiver_on old channel)
     (receiver_on new channel) (fed.at_moment n))
-    → HearsGiven starts new (then_moment given n) copies
-set-all starts old new given copies n h heard printed takes =
+    → HearsOver entries_of starts new (then_moment given n) copies
+set-all {M} {entries_of} starts old new given copies n h heard printed takes =
     hears-next starts old new given (to_all n) copies h refl (moment-sets n) heard printed
     (λ channel log s. takes channel (start_on starts channel) (share channel given) log s)
 
@@ -515,21 +528,23 @@ pub counts-on : (old new m n all : ℕ) → old ≡ count_of m → new ≡ count
 counts-on old new m n all h k e = omega arith
 
 -- More elements of a channel were heard, and these copies were handed out with the last of them.
-pub hears-more : (starts : Starts) (old new : Listening) (given : List Given) (channel : Channel)
+pub hears-more : {M : Type 0} {entries_of : M → List MemoryEntry} (starts : Starts)
+    (old new : ListeningOver M) (given : List Given) (channel : Channel)
     (part more : List Bool) (copies : List MarkedCopy) (next : List TaggedCopy)
-    → HearsGiven starts old (then_elements given channel part) copies
+    → HearsOver entries_of starts old (then_elements given channel part) copies
     → length next ≤ length more
     → ((start : Start) (events : List Event) (log : List TaggedCopy)
-    → Stands content start (receiver_on old channel) events log
-    → Stands content start (receiver_on new channel) (events ++ fed.elements more)
+    → Stands entries_of start (receiver_on old channel) events log
+    → Stands entries_of start (receiver_on new channel) (events ++ fed.elements more)
     (log ++ next))
     → ((other : Channel) → same_channel channel other ≡ false
     → receiver_on new other ≡ receiver_on old other)
     → new.elements ≡ count_of (old.elements + length more)
     → new.entries ≡ count_of (old.entries + length next)
-    → HearsGiven starts new (then_elements given channel (part ++ more))
+    → HearsOver entries_of starts new (then_elements given channel (part ++ more))
     (copies ++ map (marked channel) next)
-hears-more starts old new given channel part more copies next h few stands others heard printed =
+hears-more {M} {entries_of} starts old new given channel part more copies next h few stands others
+    heard printed =
     let was = then_elements given channel part in
     let later = map (marked channel) next in
     let all : length (elements_given (then_elements given channel (part ++ more)))
@@ -541,11 +556,11 @@ hears-more starts old new given channel part more copies next h few stands other
     length-append copies later
     ∙ ap (λ n. length copies + n) (length-map next (marked channel)) in
     let each = grows-on
-    (λ other es log. Stands content (start_on starts other) (receiver_on new other) es log) given
+    (λ other es log. Stands entries_of (start_on starts other) (receiver_on new other) es log) given
     channel part more copies next
     (stands (start_on starts channel) (share channel was) (copies_on channel copies)
     (h.receivers channel))
-    (λ other not. subst (λ r. Stands content (start_on starts other) r (share other was)
+    (λ other not. subst (λ r. Stands entries_of (start_on starts other) r (share other was)
     (copies_on other copies)) (sym (others other not)) (h.receivers other)) in
     let first = first_setting (start_on starts channel) in
     let own = stands (start_on starts channel) (share channel was) (copies_on channel copies)
@@ -556,7 +571,7 @@ hears-more starts old new given channel part more copies next h few stands other
     channel
     (ap (λ (s : Setting). s.moment) (own.force ∙ force-more first (share channel was) more
     ∙ sym (h.receivers channel).force))
-    (λ other not. ap (λ (r : Receiving RingMemory). r.hearer.moment) (others other not)) in
+    (λ other not. ap (λ (r : Receiving M). r.hearer.moment) (others other not)) in
     record {
       receivers = each;
       moments = λ other. kept other ∙ h.moments other
@@ -573,39 +588,43 @@ hears-more starts old new given channel part more copies next h few stands other
 
 -- The receiver of the channel heard so many of these elements, and handed out these copies with the
 -- last of them; and then the listener counted both.
-pub heard-to : (starts : Starts) (old mid now : Listening) (given : List Given) (channel : Channel)
+pub heard-to : {M : Type 0} {entries_of : M → List MemoryEntry} (starts : Starts)
+    (old mid now : ListeningOver M) (given : List Given) (channel : Channel)
     (part bits : List Bool) (n m k : ℕ) (copies : List MarkedCopy) (next : List TaggedCopy)
-    → HearsGiven starts old (then_elements given channel part) copies
-    → HearsTo channel old mid bits n next
+    → HearsOver entries_of starts old (then_elements given channel part) copies
+    → HearsTo entries_of channel old mid bits n next
     → mid ≡ with_receiver old channel (receiver_on mid channel) → now ≡ mid
     → n ≤ length bits → length next ≤ n
     → m ≡ count_of (now.elements + n) → k ≡ count_of (now.entries + length next)
-    → HearsGiven starts (record now { elements = m; entries = k })
+    → HearsOver entries_of starts (record now { elements = m; entries = k })
     (then_elements given channel (part ++ take n bits)) (copies ++ map (marked channel) next)
-heard-to starts old mid now given channel part bits n m k copies next h hears only e within few
+heard-to {M} {entries_of} starts old mid now given channel part bits n m k copies next h hears only
+    e within few
     counted printed =
     let new = record now { elements = m; entries = k } in
-    let same = same-receivers mid new (sym (ap (λ (l : Listening). l.on_0) e))
-    (sym (ap (λ (l : Listening). l.on_1) e)) (sym (ap (λ (l : Listening). l.on_2) e)) in
+    let same = same-receivers mid new (sym (ap (λ (l : ListeningOver M). l.on_0) e))
+    (sym (ap (λ (l : ListeningOver M). l.on_1) e)) (sym (ap (λ (l : ListeningOver M). l.on_2) e)) in
     let differs = differs-on channel old mid only in
     let many : length (take n bits) ≡ n = length-take-le n bits within in
     hears-more starts old new given channel part (take n bits) copies next h
     (omega (arith, many, few))
-    (λ start events log s. subst (λ r. Stands content start r (events ++ fed.elements (take n bits))
+    (λ start events log s. subst (λ r. Stands entries_of start r
+    (events ++ fed.elements (take n bits))
     (log ++ next)) (same channel) (hears.stands start events log s))
     (λ other not. sym (same other) ∙ differs.others other not)
     (counted ∙ ap₂ (λ a b. count_of (a + b))
-    (ap (λ (l : Listening). l.elements) e ∙ differs.elements) (sym many))
+    (ap (λ (l : ListeningOver M). l.elements) e ∙ differs.elements) (sym many))
     (printed ∙ ap (λ a. count_of (a + length next))
-    (ap (λ (l : Listening). l.entries) e ∙ differs.entries))
+    (ap (λ (l : ListeningOver M). l.entries) e ∙ differs.entries))
 
 -- nothing more is printed before the last of them
-pub none-before : (starts : Starts) (old mid : Listening) (given : List Given) (channel : Channel)
+pub none-before : {M : Type 0} {entries_of : M → List MemoryEntry} (starts : Starts)
+    (old mid : ListeningOver M) (given : List Given) (channel : Channel)
     (part bits : List Bool) (n : ℕ) (copies : List MarkedCopy) (next : List TaggedCopy)
-    → HearsGiven starts old (then_elements given channel part) copies
-    → HearsTo channel old mid bits n next → (k : ℕ) → k < n
+    → HearsOver entries_of starts old (then_elements given channel part) copies
+    → HearsTo entries_of channel old mid bits n next → (k : ℕ) → k < n
     → PrintsInTurn starts (then_elements given channel (part ++ take k bits)) copies
-none-before starts old mid given channel part bits n copies next h hears k lt =
+none-before {M} {entries_of} starts old mid given channel part bits n copies next h hears k lt =
     let start = start_on starts channel in
     let was = share channel (then_elements given channel part) in
     let mine = copies_on channel copies in
@@ -762,26 +781,33 @@ none-heard starts listener given channel bytes h = record {
 }
 
 -- with what a listener starts, by what its receivers have
-pub starts-is : (starts : Starts) (listener : Listening)
-    → ((channel : Channel) → Stands content (start_on starts channel)
+starts-is : {M : Type 0} {entries_of : M → List MemoryEntry} (starts : Starts)
+    (listener : ListeningOver M)
+    → ((channel : Channel) → Stands entries_of (start_on starts channel)
     (receiver_on listener channel) [] [])
-    → ((channel : Channel) → content (receiver_on listener channel).memory
+    → ((channel : Channel) → entries_of (receiver_on listener channel).memory
     ≡ starts.entries channel)
-    → starts_of listener ≡ starts
+    → starts_over entries_of listener ≡ starts
 unfolding setting_after_all
-starts-is starts listener stands same =
-    ap₂ (λ n es. record { moment = n; entries = es; refused = (starts_of listener).refused })
+starts-is {M} {entries_of} starts listener stands same =
+    ap₂ (λ n es. record {
+      moment = n;
+      entries = es;
+      refused =
+          (starts_over entries_of listener).refused;
+    })
     (ap (λ (s : Setting). s.moment) (stands Zero).force) (fun_ext same)
     ∙ ap (λ r. record { moment = starts.moment; entries = starts.entries; refused = r })
     (fun_ext (λ channel. ap (λ (s : Setting). s.refused) (stands channel).force))
 
 -- a listener that was made has heard nothing
-pub heard-nothing : (starts : Starts) (listener : Listening)
-    → ((channel : Channel) → Stands content (start_on starts channel)
+heard-nothing : {M : Type 0} {entries_of : M → List MemoryEntry} (starts : Starts)
+    (listener : ListeningOver M)
+    → ((channel : Channel) → Stands entries_of (start_on starts channel)
     (receiver_on listener channel) [] [])
-    → listener.elements ≡ 0 → listener.entries ≡ 0 → HearsGiven starts listener [] []
+    → listener.elements ≡ 0 → listener.entries ≡ 0 → HearsOver entries_of starts listener [] []
 unfolding setting_after_all
-heard-nothing starts listener stands elements' entries' = record {
+heard-nothing {M} {entries_of} starts listener stands elements' entries' = record {
   receivers = stands;
   moments = λ channel. ap (λ (s : Setting). s.moment) (stands channel).force;
   in_turn = in_turn-none starts (have-printed starts listener [] [] stands);
@@ -789,6 +815,42 @@ heard-nothing starts listener stands elements' entries' = record {
   entries = entries';
   few = omega arith;
 }
+
+-- a listener of these receivers, which counted nothing and had no moment
+abbrev pub made_of : {M : Type 0} → Receiving M → Receiving M → Receiving M → ListeningOver M
+made_of on_0 on_1 on_2 = record {
+  on_0 = on_0;
+  on_1 = on_1;
+  on_2 = on_2;
+  has_moment = false;
+  elements = 0;
+  entries = 0;
+}
+
+-- it has heard nothing, and starts with this, where its receivers do
+pub heard-first : {M : Type 0} {entries_of : M → List MemoryEntry} (starts : Starts)
+    (on_0 on_1 on_2 : Receiving M) → Stands entries_of (start_on starts Zero) on_0 [] []
+    → Stands entries_of (start_on starts One) on_1 [] []
+    → Stands entries_of (start_on starts Two) on_2 [] []
+    → HearsOver entries_of starts (made_of on_0 on_1 on_2) [] []
+heard-first {M} {entries_of} starts on_0 on_1 on_2 zero one two =
+    heard-nothing starts (made_of on_0 on_1 on_2)
+    (on-all (λ channel. Stands entries_of (start_on starts channel)
+    (receiver_on (made_of on_0 on_1 on_2) channel) [] []) zero one two) refl refl
+
+pub starts-first : {M : Type 0} {entries_of : M → List MemoryEntry} (starts : Starts)
+    (on_0 on_1 on_2 : Receiving M) → Stands entries_of (start_on starts Zero) on_0 [] []
+    → Stands entries_of (start_on starts One) on_1 [] []
+    → Stands entries_of (start_on starts Two) on_2 [] []
+    → entries_of on_0.memory ≡ starts.entries Zero → entries_of on_1.memory ≡ starts.entries One
+    → entries_of on_2.memory ≡ starts.entries Two
+    → starts_over entries_of (made_of on_0 on_1 on_2) ≡ starts
+starts-first {M} {entries_of} starts on_0 on_1 on_2 zero one two same_0 same_1 same_2 =
+    starts-is starts (made_of on_0 on_1 on_2)
+    (on-all (λ channel. Stands entries_of (start_on starts channel)
+    (receiver_on (made_of on_0 on_1 on_2) channel) [] []) zero one two)
+    (on-all (λ channel. entries_of (receiver_on (made_of on_0 on_1 on_2) channel).memory
+    ≡ starts.entries channel) same_0 same_1 same_2)
 
 -- and took no line
 pub took-nothing : (starts : Starts) (listener : Listening) → starts.moment ≤ last_moment

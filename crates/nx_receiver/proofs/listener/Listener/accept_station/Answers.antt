@@ -4,13 +4,13 @@ use Rattle.nx_receiver.proofs.lemmas.listening.Listener.{commanded}
 use Rattle.nx_receiver.proofs.listener.Listener.accept_station.Goals as goal
 
 pub returns-in-Zero-clause-heard : goal.returns-in-Zero-clause-heard
-returns-in-Zero-clause-heard c = rw (c.in-Zero.is, ← c.self.view_is) (λ starts given copies h.
+returns-in-Zero-clause-heard g c = rw (c.in-Zero.is, ← c.self.view_is) (λ starts given copies h.
     commanded starts _ _ given copies Zero _ h refl c.accept_station.ensures)
 
 pub returns-in-One-clause-heard : goal.returns-in-One-clause-heard
-returns-in-One-clause-heard c = rw (c.in-One.is, ← c.self.view_is) (λ starts given copies h.
+returns-in-One-clause-heard g c = rw (c.in-One.is, ← c.self.view_is) (λ starts given copies h.
     commanded starts _ _ given copies One _ h refl c.accept_station-in-One.ensures)
 
 pub returns-in-Two-clause-heard : goal.returns-in-Two-clause-heard
-returns-in-Two-clause-heard c = rw (c.in-Two.is, ← c.self.view_is) (λ starts given copies h.
+returns-in-Two-clause-heard g c = rw (c.in-Two.is, ← c.self.view_is) (λ starts given copies h.
     commanded starts _ _ given copies Two _ h refl c.accept_station-in-Two.ensures)

@@ -5,7 +5,7 @@ use Rattle.nx_receiver.proofs.lemmas.listening.Listener.{spelled-few}
 use Rattle.nx_receiver.proofs.listener.Listener.hear_spelled.Goals as goal
 
 pub returns-clause-heard : goal.returns-clause-heard
-returns-clause-heard c =
+returns-clause-heard g c =
     let call = c.next_spelled_on-count in
     let n = call.result.0 in
     let channel = c.args.channel in
@@ -24,7 +24,7 @@ returns-clause-heard c =
     )
 
 pub returns-clause-first : goal.returns-clause-first
-returns-clause-first c = λ starts given part copies h k lt.
+returns-clause-first g c = λ starts given part copies h k lt.
     let call = c.next_spelled_on-count in
     none-before starts c.args.self.now call.new.self given c.args.channel part
     (drop c.args.from c.args.packed.now) call.result.0 copies call.ensures.hears.0 h

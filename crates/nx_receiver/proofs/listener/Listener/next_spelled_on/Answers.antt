@@ -3,7 +3,7 @@ use Rattle.nx_receiver.specs.Listener.{IsSpelled}
 use Rattle.nx_receiver.proofs.listener.Listener.next_spelled_on.Goals as goal
 
 pub returns-in-Zero-clause-hears : goal.returns-in-Zero-clause-hears
-returns-in-Zero-clause-hears c =
+returns-in-Zero-clause-hears g c =
     let call = c.next_spelled.ensures in
     rw (c.in-Zero.is, ← c.self.view_is) (
       call.stands.0,
@@ -16,7 +16,7 @@ returns-in-Zero-clause-hears c =
     )
 
 pub returns-in-One-clause-hears : goal.returns-in-One-clause-hears
-returns-in-One-clause-hears c =
+returns-in-One-clause-hears g c =
     let call = c.next_spelled-in-One.ensures in
     rw (c.in-One.is, ← c.self.view_is) (
       call.stands.0,
@@ -29,7 +29,7 @@ returns-in-One-clause-hears c =
     )
 
 pub returns-in-Two-clause-hears : goal.returns-in-Two-clause-hears
-returns-in-Two-clause-hears c =
+returns-in-Two-clause-hears g c =
     let call = c.next_spelled-in-Two.ensures in
     rw (c.in-Two.is, ← c.self.view_is) (
       call.stands.0,

@@ -6,7 +6,7 @@ use Rattle.nx_receiver.proofs.lemmas.listening.Listener.{on-all}
 use Rattle.nx_receiver.proofs.listener.Listener.saved.Goals as goal
 
 pub returns : goal.returns
-returns c = rw (← c.self.view_is) (λ starts given copies h.
+returns g c = rw (← c.self.view_is) (λ starts given copies h.
     let stands = h.receivers in
     on-all _
     (subst (Leaves (start_on starts Zero) (share Zero given)) (sym c.of.ensures.on_0)

@@ -1,15 +1,12 @@
 use Rattle.std.proofs.lemmas.Grind.{common_steps}
-use Rattle.std.proofs.Common.{◌≡◌, ◌≤◌, ℕ, false, [], Option, Some, None, unwrap_or, refl, sym, ap}
+use Rattle.std.proofs.Common.{◌≡◌, ◌≤◌, ℕ, Option, Some, None, unwrap_or, sym, ap}
 use Rattle.std.proofs.Common.{◌∙◌, arith}
 use Rattle.nx_envelope.specs.Moment.{last_moment}
-use Rattle.nx_fec.specs.declared.air_files.channel.Channel.{Channel}
 use Rattle.nx_fec.specs.declared.air_files.channel.Channel.TheVariants.{Zero, One, Two}
 use Rattle.nx_memory.specs.Memory.{newest_of}
 use Rattle.nx_memory.specs.Saved.{SavedState, later_of}
-use Rattle.nx_receiver.specs.Receiver.{Stands}
 use Rattle.nx_receiver.specs.copies.Shares.{start_on, starts_from}
-use Rattle.nx_receiver.specs.Listener.{Listening, content, receiver_on}
-use Rattle.nx_receiver.proofs.lemmas.listening.Listener.{heard-nothing, on-all, starts-is}
+use Rattle.nx_receiver.proofs.lemmas.listening.Listener.{heard-first, starts-first}
 use Rattle.nx_receiver.proofs.listener.Listener.starting.Goals as goal
 
 -- the later of two moments is in range where both are
@@ -19,24 +16,12 @@ later-in_range None other last h k = k
 later-in_range (Some n) None last h k = h
 later-in_range (Some n) (Some m) last h k = omega (arith, h, k)
 
-abbrev made : goal.In_ok-on_2 → Listening
-made c = record {
-  on_0 = c.in_ok-on_0.on_0;
-  on_1 = c.in_ok-on_1.on_1;
-  on_2 = c.in_ok-on_2.on_2;
-  has_moment = false;
-  elements = 0;
-  entries = 0;
-}
-
-stood : (c : goal.In_ok-on_2) (channel : Channel)
-    → Stands content (start_on (starts_from c.args.saved.now) channel)
-    (receiver_on (made c) channel) [] []
-stood c =
+pub returns-clause-heard : goal.returns-clause-heard
+returns-clause-heard g c =
     let starts = starts_from c.args.saved.now in
     let same : starts.moment ≡ c.unwrap_or-moment.result =
     sym (c.unwrap_or-moment.ensures ∙ ap (λ o. unwrap_or o 0) c.newest.ensures) in
-    on-all _
+    heard-first starts _ _ _
     (c.in_ok-on_0.ensures.stands (start_on starts Zero)
     (sym (ap (λ (s : SavedState). s.entries) c.kept_on-selected_0.ensures.kept)) same
     (sym c.kept_on-selected_0.ensures.selected))
@@ -47,12 +32,8 @@ stood c =
     (sym (ap (λ (s : SavedState). s.entries) c.kept_on-selected_2.ensures.kept)) same
     (sym c.kept_on-selected_2.ensures.selected))
 
-pub returns-clause-heard : goal.returns-clause-heard
-returns-clause-heard c =
-    heard-nothing (starts_from c.args.saved.now) (made c) (stood c) refl refl
-
 pub returns-clause-range : goal.returns-clause-range
-returns-clause-range c =
+returns-clause-range g c =
     let saved = c.args.saved.now in
     let on_0 = newest_of saved.on_0.entries in
     let on_1 = newest_of saved.on_1.entries in
@@ -63,21 +44,32 @@ returns-clause-range c =
     c.kept_on-selected_2.ensures.sound.in_range)
 
 pub returns-clause-start : goal.returns-clause-start
-returns-clause-start c =
-    starts-is (starts_from c.args.saved.now) (made c) (stood c)
-    (on-all _
+returns-clause-start g c =
+    let starts = starts_from c.args.saved.now in
+    let same : starts.moment ≡ c.unwrap_or-moment.result =
+    sym (c.unwrap_or-moment.ensures ∙ ap (λ o. unwrap_or o 0) c.newest.ensures) in
+    starts-first starts _ _ _
+    (c.in_ok-on_0.ensures.stands (start_on starts Zero)
+    (sym (ap (λ (s : SavedState). s.entries) c.kept_on-selected_0.ensures.kept)) same
+    (sym c.kept_on-selected_0.ensures.selected))
+    (c.in_ok-on_1.ensures.stands (start_on starts One)
+    (sym (ap (λ (s : SavedState). s.entries) c.kept_on-selected_1.ensures.kept)) same
+    (sym c.kept_on-selected_1.ensures.selected))
+    (c.in_ok-on_2.ensures.stands (start_on starts Two)
+    (sym (ap (λ (s : SavedState). s.entries) c.kept_on-selected_2.ensures.kept)) same
+    (sym c.kept_on-selected_2.ensures.selected))
     (c.in_ok-on_0.ensures.kept
     ∙ ap (λ (s : SavedState). s.entries) c.kept_on-selected_0.ensures.kept)
     (c.in_ok-on_1.ensures.kept
     ∙ ap (λ (s : SavedState). s.entries) c.kept_on-selected_1.ensures.kept)
     (c.in_ok-on_2.ensures.kept
-    ∙ ap (λ (s : SavedState). s.entries) c.kept_on-selected_2.ensures.kept))
+    ∙ ap (λ (s : SavedState). s.entries) c.kept_on-selected_2.ensures.kept)
 
 pub receiver_from-requires-2-clause-newest : goal.receiver_from-requires-2-clause-newest
-receiver_from-requires-2-clause-newest c = grind (arith, common_steps)
+receiver_from-requires-2-clause-newest g c = grind (arith, common_steps)
 
 pub receiver_from-requires-3-clause-newest : goal.receiver_from-requires-3-clause-newest
-receiver_from-requires-3-clause-newest c = grind (arith, common_steps)
+receiver_from-requires-3-clause-newest g c = grind (arith, common_steps)
 
 pub receiver_from-requires-clause-newest : goal.receiver_from-requires-clause-newest
-receiver_from-requires-clause-newest c = grind (arith, common_steps)
+receiver_from-requires-clause-newest g c = grind (arith, common_steps)

@@ -1,5 +1,5 @@
 use Rattle.nx_fec.specs.declared.air_files.channel.Channel.TheVariants.{Zero, One, Two}
-use Rattle.nx_receiver.proofs.listener.Listener.finish_unlogged.Goals as goal
+use Rattle.nx_receiver.proofs.air_file_runs.listening.unlogged.Listener.finish_unlogged.Goals as goal
 
 pub returns-in-Zero-clause-handed : goal.returns-in-Zero-clause-handed
 returns-in-Zero-clause-handed c =

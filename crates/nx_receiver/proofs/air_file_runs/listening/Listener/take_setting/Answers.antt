@@ -6,7 +6,7 @@ use Rattle.nx_receiver.specs.Events.{command}
 use Rattle.nx_receiver.specs.copies.Shares.{to_one}
 use Rattle.nx_receiver.proofs.lemmas.listening.Listener.{commanded-on}
 use Rattle.nx_receiver.proofs.lemmas.listening.Lines.{of-kind, subject-taken, taken-as}
-use Rattle.nx_receiver.proofs.listener.Listener.take_setting.Goals as goal
+use Rattle.nx_receiver.proofs.air_file_runs.listening.Listener.take_setting.Goals as goal
 
 pub returns-in-Moment : goal.returns-in-Moment
 returns-in-Moment c = λ starts lines line bytes e h.

@@ -3,7 +3,7 @@ use Rattle.nx_fec.specs.air_files.LineRuns.{HasGiven}
 use Rattle.nx_receiver.specs.copies.Shares.{Given, Starts}
 use Rattle.nx_receiver.specs.Listener.{then_elements}
 use Rattle.nx_receiver.specs.private.Listener.{IsHearing}
-use Rattle.nx_receiver.proofs.listener.Listener.take_elements.Given as goal
+use Rattle.nx_receiver.proofs.air_file_runs.listening.Listener.take_elements.Given as goal
 
 -- the first elements were heard
 abbrev pub invariant-loop-at : goal.invariant-loop-at

@@ -2,7 +2,7 @@ use Rattle.std.proofs.Common.{◌≡◌, ◌-◌, ◌≤◌, List, [], length, t
 use Rattle.nx_receiver.specs.copies.Shares.{Given, Starts}
 use Rattle.nx_receiver.specs.Listener.{then_elements}
 use Rattle.nx_receiver.specs.private.Unlogged.{HasHeardGiven}
-use Rattle.nx_receiver.proofs.listener.Listener.hear_unlogged.Given as goal
+use Rattle.nx_receiver.proofs.air_file_runs.listening.unlogged.Listener.hear_unlogged.Given as goal
 
 -- the first elements were heard
 abbrev pub invariant-loop-at : goal.invariant-loop-at

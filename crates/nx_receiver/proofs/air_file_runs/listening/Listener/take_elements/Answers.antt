@@ -8,7 +8,7 @@ use Rattle.nx_receiver.specs.private.Listener.{HeardSome, HearsLog, IsHearing}
 use Rattle.nx_receiver.specs.Listener.{then_elements}
 use Rattle.nx_receiver.proofs.lemmas.listening.Listener.{begins-line, elements-next, elements-rest}
 use Rattle.nx_receiver.proofs.lemmas.listening.Listener.{heard-line, none-heard}
-use Rattle.nx_receiver.proofs.listener.Listener.take_elements.Goals as goal
+use Rattle.nx_receiver.proofs.air_file_runs.listening.Listener.take_elements.Goals as goal
 
 pub loop-at-preserved : goal.loop-at-preserved
 loop-at-preserved g c =

@@ -3,7 +3,7 @@ use Rattle.std.proofs.lemmas.Result.{err_from_is_err_and}
 use Rattle.nx_receiver.specs.Listener.{Listening}
 use Rattle.nx_receiver.proofs.lemmas.listening.Ends.{closed-all, closed-part-0, closed-part-1}
 use Rattle.nx_receiver.proofs.lemmas.listening.Ends.{closed-part-2, closes-all}
-use Rattle.nx_receiver.proofs.listener.Listener.close_log.Goals as goal
+use Rattle.nx_receiver.proofs.air_file_runs.listening.Listener.close_log.Goals as goal
 
 pub returns-in_err-at_end-clause-closed : goal.returns-in_err-at_end-clause-closed
 returns-in_err-at_end-clause-closed g c = λ starts old given bytes h w.

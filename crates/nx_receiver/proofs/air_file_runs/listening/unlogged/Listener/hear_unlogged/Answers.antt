@@ -3,7 +3,7 @@ use Rattle.std.proofs.lemmas.List.{take_all}
 use Rattle.nx_receiver.specs.Listener.{Listening, then_elements}
 use Rattle.nx_receiver.specs.private.Unlogged.{HasHeardGiven}
 use Rattle.nx_receiver.proofs.lemmas.listening.Listener.{elements-next}
-use Rattle.nx_receiver.proofs.listener.Listener.hear_unlogged.Goals as goal
+use Rattle.nx_receiver.proofs.air_file_runs.listening.unlogged.Listener.hear_unlogged.Goals as goal
 
 pub loop-at-preserved : goal.loop-at-preserved
 loop-at-preserved c =

@@ -3,7 +3,7 @@ use Rattle.nx_fec.specs.Transfers.{count_of}
 use Rattle.nx_fec.specs.declared.air_files.channel.Channel.TheVariants.{Zero, One, Two}
 use Rattle.nx_receiver.specs.Listener.{Listening}
 use Rattle.nx_receiver.proofs.lemmas.listening.Ends.{bool-counted, closed-all, closes-all, log-of}
-use Rattle.nx_receiver.proofs.listener.Listener.close_unlogged.Goals as goal
+use Rattle.nx_receiver.proofs.air_file_runs.listening.unlogged.Listener.close_unlogged.Goals as goal
 
 pub returns-clause-closed : goal.returns-clause-closed
 returns-clause-closed c = λ starts given h.

@@ -1,7 +1,7 @@
 use Rattle.nx_fec.specs.air_files.AirFile.{elements}
 use Rattle.nx_receiver.proofs.lemmas.listening.Lines.{heard-as, heard-elements, heard-same, kind-said}
 use Rattle.nx_receiver.proofs.lemmas.listening.Lines.{said-elements}
-use Rattle.nx_receiver.proofs.listener.Listener.take_unlogged.Goals as goal
+use Rattle.nx_receiver.proofs.air_file_runs.listening.unlogged.Listener.take_unlogged.Goals as goal
 
 pub returns-in-Elements : goal.returns-in-Elements
 returns-in-Elements c = λ starts lines line latest h.

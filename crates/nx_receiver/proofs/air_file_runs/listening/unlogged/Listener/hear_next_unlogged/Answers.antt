@@ -1,6 +1,6 @@
 use Rattle.std.proofs.Common.{◌++◌, arith, drop, length-drop, take}
 use Rattle.nx_receiver.proofs.lemmas.listening.Listener.{finishes, heard-no-over, heard-over, hears-until}
-use Rattle.nx_receiver.proofs.listener.Listener.hear_next_unlogged.Goals as goal
+use Rattle.nx_receiver.proofs.air_file_runs.listening.unlogged.Listener.hear_next_unlogged.Goals as goal
 
 pub returns-in_default-clause-heard : goal.returns-in_default-clause-heard
 returns-in_default-clause-heard c = λ starts given part h.

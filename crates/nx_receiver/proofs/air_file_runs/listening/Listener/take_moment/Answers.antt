@@ -4,7 +4,7 @@ use Rattle.nx_fec.specs.air_files.AirFile.{moment}
 use Rattle.nx_receiver.specs.Events.{Refuses}
 use Rattle.nx_receiver.specs.air_file_runs.Listen.{given_by}
 use Rattle.nx_receiver.proofs.lemmas.listening.Listener.{in_force-lines, moment-one, takes-line}
-use Rattle.nx_receiver.proofs.listener.Listener.take_moment.Goals as goal
+use Rattle.nx_receiver.proofs.air_file_runs.listening.Listener.take_moment.Goals as goal
 
 pub returns : goal.returns
 returns c = λ starts lines bytes h.

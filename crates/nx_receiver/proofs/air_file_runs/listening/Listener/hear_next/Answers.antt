@@ -7,7 +7,7 @@ use Rattle.nx_receiver.specs.Listener.{then_elements}
 use Rattle.nx_receiver.specs.private.Listener.{BeginsLog}
 use Rattle.nx_receiver.proofs.lemmas.listening.Listener.{begins-more, finishes, heard-no-over, heard-over}
 use Rattle.nx_receiver.proofs.lemmas.listening.Listener.{hears-until, whole-part}
-use Rattle.nx_receiver.proofs.listener.Listener.hear_next.Goals as goal
+use Rattle.nx_receiver.proofs.air_file_runs.listening.Listener.hear_next.Goals as goal
 
 pub returns-in_default-clause-heard : goal.returns-in_default-clause-heard
 returns-in_default-clause-heard g c = λ starts old given part h.
