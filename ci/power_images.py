@@ -262,7 +262,7 @@ class Recorder:
 
     def expect_ended(self, run, status, output, faults):
         """Expects the end of a watch whose disk doesn't fail."""
-        wanted = told_of_start(self.trial, run.start or b"")
+        wanted = told_of_start(run.start or b"")
         if 0 in run.closed:
             wanted.append("navtex: read failed")
         if 2 in run.closed:
@@ -458,7 +458,7 @@ class Opener:
         write(path, data)
         ended = self.start(path)
         what = f"{said_of(self.run)}: a file of {len(data)} bytes, {data[-60:]!r}"
-        expect(ended == (0, told_of_start(self.trial, data)), f"{what}: {ended}")
+        expect(ended == (0, told_of_start(data)), f"{what}: {ended}")
         left = content(path)
         expect(left == settled(data), f"{what}: {left[-60:]!r} is left")
         count = self.count(left) - self.before

@@ -23,7 +23,6 @@ STATIONS = "ABCDEFGHIJKLMNOPQRSTUVWX"
 # Where a sync costs nothing, for logs that are only opened.
 IN_MEMORY = "/dev/shm" if os.access("/dev/shm", os.W_OK) else None
 CANT_OPEN, CANT_WRITE = "navtex: the log {} can't be opened", "navtex: the log {} can't be written"
-PUT_FAILED = "navtex: the log can't be written; entries go to standard output from here on"
 
 # Behind the last N of an emission's only message stand CR, LF, LF and three ends: 49 elements are
 # behind its copy.
@@ -62,8 +61,6 @@ class Trial:
         self.chance = random.Random(given.seed)
         self.counter = 0
         self.made = None
-        self.tells = self.tells_of_cuts()
-        self.is_deaf = self.is_deaf_at_first()
 
     def path(self, folder=None):
         """A name of no file so far, in the folder for files or in this one."""
@@ -78,19 +75,6 @@ class Trial:
             words = ["-O2", "-shared", "-fPIC", "-o", self.made, f"{ROOT}/ci/power.c", "-ldl"]
             subprocess.run([compiler, *words], check=True)
         return self.made
-
-    def tells_of_cuts(self):
-        """Whether a start tells what it cuts, and a watch at once that a put failed."""
-        path = self.path()
-        write(path, b" [EA")
-        return bool(self.watch(path, BEGIN, b"")[2])
-
-    def is_deaf_at_first(self):
-        """Whether elements before the first moment have no effect."""
-        path = self.path()
-        given = "".join(self.message(0, "E", "A", 1, 5).lines).encode()
-        expect(self.watch(path, BEGIN, given)[0] == 0, "elements without a moment")
-        return not read_kept(content(path))[0]
 
     def text(self, length):
         """Lines of random words, of about that many characters."""
@@ -176,13 +160,13 @@ def settled(data):
     return data[: front_of(data)[1]] + b" "
 
 
-def told_of_start(trial, data):
+def told_of_start(data):
     """What a start tells of the bytes that it cuts of a log that isn't damaged: how many they are,
     and of each whole entry among them its head."""
     place = len(settled(data)) - 1
     place += data[place : place + 1] == b" " and len(data) > place + 1
     behind = data[place:]
-    if not trial.tells or behind in (b"", b" "):
+    if behind in (b"", b" "):
         return []
     lines = [f"navtex: {len(behind)} bytes at line {line_of(data, place)} of the log are no kept "
              "entry, and are cut"]

@@ -23,6 +23,15 @@ pub record HeardOfCut {T : Type 0} (hears_of_cut : T → ℕ → List ℕ → T 
   pub nothing : bytes ≡ [] → new ≡ old
   pub heard : bytes ≢ [] → hears_of_cut old line bytes new
 
+-- It took some records, and heard that some bytes behind them are cut, if it heard of any.
+pub record TookOnly {T : Type 0} (takes : T → List ℕ → T → Type 0)
+    (hears_of_cut : T → ℕ → List ℕ → T → Type 0) (old new : T) : Type 0 where
+  pub given : T
+  pub taken : TookSome takes old given
+  pub line : ℕ
+  pub bytes : List ℕ
+  pub heard : HeardOfCut hears_of_cut line bytes given new
+
 -- The file was records behind open gates and a tail. It took the records, in order, and heard of
 -- what is cut of the tail. (A closed gate is no line feed, so the bytes behind it begin on its
 -- line.)

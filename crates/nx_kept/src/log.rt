@@ -30,7 +30,7 @@ impl<D: DiskFile, G: Grammar> KeptLog<D, G> {
     ghost use Rattle.nx_kept.specs.Disk.{LeavesOnly, OnlyReads, TellsFaults};
     ghost use Rattle.nx_kept.specs.Kept.{open_gate, IsBehindOpenGates, IsDamaged, IsKeptLog, StandsFor, WithOrWithout};
     ghost use Rattle.nx_kept.specs.Log.{IsAtRest, Keeps};
-    ghost use Rattle.nx_kept.specs.Taker.{TookAll, TookSome};
+    ghost use Rattle.nx_kept.specs.Taker.{TookAll, TookOnly, TookSome};
     ghost use Rattle.nx_kept.specs.Open.{HasCause, KeepsEither, KeepsRecords, Opens, SyncsFirst, SyncsFirstOrReads};
 
     /// Opens a file that a crash may have left, and gives each of its records to the taker, in
@@ -111,10 +111,15 @@ impl<D: DiskFile, G: Grammar> KeptLog<D, G> {
         ensures within { IfErr result (λ e. (start : List ℕ) → D.explains start e.1 →
             D.faults e.1 ≢ D.faults device → D.has_failed_within start e.1) }
 
-        // At a fault it took some of the records, or all, and heard of what is to be cut. Where a
-        // call to write failed, that was the first sync, or it had heard.
+        // Whatever the file is, it took some records and heard of a cut, and nothing else.
+        ensures taken { TookOnly T.takes T.hears_of_cut taker.old taker.new }
+
+        // At a fault it took some of the records, and the file is only read; or it took all, and
+        // heard of what is to be cut. Where a call to write failed, that was the first sync, or it
+        // had heard.
         ensures taken_err { IfErr result (λ e. (start : List ℕ) → D.explains start e.1 →
-            TookSome T.takes taker.old taker.new ⊎ TookAll G.is_record G.LONGEST T.takes
+            (TookSome T.takes taker.old taker.new × OnlyReads (D.seen start) (D.may_leave start)
+            D.moment (D.left_since start) device e.1) ⊎ TookAll G.is_record G.LONGEST T.takes
             T.hears_of_cut (D.seen start device) taker.old taker.new) }
         ensures told_first { IfErr result (λ e. (start : List ℕ) → D.explains start e.1 →
             e.0 ≡ OpenFault.Disk → (taker.new ≡ taker.old) ⊎ TookAll G.is_record G.LONGEST T.takes

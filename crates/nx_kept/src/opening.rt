@@ -4,7 +4,7 @@ ghost use Rattle.std.specs.Prelude.{◌≡◌, ◌≢◌, ◌⊎◌, ◌+◌, �
 ghost use Rattle.nx_kept.specs.Disk.{LeavesOnly, Only, OnlyReads, TellsFaults};
 ghost use Rattle.nx_kept.specs.Kept.{closed_gate, IsDamaged, IsKeptLog, StandsFor};
 ghost use Rattle.nx_kept.specs.Open.{HasCause, SyncsFirst, SyncsFirstOrReads};
-ghost use Rattle.nx_kept.specs.Taker.{TookAll, TookSome};
+ghost use Rattle.nx_kept.specs.Taker.{TookAll, TookOnly, TookSome};
 ghost use Rattle.nx_kept.specs.private.Scan.{IsCutThere, Settles};
 
 use crate::disk::{DiskFailed, DiskFile};
@@ -51,9 +51,11 @@ pub(crate) fn settle<D: DiskFile, G: Grammar, T: RecordTaker>(
     ensures settled { (start : List ℕ) → D.explains start device.new → IfOk result
         (Settles G.is_record G.LONGEST T.takes T.hears_of_cut (D.seen start) (D.may_leave start)
         device.old device.new taker.old taker.new) }
+    ensures taken { TookOnly T.takes T.hears_of_cut taker.old taker.new }
     ensures taken_err { (start : List ℕ) → D.explains start device.new → OnErr result
-        (TookSome T.takes taker.old taker.new ⊎ TookAll G.is_record G.LONGEST T.takes
-        T.hears_of_cut (D.seen start device.old) taker.old taker.new) }
+        ((TookSome T.takes taker.old taker.new × OnlyReads (D.seen start) (D.may_leave start)
+        D.moment (D.left_since start) device.old device.new) ⊎ TookAll G.is_record G.LONGEST
+        T.takes T.hears_of_cut (D.seen start device.old) taker.old taker.new) }
     ensures told_first { (start : List ℕ) → D.explains start device.new →
         IsErrOf result OpenFault.Disk → (taker.new ≡ taker.old) ⊎ TookAll G.is_record G.LONGEST
         T.takes T.hears_of_cut (D.seen start device.old) taker.old taker.new }

@@ -4,7 +4,7 @@ ghost use Rattle.std.specs.Prelude.{◌≡◌, ◌≢◌, ◌↔◌, [], ◌∷�
 ghost use Rattle.nx_kept.specs.Disk.{OnlyReads};
 ghost use Rattle.nx_kept.specs.Kept.{closed_gate, line_feed, IsDamaged};
 ghost use Rattle.nx_kept.specs.Taker as taken;
-ghost use Rattle.nx_kept.specs.Taker.{HeardOfCut, TookSome};
+ghost use Rattle.nx_kept.specs.Taker.{HeardOfCut, TookOnly, TookSome};
 ghost use Rattle.nx_kept.specs.private.Scan.{Ends, ReadsUpTo, Steps};
 
 use crate::disk::DiskFile;
@@ -105,8 +105,8 @@ pub(crate) fn scan<D: DiskFile, G: Grammar, T: RecordTaker>(
     ensures found { (start : List ℕ) → D.explains start device.new → IfOk result
         (Ends G.is_record G.LONGEST T.takes T.hears_of_cut (D.seen start device.old) taker.old
         taker.new) }
-    ensures taken_err { (start : List ℕ) → D.explains start device.new →
-        OnErr result (TookSome T.takes taker.old taker.new) }
+    ensures taken { TookOnly T.takes T.hears_of_cut taker.old taker.new }
+    ensures taken_err { OnErr result (TookSome T.takes taker.old taker.new) }
     ensures in_range { IfOk result (λ end. end.gate < 2 ^ 63) }
     ensures closed_in_range { IfOk result (λ end. IsTrue end.is_closed → end.gate + 1 < 2 ^ 63) }
     ensures faults { IfOk result (λ _. D.faults device.new ≡ D.faults device.old) }

@@ -100,8 +100,8 @@ module _ {R W F D E : Type 0} (d : Devices R W) (b : Beside F D W E) where
   -- said for each first content that explains what it answered. Where it stood for entries, all is
   -- said of what was read, kept, written and told; where it was damaged, at which line. Where it
   -- was no kept log, it was refused, and nothing was done but to read it. The disk is blamed only
-  -- where it failed.
-  -- Whatever the file was, some lines were told of on standard error, and nothing else.
+  -- where it failed. Whatever the file was, it was told on standard error what is cut, and of some
+  -- lines, and nothing else.
   pub record WatchesFile (moment : ℕ) (disk disk_after : D) (answer : Result WatchReport WatchFault)
       : Type 0 where
     pub watched : (start : List ℕ) (entries : List MarkedCopy)

@@ -150,9 +150,11 @@ watch. Elements before any line of T are heard at MOMENT, or at the newest
 moment that FILE remembers where that is later.
 
 Puts each entry into FILE, and brings it to the disk, before it reads on. An
-empty line stands before each entry and a space behind the last. Nothing is
-written to standard output, but where an entry can't be put: then it and all
-later ones go there.
+empty line stands before each entry and a space behind the last. What stands
+behind that space is cut at the start; how many bytes, and the head of each
+entry among them, is told on standard error first. Nothing is written to
+standard output, but where an entry can't be put: then it and all later ones
+go there.
 
 FILE is a regular file on a local disk, which is made where it isn't there. A
 damaged one is refused at its line and stays as it is, and so is a log of

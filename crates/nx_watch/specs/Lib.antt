@@ -1,5 +1,6 @@
 pub mod Acting
 pub mod AnyLines
+pub mod CutTold
 pub mod LineRun
 pub mod Stamp
 pub mod Stamps

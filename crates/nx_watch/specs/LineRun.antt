@@ -10,6 +10,7 @@ use Rattle.nx_memory.specs.Selection.{is_vital}
 use Rattle.nx_watch.specs.Acting.{acting_lines, count_without, ends_watch, first_without}
 use Rattle.nx_watch.specs.Acting.{goes_on, in_force, moments_behind, moments_said}
 use Rattle.nx_watch.specs.AnyLines.{AreLines, cut_line}
+use Rattle.nx_watch.specs.CutTold.{TellsOfSomeCut}
 use Rattle.nx_watch.specs.declared.lines.line_effects.StartMoments.{StartMoments}
 use Rattle.nx_watch.specs.declared.lines.line_run.LinesWatched.{LinesWatched}
 use Rattle.nx_watch.specs.declared.lines.line_run.WatchEnd.{WatchEnd}
@@ -60,11 +61,11 @@ HasTold old new failures text =
     ((failures ≡ 0) × Appends old new text)
     ⊎ ((failures ≡ 1) × (taken : ℕ) × (taken < length text) × Appends old new (take taken text))
 
--- Some lines were told of.
+-- Some bytes were told of that are cut, and then some lines.
 abbrev pub TellsOfLines : Option (List ℕ) → Option (List ℕ) → ℕ → Type 0
 TellsOfLines old new failures =
-    (first : StartMoments) × (lines : List (Option Line))
-    × HasTold old new failures (told_of first lines)
+    (cut : List ℕ) × TellsOfSomeCut cut × (first : StartMoments) × (lines : List (Option Line))
+    × HasTold old new failures (cut ++ told_of first lines)
 
 -- These bytes were given to a writer: they were written, or a first part of them, where a write
 -- failed. Where there are none, it wasn't called.

@@ -7,8 +7,9 @@ use Rattle.nx_fec.specs.air_files.AirFile.{Line, moment}
 use Rattle.nx_fec.specs.Transfers.{CountedDevice, Devices, IsReadOut, count_of}
 use Rattle.nx_fec.specs.declared.air_files.channel.Channel.{Channel}
 use Rattle.nx_fec.specs.declared.air_files.channel.Channel.TheVariants.{Zero, One, Two}
-use Rattle.nx_kept.specs.Disk.{FailedOnce, LeavesOnly}
-use Rattle.nx_kept.specs.Kept.{IsBehindOpenGates, IsDamaged, StandsFor, closed_gate}
+use Rattle.nx_kept.specs.Disk.{FailedOnce, LeavesOnly, OnlyReads}
+use Rattle.nx_kept.specs.Kept.{IsBehindOpenGates, IsDamaged, StandsFor, closed_gate, line_behind}
+use Rattle.nx_kept.specs.Taker.{cut_of}
 use Rattle.nx_kept.specs.declared.disk.DiskFile.{Ghosts as TellsOfDisk}
 use Rattle.nx_log.specs.Entries.{IsWholeEntry}
 use Rattle.nx_log.specs.Logged.{IsLoggedAs, remembered_on}
@@ -21,6 +22,7 @@ use Rattle.nx_receiver.specs.copies.Shares.{Given, MarkedCopy, Starts, starts_fr
 use Rattle.nx_watch.specs.Acting.{acting_lines, count_without, ends_watch, first_without, goes_on}
 use Rattle.nx_watch.specs.Acting.{in_force, moments_behind, most_bytes}
 use Rattle.nx_watch.specs.AnyLines.{AreLines, cut_line}
+use Rattle.nx_watch.specs.CutTold.{AreHeads, cut_told}
 use Rattle.nx_watch.specs.Start.{remembered_at}
 use Rattle.nx_watch.specs.LineRun.{HasTold, StopsBehind, first_told, told_of}
 use Rattle.nx_watch.specs.Stamp.{Stamp}
@@ -50,6 +52,15 @@ pub record RestsWithEntries (entries : List MarkedCopy) (file : List ℕ) : Type
   pub front : List ℕ
   pub kept : IsBehindOpenGates IsWholeEntry texts front
   pub whole : file ≡ front ++ closed_gate ∷ []
+
+-- The text tells what a start cuts of a file that stands for logged entries, whose bytes are these
+-- texts: the bytes of its tail behind a closed gate, or a byte that is no closed gate.
+pub record TellsOfCut (file text : List ℕ) : Type 0 where
+  pub texts : List (List ℕ)
+  pub stands : StandsFor IsWholeEntry longest_entry texts file
+  pub heads : List (List ℕ)
+  pub are : AreHeads (cut_of stands.tail) heads
+  pub told : text ≡ cut_told (line_behind stands.front) (cut_of stands.tail) heads
 
 -- all of these entries but the last
 abbrev pub all_but_last : List MarkedCopy → List MarkedCopy
@@ -197,11 +208,20 @@ module _ {D R W E : Type 0} (d : WatchDevices D R W E) where
         (d.streams.contents at.writer.inner) log
     pub well : at.writer.failures ≡ 0
 
-  -- What stood at a read of a watch that started so at this moment and printed these copies in all,
-  -- where `bytes` are those of its input. The lines that were whole had been taken, and none ended
-  -- the watch. What they print had been kept, or written from a failed put on. The first of them
-  -- without effect had been told, or a write of that had failed.
-  pub record StoodAt (now : ℕ) (starts : Starts) (entries : List MarkedCopy) (bytes : List ℕ)
+  -- What the start cut of this file had been told, and then this text, as these notices stood; or
+  -- a write of that had failed.
+  abbrev pub HasToldBehindCut : List ℕ → CountedDevice E → List ℕ → Type 0
+  HasToldBehindCut file at text =
+      (cut : List ℕ) × TellsOfCut file cut
+      × HasTold (d.told d.notices.inner) (d.told at.inner) at.failures (cut ++ text)
+
+  -- What stood at a read of a watch that opened this file, started so at this moment, and printed
+  -- these copies in all, where `bytes` are those of its input. The lines that were whole had been
+  -- taken, and none ended the watch. What they print had been kept, or written from a failed put
+  -- on. What the start cut had been told, and the first of the lines without effect, or a write of
+  -- that had failed.
+  pub record StoodOver (file : List ℕ) (now : ℕ) (starts : Starts) (entries : List MarkedCopy)
+      (bytes : List ℕ)
       (copies : List MarkedCopy) (at : Stamp D (CountedDevice W) (CountedDevice E))
       : Type 0 where
     pub within : at.read ≤ length bytes
@@ -212,8 +232,14 @@ module _ {D R W E : Type 0} (d : WatchDevices D R W E) where
     pub printed : List MarkedCopy
     pub prints : PrintsInTurn starts (given_by (acting_lines (moments_at now starts) lines)) printed
     pub kept : HadKept entries printed copies at ⊎ HadWritten printed at
-    pub told : HasTold (d.told d.notices.inner) (d.told at.notices.inner) at.notices.failures
+    pub told : HasToldBehindCut file at.notices
         (first_told (first_without (moments_at now starts) lines))
+
+  -- the same over the file as it stood before the watch
+  abbrev pub StoodAt : ℕ → Starts → List MarkedCopy → List ℕ → List MarkedCopy
+      → Stamp D (CountedDevice W) (CountedDevice E) → Type 0
+  StoodAt now starts entries bytes copies at =
+      StoodOver (d.tells.seen d.start d.disk) now starts entries bytes copies at
 
   -- All copies are kept behind the entries, on the disk, and nothing was written. The file is at
   -- rest.
@@ -235,13 +261,14 @@ module _ {D R W E : Type 0} (d : WatchDevices D R W E) where
     pub written : HasTold (d.streams.contents d.streams.writer.inner)
         (d.streams.contents d.streams.writer_after.inner) d.streams.writer_after.failures log
 
-  -- A watch that started so at this moment over a file that stands for these entries read these
-  -- lines until it stopped so. They print these copies; at each moment the file stands for the
-  -- entries and a beginning of the copies; and what is told of the lines was told. At each read of
-  -- the input all of that stood already, of the lines that were whole by then. A read failed
-  -- exactly where it stopped at a failed read; a write failed only where it stopped at that, or
-  -- closed.
-  pub record HasWatched (now : ℕ) (starts : Starts) (entries : List MarkedCopy) (stop : Stop)
+  -- A watch that opened this file, which stands for these entries, and started so at this moment
+  -- read these lines until it stopped so. They print these copies; at each moment the file stands
+  -- for the entries and a beginning of the copies; and what the start cut was told, and what is
+  -- told of the lines. At each read of the input all of that stood already, of the lines that were
+  -- whole by then. A read failed exactly where it stopped at a failed read; a write failed only
+  -- where it stopped at that, or closed.
+  pub record HasWatchedOver (file : List ℕ) (now : ℕ) (starts : Starts)
+      (entries : List MarkedCopy) (stop : Stop)
       (lines : List (Option Line)) (copies : List MarkedCopy)
       : Type 0 where
     pub bytes : List ℕ
@@ -252,34 +279,50 @@ module _ {D R W E : Type 0} (d : WatchDevices D R W E) where
         stop bytes lines
     pub printed : PrintsUntil stop starts
         (given_by (acting_lines (moments_at now starts) lines)) copies
-    pub before_each_read : All (StoodAt now starts entries bytes copies) d.stamps
+    pub before_each_read : All (StoodOver file now starts entries bytes copies) d.stamps
     pub any_moment : LeavesAtAnyMoment entries (λ file.
         (count : ℕ) × (count ≤ length copies)
         × StandsForEntries (entries ++ take count copies) file)
     pub failed_read : (stop ≡ unread) ↔ (d.streams.reader_after.failures ≡ 1)
     pub failed_write : FailsWrites stop d.streams.writer_after.failures
-    pub notices_told : HasTold (d.told d.notices.inner) (d.told d.notices_after.inner)
-        d.notices_after.failures (told_of (moments_at now starts) lines)
+    pub notices_told : HasToldBehindCut file d.notices_after
+        (told_of (moments_at now starts) lines)
 
-  -- Only the file was touched. At each moment it stands for the entries.
+  -- the same over the file as it stood before the watch
+  abbrev pub HasWatched : ℕ → Starts → List MarkedCopy → Stop → List (Option Line)
+      → List MarkedCopy → Type 0
+  HasWatched now starts entries stop lines copies =
+      HasWatchedOver (d.tells.seen d.start d.disk) now starts entries stop lines copies
+
+  -- Only the file was touched, and at each moment it stands for the entries. What is to be cut of
+  -- it was told; or nothing was told, and the file is only read.
   pub record HasOpened (entries : List MarkedCopy) : Type 0 where
     pub any_moment : LeavesAtAnyMoment entries (StandsForEntries entries)
     pub unread : d.streams.reader_after ≡ d.streams.reader
     pub unstamped : d.stamps ≡ []
     pub unwritten : d.streams.writer_after ≡ d.streams.writer
-    pub untold : d.notices_after ≡ d.notices
+    pub told : HasToldBehindCut (d.tells.seen d.start d.disk) d.notices_after []
+        ⊎ ((d.notices_after ≡ d.notices)
+        × OnlyReads (d.tells.seen d.start) (d.tells.may_leave d.start) d.tells.moment
+        (d.tells.left_since d.start) d.disk d.disk_after)
 
-  -- What a watch answers that started so at this moment over a file that stands for these entries,
-  -- once it was opened. All copies are kept, and how it stopped is answered. Or the disk failed as
-  -- a copy was put, which is answered, whatever else ended the watch then.
-  abbrev pub AnswersStarted : ℕ → Starts → List MarkedCopy → Result WatchReport WatchFault
+  -- What a watch answers that opened this file, which stands for these entries, and started so at
+  -- this moment. All copies are kept, and how it stopped is answered. Or the disk failed as a copy
+  -- was put, which is answered, whatever else ended the watch then.
+  abbrev pub AnswersOver : List ℕ → ℕ → Starts → List MarkedCopy → Result WatchReport WatchFault
       → Type 0
-  AnswersStarted now starts entries outcome =
+  AnswersOver file now starts entries outcome =
       (stop : Stop) × (lines : List (Option Line)) × (copies : List MarkedCopy)
-      × HasWatched now starts entries stop lines copies
+      × HasWatchedOver file now starts entries stop lines copies
       × ((KeepsAll entries copies
       × AnswersStop (moments_at now starts) stop lines copies outcome)
       ⊎ (KeepsSome entries copies × (outcome ≡ Err Disk)))
+
+  -- the same over the file as it stood before the watch
+  abbrev pub AnswersStarted : ℕ → Starts → List MarkedCopy → Result WatchReport WatchFault
+      → Type 0
+  AnswersStarted now starts entries outcome =
+      AnswersOver (d.tells.seen d.start d.disk) now starts entries outcome
 
   -- What a watch answers that started at this moment over a file that stands for these entries.
   -- Such a file is never damaged. Where it couldn't be opened, or memory ran out, only the file was

@@ -4,6 +4,7 @@ pub mod Running
 pub mod Scanning
 pub mod Keeping
 pub mod Remembering
+pub mod Cutting
 pub mod Entries
 pub mod Answering
 pub mod LoggingListener

@@ -13,8 +13,8 @@ ghost use Rattle.nx_watch.specs.private.Answering.{fault_answered};
 ghost use Rattle.nx_watch.specs.declared.watch_fault.WatchFault.TheVariants.{Damaged as DamagedAt};
 
 use crate::kept_log::keeper::Keeper;
-use crate::kept_log::log_grammar::LogGrammar;
 use crate::kept_log::log_memory::LogMemory;
+use crate::kept_log::log_opening::open_log;
 use crate::lines::line_effects::StartMoments;
 use crate::logging_listener::LoggingListener;
 use crate::stamped::StampedReader;
@@ -22,7 +22,7 @@ use crate::watch_fault::WatchFault;
 use crate::watch_report::WatchReport;
 use arrayvec::ArrayVec;
 use nx_fec::Counting;
-use nx_kept::{DiskFile, KeptLog, OpenFault};
+use nx_kept::{DiskFile, OpenFault};
 use nx_receiver::Listener;
 use std::alloc::Global;
 use std::io::{Read, Write};
@@ -33,10 +33,10 @@ use std::io::{Read, Write};
 /// at `moment`, in whole seconds since 1970-01-01 00:00:00 UTC, with what is remembered of the log
 /// then; everything is selected. Elements that come before any moment set it, or the newest
 /// remembered one where that is later; one past the year 2999 isn't set. The end of the input
-/// closes the channels 0, 1 and 2 in order, and so does a moment that ends the watch. Lines without
-/// effect are told of on `notices`: the first before the next read, and their number at the end. A
-/// failed write there is passed over. Memory is taken before the first read, and not later. Hands
-/// the file back.
+/// closes the channels 0, 1 and 2 in order, and so does a moment that ends the watch. What is cut
+/// of the log is told on `notices` before it is cut. Lines without effect are told of there too:
+/// the first before the next read, and their number at the end. A failed write there is passed
+/// over. Memory is taken before the first read, and not later. Hands the file back.
 ///
 /// From a failed put on the disk isn't called any more: that entry and all later ones are written
 /// to `writer`, each before the next read, as `listen` writes them. Whatever ends the watch then, a
@@ -91,12 +91,12 @@ pub fn watch<D: DiskFile + Drop, R: Read, W: Write, F: Write>(
     ensures cause { HasCause D.DiskFile result.0 device result.1 }
     ensures explained { (start : List ℕ) → D.explains start result.1 → D.explains start device }
 
-    // Whatever the file is, some lines were told of on `notices`, and nothing else.
+    // Whatever the file is, it was told on `notices` what is cut, and of some lines; nothing else.
     ensures told { TellsOfLines (F.contents notices.old.inner) (F.contents notices.new.inner)
         notices.new.failures }
 {
     let mut memory = LogMemory::new();
-    let log = match KeptLog::open(alloc, device, LogGrammar, &mut memory) {
+    let log = match open_log(alloc, device, &mut memory, notices) {
         Ok(log) => log,
         Err((fault, device)) => return (Err(fault_of(fault)), device),
     };

@@ -1,6 +1,6 @@
 //! The receivers of a watch, and the log in which it keeps what they print.
 
-ghost use Rattle.std.specs.Prelude.{◌≡◌, ◌+◌, ◌<◌, ◌≤◌, ℕ, Bool, List, [], ◌∷◌, ◌++◌, length, take, drop, true, false};
+ghost use Rattle.std.specs.Prelude.{◌≡◌, ◌+◌, ◌<◌, ◌≤◌, ℕ, Bool, List, [], ◌∷◌, ◌++◌, Option, length, take, drop, true, false};
 ghost use Rattle.std.specs.List.{All, AllZip};
 ghost use Rattle.nx_envelope.specs.Moment.{last_moment};
 ghost use Rattle.nx_fec.specs.air_files.AirFile.{Line, elements};
@@ -15,7 +15,8 @@ ghost use Rattle.nx_receiver.specs.copies.Shares.{Given, MarkedCopy, Starts};
 ghost use Rattle.nx_watch.specs.LineRun.{StandsWith, WithWriter, with_writer};
 ghost use Rattle.nx_watch.specs.declared.kept_log.keeper.Keeper.{Keeper as TheKeeper};
 ghost use Rattle.nx_watch.specs.declared.logging_listener.LoggingListener.{LoggingListener as TheLoggingListener};
-ghost use Rattle.nx_watch.specs.LineRun.{TellsOfLines};
+ghost use Rattle.nx_watch.specs.CutTold.{TellsOfSomeCut};
+ghost use Rattle.nx_watch.specs.LineRun.{HasTold, TellsOfLines};
 ghost use Rattle.nx_watch.specs.Stamps.{IsFresh, counted_of, stamps_of};
 ghost use Rattle.nx_watch.specs.private.Keeping.{HasKept, KeepsWith};
 ghost use Rattle.nx_watch.specs.private.LoggingListener.{HasClosed, HasRun, IsCopyInRange, IsLineInRange, KeepsHeard, KeepsLines};
@@ -167,12 +168,14 @@ impl<D: DiskFile + Drop> LoggingListener<D> {
     ) -> (Result<WatchReport, WatchFault>, D)
         requires reader { IsFresh reader.old }
         requires writer { writer.old.failures ≡ 0 }
-        requires notices { notices.old.failures ≡ 0 }
-        ensures runs { first.newest ≡ (starts_of self.listener).moment → self.keeper.put ≡ 0
+        ensures runs { (before : CountedDevice F) (cut : List ℕ)
+            → HasTold (F.contents before.inner) (F.contents notices.old.inner) notices.old.failures
+            cut
+            → first.newest ≡ (starts_of self.listener).moment → self.keeper.put ≡ 0
             → (starts_of self.listener).moment ≤ last_moment
             → HearsGiven (starts_of self.listener) self.listener [] []
             → HasKept D.DiskFile self.keeper self.keeper [] []
-            → HasRun D.DiskFile first.started self (λ content. record {
+            → HasRun D.DiskFile first.started cut self (λ content. record {
               tells = D.DiskFile;
               start = content;
               disk = self.keeper.log.device;
@@ -180,16 +183,17 @@ impl<D: DiskFile + Drop> LoggingListener<D> {
               streams = devices R.remaining W.contents (counted_of reader.old)
                   (counted_of reader.new) writer.old writer.new;
               told = F.contents;
-              notices = notices.old;
+              notices = before;
               notices_after = notices.new;
               stamps = stamps_of reader.new;
             }) result.0 result.1 }
-        ensures told { first.newest ≡ (starts_of self.listener).moment
+        ensures told { (old : Option (List ℕ)) (cut : List ℕ) → TellsOfSomeCut cut
+            → HasTold old (F.contents notices.old.inner) notices.old.failures cut
+            → first.newest ≡ (starts_of self.listener).moment
             → (starts_of self.listener).moment ≤ last_moment
             → HearsGiven (starts_of self.listener) self.listener [] []
             → HasKept D.DiskFile self.keeper self.keeper [] []
-            → TellsOfLines (F.contents notices.old.inner) (F.contents notices.new.inner)
-            notices.new.failures }
+            → TellsOfLines old (F.contents notices.new.inner) notices.new.failures }
     {
         match watch_lines(reader, writer, notices, &mut self, first, MOST_BYTES) {
             Ok(counts) => self.close(writer).answer(Ok(counts)),

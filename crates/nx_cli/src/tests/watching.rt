@@ -137,6 +137,44 @@ fn kept_damaged(rt: HostRuntime) {
     );
 }
 
+// Ten bytes stand behind the space, which is on line 5.
+#[test]
+fn kept_torn(rt: HostRuntime) {
+    let torn = join(&rt, rt.alloc(), &[KEPT, b"[EA02 2025"]);
+    let told = "navtex: 10 bytes at line 5 of the log are no kept entry, and are cut\n";
+    expect_kept(&rt, rt.alloc(), "kept-torn", &torn, b"", (0, told, b""), KEPT);
+}
+
+// Two entries that somebody appended, of 42 and 37 bytes.
+#[test]
+fn kept_appended(rt: HostRuntime) {
+    let more: &[u8] = b"[EA01 2025-01-01 00:40:00 full 0/5]\nTEST\n\n\
+        [EB02 2025-01-01 00:40:00 full 0/0]\n\n";
+    let appended = join(&rt, rt.alloc(), &[KEPT, more]);
+    let told = "navtex: 79 bytes at line 5 of the log are no kept entry, and are cut\n\
+        navtex: cut: [EA01 2025-01-01 00:40:00 full 0/5]\n\
+        navtex: cut: [EB02 2025-01-01 00:40:00 full 0/0]\n";
+    let end: End = (0, told, b"");
+    expect_kept(&rt, rt.alloc(), "kept-appended", &appended, b"", end, KEPT);
+}
+
+// A gate that a crash tore as it was made.
+#[test]
+fn kept_gate(rt: HostRuntime) {
+    let told = "navtex: 1 bytes at line 1 of the log are no kept entry, and are cut\n";
+    expect_kept(&rt, rt.alloc(), "kept-gate", b"x", b"", (0, told, b""), b" ");
+}
+
+// The third call is the cut, which fails: behind what it would have cut, that is told.
+#[test]
+fn its_cut_fails(rt: HostRuntime) {
+    let told = "navtex: 10 bytes at line 1 of the log are no kept entry, and are cut\n\
+        navtex: the log x.log can't be written\n";
+    let files = file_of(&rt, rt.alloc(), b" [EA02 2025", 3);
+    let mut source = Source::of(AIR_FILE_OF_EA01);
+    expect_watch(&rt, rt.alloc(), "its-cut-fails", files, &mut source, (1, told, b""));
+}
+
 #[test]
 fn watch_clock_back(rt: HostRuntime) {
     let input = air_file_at(&rt, rt.alloc(), MOMENT_OF_EA01, b"T 5\nT 6\n");

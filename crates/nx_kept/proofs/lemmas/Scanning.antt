@@ -2,7 +2,7 @@
 use Rattle.std.proofs.Common.{◌≡◌, ◌↔◌, Bool, IsTrue, ℕ, suc, ◌+◌, ◌<◌, ◌≤◌, List, [], ◌∷◌, ◌++◌, length, take, drop, refl, sym, ◌∙◌, ap, subst, arith, append_assoc, length-append, length-take, count_by, ◌==◌}
 use Rattle.std.proofs.lemmas.List.{drop_at, drop-take, take_all, take_at, take-take}
 use Rattle.nx_kept.specs.Kept.{closed_gate, line_feed, line_behind, IsTail, IsBehindOpenGates, IsDamaged, IsDamagedBehind}
-use Rattle.nx_kept.specs.Taker.{HeardOfCut, Took, cut_of}
+use Rattle.nx_kept.specs.Taker.{HeardOfCut, Took, TookOnly, TookSome, cut_of}
 use Rattle.nx_kept.specs.private.Scan.{Ends, IsAtRecord}
 use Rattle.nx_kept.proofs.lemmas.Pieces.{count_by-append, take_past}
 use Rattle.nx_kept.proofs.lemmas.KeptLaws.{one_behind, damaged_behind, tail_short}
@@ -15,6 +15,23 @@ took_one takes [] last old mid new took then_one =
     (new, subst (λ t. takes t last new) took then_one, refl)
 took_one takes (first ∷ records) last old mid new took then_one =
     (took.0, took.1, took_one takes records last took.0 mid new took.2 then_one)
+
+pub some_more : {T : Type 0} (takes : T → List ℕ → T → Type 0) (last : List ℕ) (old mid new : T)
+    → TookSome takes old mid → takes mid last new → TookSome takes old new
+some_more takes last old mid new some then_one =
+    (some.0 ++ last ∷ [], took_one takes some.0 last old mid new some.1 then_one)
+
+-- it heard of nothing
+pub nothing_heard : {T : Type 0} (takes : T → List ℕ → T → Type 0)
+    (hears : T → ℕ → List ℕ → T → Type 0) (old new : T) → TookSome takes old new
+    → TookOnly takes hears old new
+nothing_heard takes hears old new some = record {
+  given = new;
+  taken = some;
+  line = 0;
+  bytes = [];
+  heard = record { nothing = λ e. refl; heard = λ some. absurd (some refl) };
+}
 
 -- the gate and the record at the front
 first_of : (gate n : ℕ) (first rest : List ℕ) → n ≡ length first

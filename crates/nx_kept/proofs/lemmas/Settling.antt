@@ -2,7 +2,7 @@
 use Rattle.std.proofs.Common.{◌≡◌, ℕ, ◌≤◌, List, [], ◌∷◌, ◌++◌, length, take, sym, ◌∙◌, ap, arith, length-append, IsTrue}
 use Rattle.std.proofs.lemmas.List.{take_at}
 use Rattle.nx_kept.specs.Disk.{Only}
-use Rattle.nx_kept.specs.Kept.{closed_gate}
+use Rattle.nx_kept.specs.Kept.{closed_gate, IsKeptLog}
 use Rattle.nx_kept.specs.Taker.{TookAll}
 use Rattle.nx_kept.specs.private.Scan.{Ends, Settles}
 use Rattle.nx_kept.specs.declared.scan.Rest.{Rest}
@@ -59,3 +59,21 @@ module _ {D T : Type 0} (f : File D) (is_record : List ℕ → Type 0) (longest 
         closed = repaired there ∙ ap (λ (l : List ℕ). l ++ closed_gate ∷ []) before_it;
         durable = durable;
       }
+
+-- a file that was read to its end is a kept log
+pub is_kept_log : {T : Type 0} {is_record : List ℕ → Type 0} {longest : ℕ}
+    {takes : T → List ℕ → T → Type 0} {hears_of_cut : T → ℕ → List ℕ → T → Type 0}
+    {file read : List ℕ} {before after : T} {end : Rest} → read ≡ file
+    → Ends is_record longest takes hears_of_cut read before after end
+    → IsKeptLog is_record longest file
+is_kept_log {T} {is_record} {longest} {takes} {hears_of_cut} {file} {read} {before} {after} {end}
+    same ends = (
+      ends.all.records,
+      record {
+        front = ends.all.front;
+        tail = ends.all.tail;
+        kept = ends.all.kept;
+        end = ends.all.end;
+        split = sym same ∙ ends.all.split;
+      },
+    )

@@ -7,3 +7,4 @@ pub mod Remembering
 pub mod Stamping
 pub mod Start
 pub mod LoggingListener
+pub mod Cutting

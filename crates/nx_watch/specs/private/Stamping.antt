@@ -6,12 +6,13 @@ use Rattle.nx_fec.specs.Transfers.{CountedDevice}
 use Rattle.nx_kept.specs.declared.disk.DiskFile.{Ghosts as TellsOfDisk}
 use Rattle.nx_watch.specs.Acting.{acting_lines, first_without, goes_on}
 use Rattle.nx_watch.specs.AnyLines.{AreLines}
-use Rattle.nx_watch.specs.LineRun.{HasTold, StandsWith, WithWriter, first_told, with_writer}
+use Rattle.nx_watch.specs.LineRun.{StandsWith, WithWriter, with_writer}
 use Rattle.nx_watch.specs.Stamp.{Stamp}
 use Rattle.nx_watch.specs.declared.lines.line_effects.StartMoments.{StartMoments}
 use Rattle.nx_watch.specs.declared.logging_listener.LoggingListener.{LoggingListener}
 use Rattle.nx_watch.specs.private.Keeping.{keeper_since}
 use Rattle.nx_watch.specs.private.LoggingListener.{KeepsLines}
+use Rattle.nx_watch.specs.private.Running.{HasToldFirst, ToldBefore}
 
 -- one that began like this one, and to which the other's log, of so many texts, was given
 abbrev pub logging_since : {D : Type 0} → LoggingListener D → LoggingListener D → ℕ
@@ -23,15 +24,15 @@ logging_since start past count = record {
 }
 
 -- What a run needs of its devices to tell of its stamps: what the disk, the output and the notices
--- tell, and what stood on the notices at first.
+-- tell, and what stood on the notices before its first line.
 pub record Telling (D W N : Type 0) : Type 1 where
   pub disk : TellsOfDisk D
   pub contents : W → Option (List ℕ)
   pub told : N → Option (List ℕ)
-  pub old : Option (List ℕ)
+  pub old : ToldBefore
 
 abbrev pub telling : {D W N : Type 0} → TellsOfDisk D → (W → Option (List ℕ))
-    → (N → Option (List ℕ)) → Option (List ℕ) → Telling D W N
+    → (N → Option (List ℕ)) → ToldBefore → Telling D W N
 telling disk contents told old =
     record { disk = disk; contents = contents; told = told; old = old }
 
@@ -54,8 +55,8 @@ module _ {D W N : Type 0} (tells : Telling D W N) where
     pub on : goes_on first lines ≡ true
     pub stood : StandsWith (KeepsLines tells.disk) tells.contents start
         (with_writer past at.writer) (acting_lines first lines)
-    pub told_first : HasTold tells.old (tells.told at.notices.inner) at.notices.failures
-        (first_told (first_without first lines))
+    pub told_first : HasToldFirst tells.old (tells.told at.notices.inner) at.notices.failures
+        (first_without first lines)
     pub well : at.writer.failures ≡ 0
     pub went_on : past.keeper.has_failed ≡ false
         → WentOn (with_writer (logging_since start.taker past (length stood.1.texts)) at.writer)

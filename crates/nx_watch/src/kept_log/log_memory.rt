@@ -10,11 +10,10 @@ ghost use Rattle.nx_memory.specs.Memory.{most_entries};
 ghost use Rattle.nx_memory.specs.declared.memories.entry.MemoryEntry.{MemoryEntry as TheEntry};
 ghost use Rattle.nx_receiver.specs.copies.Shares.{MarkedCopy};
 ghost use Rattle.nx_watch.specs.Watch.{all_saved_at};
-ghost use Rattle.nx_watch.specs.private.Remembering.{entry_found, memory_on};
+ghost use Rattle.nx_watch.specs.private.Remembering.{RemembersMore, entry_found, memory_on};
 
 use crate::kept_log::channel_memory::ChannelMemory;
 use nx_fec::Channel;
-use nx_kept::RecordTaker;
 use nx_log::{entry_at, remembered_of};
 use nx_memory::{MemoryEntry, SavedSet};
 
@@ -54,6 +53,16 @@ impl LogMemory {
         }
     }
 
+    /// Takes the logged entry of these bytes, and remembers it where a memory does.
+    pub(crate) fn take(&mut self, bytes: &[u8])
+        ensures { RemembersMore self.old bytes.now self.new }
+    {
+        match found_in(bytes) {
+            Some((channel, entry)) => self.enter(channel, entry),
+            None => {}
+        }
+    }
+
     /// What is remembered at a moment.
     pub(crate) fn saved_at(&self, moment: u64) -> SavedSet
         ensures { (entries : List MarkedCopy)
@@ -79,26 +88,4 @@ fn found_in(bytes: &[u8]) -> Option<(Channel, MemoryEntry)>
     let view = entry_at(bytes)?;
     let entry = remembered_of(&view)?;
     Some((view.head.channel, entry))
-}
-
-impl RecordTaker for LogMemory {
-    ghost use Rattle.std.specs.Prelude.{◌≡◌};
-    ghost use Rattle.nx_log.specs.Entries.{IsWholeEntry};
-    ghost use Rattle.nx_watch.specs.private.Remembering.{RemembersMore};
-
-    ghost can_take = { IsWholeEntry };
-
-    ghost takes = { RemembersMore };
-
-    ghost hears_of_cut = { λ before line bytes after. after ≡ before };
-
-    fn take(&mut self, bytes: &[u8]) {
-        match found_in(bytes) {
-            Some((channel, entry)) => self.enter(channel, entry),
-            None => {}
-        }
-    }
-
-    /// What is cut is no entry that counts, so nothing is remembered of it.
-    fn hear_of_cut(&mut self, _line: u64, _bytes: &[u8]) {}
 }

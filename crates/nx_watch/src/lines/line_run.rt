@@ -7,8 +7,8 @@ ghost use Rattle.nx_fec.specs.air_files.AirFile.{IsLine, Line, moment};
 ghost use Rattle.nx_fec.specs.Transfers.{FailsOnce};
 ghost use Rattle.nx_watch.specs.Acting.{most_bytes};
 ghost use Rattle.nx_watch.specs.AnyLines.{AreLines};
-ghost use Rattle.nx_watch.specs.LineRun.{AnswersRun, AreCounted, HasTaken, HasTold, MayAct, StandsWith, WithWriter, told_of, with_writer};
-ghost use Rattle.nx_watch.specs.private.Running.{EndsInput, EndsRun, IsRunning, TellsFirst};
+ghost use Rattle.nx_watch.specs.LineRun.{AnswersRun, AreCounted, HasTaken, HasTold, MayAct, StandsWith, WithWriter, with_writer};
+ghost use Rattle.nx_watch.specs.private.Running.{EndsInput, EndsRun, HasToldLines, IsRunning, TellsFirst, ToldBefore};
 ghost use Rattle.nx_receiver.specs.Listener.{starts_of};
 ghost use Rattle.nx_watch.specs.Stamps.{IsFresh, counted_of, stamps_of};
 ghost use Rattle.nx_watch.specs.private.LoggingListener.{KeepsLines};
@@ -106,25 +106,24 @@ pub(crate) fn watch_lines<R: Read, D: DiskFile + Drop, W: Write, F: Write>(
 ) -> Result<LinesWatched, WatchEnd>
     requires reader { IsFresh reader.old }
     requires writer { writer.old.failures ≡ 0 }
-    requires notices { notices.old.failures ≡ 0 }
     requires limit { limit ≤ most_bytes }
-    ensures watched { (start : TheLoggingListener D) → (starts_of start.listener).moment
-        ≡ first.newest
+    ensures watched { (start : TheLoggingListener D) (old : ToldBefore)
+        → (starts_of start.listener).moment ≡ first.newest
         → KeepsLines D.DiskFile start logging.old [] []
+        → HasTold old.old (F.contents notices.old.inner) notices.old.failures old.text
         → (bytes : List ℕ)
         × Consumes (R.remaining (counted_of reader.old).inner)
         (R.remaining (counted_of reader.new).inner) bytes
         × (length bytes ≤ limit)
         × AnswersRun (record {
           stands = StandsStamped
-              (telling D.DiskFile W.contents F.contents (F.contents notices.old.inner)) first bytes
+              (telling D.DiskFile W.contents F.contents old) first bytes
               (stamps_of reader.new);
           start = with_writer start writer.old;
           now = with_writer logging.new writer.new;
           first = first;
           AtEnd = IsAtEnd (R.remaining (counted_of reader.new).inner) ⊎ (length bytes ≡ limit);
-          tells = λ lines. HasTold (F.contents notices.old.inner) (F.contents notices.new.inner)
-              notices.new.failures (told_of first lines);
+          tells = HasToldLines old (F.contents notices.new.inner) notices.new.failures first;
         }) result bytes }
     ensures unread { IsErrOf result ReadFailed ↔ ((counted_of reader.new).failures ≡ 1) }
     ensures once { (counted_of reader.new).failures ≤ 1 }
@@ -168,7 +167,7 @@ impl LineRun {
         requires lines { self.old.effects.lines ≡ 0 }
         requires fewer { self.old.effects.without_effect ≡ 0 }
         ensures read { (start : WithWriter (TheLoggingListener D) W) (first : TheStart)
-            (old : Option (List ℕ))
+            (old : ToldBefore)
             → (starts_of start.taker.listener).moment ≡ first.newest
             → IsRunning (StandsWith (KeepsLines D.DiskFile) W.contents) start
             (with_writer logging.old writer.old) first self.old old
@@ -229,7 +228,7 @@ impl LineRun {
         requires within { self.old.scanner.scanner.room ≤ most_bytes }
         requires few { self.old.effects.lines + length piece.now ≤ most_bytes }
         requires fewer { self.old.effects.without_effect ≤ self.old.effects.lines }
-        ensures taken { (start : WithWriter T W) (first : TheStart) (old : Option (List ℕ))
+        ensures taken { (start : WithWriter T W) (first : TheStart) (old : ToldBefore)
             (bytes : List ℕ)
             → T.first_moment start.taker ≡ first.newest
             → IsRunning (StandsWith T.stands W.contents) start (with_writer taker.old writer.old)
@@ -281,7 +280,7 @@ impl LineRun {
         requires within { self.old.scanner.scanner.room ≤ most_bytes }
         requires few { self.old.effects.lines + length piece.now ≤ most_bytes }
         requires fewer { self.old.effects.without_effect ≤ self.old.effects.lines }
-        ensures taken { (start : WithWriter T W) (first : TheStart) (old : Option (List ℕ))
+        ensures taken { (start : WithWriter T W) (first : TheStart) (old : ToldBefore)
             (bytes : List ℕ)
             → T.first_moment start.taker ≡ first.newest
             → IsRunning (StandsWith T.stands W.contents) start (with_writer taker.old writer.old)
@@ -328,7 +327,7 @@ impl LineRun {
     fn end<F: Write>(&mut self, notices: &mut Counting<F>) -> LinesWatched
         requires few { self.old.effects.lines < 2 ^ 63 }
         requires fewer { self.old.effects.without_effect ≤ self.old.effects.lines }
-        ensures { (first : TheStart) (old : Option (List ℕ)) (bytes : List ℕ)
+        ensures { (first : TheStart) (old : ToldBefore) (bytes : List ℕ)
             (lines : List (Option Line)) → IsScanning self.old.scanner bytes lines
             → TellsFirst first self.old.effects old (F.contents notices.old.inner)
             notices.old.failures lines
@@ -344,15 +343,14 @@ impl LineRun {
 
     /// Tells how many lines had no effect, and answers the counts.
     fn count<F: Write>(&self, notices: &mut Counting<F>) -> LinesWatched
-        ensures counted { (first : TheStart) (old : Option (List ℕ)) (lines : List (Option Line))
+        ensures counted { (first : TheStart) (old : ToldBefore) (lines : List (Option Line))
             → TellsFirst first self.now.effects old (F.contents notices.old.inner)
             notices.old.failures lines
             → AreCounted first lines result }
-        ensures told { (first : TheStart) (old : Option (List ℕ)) (lines : List (Option Line))
+        ensures told { (first : TheStart) (old : ToldBefore) (lines : List (Option Line))
             → TellsFirst first self.now.effects old (F.contents notices.old.inner)
             notices.old.failures lines
-            → HasTold old (F.contents notices.new.inner) notices.new.failures
-            (told_of first lines) }
+            → HasToldLines old (F.contents notices.new.inner) notices.new.failures first lines }
     {
         tell_number(self.effects.without_effect(), notices);
         self.effects.counts()
@@ -363,7 +361,7 @@ impl LineRun {
     fn pass_line<F: Write>(&mut self, notices: &mut Counting<F>)
         requires few { self.old.effects.lines < 2 ^ 63 }
         requires fewer { self.old.effects.without_effect ≤ self.old.effects.lines }
-        ensures tells { (first : TheStart) (old : Option (List ℕ)) (lines : List (Option Line))
+        ensures tells { (first : TheStart) (old : ToldBefore) (lines : List (Option Line))
             → TellsFirst first self.old.effects old (F.contents notices.old.inner)
             notices.old.failures lines
             → TellsFirst first self.new.effects old (F.contents notices.new.inner)
@@ -416,7 +414,7 @@ impl LineRun {
         requires writer { writer.old.failures ≡ 0 }
         requires few { self.old.effects.lines < 2 ^ 63 }
         requires fewer { self.old.effects.without_effect ≤ self.old.effects.lines }
-        ensures taken { (start : WithWriter T W) (first : TheStart) (old : Option (List ℕ))
+        ensures taken { (start : WithWriter T W) (first : TheStart) (old : ToldBefore)
             (lines : List (Option Line)) (line : Line)
             → T.first_moment start.taker ≡ first.newest
             → self.old.scanner.scanner.latest ≡ Some line

@@ -1,7 +1,8 @@
 //! What is told of lines without effect.
 
 ghost use Rattle.std.specs.Prelude.{◌≡◌, ◌+◌, ◌≤◌, ◌<◌, ℕ, List, ◌++◌, IsSome, Some, Option, decimal, length};
-ghost use Rattle.nx_watch.specs.LineRun.{HasTold, first_told, number_told};
+ghost use Rattle.nx_watch.specs.LineRun.{HasTold, number_told};
+ghost use Rattle.nx_watch.specs.private.Running.{HasToldFirst, ToldBefore};
 
 use arrayvec::ArrayVec;
 use itoa::Buffer;
@@ -13,9 +14,9 @@ const MOST_TOLD: usize = 64;
 
 /// Tells of the first line without effect, where there is one now and was none before.
 pub(crate) fn tell_first<F: Write>(before: Option<u64>, now: Option<u64>, notices: &mut Counting<F>)
-    ensures { (old : Option (List ℕ)) → (IsSome before → now ≡ before)
-        → HasTold old (F.contents notices.old.inner) notices.old.failures (first_told before)
-        → HasTold old (F.contents notices.new.inner) notices.new.failures (first_told now) }
+    ensures { (old : ToldBefore) → (IsSome before → now ≡ before)
+        → HasToldFirst old (F.contents notices.old.inner) notices.old.failures before
+        → HasToldFirst old (F.contents notices.new.inner) notices.new.failures now }
 {
     if before.is_some() {
         return;

@@ -1,11 +1,12 @@
-use Rattle.std.proofs.Common.{rules, List, ℕ, inl, inr, subst}
+use Rattle.std.proofs.Common.{rules, List, [], ℕ, inl, inr, refl, subst}
 use Rattle.std.proofs.lemmas.Result.{err_from_is_err_and}
 use Rattle.nx_kept.specs.Kept.{IsDamaged}
 use Rattle.nx_kept.proofs.lemmas.Calls.{file_of, sync_reads}
 use Rattle.nx_kept.proofs.lemmas.Pieces.{on_err}
 use Rattle.nx_kept.proofs.lemmas.Repairing.{read_cause, read_first, repaired}
 use Rattle.nx_kept.proofs.lemmas.Stages.{reads_both}
-use Rattle.nx_kept.proofs.lemmas.Settling.{all_of, settled_closed, settled_repaired}
+use Rattle.nx_kept.proofs.lemmas.Scanning.{nothing_heard}
+use Rattle.nx_kept.proofs.lemmas.Settling.{all_of, is_kept_log, settled_closed, settled_repaired}
 use Rattle.nx_kept.proofs.opening.settle.Goals as goal
 
 -- the file is being brought to the disk
@@ -214,3 +215,55 @@ returns-in_err-repair-clause-told_first g c = λ start explains same_fault.
     (c.scan.ensures.only_reads start) c.args.taker.now c.scan.new.taker
     c.in_ok-rest.rest (c.in_ok-rest.ensures.found start
     (c.repair.ensures.explained start explains)))
+
+-- before that, it was only read
+pub returns-in_err-sync-clause-taken_err : goal.returns-in_err-sync-clause-taken_err
+returns-in_err-sync-clause-taken_err g c = λ start explains.
+    let d = g.D.DiskFile in
+    let f = file_of (d.seen start) (d.may_leave start) d.moment (d.left_since start) in
+    let first = sync_reads f (g.met.D.DiskFile.only_now start c.args.device.now)
+    (record {
+      time = c.sync.ensures.time start;
+      crash = c.sync.ensures.crash start;
+      seen = c.sync.ensures.seen start;
+    }) in
+    on_err c.from_residual-in_err-sync.result (inl (([], refl), first))
+
+pub returns-in_err-rest-clause-taken_err : goal.returns-in_err-rest-clause-taken_err
+returns-in_err-rest-clause-taken_err g c = λ start explains.
+    let d = g.D.DiskFile in
+    let f = file_of (d.seen start) (d.may_leave start) d.moment (d.left_since start) in
+    let first = sync_reads f (g.met.D.DiskFile.only_now start c.args.device.now)
+    (record {
+      time = c.sync.ensures.time start;
+      crash = c.sync.ensures.crash start;
+      seen = c.sync.ensures.seen start;
+    }) in
+    on_err c.from_residual-in_err-rest.result
+    (inl (
+      c.in_err-rest.ensures.taken_err,
+      reads_both f.moment f.left_since f.may_leave f.seen c.args.device.now c.sync.new.self
+          c.scan.new.device first (c.scan.ensures.only_reads start),
+    ))
+
+-- nothing was heard of
+pub returns-in_err-buffer-clause-taken : goal.returns-in_err-buffer-clause-taken
+returns-in_err-buffer-clause-taken g c =
+    nothing_heard g.T.RecordTaker.takes g.T.RecordTaker.hears_of_cut c.args.taker.now
+    c.args.taker.now ([], refl)
+
+pub returns-in_err-sync-clause-taken : goal.returns-in_err-sync-clause-taken
+returns-in_err-sync-clause-taken g c =
+    nothing_heard g.T.RecordTaker.takes g.T.RecordTaker.hears_of_cut c.args.taker.now
+    c.args.taker.now ([], refl)
+
+-- a file whose end is put right was a kept log
+pub returns-in_err-repair-clause-only_read_err : goal.returns-in_err-repair-clause-only_read_err
+returns-in_err-repair-clause-only_read_err g c = λ start explains none.
+    absurd (none (is_kept_log (c.sync.ensures.seen start)
+    (c.in_ok-rest.ensures.found start (c.repair.ensures.explained start explains))))
+
+pub returns-clause-only_read_err : goal.returns-clause-only_read_err
+returns-clause-only_read_err g c = λ start explains none.
+    absurd (none (is_kept_log (c.sync.ensures.seen start)
+    (c.in_ok-rest.ensures.found start (c.repair.ensures.explained start explains))))

@@ -5,7 +5,7 @@ use Rattle.nx_kept.specs.Kept.{line_feed, IsDamaged}
 use Rattle.nx_kept.specs.private.Scan.{IsAtRecord}
 use Rattle.nx_kept.proofs.lemmas.Stages.{reads_on}
 use Rattle.nx_kept.proofs.lemmas.Steps.{record_fits, record_there}
-use Rattle.nx_kept.proofs.lemmas.Scanning.{reached_damage, reached_end, reached_more}
+use Rattle.nx_kept.proofs.lemmas.Scanning.{nothing_heard, reached_damage, reached_end, reached_more, some_more}
 use Rattle.nx_kept.proofs.scan.scan.Goals as goal
 
 pub returns-in_default-clause-only_reads : goal.returns-in_default-clause-only_reads
@@ -143,7 +143,28 @@ gates-preserved g c =
           (inv.reached start (c.read_at.ensures.explained start explains)) shown
           (c.in-Record.ensures (drop c.gates.gate (g.D.DiskFile.seen start c.args.device.now))
           shown) fits took count;
+      took = some_more g.T.RecordTaker.takes _ c.args.taker.now c.gates.taker c.take.new.self
+          inv.took c.take.ensures;
     }
+
+pub returns-in-Tail-clause-taken : goal.returns-in-Tail-clause-taken
+returns-in-Tail-clause-taken g c = record {
+  given = c.gates.taker;
+  taken = c.gates.invariant.took;
+  line = c.gates.line;
+  bytes = _;
+  heard = c.tell_of_cut.ensures;
+}
+
+pub returns-in_default-clause-taken : goal.returns-in_default-clause-taken
+returns-in_default-clause-taken g c =
+    nothing_heard g.T.RecordTaker.takes g.T.RecordTaker.hears_of_cut c.args.taker.now c.gates.taker
+    c.gates.invariant.took
+
+pub returns-in-Damaged-clause-taken : goal.returns-in-Damaged-clause-taken
+returns-in-Damaged-clause-taken g c =
+    nothing_heard g.T.RecordTaker.takes g.T.RecordTaker.hears_of_cut c.args.taker.now c.gates.taker
+    c.gates.invariant.took
 
 pub returns-in-Damaged-clause-damaged : goal.returns-in-Damaged-clause-damaged
 returns-in-Damaged-clause-damaged g c = λ start line explains same.

@@ -4,6 +4,7 @@ use Rattle.std.proofs.Common.{Result, Ok, Err, Option, Some, None, length, take,
 use Rattle.std.proofs.Common.{arith, append_assoc, length-append, if◌then◌else◌}
 use Rattle.std.specs.Prelude.{codes, decimal, string_bytes}
 use Rattle.std.specs.Io.KnownBytes.{Appends}
+use Rattle.std.specs.List.{flat_map}
 use Rattle.std.proofs.KnownBytes.{Appends-nil, Appends-trans}
 use Rattle.std.proofs.Math.Seq.{take-append-add}
 use Rattle.std.proofs.lemmas.List.{take-append-le}
@@ -15,6 +16,7 @@ use Rattle.nx_watch.specs.declared.watch_fault.WatchFault.TheVariants as watch
 use Rattle.nx_program.specs.declared.watch_command.WatchFailure.{WatchFailure}
 use Rattle.nx_program.specs.declared.watch_command.WatchFailure.TheVariants.{Ended, Unopened}
 use Rattle.nx_watch.specs.Acting.{count_without, first_without}
+use Rattle.nx_watch.specs.CutTold.{TellsOfSomeCut, cut_told, head_told}
 use Rattle.nx_watch.specs.LineRun.{HasTold, TellsOfLines, first_told, number_told, told_of}
 use Rattle.nx_program.specs.declared.fault.Fault.{Fault}
 use Rattle.nx_program.specs.declared.fault.Fault.TheVariants as fault
@@ -157,6 +159,17 @@ behind-told told text first count is line =
     ∙ append_assoc (first_told first) (number_told count) text))
     (behind-first first (number_told count ++ text) (behind-number count text line))
 
+behind-cut : (cut text : List ℕ) → TellsOfSomeCut cut → IsFaultLine text → IsFaultLine (cut ++ text)
+behind-cut cut text (line, bytes, heads, are, is) end =
+    subst (λ (l : List ℕ). IsFaultLine (l ++ text)) (sym is) (so bytes)
+  where
+    so : (bytes : List ℕ) → IsFaultLine (cut_told line bytes heads ++ text)
+    so [] = end
+    so (byte ∷ bytes) =
+        behind-another ((decimal (length (byte ∷ bytes)) ++ (codes " bytes at line "
+        ++ (decimal line ++ codes " of the log are no kept entry, and are cut\n")))
+        ++ flat_map head_told heads) text end
+
 -- a text behind what was told is one text with it
 module _ {E : Type 0} (contents : E → Option (List ℕ)) (told : List ℕ)
     (IsText IsAll : List ℕ → Type 0)
@@ -223,8 +236,13 @@ nothing-told : {F D W E : Type 0} (b : Beside F D W E) → b.faults.failures ≡
     b.faults_after.failures
 nothing-told {F} {D} {E} b none unused =
     subst (λ (e : CountedDevice E). TellsOfLines (b.contents b.faults.inner) (b.contents e.inner)
-    e.failures) (sym unused.untold)
-    (record { newest = 0; started = 0 }, [], inl (none, Appends-nil (b.contents b.faults.inner)))
+    e.failures) (sym unused.untold) (
+      [],
+      (0, [], [], refl, refl),
+      record { newest = 0; started = 0 },
+      [],
+      inl (none, Appends-nil (b.contents b.faults.inner)),
+    )
 
 watch-told : {R W F D E : Type 0} (d : Devices R W) (b : Beside F D W E) (name : Text) (moment : ℕ)
     (outcome : Result (Unit {0}) Fault) → b.faults.failures ≡ 0
@@ -251,12 +269,15 @@ pub reported-line : {E : Type 0} (contents : E → Option (List ℕ)) (old mid n
 reported-line contents old mid new (Ok done) status is told reports not_zero = absurd (not_zero is)
 reported-line contents old mid new (Err why) status is told reports not_zero =
     let line = fault-text why in
-    behind contents (told_of told.0 told.1) (IsFaultText why)
+    let lines = told_of told.2 told.3 in
+    behind contents (told.0 ++ lines) (IsFaultText why)
     (λ text. status ≢ 64 → IsFaultLine text)
-    (λ text is_text other. behind-told (told_of told.0 told.1) text (first_without told.0 told.1)
-    (count_without told.0 told.1) refl
-    (text-line why text (λ arguments. other (is ∙ arguments)) is_text))
-    old mid new line.0 line.1 told.2 reports
+    (λ text is_text other. subst IsFaultLine (sym (append_assoc told.0 lines text))
+    (behind-cut told.0 (lines ++ text) told.1
+    (behind-told lines text (first_without told.2 told.3)
+    (count_without told.2 told.3) refl
+    (text-line why text (λ arguments. other (is ∙ arguments)) is_text))))
+    old mid new line.0 line.1 told.4 reports
 
 -- the same device in both has the same content and the same failures
 pub inner-same : {D : Type 0} (a b : CountedDevice D) → a ≡ b → a.inner ≡ b.inner

@@ -1,8 +1,7 @@
-use Rattle.std.proofs.Common.{◌≡◌, ◌≤◌, ◌∙◌, [], ℕ, Result, Err, ap, arith, inl, refl, subst, sym}
+use Rattle.std.proofs.Common.{◌≡◌, ◌≤◌, ◌∙◌, [], ℕ, List, Option, Result, Err, ap, append-nil, arith, inl, refl, subst, sym}
 use Rattle.std.specs.Prelude.{unwrap_or}
 use Rattle.std.specs.List.{AllZip}
 use Rattle.nx_kept.specs.Log.{Keeps}
-use Rattle.nx_kept.specs.Taker.{Took, cut_of}
 use Rattle.nx_log.specs.Entries.{IsWholeEntry}
 use Rattle.nx_log.specs.Logged.{IsLoggedAs}
 use Rattle.nx_envelope.specs.Moment.{last_moment}
@@ -11,15 +10,16 @@ use Rattle.nx_watch.specs.declared.watch_report.WatchReport.{WatchReport}
 use Rattle.nx_watch.specs.declared.watch_fault.WatchFault.{WatchFault}
 use Rattle.nx_watch.specs.declared.watch_fault.WatchFault.TheVariants.{Damaged, Memory}
 use Rattle.nx_receiver.specs.copies.Shares.{Starts, starts_from}
-use Rattle.nx_watch.specs.Watch.{AnswersStarted, HasCause, RefusesLog, starts_at}
+use Rattle.nx_watch.specs.CutTold.{TellsOfSomeCut}
+use Rattle.nx_watch.specs.LineRun.{HasTold, TellsOfLines}
+use Rattle.nx_watch.specs.Watch.{AnswersOver, HasCause, RefusesLog, starts_at}
 use Rattle.nx_watch.specs.Stamps.{counted_of, stamps_of}
 use Rattle.nx_watch.specs.declared.lines.line_effects.StartMoments.{StartMoments}
 use Rattle.nx_watch.specs.private.Keeping.{HasKept}
 use Rattle.nx_watch.proofs.lemmas.log.Keeping.{fresh-keeper, keeps-stands, kept-none}
 use Rattle.nx_watch.proofs.lemmas.log.Opening.{answers-opening, answers-watch, cause-behind, cause-opening, damage-named, entries-of, has-opened, not-damaged, refuses, same-texts, started-before, started-so}
-use Rattle.nx_watch.proofs.lemmas.log.Remembering.{heard-nothing, took-all}
-use Rattle.nx_watch.specs.private.Remembering.{RemembersMore}
-use Rattle.nx_watch.proofs.lemmas.lines.Run.{nothing}
+use Rattle.nx_watch.proofs.lemmas.log.Remembering.{took-all}
+use Rattle.nx_watch.proofs.lemmas.log.Cutting.{told-first, told-opening, untold-foreign}
 use Rattle.nx_watch.proofs.left_on.watch.Goals as goal
 use Rattle.nx_watch.proofs.left_on.watch.Goals.{After-run}
 
@@ -41,8 +41,11 @@ returns-in-Err-clause-watched g c = λ start entries ex stands.
     let opened = has-opened disk start c.args.device c.in-Err.device g.R.Read.remaining
     (counted_of c.args.reader.now) (counted_of c.args.reader.now) g.W.Write.contents
     c.args.writer.now c.args.writer.now
-    g.F.Write.contents c.args.notices.now c.args.notices.now entries stands.texts stands.each
-    (c.in-Err.ensures.any_moment_err start stands.texts ex stands.stands) refl refl refl
+    g.F.Write.contents c.args.notices.now c.open_log.new.notices entries stands.texts
+    stands.each
+    (c.in-Err.ensures.any_moment_err start stands.texts ex stands.stands) refl refl
+    (told-opening g.F.Write.contents (disk.seen start c.args.device) c.args.notices.now
+    c.open_log.new.notices c.requires.notices (c.in-Err.ensures.told_err start ex))
     (stamps_of c.args.reader.now) c.requires.reader.none_made in
     rw c.fault_of.ensures
     (answers-opening _ c.args.moment entries fault opened
@@ -64,7 +67,13 @@ returns-in-Err-clause-refused g c = λ start ex none.
 
 pub returns-in-Err-clause-foreign : goal.returns-in-Err-clause-foreign
 returns-in-Err-clause-foreign g c = λ start ex none.
-    (c.in-Err.ensures.only_read_err start ex none, refl, refl, refl)
+    let disk = g.D.DiskFile in (
+      c.in-Err.ensures.only_read_err start ex none,
+      refl,
+      refl,
+      untold-foreign g.F.Write.contents (disk.seen start c.args.device) c.args.notices.now
+          c.open_log.new.notices none (c.in-Err.ensures.told_err start ex),
+    )
 
 pub returns-in-Err-clause-cause : goal.returns-in-Err-clause-cause
 returns-in-Err-clause-cause g c =
@@ -82,8 +91,11 @@ returns-in_default-clause-watched g c = λ start entries ex stands.
     let opened = has-opened disk start c.args.device log.device g.R.Read.remaining
     (counted_of c.args.reader.now) (counted_of c.args.reader.now) g.W.Write.contents
     c.args.writer.now c.args.writer.now
-    g.F.Write.contents c.args.notices.now c.args.notices.now entries stands.texts stands.each
-    (c.in-Ok.ensures.any_moment start stands.texts explained stands.stands) refl refl refl
+    g.F.Write.contents c.args.notices.now c.open_log.new.notices entries stands.texts
+    stands.each
+    (c.in-Ok.ensures.any_moment start stands.texts explained stands.stands) refl refl
+    (told-opening g.F.Write.contents (disk.seen start c.args.device) c.args.notices.now
+    c.open_log.new.notices c.requires.notices (inl (c.in-Ok.ensures.opened start explained).told))
     (stamps_of c.args.reader.now) c.requires.reader.none_made in
     rw (c.answer.ensures.well refl, c.answer.ensures.device) opened
 
@@ -96,7 +108,7 @@ returns-in_default-clause-refused g c = λ start ex none.
     let disk = g.D.DiskFile in
     let opened = c.in-Ok.ensures.opened start (subst (disk.explains start) c.answer.ensures.device
     ex) in
-    let o = opened.all in
+    let o = opened in
     absurd (none (
       o.records,
       record {
@@ -113,7 +125,7 @@ returns-in_default-clause-foreign g c = λ start ex none.
     let disk = g.D.DiskFile in
     let opened = c.in-Ok.ensures.opened start (subst (disk.explains start) c.answer.ensures.device
     ex) in
-    let o = opened.all in
+    let o = opened in
     absurd (none (
       o.records,
       record {
@@ -160,33 +172,52 @@ begins g c =
       },
     )
 
+-- whatever was told, the run was as it is said of it
+ran : (g : _) → (c : After-run g) → (cut : List ℕ)
+    × TellsOfSomeCut cut
+    × HasTold (g.F.Write.contents c.args.notices.now.inner)
+    (g.F.Write.contents c.open_log.new.notices.inner) c.open_log.new.notices.failures
+    cut
+ran g c =
+    let told = c.open_log.ensures.told in (
+      told.0,
+      told.1,
+      told-first g.F.Write.contents c.args.notices.now c.open_log.new.notices told.0
+          c.requires.notices told.2,
+    )
+
 pub returns-clause-watched : goal.returns-clause-watched
 returns-clause-watched g c = λ start entries ex stands.
     let disk = g.D.DiskFile in
     let log = c.in-Ok.log in
     let b = begins g (goal.at.returns-clause-watched g c).After-run in
-    let run = c.run.ensures.runs b.0 refl b.1 b.2 b.3 in
-    let explained = run.explained start ex in
+    let some = ran g (goal.at.returns-clause-watched g c).After-run in
+    let any = c.run.ensures.runs c.args.notices.now some.0 some.2 b.0 refl b.1 b.2 b.3 in
+    let explained = any.explained start ex in
     let opened = c.in-Ok.ensures.opened start explained in
-    let o = opened.all in
+    let o = opened in
+    let told = o.told in
+    let run = c.run.ensures.runs c.args.notices.now told.0
+    (told-first g.F.Write.contents c.args.notices.now c.open_log.new.notices told.0
+    c.requires.notices told.2) b.0 refl b.1 b.2 b.3 in
     let same = same-texts stands.texts o.records o.front o.tail (disk.seen start c.args.device)
     stands.stands o.kept o.end o.split in
     let each = subst (AllZip IsLoggedAs entries) same stands.each in
     let keeps : Keeps (disk.seen start) (disk.may_leave start) IsWholeEntry o.records log =
     record { front = o.front; kept = o.kept; at_rest = opened.at_rest } in
     let saved = c.saved_at-saved.ensures entries
-    (took-all c.new-memory.result c.open.new.taker entries o.records c.new-memory.ensures each
-    (subst (Took RemembersMore c.new-memory.result o.records)
-    (sym (heard-nothing _ (cut_of o.tail) o.given c.open.new.taker o.heard)) o.taken)) in
+    (took-all c.new-memory.result c.open_log.new.memory entries o.records c.new-memory.ensures each
+    o.taken) in
     let starts : starts_of c.in-Ok-starting.listener ≡ starts_at c.args.moment entries =
     c.in-Ok-starting.ensures.start ∙ ap starts_from saved in
-    let answer = run.answers start entries o.records each keeps in
+    let answer = run.answers start (disk.seen start c.args.device) entries o.records told.1 each
+    keeps in
     answers-watch _ entries c.args.moment c.run.result.0
     (started-before disk start c.args.device log.device c.run.result.1 g.R.Read.remaining
     (counted_of c.args.reader.now) (counted_of c.run.new.reader) g.W.Write.contents
     c.args.writer.now c.run.new.writer
     g.F.Write.contents c.args.notices.now c.run.new.notices (stamps_of c.run.new.reader)
-    (starts_at c.args.moment entries)
+    (disk.seen start c.args.device) (starts_at c.args.moment entries)
     entries o.records c.run.result.0 each c.in-Ok.ensures.faults
     (c.in-Ok.ensures.any_moment start o.records explained (record {
       front = o.front;
@@ -196,42 +227,54 @@ returns-clause-watched g c = λ start entries ex stands.
       split = o.split;
     }))
     (λ file left. keeps-stands disk start o.records (fresh-keeper log) keeps file left)
-    (started-so _ entries c.run.result.0 starts answer))
+    (started-so _ (disk.seen start c.args.device) entries c.run.result.0 starts answer))
 
 pub returns-clause-cause : goal.returns-clause-cause
 returns-clause-cause g c =
     let disk = g.D.DiskFile in
     let b = begins g (goal.at.returns-clause-cause g c).After-run in
+    let some = ran g (goal.at.returns-clause-cause g c).After-run in
     cause-behind disk c.run.result.0 c.args.device c.in-Ok.log.device c.run.result.1
     c.in-Ok.ensures.faults
-    (c.run.ensures.runs b.0 refl b.1 b.2 b.3).cause
+    (c.run.ensures.runs c.args.notices.now some.0 some.2 b.0 refl b.1 b.2 b.3).cause
 
 pub returns-clause-explained : goal.returns-clause-explained
 returns-clause-explained g c = λ start ex.
     let b = begins g (goal.at.returns-clause-explained g c).After-run in
-    c.in-Ok.ensures.explained start ((c.run.ensures.runs b.0 refl b.1 b.2 b.3).explained start ex)
+    let some = ran g (goal.at.returns-clause-explained g c).After-run in
+    c.in-Ok.ensures.explained start
+    ((c.run.ensures.runs c.args.notices.now some.0 some.2 b.0 refl b.1 b.2 b.3).explained start ex)
 
 pub returns-clause-damaged : goal.returns-clause-damaged
 returns-clause-damaged g c = λ start line ex e.
     let disk = g.D.DiskFile in
     let log = c.in-Ok.log in
     let b = begins g (goal.at.returns-clause-damaged g c).After-run in
-    let run = c.run.ensures.runs b.0 refl b.1 b.2 b.3 in
-    let opened = c.in-Ok.ensures.opened start (run.explained start ex) in
-    let o = opened.all in
+    let some = ran g (goal.at.returns-clause-damaged g c).After-run in
+    let any = c.run.ensures.runs c.args.notices.now some.0 some.2 b.0 refl b.1 b.2 b.3 in
+    let opened = c.in-Ok.ensures.opened start (any.explained start ex) in
+    let o = opened in
     let found = entries-of o.records o.front o.kept in
+    let told = o.told in
+    let run = c.run.ensures.runs c.args.notices.now told.0
+    (told-first g.F.Write.contents c.args.notices.now c.open_log.new.notices told.0
+    c.requires.notices told.2) b.0 refl b.1 b.2 b.3 in
     let keeps : Keeps (disk.seen start) (disk.may_leave start) IsWholeEntry o.records log =
     record { front = o.front; kept = o.kept; at_rest = opened.at_rest } in
-    let answer = run.answers start found.0 o.records found.1 keeps in
-    absurd (not-damaged _ found.0 c.args.moment (starts_of c.in-Ok-starting.listener) line
-    (subst (AnswersStarted _ c.args.moment (starts_of c.in-Ok-starting.listener) found.0) e answer))
+    let answer = run.answers start (disk.seen start c.args.device) found.0 o.records told.1 found.1
+    keeps in
+    absurd (not-damaged _ found.0 (disk.seen start c.args.device) c.args.moment
+    (starts_of c.in-Ok-starting.listener) line
+    (subst (AnswersOver _ (disk.seen start c.args.device) c.args.moment
+    (starts_of c.in-Ok-starting.listener) found.0) e answer))
 
 pub returns-clause-refused : goal.returns-clause-refused
 returns-clause-refused g c = λ start ex none.
     let b = begins g (goal.at.returns-clause-refused g c).After-run in
-    let run = c.run.ensures.runs b.0 refl b.1 b.2 b.3 in
-    let opened = c.in-Ok.ensures.opened start (run.explained start ex) in
-    let o = opened.all in
+    let some = ran g (goal.at.returns-clause-refused g c).After-run in
+    let any = c.run.ensures.runs c.args.notices.now some.0 some.2 b.0 refl b.1 b.2 b.3 in
+    let opened = c.in-Ok.ensures.opened start (any.explained start ex) in
+    let o = opened in
     absurd (none (
       o.records,
       record {
@@ -246,9 +289,10 @@ returns-clause-refused g c = λ start ex none.
 pub returns-clause-foreign : goal.returns-clause-foreign
 returns-clause-foreign g c = λ start ex none.
     let b = begins g (goal.at.returns-clause-foreign g c).After-run in
-    let run = c.run.ensures.runs b.0 refl b.1 b.2 b.3 in
-    let opened = c.in-Ok.ensures.opened start (run.explained start ex) in
-    let o = opened.all in
+    let some = ran g (goal.at.returns-clause-foreign g c).After-run in
+    let any = c.run.ensures.runs c.args.notices.now some.0 some.2 b.0 refl b.1 b.2 b.3 in
+    let opened = c.in-Ok.ensures.opened start (any.explained start ex) in
+    let o = opened in
     absurd (none (
       o.records,
       record {
@@ -266,15 +310,29 @@ returns-clause-foreign g c = λ start ex none.
 abbrev no-start : StartMoments
 no-start = record { newest = 0; started = 0 }
 
+-- nothing of lines
+no-lines : (old new : Option (List ℕ)) (failures : ℕ) (cut : List ℕ) → TellsOfSomeCut cut
+    → HasTold old new failures cut → TellsOfLines old new failures
+no-lines old new failures cut some told =
+    (cut, some, no-start, [], subst (HasTold old new failures) (sym (append-nil cut)) told)
+
 pub returns-in-Err-clause-told : goal.returns-in-Err-clause-told
 returns-in-Err-clause-told g c =
-    (no-start, [], inl (c.requires.notices, nothing (g.F.Write.contents c.args.notices.now.inner)))
+    let told = c.open_log.ensures.told in
+    no-lines _ _ _ told.0 told.1
+    (told-first g.F.Write.contents c.args.notices.now c.open_log.new.notices told.0
+    c.requires.notices told.2)
 
 pub returns-in_default-clause-told : goal.returns-in_default-clause-told
 returns-in_default-clause-told g c =
-    (no-start, [], inl (c.requires.notices, nothing (g.F.Write.contents c.args.notices.now.inner)))
+    let told = c.open_log.ensures.told in
+    no-lines _ _ _ told.0 told.1
+    (told-first g.F.Write.contents c.args.notices.now c.open_log.new.notices told.0
+    c.requires.notices told.2)
 
 pub returns-clause-told : goal.returns-clause-told
 returns-clause-told g c =
     let b = begins g (goal.at.returns-clause-told g c).After-run in
-    c.run.ensures.told b.0 b.1 b.2 b.3
+    let some = ran g (goal.at.returns-clause-told g c).After-run in
+    c.run.ensures.told (g.F.Write.contents c.args.notices.now.inner) some.0 some.1 some.2 b.0 b.1
+    b.2 b.3

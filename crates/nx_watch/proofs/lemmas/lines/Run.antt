@@ -22,7 +22,7 @@ use Rattle.nx_watch.specs.Acting.{moments_said, went_far_back, with_start}
 use Rattle.nx_watch.specs.declared.lines.line_effects.StartMoments.{StartMoments}
 use Rattle.nx_watch.specs.AnyLines.{AreLines, cut_line}
 use Rattle.nx_watch.specs.LineRun.{AnswersRun, AreCounted, HasTaken, HasTold, MayAct, RunOverLines}
-use Rattle.nx_watch.specs.LineRun.{Giving, Standing, StandsWith, first_told, told_of}
+use Rattle.nx_watch.specs.LineRun.{Giving, Standing, StandsWith}
 use Rattle.nx_watch.specs.LineRun.{with_writer}
 use Rattle.nx_fec.specs.Transfers.{CountedDevice}
 use Rattle.nx_watch.specs.declared.lines.line_run.LinesWatched.{LinesWatched}
@@ -32,7 +32,7 @@ use Rattle.nx_watch.specs.private.Effects.{IsKept, sets}
 use Rattle.nx_watch.specs.declared.lines.any_scanner.Ended.{Ended}
 use Rattle.nx_watch.specs.declared.lines.line_effects.LineEffects.{LineEffects}
 use Rattle.nx_watch.specs.declared.lines.line_run.LineRun.{LineRun}
-use Rattle.nx_watch.specs.private.Running.{EndsInput, EndsRun, IsRunning, TellsFirst}
+use Rattle.nx_watch.specs.private.Running.{EndsInput, EndsRun, HasToldFirst, HasToldLines, IsRunning, TellsFirst, ToldBefore}
 use Rattle.nx_watch.specs.private.Scanning.{IsScanning, lines_ended}
 use Rattle.nx_watch.proofs.lemmas.lines.Acting.{both, idle-unset, not_second}
 use Rattle.nx_watch.proofs.lemmas.lines.Starting.{is-setting, set-before, set_line, unset-behind}
@@ -297,8 +297,8 @@ may-set first lines line h =
 
 -- a line that acts was taken, and the run goes on or is over
 pub known-ends : {T : Type 0} (stands : Standing T) (start now : T) (first : StartMoments)
-    (lines : List (Option Line)) (line : Line) (kept : LineEffects) (old new : Option (List ℕ))
-    (failures : ℕ) (result : Result (Unit {0}) WatchEnd)
+    (lines : List (Option Line)) (line : Line) (kept : LineEffects) (old : ToldBefore)
+    (new : Option (List ℕ)) (failures : ℕ) (result : Result (Unit {0}) WatchEnd)
     → IfErr result (λ end. end ≡ Write) → goes_on first lines ≡ true
     → HasTaken stands start now first (lines ++ Some line ∷ [])
     → TellsFirst first kept old new failures (lines ++ Some line ∷ [])
@@ -342,7 +342,7 @@ some-line (Some line) h = (line, refl)
 -- ---- a run behind more bytes
 
 pub run-of : {T : Type 0} (stands : Standing T) (start now : T) (first : StartMoments)
-    (run : LineRun) (old new : Option (List ℕ)) (failures : ℕ) (bytes : List ℕ)
+    (run : LineRun) (old : ToldBefore) (new : Option (List ℕ)) (failures : ℕ) (bytes : List ℕ)
     (lines more : List (Option Line))
     (ended : Ended) (latest : Option Line)
     → lines_ended ended latest ≡ more
@@ -370,15 +370,16 @@ whole-behind bytes piece more front tail count h =
 
 -- the input ended, with or without a line that it cuts
 pub ends-input : (first : StartMoments) (bytes : List ℕ) (lines more : List (Option Line))
-    (old new : Option (List ℕ)) (failures : ℕ) (counts : LinesWatched) (rest : List ℕ)
+    (old : ToldBefore) (new : Option (List ℕ)) (failures : ℕ) (counts : LinesWatched)
+    (rest : List ℕ)
     → AreLines bytes lines rest → cut_line rest ≡ more → AreCounted first (lines ++ more) counts
-    → HasTold old new failures (told_of first (lines ++ more))
+    → HasToldLines old new failures first (lines ++ more)
     → EndsInput first bytes lines old new failures counts
 ends-input first bytes lines more old new failures counts rest are cut counted told = record {
   rest = rest;
   are = are;
   counted = subst (λ l. AreCounted first (lines ++ l) counts) (sym cut) counted;
-  told = subst (λ l. HasTold old new failures (told_of first (lines ++ l))) (sym cut) told;
+  told = subst (λ l. HasToldLines old new failures first (lines ++ l)) (sym cut) told;
 }
 
 -- what is told at an end before that of the input
@@ -421,20 +422,18 @@ stands-with stands contents start now writer stood none = (
 
 -- a run before its first line
 pub run-starts : {T : Type 0} (stands : Standing T) (start now : T) (first : StartMoments)
-    (run : LineRun) (contents : Option (List ℕ)) (failures : ℕ) → IsScanning run.scanner [] []
-    → IsKept first [] run.effects → stands start now [] → failures ≡ 0
-    → IsRunning stands start now first run contents contents failures []
-run-starts stands start now first run contents failures scans kept stood none = record {
+    (run : LineRun) (old : ToldBefore) (new : Option (List ℕ)) (failures : ℕ)
+    → IsScanning run.scanner [] [] → IsKept first [] run.effects → stands start now []
+    → HasTold old.old new failures old.text
+    → IsRunning stands start now first run old new failures []
+run-starts stands start now first run old new failures scans kept stood told = record {
   lines = [];
   scans = scans;
   taken = record { on = refl; stood = stood };
   tells = record {
     kept_so = kept;
-    told = inl (
-      none,
-      subst (λ o. Appends contents contents (first_told o)) (sym kept.first_one)
-          (nothing contents),
-    );
+    told = subst (HasToldFirst old new failures) (sym kept.first_one)
+        (subst (HasTold old.old new failures) (sym (append-nil old.text)) told);
   };
 }
 

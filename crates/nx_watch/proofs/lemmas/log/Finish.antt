@@ -25,15 +25,16 @@ use Rattle.nx_receiver.specs.copies.Log.{IsLog}
 use Rattle.nx_receiver.specs.copies.Shares.{MarkedCopy, Starts, marked}
 use Rattle.nx_watch.specs.Acting.{acting_lines, first_without, goes_on, most_bytes}
 use Rattle.nx_watch.specs.declared.lines.line_effects.StartMoments.{StartMoments}
-use Rattle.nx_watch.specs.Watch.{AnswersStarted, AnswersStop, FailsWrites, HadKept, HadWritten, HasCause, HasRead, HasWatched, KeepsAll, KeepsSome, LeavesAtAnyMoment, StoodAt}
+use Rattle.nx_watch.specs.Watch.{AnswersOver, AnswersStop, FailsWrites, HadKept, HadWritten, HasCause, HasRead, HasWatchedOver, KeepsAll, KeepsSome, LeavesAtAnyMoment, StoodOver, TellsOfCut}
 use Rattle.nx_watch.specs.Watch.{PrintsUntil, StandsForEntries, Stop, WatchDevices, at_end, back, moments_at, unread, unwritten}
-use Rattle.nx_watch.specs.LineRun.{HasTold, StandsWith, WereGiven, WithWriter, first_told, told_of, with_writer}
+use Rattle.nx_watch.specs.LineRun.{HasTold, StandsWith, WereGiven, WithWriter, with_writer}
 use Rattle.nx_watch.specs.Stamp.{Stamp}
 use Rattle.nx_watch.specs.declared.kept_log.keeper.Keeper.{Keeper}
 use Rattle.nx_watch.specs.declared.watch_report.WatchReport.{WatchReport}
 use Rattle.nx_watch.specs.declared.watch_fault.WatchFault.{WatchFault}
 use Rattle.nx_watch.specs.declared.watch_fault.WatchFault.TheVariants as fault
 use Rattle.nx_watch.specs.private.Keeping.{AllKept, HasKept, HasKeptSo, KeepsTexts, SomeKept, StandsForFirst, StandsForTexts, keeper_since}
+use Rattle.nx_watch.specs.private.Running.{HasToldFirst, HasToldLines, ToldBefore}
 use Rattle.nx_watch.specs.private.Stamping.{StandsStamped, WasRunning, telling}
 use Rattle.nx_watch.specs.private.LoggingListener.{HasClosed, HasRun, IsLineInRange, KeepsLines}
 use Rattle.nx_watch.specs.declared.logging_listener.LoggingListener.{LoggingListener}
@@ -197,20 +198,21 @@ module _ {D R W E : Type 0} (disk : TellsOfDisk D) (content : List ℕ) (start :
           first-entries entries copies texts more s.0 file each zip s.2,
         ))
 
-    pub answers-started : (started : ℕ) (starts : Starts) (entries copies : List MarkedCopy)
-        (texts more : List (List ℕ)) (now : Keeper D) (given : List ℕ) (stop : Stop)
+    pub answers-started : (file : List ℕ) (started : ℕ) (starts : Starts)
+        (entries copies : List MarkedCopy) (texts more : List (List ℕ)) (now : Keeper D)
+        (given : List ℕ) (stop : Stop)
         (lines : List (Option Line)) (outcome : Result WatchReport WatchFault)
         → AllZip IsLoggedAs entries texts → AllZip IsLoggedAs copies more
         → KeepsTexts disk content texts start
         → HasKeptSo disk now.has_failed start now more given
         → WereGiven contents writer writer_after given
-        → HasWatched (at-hand now.log.device) started starts entries stop lines copies
+        → HasWatchedOver (at-hand now.log.device) file started starts entries stop lines copies
         → (now.has_failed ≡ true → outcome ≡ Err fault.Disk)
         → (now.has_failed ≡ false → AllKept disk start now more given
         → AnswersStop (moments_at started starts) stop lines copies outcome)
-        → AnswersStarted (at-hand now.log.device) started starts entries outcome
-    answers-started started starts entries copies texts more now given stop lines outcome each zip
-        keeps kept wrote watched failed well =
+        → AnswersOver (at-hand now.log.device) file started starts entries outcome
+    answers-started file started starts entries copies texts more now given stop lines outcome each
+        zip keeps kept wrote watched failed well =
         (stop, lines, copies, watched, so now.has_failed refl kept)
       where
         so : (b : Bool) → now.has_failed ≡ b → HasKeptSo disk b start now more given
@@ -357,7 +359,7 @@ heard-on disk contents starts since now keeper lines copies is printed same h = 
 
 -- what stood at the reads of a run that stands so now, and of which the copies were kept so
 pub stamps-keep : {D W N : Type 0} (disk : TellsOfDisk D) (contents : W → Option (List ℕ))
-    (told : N → Option (List ℕ)) (old : Option (List ℕ)) (first : StartMoments)
+    (told : N → Option (List ℕ)) (old : ToldBefore) (first : StartMoments)
     (start now : WithWriter (LoggingListener D) W) (bytes : List ℕ) (keeper : Keeper D)
     (acting all : List Line) (copies : List MarkedCopy)
     (stamps : List (Stamp D (CountedDevice W) (CountedDevice N))) → all ≡ acting
@@ -424,9 +426,13 @@ module _ {D R W E : Type 0} (disk : TellsOfDisk D) (logging : LoggingListener D)
     (first : StartMoments)
     (remaining : R → Option (List ℕ)) (reader reader_after : CountedDevice R)
     (contents : W → Option (List ℕ)) (writer writer_after : CountedDevice W)
-    (told : E → Option (List ℕ)) (notices notices_after : CountedDevice E)
+    (told : E → Option (List ℕ)) (notices notices_after : CountedDevice E) (cut : List ℕ)
     (stamps : List (Stamp D (CountedDevice W) (CountedDevice E)))
   where
+    -- what was told before the first line
+    abbrev before : ToldBefore
+    before = record { old = told notices.inner; text = cut }
+
     -- A run stopped so: its lines print these copies, of which it gave the texts to its keeper, and
     -- this is the keeper that it left.
     pub record HasStopped (stop : Stop) (now : Keeper D) : Type 0 where
@@ -446,13 +452,12 @@ module _ {D R W E : Type 0} (disk : TellsOfDisk D) (logging : LoggingListener D)
           (given_by (acting_lines first lines)) copies
       pub failed_read : (stop ≡ unread) ↔ (reader_after.failures ≡ 1)
       pub failed_write : FailsWrites stop writer_after.failures
-      pub stamped : All (WasRunning (telling disk contents told (told notices.inner))
+      pub stamped : All (WasRunning (telling disk contents told before)
           (with_writer logging writer) first bytes
           (λ whole. (later : List Line)
           × (acting_lines first lines ≡ acting_lines first whole ++ later))
           (KeepsOn disk now copies)) stamps
-      pub said : HasTold (told notices.inner) (told notices_after.inner) notices_after.failures
-          (told_of first lines)
+      pub said : HasToldLines before (told notices_after.inner) notices_after.failures first lines
 
     abbrev at-hand-with : D → List ℕ → WatchDevices D R W E
     at-hand-with device content =
@@ -471,17 +476,18 @@ module _ {D R W E : Type 0} (disk : TellsOfDisk D) (logging : LoggingListener D)
     -- what stood at a read
     stood-at : (stop : Stop) (now : Keeper D) (h : HasStopped stop now)
         → first ≡ moments_at first.started (starts_of logging.listener) → logging.keeper.put ≡ 0
-        → (content : List ℕ) (entries : List MarkedCopy) (texts : List (List ℕ))
+        → (content file : List ℕ) (entries : List MarkedCopy) (texts : List (List ℕ))
+        → TellsOfCut file cut
         → AllZip IsLoggedAs entries texts → KeepsTexts disk content texts logging.keeper
         → (at : Stamp D (CountedDevice W) (CountedDevice E))
-        → WasRunning (telling disk contents told (told notices.inner))
+        → WasRunning (telling disk contents told before)
         (with_writer logging writer) first h.bytes
         (λ whole. (later : List Line)
         × (acting_lines first h.lines ≡ acting_lines first whole ++ later))
         (KeepsOn disk now h.copies) at
-        → StoodAt (at-hand-with now.log.device content) first.started (starts_of logging.listener)
-        entries h.bytes h.copies at
-    stood-at stop now h is none content entries texts each keeps at w = record {
+        → StoodOver (at-hand-with now.log.device content) file first.started
+        (starts_of logging.listener) entries h.bytes h.copies at
+    stood-at stop now h is none content file entries texts is_cut each keeps at w = record {
       within = w.within;
       lines = w.lines;
       rest = w.rest;
@@ -492,8 +498,12 @@ module _ {D R W E : Type 0} (disk : TellsOfDisk D) (logging : LoggingListener D)
           (given_by (acting_lines f w.lines)) printed) is w.stood.1.heard.in_turn;
       kept = kept-at w.past.keeper.has_failed refl
           (all-new disk logging.keeper w.past.keeper w.stood.1.texts w.stood.0 none w.stood.1.kept);
-      told = subst (λ f. HasTold (told notices.inner) (told at.notices.inner) at.notices.failures
-          (first_told (first_without f w.lines))) is w.told_first;
+      told = (
+        cut,
+        is_cut,
+        subst (λ f. HasToldFirst before (told at.notices.inner) at.notices.failures
+            (first_without f w.lines)) is w.told_first,
+      );
     }
       where
         printed : List MarkedCopy
@@ -579,15 +589,17 @@ module _ {D R W E : Type 0} (disk : TellsOfDisk D) (logging : LoggingListener D)
         → (now.has_failed ≡ true → outcome ≡ Err fault.Disk)
         → (now.has_failed ≡ false → AllKept disk logging.keeper now h.texts h.given
         → AnswersStop first stop h.lines h.copies outcome)
-        → (content : List ℕ) (entries : List MarkedCopy) (texts : List (List ℕ))
+        → (content file : List ℕ) (entries : List MarkedCopy) (texts : List (List ℕ))
+        → TellsOfCut file cut
         → AllZip IsLoggedAs entries texts → KeepsTexts disk content texts logging.keeper
-        → AnswersStarted (at-hand-with now.log.device content) first.started
+        → AnswersOver (at-hand-with now.log.device content) file first.started
         (starts_of logging.listener) entries outcome
-    answers-stopped stop now h outcome is none failed well content entries texts each keeps =
+    answers-stopped stop now h outcome is none failed well content file entries texts is_cut each
+        keeps =
         let so = all-new disk logging.keeper now h.texts h.given none h.kept in
         answers-started disk content logging.keeper remaining reader reader_after contents writer
-        writer_after told notices notices_after stamps first.started (starts_of logging.listener)
-        entries h.copies
+        writer_after told notices notices_after stamps file first.started
+        (starts_of logging.listener) entries h.copies
         texts h.texts now h.given stop h.lines outcome each h.each keeps so h.wrote (record {
           bytes = h.bytes;
           consumed = h.consumed;
@@ -599,12 +611,16 @@ module _ {D R W E : Type 0} (disk : TellsOfDisk D) (logging : LoggingListener D)
           any_moment = moments-of disk content logging.keeper remaining reader reader_after contents
               writer writer_after told notices notices_after stamps entries h.copies texts h.texts
               now h.given each h.each keeps so;
-          before_each_read = All-weaker _ _ (λ at w. stood-at stop now h is none content entries
-              texts each keeps at w) stamps h.stamped;
+          before_each_read = All-weaker _ _ (λ at w. stood-at stop now h is none content file
+              entries texts is_cut each keeps at w) stamps h.stamped;
           failed_read = h.failed_read;
           failed_write = h.failed_write;
-          notices_told = subst (λ f. HasTold (told notices.inner) (told notices_after.inner)
-              notices_after.failures (told_of f h.lines)) is h.said;
+          notices_told = (
+            cut,
+            is_cut,
+            subst (λ f. HasToldLines before (told notices_after.inner) notices_after.failures f
+                h.lines) is h.said,
+          );
         }) failed
         (λ w all. subst (λ f. AnswersStop f stop h.lines h.copies outcome) is (well w all))
 
@@ -620,10 +636,11 @@ module _ {D R W E : Type 0} (disk : TellsOfDisk D) (logging : LoggingListener D)
         → (now.has_failed ≡ true → outcome ≡ Err fault.Disk)
         → (now.has_failed ≡ false → AllKept disk logging.keeper now h.texts h.given
         → AnswersStop first stop h.lines h.copies outcome)
-        → HasRun disk first.started logging (at-hand-with device) outcome device
+        → HasRun disk first.started cut logging (at-hand-with device) outcome device
     has-run stop now h outcome device is none same failed well =
         let so = all-new disk logging.keeper now h.texts h.given none h.kept in
-        subst (λ (d : D). HasRun disk first.started logging (at-hand-with d) outcome d) (sym same)
+        subst (λ (d : D). HasRun disk first.started cut logging (at-hand-with d) outcome d)
+        (sym same)
         (record {
           answers = answers-stopped stop now h outcome (start-is is) none failed well;
           cause = cause-of disk logging.keeper now h.texts h.given outcome so failed

@@ -6,7 +6,7 @@ use Rattle.std.specs.List.{AllZip}
 use Rattle.std.proofs.lemmas.List.Elements.{All-weaker}
 use Rattle.nx_fec.specs.air_files.AirFile.{Line}
 use Rattle.nx_fec.specs.Transfers.{CountedDevice, devices}
-use Rattle.nx_kept.specs.Disk.{LeavesOnly}
+use Rattle.nx_kept.specs.Disk.{LeavesOnly, OnlyReads}
 use Rattle.nx_kept.specs.Kept.{IsBehindOpenGates, IsDamaged, IsTail}
 use Rattle.nx_kept.specs.Open as opening
 use Rattle.nx_kept.specs.declared.disk.DiskFile.{Ghosts as TellsOfDisk}
@@ -17,9 +17,10 @@ use Rattle.nx_kept.proofs.lemmas.Stages.{joined, weaker}
 use Rattle.nx_log.specs.Entries.{IsWholeEntry}
 use Rattle.nx_log.specs.Logged.{IsLoggedAs}
 use Rattle.nx_receiver.specs.copies.Shares.{MarkedCopy, Starts}
+use Rattle.nx_watch.specs.LineRun.{HasTold}
 use Rattle.nx_watch.specs.Stamp.{Stamp}
 use Rattle.nx_watch.specs.declared.lines.line_effects.StartMoments.{StartMoments}
-use Rattle.nx_watch.specs.Watch.{AnswersStarted, AnswersStop, AnswersWatch, HasCause, HasOpened, RefusesLog, StandsForEntries, StoodAt, Stop}
+use Rattle.nx_watch.specs.Watch.{AnswersOver, AnswersStarted, AnswersStop, AnswersWatch, HasCause, HasOpened, RefusesLog, StandsForEntries, StoodOver, Stop, TellsOfCut}
 use Rattle.nx_watch.specs.Watch.{WatchDevices, at_end, back, longest_entry, moments_at, starts_at, unread, unwritten}
 use Rattle.nx_watch.specs.declared.watch_report.WatchReport.{WatchReport}
 use Rattle.nx_watch.specs.declared.watch_fault.WatchFault.{WatchFault}
@@ -57,7 +58,13 @@ module _ {D R W E : Type 0} (disk : TellsOfDisk D) (content : List ℕ) (old new
         → AllZip IsLoggedAs entries texts
         → LeavesOnly disk.moment (disk.left_since content) old new
         (λ c. disk.may_leave content old c ⊎ StandsForTexts texts c)
-        → reader_after ≡ reader → writer_after ≡ writer → notices_after ≡ notices
+        → reader_after ≡ reader → writer_after ≡ writer
+        → ((cut : List ℕ) × TellsOfCut (disk.seen content old) cut
+        × HasTold (told notices.inner) (told notices_after.inner) notices_after.failures
+        (cut ++ []))
+        ⊎ ((notices_after ≡ notices)
+        × OnlyReads (disk.seen content) (disk.may_leave content) disk.moment
+        (disk.left_since content) old new)
         → (stamps : List (Stamp D (CountedDevice W) (CountedDevice E))) → stamps ≡ []
         → HasOpened (record {
           tells = disk;
@@ -78,7 +85,7 @@ module _ {D R W E : Type 0} (disk : TellsOfDisk D) (content : List ℕ) (old new
       unread = r;
       unstamped = none;
       unwritten = w;
-      untold = f;
+      told = f;
     }
 
 pub answers-opening : {D R W E : Type 0} (d : WatchDevices D R W E) (now : ℕ)
@@ -158,9 +165,9 @@ never-damaged first unread lines copies line h = h
 never-damaged first unwritten lines copies line h = h
 
 module _ {D R W E : Type 0} (d : WatchDevices D R W E) (entries : List MarkedCopy) where
-  pub not-damaged : (now : ℕ) (starts : Starts) (line : ℕ)
-      → AnswersStarted d now starts entries (Err (Damaged line)) → ⊥
-  not-damaged now starts line h = ⊎_elim
+  pub not-damaged : (file : List ℕ) (now : ℕ) (starts : Starts) (line : ℕ)
+      → AnswersOver d file now starts entries (Err (Damaged line)) → ⊥
+  not-damaged file now starts line h = ⊎_elim
       (λ k. never-damaged (moments_at now starts) h.0 h.1 h.2 line k.1) (λ k. other k.1) h.4
     where
       other : err (Damaged line) ≡ err Disk → ⊥
@@ -173,7 +180,7 @@ module _ {D R W E : Type 0} (d : WatchDevices D R W E) (entries : List MarkedCop
   answers-watch now (Err Read) h = h
   answers-watch now (Err (Back line last given)) h = h
   answers-watch now (Err Disk) h = inr h
-  answers-watch now (Err (Damaged line)) h = not-damaged now (starts_at now entries) line h
+  answers-watch now (Err (Damaged line)) h = not-damaged _ now (starts_at now entries) line h
   answers-watch now (Err Open) h = absurd (⊎_elim
       (λ k. never-open (moments_at now (starts_at now entries)) h.0 h.1 h.2 k.1)
       (λ k. other k.1) h.4)
@@ -188,11 +195,12 @@ module _ {D R W E : Type 0} (d : WatchDevices D R W E) (entries : List MarkedCop
       other e = cc
 
 -- a watch that started so started as this says
-pub started-so : {D R W E : Type 0} (d : WatchDevices D R W E) (entries : List MarkedCopy)
+pub started-so : {D R W E : Type 0} (d : WatchDevices D R W E) (file : List ℕ)
+    (entries : List MarkedCopy)
     (outcome : Result WatchReport WatchFault) {now : ℕ} {starts same : Starts} → starts ≡ same
-    → AnswersStarted d now starts entries outcome → AnswersStarted d now same entries outcome
-started-so d entries outcome {now} is answer =
-    subst (λ s. AnswersStarted d now s entries outcome) is answer
+    → AnswersOver d file now starts entries outcome → AnswersOver d file now same entries outcome
+started-so d file entries outcome {now} is answer =
+    subst (λ s. AnswersOver d file now s entries outcome) is answer
 
 -- what was answered of the open log is answered of the file before it was opened
 module _ {D R W E : Type 0} (disk : TellsOfDisk D) (content : List ℕ) (old mid new : D)
@@ -215,12 +223,13 @@ module _ {D R W E : Type 0} (disk : TellsOfDisk D) (content : List ℕ) (old mid
     }
 
     -- what stood at a read
-    stood-before : (now : ℕ) (starts : Starts) (entries copies : List MarkedCopy) (bytes : List ℕ)
+    stood-before : (file : List ℕ) (now : ℕ) (starts : Starts) (entries copies : List MarkedCopy)
+        (bytes : List ℕ)
         → disk.faults mid ≡ disk.faults old
         → (at : Stamp D (CountedDevice W) (CountedDevice E))
-        → StoodAt (devices-from mid) now starts entries bytes copies at
-        → StoodAt (devices-from old) now starts entries bytes copies at
-    stood-before now starts entries copies bytes same at h = record {
+        → StoodOver (devices-from mid) file now starts entries bytes copies at
+        → StoodOver (devices-from old) file now starts entries bytes copies at
+    stood-before file now starts entries copies bytes same at h = record {
       within = h.within;
       lines = h.lines;
       rest = h.rest;
@@ -245,16 +254,16 @@ module _ {D R W E : Type 0} (disk : TellsOfDisk D) (content : List ℕ) (old mid
       told = h.told;
     }
 
-    pub started-before : {now : ℕ} (starts : Starts) (entries : List MarkedCopy)
+    pub started-before : {now : ℕ} (file : List ℕ) (starts : Starts) (entries : List MarkedCopy)
         (texts : List (List ℕ)) (outcome : Result WatchReport WatchFault)
         → AllZip IsLoggedAs entries texts
         → disk.faults mid ≡ disk.faults old
         → LeavesOnly disk.moment (disk.left_since content) old mid
         (λ c. disk.may_leave content old c ⊎ StandsForTexts texts c)
         → ((c : List ℕ) → disk.may_leave content mid c → StandsForTexts texts c)
-        → AnswersStarted (devices-from mid) now starts entries outcome
-        → AnswersStarted (devices-from old) now starts entries outcome
-    started-before {now} starts entries texts outcome each same opened rests h =
+        → AnswersOver (devices-from mid) file now starts entries outcome
+        → AnswersOver (devices-from old) file now starts entries outcome
+    started-before {now} file starts entries texts outcome each same opened rests h =
         let w = h.3 in (
           h.0,
           h.1,
@@ -266,7 +275,7 @@ module _ {D R W E : Type 0} (disk : TellsOfDisk D) (content : List ℕ) (old mid
             read = w.read;
             printed = w.printed;
             before_each_read =
-                All-weaker _ _ (stood-before now starts entries h.2 w.bytes same) stamps
+                All-weaker _ _ (stood-before file now starts entries h.2 w.bytes same) stamps
                 w.before_each_read;
             any_moment = λ first.
                 joined disk.moment (disk.left_since content) (disk.may_leave content) _ _ old mid

@@ -11,7 +11,7 @@ use Rattle.std.proofs.lemmas.List.{drop-append-le, drop-drop, length-drop}
 use Rattle.nx_code.specs.Lists.{last_of}
 use Rattle.nx_fec.specs.air_files.Channels.{same_channel}
 use Rattle.nx_fec.specs.declared.air_files.channel.Channel.{Channel}
-use Rattle.nx_kept.specs.Taker.{HeardOfCut, Took}
+use Rattle.nx_kept.specs.Taker.{Took}
 use Rattle.nx_envelope.specs.Moment.{last_moment}
 use Rattle.nx_log.specs.Logged.{IsLoggedAs, is_kept, kept_entries, remembered_on}
 use Rattle.nx_log.specs.View.{IsViewOf, copy_said}
@@ -252,10 +252,3 @@ kept-in-range bytes view entry seen is = by (is_kept said.copy) is
         let same : entry ≡ entry_of said.copy = cc in
         subst (λ (x : MemoryEntry). x.moment ≤ last_moment) (sym same) seen.entry.logged.in_range
     by false is = cc
-
--- what is cut changes nothing of what is remembered
-pub heard-nothing : {T : Type 0} (line : ℕ) (bytes : List ℕ) (old new : T)
-    → HeardOfCut (λ (before : T) (line : ℕ) (bytes : List ℕ) (after : T). after ≡ before) line bytes
-    old new → new ≡ old
-heard-nothing line [] old new heard = heard.nothing refl
-heard-nothing line (byte ∷ bytes) old new heard = heard.heard (λ e. absurd (cc))

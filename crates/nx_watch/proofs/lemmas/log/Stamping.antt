@@ -1,6 +1,6 @@
 -- What stood at the reads of a run, and how the run went on from there.
-use Rattle.std.proofs.Common.{◌≡◌, inl, ℕ, ◌+◌, ◌≤◌, suc, true, false, List, [], ◌∷◌, ◌++◌, length, take, drop}
-use Rattle.std.proofs.Common.{map, nat_le, Option, Some, None, refl, sym, ap, ◌∙◌, subst, append_assoc, append-nil, arith}
+use Rattle.std.proofs.Common.{◌≡◌, inl, ℕ, ◌≤◌, true, false, List, [], ◌∷◌, ◌++◌, length, take, drop}
+use Rattle.std.proofs.Common.{nat_le, Option, Some, None, refl, sym, ap, ◌∙◌, subst, append_assoc, append-nil, arith}
 use Rattle.std.proofs.Common.{length-append, option_to_list, cond}
 use Rattle.std.specs.List.{All, AllZip, flat_map}
 use Rattle.std.proofs.lemmas.List.{take_all, take_at, take-append-drop, take-append-le}
@@ -14,7 +14,7 @@ use Rattle.nx_kept.specs.declared.disk.DiskFile.{Ghosts as TellsOfDisk}
 use Rattle.nx_watch.specs.Acting.{acting_behind, acting_lines, acts, moment_said, moments_behind}
 use Rattle.nx_watch.specs.Acting.{with_start}
 use Rattle.nx_watch.specs.AnyLines.{AreLines, Says, ended}
-use Rattle.nx_watch.specs.LineRun.{HasTaken, HasTold, StandsWith, WithWriter, first_told, with_writer}
+use Rattle.nx_watch.specs.LineRun.{HasTaken, StandsWith, WithWriter, with_writer}
 use Rattle.nx_watch.specs.Stamp.{Stamp, stamp}
 use Rattle.nx_watch.specs.declared.lines.line_effects.LineEffects.{LineEffects}
 use Rattle.nx_watch.specs.declared.lines.line_effects.StartMoments.{StartMoments}
@@ -23,7 +23,7 @@ use Rattle.nx_watch.specs.declared.lines.line_run.WatchEnd.{WatchEnd}
 use Rattle.nx_watch.specs.declared.lines.line_run.WatchEnd.TheVariants.{Read, Back, Write}
 use Rattle.nx_watch.specs.declared.logging_listener.LoggingListener.{LoggingListener}
 use Rattle.nx_watch.specs.private.LoggingListener.{KeepsLines}
-use Rattle.nx_watch.specs.private.Running.{EndsRun, IsRunning}
+use Rattle.nx_watch.specs.private.Running.{EndsRun, HasToldFirst, IsRunning, ToldBefore}
 use Rattle.nx_watch.specs.private.Stamping.{RunsStamped, StandsStamped, WasRunning, logging_since, telling}
 use Rattle.nx_watch.proofs.lemmas.lines.Law.{regroup, says-no_end, says-one}
 use Rattle.nx_watch.proofs.lemmas.lines.Run.{acting-idle, ends-idle, nothing}
@@ -135,7 +135,7 @@ cut-last a b x e =
 -- ---- what stood at the reads
 
 module _ {D W N : Type 0} (disk : TellsOfDisk D) (contents : W → Option (List ℕ))
-    (told : N → Option (List ℕ)) (old : Option (List ℕ)) (first : StartMoments)
+    (told : N → Option (List ℕ)) (old : ToldBefore) (first : StartMoments)
     (start : WithWriter (LoggingListener D) W)
   where
     abbrev AStamp : Type 0
@@ -213,7 +213,7 @@ module _ {D W N : Type 0} (disk : TellsOfDisk D) (contents : W → Option (List 
       device = refl;
       on = h.taken.on;
       stood = h.taken.stood;
-      told_first = subst (λ o. HasTold old (told notices.inner) notices.failures (first_told o))
+      told_first = subst (HasToldFirst old (told notices.inner) notices.failures)
           h.tells.kept_so.first_one h.tells.told;
       well = none;
       went_on = λ well. record {

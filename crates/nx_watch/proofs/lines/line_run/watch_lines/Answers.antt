@@ -1,27 +1,25 @@
-use Rattle.std.proofs.Common.{◌≡◌, ◌⊎◌, ap, length, subst, sym, ◌∙◌}
+use Rattle.std.proofs.Common.{◌≡◌, ◌⊎◌, length}
 use Rattle.std.specs.Io.KnownBytes.{IsAtEnd}
-use Rattle.nx_receiver.specs.Listener.{starts_of}
-use Rattle.nx_watch.specs.LineRun.{HasTold, StandsWith, told_of, with_writer}
+use Rattle.nx_watch.specs.LineRun.{StandsWith, with_writer}
 use Rattle.nx_watch.specs.Stamps.{counted_of, stamps_of}
 use Rattle.nx_watch.specs.private.LoggingListener.{KeepsLines}
-use Rattle.nx_watch.specs.private.Running.{TellsFirst}
+use Rattle.nx_watch.specs.private.Running.{HasToldLines, TellsFirst}
 use Rattle.nx_watch.specs.private.Stamping.{StandsStamped, telling}
 use Rattle.nx_watch.proofs.lemmas.lines.Run.{answers-told, run-starts, stands-with}
 use Rattle.nx_watch.proofs.lemmas.log.Stamping.{ends-stamped, running-stamped}
 use Rattle.nx_watch.proofs.lines.line_run.watch_lines.Goals as goal
 
 pub returns-in-Ok-clause-watched : goal.returns-in-Ok-clause-watched
-returns-in-Ok-clause-watched g c = λ start force stood.
+returns-in-Ok-clause-watched g c = λ start old force stood told.
     let disk = g.D.DiskFile in
     let stands = StandsWith (KeepsLines disk) g.W.Write.contents in
     let before = with_writer start c.args.writer.now in
-    let old = g.F.Write.contents c.args.notices.now.inner in
     let r = c.in-Ok.ensures.read before c.args.first old force
     (run-starts stands before (with_writer c.args.logging.now c.args.writer.now) c.args.first _ old
-    c.args.notices.now.failures
+    (g.F.Write.contents c.args.notices.now.inner) c.args.notices.now.failures
     c.new.ensures.stands c.new-2.ensures
     (stands-with (KeepsLines disk) g.W.Write.contents start c.args.logging.now
-    c.args.writer.now stood c.requires.writer) c.requires.notices) in
+    c.args.writer.now stood c.requires.writer) told) in
     let run = r.3.1.from_start in
     let taken = running-stamped disk g.W.Write.contents g.F.Write.contents old c.args.first before
     (with_writer c.read_lines.new.logging c.read_lines.new.writer) c.read_lines.new.self
@@ -35,21 +33,20 @@ returns-in-Ok-clause-watched g c = λ start force stood.
     )
 
 pub returns-in-Err-clause-watched : goal.returns-in-Err-clause-watched
-returns-in-Err-clause-watched g c = λ start force stood.
+returns-in-Err-clause-watched g c = λ start old force stood told.
     let disk = g.D.DiskFile in
     let stands = StandsWith (KeepsLines disk) g.W.Write.contents in
     let before = with_writer start c.args.writer.now in
-    let old = g.F.Write.contents c.args.notices.now.inner in
     let stamps = stamps_of c.read_lines.new.reader in
     let now = with_writer c.read_lines.new.logging c.read_lines.new.writer in
-    let told = g.F.Write.contents c.read_lines.new.notices.inner in
+    let now_told = g.F.Write.contents c.read_lines.new.notices.inner in
     let failures = c.read_lines.new.notices.failures in
     let r = c.in-Err.ensures.read before c.args.first old force
     (run-starts stands before (with_writer c.args.logging.now c.args.writer.now) c.args.first _ old
-    c.args.notices.now.failures
+    (g.F.Write.contents c.args.notices.now.inner) c.args.notices.now.failures
     c.new.ensures.stands c.new-2.ensures
     (stands-with (KeepsLines disk) g.W.Write.contents start c.args.logging.now
-    c.args.writer.now stood c.requires.writer) c.requires.notices) in (
+    c.args.writer.now stood c.requires.writer) told) in (
       r.0,
       r.1,
       r.2,
@@ -60,12 +57,12 @@ returns-in-Err-clause-watched g c = λ start force stood.
         now = now;
         first = c.args.first;
         AtEnd = ⊥;
-        tells = TellsFirst c.args.first c.read_lines.new.self.effects old told failures;
+        tells = TellsFirst c.args.first c.read_lines.new.self.effects old now_told failures;
       }) (IsAtEnd (g.R.Read.remaining (counted_of c.read_lines.new.reader).inner)
           ⊎ (length r.0 ≡ c.args.limit))
-          (λ lines. HasTold old (g.F.Write.contents c.count.new.notices.inner)
-          c.count.new.notices.failures (told_of c.args.first lines)) c.in-Err.end
+          (HasToldLines old (g.F.Write.contents c.count.new.notices.inner)
+          c.count.new.notices.failures c.args.first) c.in-Err.end
           r.0 (λ lines tells. c.count.ensures.told c.args.first old lines tells)
           (ends-stamped disk g.W.Write.contents g.F.Write.contents old c.args.first before now
-          c.read_lines.new.self.effects told failures c.in-Err.end r.0 stamps r.3),
+          c.read_lines.new.self.effects now_told failures c.in-Err.end r.0 stamps r.3),
     )

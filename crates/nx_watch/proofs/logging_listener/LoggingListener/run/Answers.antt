@@ -1,6 +1,6 @@
-use Rattle.std.proofs.Common.{◌≡◌, ◌≤◌, ◌⊎◌, ◌∙◌, ◌++◌, ◌∷◌, [], ℕ, Result, Some, Ok, Err, refl, sym, subst, ap, arith, length, length-append}
+use Rattle.std.proofs.Common.{◌≡◌, ◌≤◌, ◌⊎◌, ◌∙◌, ◌++◌, ◌∷◌, [], ℕ, List, Option, Result, Some, Ok, Err, refl, sym, subst, ap, arith, length, length-append}
 use Rattle.std.specs.Io.KnownBytes.{IsAtEnd}
-use Rattle.nx_fec.specs.Transfers.{count_of}
+use Rattle.nx_fec.specs.Transfers.{CountedDevice, count_of}
 use Rattle.nx_envelope.specs.Moment.{last_moment}
 use Rattle.nx_fec.specs.air_files.AirFile.{moment}
 use Rattle.nx_receiver.specs.copies.InTurn.{PrintAllToEnd}
@@ -9,8 +9,10 @@ use Rattle.nx_receiver.specs.Listener.{HearsGiven, Listening, starts_of}
 use Rattle.nx_watch.specs.Acting.{acting_lines, moments_behind, most_bytes}
 use Rattle.nx_watch.specs.AnyLines.{cut_line}
 use Rattle.nx_watch.specs.Watch.{AnswersStop, at_end, back, unread, unwritten}
-use Rattle.nx_watch.specs.LineRun.{AnswersRun, HasTold, RunOverLines, TellsOfLines, told_of, with_writer}
+use Rattle.nx_watch.specs.LineRun.{AnswersRun, HasTold, RunOverLines, TellsOfLines, with_writer}
 use Rattle.nx_watch.specs.Stamps.{counted_of, stamps_of}
+use Rattle.nx_watch.specs.CutTold.{TellsOfSomeCut}
+use Rattle.nx_watch.specs.private.Running.{HasToldLines, ToldBefore}
 use Rattle.nx_watch.specs.private.Stamping.{StandsStamped, telling}
 use Rattle.nx_watch.specs.declared.lines.line_run.LinesWatched.{LinesWatched}
 use Rattle.nx_watch.specs.declared.lines.line_run.WatchEnd.{WatchEnd}
@@ -20,6 +22,10 @@ use Rattle.nx_watch.proofs.lemmas.log.Finish.{back-apart, closed-on, end-apart, 
 use Rattle.nx_watch.proofs.lemmas.lines.Run.{acting-cut, acting-idle, ends-idle, tells-some}
 use Rattle.nx_watch.proofs.logging_listener.LoggingListener.run.Goals as goal
 use Rattle.nx_watch.proofs.logging_listener.LoggingListener.run.Goals.{After-watch_lines}
+
+-- what was told before the first line
+abbrev behind : {F : Type 0} → (F → Option (List ℕ)) → CountedDevice F → List ℕ → ToldBefore
+behind contents notices cut = record { old = contents notices.inner; text = cut }
 
 abbrev ok : LinesWatched → Result LinesWatched WatchEnd
 ok counts = Ok counts
@@ -41,17 +47,20 @@ apart-Written : err Read ≡ err Write → ⊥
 apart-Written e = cc
 
 pub returns-in-Ok-clause-runs : goal.returns-in-Ok-clause-runs
-returns-in-Ok-clause-runs g c = λ is none range heard kept.
+returns-in-Ok-clause-runs g c = λ notices cut told is none range heard kept.
     let disk = g.D.DiskFile in
     let self = c.args.self in
     let start = with_writer self c.args.writer.now in
-    let w = c.in-Ok.ensures.watched self (sym is) (stands-first disk self range heard kept) in
+    let before = behind g.F.Write.contents notices cut in
+    let w = c.in-Ok.ensures.watched self before (sym is)
+    (stands-first disk self range heard kept) told in
     let acting = acting_lines c.args.first w.3.1 in
     let closed = c.close.ensures.closed start acting w.3.4.stood.stands in
     has-run disk self c.args.first g.R.Read.remaining (counted_of c.args.reader.now)
     (counted_of c.watch_lines.new.reader)
-    g.W.Write.contents c.args.writer.now c.close.new.writer g.F.Write.contents c.args.notices.now
-    c.watch_lines.new.notices (stamps_of c.watch_lines.new.reader) at_end c.close.result (record {
+    g.W.Write.contents c.args.writer.now c.close.new.writer g.F.Write.contents notices
+    c.watch_lines.new.notices cut (stamps_of c.watch_lines.new.reader) at_end c.close.result
+    (record {
       lines = w.3.1 ++ cut_line w.3.2;
       copies = closed.copies;
       texts = closed.texts;
@@ -70,8 +79,7 @@ returns-in-Ok-clause-runs g c = λ is none range heard kept.
         λ f. absurd (apart-Ok c.in-Ok.counts (sym c.in-Ok.is ∙ c.watch_lines.ensures.unread.1 f)),
       );
       failed_write = c.close.ensures.once;
-      stamped = stamps-keep disk g.W.Write.contents g.F.Write.contents
-          (g.F.Write.contents c.args.notices.now.inner) c.args.first start
+      stamped = stamps-keep disk g.W.Write.contents g.F.Write.contents before c.args.first start
           (with_writer c.watch_lines.new.logging c.watch_lines.new.writer) w.0 c.close.result acting
           (acting_lines c.args.first (w.3.1 ++ cut_line w.3.2)) closed.copies
           (stamps_of c.watch_lines.new.reader) (acting-cut c.args.first w.3.1 w.3.2)
@@ -94,24 +102,24 @@ returns-in-Ok-clause-runs g c = λ is none range heard kept.
     ))
 
 pub returns-in-Back-clause-runs : goal.returns-in-Back-clause-runs
-returns-in-Back-clause-runs g c = λ is none range heard kept.
+returns-in-Back-clause-runs g c = λ notices cut told is none range heard kept.
     let disk = g.D.DiskFile in
     let self = c.args.self in
     let start = with_writer self c.args.writer.now in
+    let before = behind g.F.Write.contents notices cut in
     let lines-read = c.watch_lines.new in
-    let w = c.in-Err.ensures.watched self (sym is) (stands-first disk self range heard kept) in
+    let w = c.in-Err.ensures.watched self before (sym is)
+    (stands-first disk self range heard kept) told in
     let r : RunOverLines _ = record {
-      stands = StandsStamped (telling disk g.W.Write.contents g.F.Write.contents
-          (g.F.Write.contents c.args.notices.now.inner)) c.args.first w.0
-          (stamps_of lines-read.reader);
+      stands = StandsStamped (telling disk g.W.Write.contents g.F.Write.contents before)
+          c.args.first w.0 (stamps_of lines-read.reader);
       start = start;
       now = with_writer lines-read.logging lines-read.writer;
       first = c.args.first;
       AtEnd = IsAtEnd (g.R.Read.remaining (counted_of lines-read.reader).inner) ⊎
           (length w.0 ≡ most_bytes);
-      tells = λ lines. HasTold (g.F.Write.contents c.args.notices.now.inner)
-          (g.F.Write.contents lines-read.notices.inner) lines-read.notices.failures
-          (told_of c.args.first lines);
+      tells = HasToldLines before (g.F.Write.contents lines-read.notices.inner)
+          lines-read.notices.failures c.args.first;
     } in
     let ended = subst (λ e. AnswersRun r (Err e) w.0) c.in-Back.is w.3 in
     let acting = acting_lines c.args.first ended.0 in
@@ -121,7 +129,7 @@ returns-in-Back-clause-runs g c = λ is none range heard kept.
     has-run disk self c.args.first g.R.Read.remaining (counted_of c.args.reader.now)
     (counted_of lines-read.reader)
     g.W.Write.contents c.args.writer.now c.close-in-Back.new.writer g.F.Write.contents
-    c.args.notices.now lines-read.notices (stamps_of lines-read.reader) stop c.close-in-Back.result
+    notices lines-read.notices cut (stamps_of lines-read.reader) stop c.close-in-Back.result
     (record {
       lines = lines;
       copies = closed.copies;
@@ -151,8 +159,7 @@ returns-in-Back-clause-runs g c = λ is none range heard kept.
             ∙ c.watch_lines.ensures.unread.1 f)),
       );
       failed_write = c.close-in-Back.ensures.once;
-      stamped = stamps-keep disk g.W.Write.contents g.F.Write.contents
-          (g.F.Write.contents c.args.notices.now.inner) c.args.first start
+      stamped = stamps-keep disk g.W.Write.contents g.F.Write.contents before c.args.first start
           (with_writer lines-read.logging lines-read.writer) w.0 c.close-in-Back.result acting
           (acting_lines c.args.first lines) closed.copies
           (stamps_of lines-read.reader) (acting-idle c.args.first ended.0 (moment c.in-Back.given)
@@ -169,31 +176,31 @@ returns-in-Back-clause-runs g c = λ is none range heard kept.
     (sym (c.answer-in-Back.ensures.well well)) (refl, refl, refl))
 
 pub returns-in-Read-clause-runs : goal.returns-in-Read-clause-runs
-returns-in-Read-clause-runs g c = λ is none range heard kept.
+returns-in-Read-clause-runs g c = λ notices cut told is none range heard kept.
     let disk = g.D.DiskFile in
     let self = c.args.self in
     let start = with_writer self c.args.writer.now in
+    let before = behind g.F.Write.contents notices cut in
     let lines-read = c.watch_lines.new in
-    let w = c.in-Err.ensures.watched self (sym is) (stands-first disk self range heard kept) in
+    let w = c.in-Err.ensures.watched self before (sym is)
+    (stands-first disk self range heard kept) told in
     let r : RunOverLines _ = record {
-      stands = StandsStamped (telling disk g.W.Write.contents g.F.Write.contents
-          (g.F.Write.contents c.args.notices.now.inner)) c.args.first w.0
-          (stamps_of lines-read.reader);
+      stands = StandsStamped (telling disk g.W.Write.contents g.F.Write.contents before)
+          c.args.first w.0 (stamps_of lines-read.reader);
       start = start;
       now = with_writer lines-read.logging lines-read.writer;
       first = c.args.first;
       AtEnd = IsAtEnd (g.R.Read.remaining (counted_of lines-read.reader).inner) ⊎
           (length w.0 ≡ most_bytes);
-      tells = λ lines. HasTold (g.F.Write.contents c.args.notices.now.inner)
-          (g.F.Write.contents lines-read.notices.inner) lines-read.notices.failures
-          (told_of c.args.first lines);
+      tells = HasToldLines before (g.F.Write.contents lines-read.notices.inner)
+          lines-read.notices.failures c.args.first;
     } in
     let ended = subst (λ e. AnswersRun r (Err e) w.0) c.in-Read.is w.3 in
     let stood = ended.3.stood.stands in
     has-run disk self c.args.first g.R.Read.remaining (counted_of c.args.reader.now)
     (counted_of lines-read.reader)
-    g.W.Write.contents c.args.writer.now lines-read.writer g.F.Write.contents c.args.notices.now
-    lines-read.notices (stamps_of lines-read.reader) unread c.into_keeper.result (record {
+    g.W.Write.contents c.args.writer.now lines-read.writer g.F.Write.contents notices
+    lines-read.notices cut (stamps_of lines-read.reader) unread c.into_keeper.result (record {
       lines = ended.0;
       copies = stood.1.copies;
       texts = stood.1.texts;
@@ -212,8 +219,7 @@ returns-in-Read-clause-runs g c = λ is none range heard kept.
       failed_write = none-failed _ c.watch_lines.ensures.written_once
           (λ f. absurd (apart-Written (sym (c.in-Err.is ∙ ap Err c.in-Read.is)
           ∙ c.watch_lines.ensures.unwritten.1 f)));
-      stamped = stamps-keep disk g.W.Write.contents g.F.Write.contents
-          (g.F.Write.contents c.args.notices.now.inner) c.args.first start
+      stamped = stamps-keep disk g.W.Write.contents g.F.Write.contents before c.args.first start
           (with_writer lines-read.logging lines-read.writer) w.0 c.into_keeper.result
           (acting_lines c.args.first ended.0) (acting_lines c.args.first ended.0) stood.1.copies
           (stamps_of lines-read.reader) refl
@@ -229,24 +235,24 @@ returns-in-Read-clause-runs g c = λ is none range heard kept.
     (sym (c.answer-in-Read.ensures.well well)) tt)
 
 pub returns-in-Write-clause-runs : goal.returns-in-Write-clause-runs
-returns-in-Write-clause-runs g c = λ is none range heard kept.
+returns-in-Write-clause-runs g c = λ notices cut told is none range heard kept.
     let disk = g.D.DiskFile in
     let self = c.args.self in
     let start = with_writer self c.args.writer.now in
+    let before = behind g.F.Write.contents notices cut in
     let lines-read = c.watch_lines.new in
-    let w = c.in-Err.ensures.watched self (sym is) (stands-first disk self range heard kept) in
+    let w = c.in-Err.ensures.watched self before (sym is)
+    (stands-first disk self range heard kept) told in
     let r : RunOverLines _ = record {
-      stands = StandsStamped (telling disk g.W.Write.contents g.F.Write.contents
-          (g.F.Write.contents c.args.notices.now.inner)) c.args.first w.0
-          (stamps_of lines-read.reader);
+      stands = StandsStamped (telling disk g.W.Write.contents g.F.Write.contents before)
+          c.args.first w.0 (stamps_of lines-read.reader);
       start = start;
       now = with_writer lines-read.logging lines-read.writer;
       first = c.args.first;
       AtEnd = IsAtEnd (g.R.Read.remaining (counted_of lines-read.reader).inner) ⊎
           (length w.0 ≡ most_bytes);
-      tells = λ lines. HasTold (g.F.Write.contents c.args.notices.now.inner)
-          (g.F.Write.contents lines-read.notices.inner) lines-read.notices.failures
-          (told_of c.args.first lines);
+      tells = HasToldLines before (g.F.Write.contents lines-read.notices.inner)
+          lines-read.notices.failures c.args.first;
     } in
     let ended = subst (λ e. AnswersRun r (Err e) w.0) c.in-Write.is w.3 in
     let stood = ended.3.stood.stands in
@@ -254,8 +260,8 @@ returns-in-Write-clause-runs g c = λ is none range heard kept.
     let unwritten_one = c.watch_lines.ensures.unwritten.0 (c.in-Err.is ∙ ap Err c.in-Write.is) in
     has-run disk self c.args.first g.R.Read.remaining (counted_of c.args.reader.now)
     (counted_of lines-read.reader)
-    g.W.Write.contents c.args.writer.now lines-read.writer g.F.Write.contents c.args.notices.now
-    lines-read.notices (stamps_of lines-read.reader) unwritten keeper (record {
+    g.W.Write.contents c.args.writer.now lines-read.writer g.F.Write.contents notices
+    lines-read.notices cut (stamps_of lines-read.reader) unwritten keeper (record {
       lines = ended.0 ++ Some ended.1 ∷ [];
       copies = stood.1.copies;
       texts = stood.1.texts;
@@ -275,8 +281,7 @@ returns-in-Write-clause-runs g c = λ is none range heard kept.
             ∙ c.watch_lines.ensures.unread.1 f)),
       );
       failed_write = unwritten_one;
-      stamped = stamps-keep disk g.W.Write.contents g.F.Write.contents
-          (g.F.Write.contents c.args.notices.now.inner) c.args.first start
+      stamped = stamps-keep disk g.W.Write.contents g.F.Write.contents before c.args.first start
           (with_writer lines-read.logging lines-read.writer) w.0 keeper
           (acting_lines c.args.first (ended.0 ++ Some ended.1 ∷ []))
           (acting_lines c.args.first (ended.0 ++ Some ended.1 ∷ [])) stood.1.copies
@@ -294,33 +299,34 @@ returns-in-Write-clause-runs g c = λ is none range heard kept.
     stood.2 all))
 
 -- what was told, however the run ended
-tells : (g : _) → (c : After-watch_lines g)
+tells : (g : _) → (c : After-watch_lines g) → (old : Option (List ℕ)) (cut : List ℕ)
+    → TellsOfSomeCut cut
+    → HasTold old (g.F.Write.contents c.args.notices.now.inner) c.args.notices.now.failures cut
     → c.args.first.newest ≡ (starts_of c.args.self.listener).moment
     → (starts_of c.args.self.listener).moment ≤ last_moment
     → HearsGiven (starts_of c.args.self.listener) c.args.self.listener [] []
     → HasKept g.D.DiskFile c.args.self.keeper c.args.self.keeper [] []
-    → TellsOfLines (g.F.Write.contents c.args.notices.now.inner)
-    (g.F.Write.contents c.watch_lines.new.notices.inner) c.watch_lines.new.notices.failures
-tells g c is range heard kept =
+    → TellsOfLines old (g.F.Write.contents c.watch_lines.new.notices.inner)
+    c.watch_lines.new.notices.failures
+tells g c old cut some said is range heard kept =
     let disk = g.D.DiskFile in
     let lines-read = c.watch_lines.new in
-    let w = c.watch_lines.ensures.watched c.args.self (sym is)
-    (stands-first disk c.args.self range heard kept) in
+    let before : ToldBefore = record { old = old; text = cut } in
+    let w = c.watch_lines.ensures.watched c.args.self before (sym is)
+    (stands-first disk c.args.self range heard kept) said in
     let r : RunOverLines _ = record {
-      stands = StandsStamped (telling disk g.W.Write.contents g.F.Write.contents
-          (g.F.Write.contents c.args.notices.now.inner)) c.args.first w.0
-          (stamps_of lines-read.reader);
+      stands = StandsStamped (telling disk g.W.Write.contents g.F.Write.contents before)
+          c.args.first w.0 (stamps_of lines-read.reader);
       start = with_writer c.args.self c.args.writer.now;
       now = with_writer lines-read.logging lines-read.writer;
       first = c.args.first;
       AtEnd = IsAtEnd (g.R.Read.remaining (counted_of lines-read.reader).inner) ⊎
           (length w.0 ≡ most_bytes);
-      tells = λ lines. HasTold (g.F.Write.contents c.args.notices.now.inner)
-          (g.F.Write.contents lines-read.notices.inner) lines-read.notices.failures
-          (told_of c.args.first lines);
+      tells = HasToldLines before (g.F.Write.contents lines-read.notices.inner)
+          lines-read.notices.failures c.args.first;
     } in
     let told = tells-some r c.watch_lines.result w.0 w.3 in
-    (c.args.first, told.0, told.1)
+    (cut, some, c.args.first, told.0, told.1)
 
 pub returns-in-Ok-clause-told : goal.returns-in-Ok-clause-told
 returns-in-Ok-clause-told g c = tells g (goal.at.returns-in-Ok-clause-told g c).After-watch_lines

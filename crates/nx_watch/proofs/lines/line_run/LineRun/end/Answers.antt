@@ -1,5 +1,6 @@
 use Rattle.std.proofs.Common.{◌++◌, ◌∷◌, [], None, append-nil, subst, sym}
-use Rattle.nx_watch.specs.LineRun.{AreCounted, HasTold, told_of}
+use Rattle.nx_watch.specs.LineRun.{AreCounted}
+use Rattle.nx_watch.specs.private.Running.{HasToldLines}
 use Rattle.nx_watch.specs.private.Scanning.{CutsAs}
 use Rattle.nx_watch.proofs.lemmas.lines.Run.{ends-input}
 use Rattle.nx_watch.proofs.lines.line_run.LineRun.end.Goals as goal
@@ -20,6 +21,6 @@ returns g c = λ first old bytes lines scans tells.
     ends-input first bytes lines [] old _ _ _ cuts.rest cuts.are cuts.cut
     (subst (λ l. AreCounted first l c.count-2.result) (sym (append-nil lines))
     (c.count-2.ensures.counted first old lines tells))
-    (subst (λ l. HasTold old (g.F.Write.contents c.count-2.new.notices.inner)
-    c.count-2.new.notices.failures (told_of first l)) (sym (append-nil lines))
+    (subst (HasToldLines old (g.F.Write.contents c.count-2.new.notices.inner)
+    c.count-2.new.notices.failures first) (sym (append-nil lines))
     (c.count-2.ensures.told first old lines tells))

@@ -1,5 +1,5 @@
-use Rattle.std.proofs.Common.{◌≡◌, ◌≤◌, ◌+◌, ◌∙◌, ◌++◌, [], ℕ, List, Option, inl, inr, length, length-append, length-drop}
-use Rattle.std.proofs.Common.{ap, sym, take, drop, refl, rules, subst, arith, append-nil}
+use Rattle.std.proofs.Common.{◌≡◌, ◌≤◌, ◌∙◌, ◌++◌, [], ℕ, List, Option, inl, inr, length, length-append, length-drop}
+use Rattle.std.proofs.Common.{ap, sym, take, drop, rules, subst, arith, append-nil}
 use Rattle.std.specs.List.{All}
 use Rattle.std.proofs.KnownBytes.{Consumes-kept, Consumes-nil, Consumes-trans}
 use Rattle.std.proofs.lemmas.List.{length-take-le, take-append-le}
@@ -9,7 +9,7 @@ use Rattle.nx_watch.specs.LineRun.{Standing, StandsWith, WithWriter, with_writer
 use Rattle.nx_watch.specs.Stamp.{stamp}
 use Rattle.nx_watch.specs.Stamps.{bytes_given, counted_of, stamps_of}
 use Rattle.nx_watch.specs.private.LoggingListener.{KeepsLines}
-use Rattle.nx_watch.specs.private.Running.{EndsRun, IsRunning}
+use Rattle.nx_watch.specs.private.Running.{EndsRun, IsRunning, ToldBefore}
 use Rattle.nx_watch.specs.private.Stamping.{WasRunning, telling}
 use Rattle.nx_watch.specs.declared.logging_listener.LoggingListener.{LoggingListener}
 use Rattle.nx_watch.specs.declared.lines.line_run.LineRun.{LineRun}
@@ -23,7 +23,7 @@ use Rattle.nx_watch.proofs.lines.line_run.LineRun.read_lines.Goals.{After-next_p
 -- all that stood at the reads, and at the one that is made now
 stamped : (g : _) → (c : After-next_piece g)
     → (start : WithWriter (LoggingListener g.row.D.Denot) g.row.W.Denot) (first : StartMoments)
-    (old : Option (List ℕ)) (force : (starts_of start.taker.listener).moment ≡ first.newest)
+    (old : ToldBefore) (force : (starts_of start.taker.listener).moment ≡ first.newest)
     → (h : IsRunning (StandsWith (KeepsLines g.D.DiskFile) g.W.Write.contents) start
     (with_writer c.args.logging.now c.args.writer.now) first c.args.self.now old
     (g.F.Write.contents c.args.notices.now.inner) c.args.notices.now.failures [])
@@ -55,7 +55,7 @@ stamped g c start first old force h =
 
 -- a read failed behind all of these lines
 fails : {T : Type 0} (stands : Standing T) (start now : T) (first : StartMoments) (run : LineRun)
-    (old new : Option (List ℕ)) (failures : ℕ) (bytes : List ℕ)
+    (old : ToldBefore) (new : Option (List ℕ)) (failures : ℕ) (bytes : List ℕ)
     → IsRunning stands start now first run old new failures bytes
     → EndsRun stands start now first run.effects old new failures Read bytes
 fails stands start now first run old new failures bytes h = (

@@ -1,4 +1,4 @@
-use Rattle.std.proofs.Common.{◌≡◌, ◌+◌, ◌≤◌, ℕ, Option, List, [], length}
+use Rattle.std.proofs.Common.{◌≡◌, ◌+◌, ◌≤◌, ℕ, List, [], length}
 use Rattle.std.specs.Io.KnownBytes.{Consumes}
 use Rattle.nx_receiver.specs.Listener.{starts_of}
 use Rattle.nx_watch.specs.Acting.{most_bytes}
@@ -6,7 +6,7 @@ use Rattle.nx_watch.specs.LineRun.{StandsWith, WithWriter, with_writer}
 use Rattle.nx_watch.specs.Stamps.{bytes_given, counted_of, stamps_of}
 use Rattle.nx_watch.specs.private.LoggingListener.{KeepsLines}
 use Rattle.nx_watch.specs.declared.lines.line_effects.StartMoments.{StartMoments}
-use Rattle.nx_watch.specs.private.Running.{IsRunning}
+use Rattle.nx_watch.specs.private.Running.{IsRunning, ToldBefore}
 use Rattle.nx_watch.specs.private.Stamping.{RunsStamped, telling}
 use Rattle.nx_watch.specs.declared.logging_listener.LoggingListener.{LoggingListener}
 use Rattle.nx_watch.proofs.lines.line_run.LineRun.read_lines.Given as goal
@@ -24,7 +24,7 @@ invariant-loop-room g l = record {
   few : l.self.effects.lines + l.room ≤ l.limit;
   fewer : l.self.effects.without_effect ≤ l.self.effects.lines;
   read : (start : WithWriter (LoggingListener g.row.D.Denot) g.row.W.Denot) (first : StartMoments)
-      (old : Option (List ℕ))
+      (old : ToldBefore)
       → (starts_of start.taker.listener).moment ≡ first.newest
       → IsRunning (StandsWith (KeepsLines g.D.DiskFile) g.W.Write.contents) start
       (with_writer l.fn.logging l.fn.writer) first l.fn.self old

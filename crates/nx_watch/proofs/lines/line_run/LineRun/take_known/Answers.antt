@@ -3,8 +3,9 @@ use Rattle.std.proofs.Common.{length-append}
 use Rattle.nx_fec.specs.air_files.AirFile.{Line, moment}
 use Rattle.nx_watch.specs.Acting.{acting_lines, ends_watch, moments_behind, with_start}
 use Rattle.nx_watch.specs.AnyLines.{AreLines}
-use Rattle.nx_watch.specs.LineRun.{HasTold, MayAct, StandsWith, first_told, with_writer}
+use Rattle.nx_watch.specs.LineRun.{MayAct, StandsWith, with_writer}
 use Rattle.nx_watch.specs.private.Effects.{IsKept}
+use Rattle.nx_watch.specs.private.Running.{HasToldFirst}
 use Rattle.nx_watch.proofs.lemmas.lines.Run.{elements-may, kind-is, known-ends, may-act, may-set}
 use Rattle.nx_watch.proofs.lemmas.lines.Run.{taken-acting, taken-idle, taken-set, tell-step}
 use Rattle.nx_watch.proofs.lemmas.lines.Starting.{is-setting}
@@ -25,8 +26,8 @@ returns-in-Acts-clause-taken g c = λ start first old lines line force is taken 
     taken.on e.1.0 e.1.1 e.1.2 stood)
     (record {
       kept_so = e.0;
-      told = subst (λ o. HasTold old (g.F.Write.contents c.args.notices.now.inner)
-          c.args.notices.now.failures (first_told o)) (sym (c.in-Acts.ensures.acting refl))
+      told = subst (λ o. HasToldFirst old (g.F.Write.contents c.args.notices.now.inner)
+          c.args.notices.now.failures o) (sym (c.in-Acts.ensures.acting refl))
           tells.told;
     })
 
@@ -54,8 +55,8 @@ returns-in-Sets-clause-taken g c = λ start first old lines line force is taken 
     ((acting_lines first lines ++ moment n ∷ []) ++ line ∷ [])) e.1.1 stood))
     (record {
       kept_so = e.0;
-      told = subst (λ o. HasTold old (g.F.Write.contents c.args.notices.now.inner)
-          c.args.notices.now.failures (first_told o)) (sym (c.in-Sets.ensures.acting refl))
+      told = subst (λ o. HasToldFirst old (g.F.Write.contents c.args.notices.now.inner)
+          c.args.notices.now.failures o) (sym (c.in-Sets.ensures.acting refl))
           tells.told;
     })
 
@@ -68,10 +69,10 @@ returns-in-Nothing-clause-taken g c = λ start first old lines line force is tak
           (Some line) taken e.1.0 e.1.1,
       record {
         kept_so = e.0;
-        told = tell-step (λ o. HasTold old (g.F.Write.contents c.args.notices.now.inner)
-            c.args.notices.now.failures (first_told o))
-            (λ o. HasTold old (g.F.Write.contents c.tell_first.new.notices.inner)
-            c.tell_first.new.notices.failures (first_told o))
+        told = tell-step (λ o. HasToldFirst old (g.F.Write.contents c.args.notices.now.inner)
+            c.args.notices.now.failures o)
+            (λ o. HasToldFirst old (g.F.Write.contents c.tell_first.new.notices.inner)
+            c.tell_first.new.notices.failures o)
             c.first_without-before.result c.first_without.result
             c.args.self.now.effects.first_without c.line.new.self.first_without
             c.first_without-before.ensures c.first_without.ensures c.in-Nothing.ensures.first
@@ -101,10 +102,10 @@ returns-in-Ends-clause-taken g c = λ start first old lines line force is taken 
       record {
         kept_so = subst (λ (l : Option Line). IsKept first (lines ++ l ∷ []) c.line.new.self) said
             e.0;
-        told = tell-step (λ o. HasTold old (g.F.Write.contents c.args.notices.now.inner)
-            c.args.notices.now.failures (first_told o))
-            (λ o. HasTold old (g.F.Write.contents c.tell_first-in-Ends.new.notices.inner)
-            c.tell_first-in-Ends.new.notices.failures (first_told o))
+        told = tell-step (λ o. HasToldFirst old (g.F.Write.contents c.args.notices.now.inner)
+            c.args.notices.now.failures o)
+            (λ o. HasToldFirst old (g.F.Write.contents c.tell_first-in-Ends.new.notices.inner)
+            c.tell_first-in-Ends.new.notices.failures o)
             c.first_without-before.result c.first_without-in-Ends.result
             c.args.self.now.effects.first_without c.line.new.self.first_without
             c.first_without-before.ensures c.first_without-in-Ends.ensures c.in-Ends.ensures.first

@@ -1,8 +1,8 @@
-use Rattle.std.proofs.Common.{◌≡◌, ◌+◌, ◌-◌, ◌≤◌, ℕ, Option, List, ◌++◌, length, take}
+use Rattle.std.proofs.Common.{◌≡◌, ◌+◌, ◌-◌, ◌≤◌, ℕ, List, ◌++◌, length, take}
 use Rattle.nx_watch.specs.Acting.{most_bytes}
 use Rattle.nx_watch.specs.LineRun.{StandsWith, WithWriter, with_writer}
 use Rattle.nx_watch.specs.declared.lines.line_effects.StartMoments.{StartMoments}
-use Rattle.nx_watch.specs.private.Running.{IsRunning}
+use Rattle.nx_watch.specs.private.Running.{IsRunning, ToldBefore}
 use Rattle.nx_watch.proofs.lines.line_run.LineRun.take_piece.Given as goal
 
 -- the lines that the bytes so far ended were taken
@@ -16,7 +16,7 @@ invariant-loop-at g l = record {
   few : l.self.effects.lines ≤ l.fn.self.effects.lines + l.at;
   fewer : l.self.effects.without_effect ≤ l.self.effects.lines;
   taken : (start : WithWriter g.row.T.Denot g.row.W.Denot) (first : StartMoments)
-      (old : Option (List ℕ)) (bytes : List ℕ)
+      (old : ToldBefore) (bytes : List ℕ)
       → g.T.ActingTaker.first_moment start.taker ≡ first.newest
       → IsRunning (StandsWith g.T.ActingTaker.stands g.W.Write.contents) start
       (with_writer l.fn.taker l.fn.writer) first l.fn.self old

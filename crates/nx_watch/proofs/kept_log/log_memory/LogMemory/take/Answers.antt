@@ -2,7 +2,7 @@ use Rattle.std.proofs.Common.{◌∙◌, ◌++◌, ap, append-nil, sym}
 use Rattle.nx_code.specs.Lists.{last_of}
 use Rattle.nx_memory.specs.Memory.{most_entries}
 use Rattle.nx_watch.proofs.lemmas.log.Remembering.{found-none, found-some}
-use Rattle.nx_watch.proofs.kept_log.log_memory.LogMemoryRecordTaker.take.Goals as goal
+use Rattle.nx_watch.proofs.kept_log.log_memory.LogMemory.take.Goals as goal
 
 pub returns-in-Some : goal.returns-in-Some
 returns-in-Some c = λ one logged on all is.

@@ -1,0 +1,141 @@
+//! A log is opened: what it remembers is taken, and what is cut of it is told.
+
+ghost use Rattle.std.specs.Prelude.{◌≡◌, ◌⊎◌, List, ℕ, IfErr, IfOk};
+ghost use Rattle.nx_kept.specs.Disk.{OnlyReads};
+ghost use Rattle.nx_kept.specs.Kept.{IsDamaged, IsKeptLog, StandsFor};
+ghost use Rattle.nx_kept.specs.Open.{HasCause, KeepsRecords};
+ghost use Rattle.nx_kept.specs.declared.fault.OpenFault.TheVariants as why;
+ghost use Rattle.nx_log.specs.Entries.{IsWholeEntry};
+ghost use Rattle.nx_watch.specs.Watch.{longest_entry};
+ghost use Rattle.nx_watch.specs.CutTold.{TellsOfSomeCut};
+ghost use Rattle.nx_watch.specs.private.Cutting.{HasToldCut, HearsOfCut, OpensLog, TakesEntry, TellsMore};
+
+use crate::kept_log::cut::tell_of_cut;
+use crate::kept_log::log_grammar::LogGrammar;
+use crate::kept_log::log_memory::LogMemory;
+use nx_fec::Counting;
+use nx_kept::{DiskFile, KeptLog, OpenFault, RecordTaker};
+use std::alloc::Global;
+use std::io::Write;
+
+/// Takes the entries of a log, and tells on the notices what is cut behind them.
+#[derive(Drop)]
+struct LogOpening<'a, F> {
+    memory: &'a mut LogMemory,
+    notices: &'a mut Counting<F>,
+}
+
+impl<'a, F: Write> LogOpening<'a, F> {
+    /// Opens a log. What it remembers is taken, and what is cut of it is told.
+    fn open<D: DiskFile>(
+        &mut self,
+        alloc: Global,
+        device: D,
+    ) -> Result<KeptLog<D, LogGrammar>, (OpenFault, D)>
+        ensures same_memory { self.new.memory.ghost_name ≡ self.old.memory.ghost_name }
+        ensures same_notices { self.new.notices.ghost_name ≡ self.old.notices.ghost_name }
+        ensures told { (cut : List ℕ) × TellsOfSomeCut cut
+            × TellsMore F.contents self.old.notices.now self.new.notices.now cut }
+        ensures opened { IfOk result (λ log. (start : List ℕ) → D.explains start log.device →
+            OpensLog F.contents (D.seen start) (D.may_leave start) device self.old.memory.now
+            self.new.memory.now self.old.notices.now self.new.notices.now log) }
+        ensures told_err { IfErr result (λ e. (start : List ℕ) → D.explains start e.1 →
+            HasToldCut F.contents (D.seen start device) self.old.notices.now self.new.notices.now
+            ⊎ ((self.new.notices.now ≡ self.old.notices.now) × OnlyReads (D.seen start)
+            (D.may_leave start) D.moment (D.left_since start) device e.1)) }
+        ensures any_moment { IfOk result (λ log. (start : List ℕ) (records : List (List ℕ)) →
+            D.explains start log.device →
+            StandsFor IsWholeEntry longest_entry records (D.seen start device) →
+            KeepsRecords IsWholeEntry longest_entry (D.may_leave start) D.moment
+            (D.left_since start) records device log.device) }
+        ensures any_moment_err { IfErr result (λ e. (start : List ℕ) (records : List (List ℕ)) →
+            D.explains start e.1 →
+            StandsFor IsWholeEntry longest_entry records (D.seen start device) →
+            KeepsRecords IsWholeEntry longest_entry (D.may_leave start) D.moment
+            (D.left_since start) records device e.1) }
+        ensures damaged { IfErr result (λ e. (start : List ℕ) (line : ℕ) → D.explains start e.1 →
+            e.0 ≡ why.Damaged line →
+            IsDamaged IsWholeEntry longest_entry line (D.seen start device)) }
+        ensures only_read_err { IfErr result (λ e. (start : List ℕ) → D.explains start e.1 →
+            (IsKeptLog IsWholeEntry longest_entry (D.seen start device) → ⊥) →
+            OnlyReads (D.seen start) (D.may_leave start) D.moment (D.left_since start) device e.1) }
+        ensures faults { IfOk result (λ log. D.faults log.device ≡ D.faults device) }
+        ensures cause { IfErr result (λ e.
+            HasCause D.faults D.has_failed_to_read D.has_failed_to_write e.0 device e.1) }
+        ensures explained { IfOk result (λ log. (start : List ℕ) →
+            D.explains start log.device → D.explains start device) }
+        ensures explained_err { IfErr result (λ e. (start : List ℕ) →
+            D.explains start e.1 → D.explains start device) }
+    {
+        KeptLog::open(alloc, device, LogGrammar, self)
+    }
+}
+
+/// Opens a log. What it remembers is taken into the memory, and what is cut of it is told on the
+/// notices, before it is cut.
+pub(crate) fn open_log<D: DiskFile, F: Write>(
+    alloc: Global,
+    device: D,
+    memory: &mut LogMemory,
+    notices: &mut Counting<F>,
+) -> Result<KeptLog<D, LogGrammar>, (OpenFault, D)>
+    ensures told { (cut : List ℕ) × TellsOfSomeCut cut
+        × TellsMore F.contents notices.old notices.new cut }
+    ensures opened { IfOk result (λ log. (start : List ℕ) → D.explains start log.device →
+        OpensLog F.contents (D.seen start) (D.may_leave start) device memory.old memory.new
+        notices.old notices.new log) }
+    ensures told_err { IfErr result (λ e. (start : List ℕ) → D.explains start e.1 →
+        HasToldCut F.contents (D.seen start device) notices.old notices.new
+        ⊎ ((notices.new ≡ notices.old) × OnlyReads (D.seen start) (D.may_leave start) D.moment
+        (D.left_since start) device e.1)) }
+    ensures any_moment { IfOk result (λ log. (start : List ℕ) (records : List (List ℕ)) →
+        D.explains start log.device →
+        StandsFor IsWholeEntry longest_entry records (D.seen start device) →
+        KeepsRecords IsWholeEntry longest_entry (D.may_leave start) D.moment (D.left_since start)
+        records device log.device) }
+    ensures any_moment_err { IfErr result (λ e. (start : List ℕ) (records : List (List ℕ)) →
+        D.explains start e.1 →
+        StandsFor IsWholeEntry longest_entry records (D.seen start device) →
+        KeepsRecords IsWholeEntry longest_entry (D.may_leave start) D.moment (D.left_since start)
+        records device e.1) }
+    ensures damaged { IfErr result (λ e. (start : List ℕ) (line : ℕ) → D.explains start e.1 →
+        e.0 ≡ why.Damaged line → IsDamaged IsWholeEntry longest_entry line (D.seen start device)) }
+    ensures only_read_err { IfErr result (λ e. (start : List ℕ) → D.explains start e.1 →
+        (IsKeptLog IsWholeEntry longest_entry (D.seen start device) → ⊥) →
+        OnlyReads (D.seen start) (D.may_leave start) D.moment (D.left_since start) device e.1) }
+    ensures faults { IfOk result (λ log. D.faults log.device ≡ D.faults device) }
+    ensures cause { IfErr result (λ e.
+        HasCause D.faults D.has_failed_to_read D.has_failed_to_write e.0 device e.1) }
+    ensures explained { IfOk result (λ log. (start : List ℕ) →
+        D.explains start log.device → D.explains start device) }
+    ensures explained_err { IfErr result (λ e. (start : List ℕ) →
+        D.explains start e.1 → D.explains start device) }
+{
+    let mut opening = LogOpening { memory, notices };
+    let opened = opening.open(alloc, device);
+    let LogOpening {
+        memory: _,
+        notices: _,
+    } = opening;
+    opened
+}
+
+impl<'a, F: Write> RecordTaker for LogOpening<'a, F> {
+    ghost use Rattle.nx_log.specs.Entries.{IsWholeEntry};
+    ghost use Rattle.nx_watch.specs.private.Cutting.{HearsOfCut, TakesEntry};
+
+    ghost can_take = { IsWholeEntry };
+
+    ghost takes = { TakesEntry };
+
+    ghost hears_of_cut = { HearsOfCut F.contents };
+
+    fn take(&mut self, bytes: &[u8]) {
+        self.memory.take(bytes);
+    }
+
+    /// What is cut is no entry that counts, so nothing is remembered of it.
+    fn hear_of_cut(&mut self, line: u64, bytes: &[u8]) {
+        tell_of_cut(line, bytes, self.notices);
+    }
+}
