@@ -1,13 +1,9 @@
 -- What a watch has at hand, by values alone (this profile).
 use Rattle.std.specs.Prelude.{ℕ, List, Option}
-use Rattle.std.specs.Io.KnownBytes.{Consumes}
-use Rattle.nx_fec.specs.air_files.AirFile.{Line}
 use Rattle.nx_fec.specs.Transfers.{CountedDevice, devices}
 use Rattle.nx_kept.specs.declared.disk.DiskFile.{Ghosts as TellsOfDisk}
-use Rattle.nx_left_on.specs.Chain.{IsLeftBehind}
-use Rattle.nx_receiver.specs.copies.Shares.{MarkedCopy}
 use Rattle.nx_watch.specs.Stamp.{Stamp}
-use Rattle.nx_watch.specs.Watch.{Stop, WatchDevices}
+use Rattle.nx_watch.specs.Watch.{WatchDevices}
 
 -- The file of a watch with its first content, its input, its output and its notices, as they stand
 -- before it and after it, and what stood at each read of the input.
@@ -37,15 +33,3 @@ telling disk remaining contents told a = record {
   notices_after = a.notices_after;
   stamps = a.stamps;
 }
-
--- A watch with these devices that started at this moment behind these entries left this file,
--- behind a read before which so many bytes of its input had come.
-pub record WasLeftBehind {D R W N : Type 0} (d : WatchDevices D R W N) (now : ℕ)
-    (log : List MarkedCopy) (read : ℕ) (file : List ℕ)
-    : Type 0 where
-  pub bytes : List ℕ
-  pub consumed : Consumes (d.streams.remaining d.streams.reader.inner)
-      (d.streams.remaining d.streams.reader_after.inner) bytes
-  pub stop : Stop
-  pub lines : List (Option Line)
-  pub left : IsLeftBehind now log stop lines bytes read file

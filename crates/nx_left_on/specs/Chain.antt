@@ -1,7 +1,7 @@
 -- A watch of a kept log, and a chain of them: each starts with what the log remembers of all that
 -- was put before it (this profile).
 use Rattle.std.specs.Prelude.{◌≡◌, ℕ, ◌+◌, ◌<◌, ◌≤◌, List, [], ◌∷◌, ◌++◌}
-use Rattle.std.specs.Prelude.{length, take, Option, ⊤}
+use Rattle.std.specs.Prelude.{length, Option, ⊤}
 use Rattle.std.specs.List.{flat_map}
 use Rattle.nx_code.specs.Lists.{Begins}
 use Rattle.nx_fec.specs.air_files.AirFile.{Line}
@@ -16,7 +16,6 @@ use Rattle.nx_receiver.specs.copies.Printing.{printed_copies}
 use Rattle.nx_receiver.specs.copies.Shares.{Given, MarkedCopy, Starts, copies_on, start_on}
 use Rattle.nx_sync.specs.Locks.{IsNow, Lock, Now}
 use Rattle.nx_watch.specs.Acting.{acting_lines}
-use Rattle.nx_watch.specs.AnyLines.{AreLines}
 use Rattle.nx_watch.specs.Watch.{StandsForEntries, Stop, moments_at, starts_at, unread, unwritten}
 
 -- ---- a watch
@@ -137,19 +136,6 @@ pub record IsLeftBy (now : ℕ) (log : List MarkedCopy) (ending : Ending) (lines
   pub kept : watch.put ≡ put
   pub left : watch.file ≡ file
   pub puts : Puts log watch
-
--- A watch that started so read these lines of these bytes until it stopped so. Behind a read before
--- which so many bytes had come, it left this file. It is sure of those of its lines that were whole
--- by then.
-pub record IsLeftBehind (now : ℕ) (log : List MarkedCopy) (stop : Stop)
-    (lines : List (Option Line)) (bytes : List ℕ) (read : ℕ) (file : List ℕ)
-    : Type 0 where
-  pub by_then : List (Option Line)
-  pub rest : List ℕ
-  pub whole : AreLines (take read bytes) by_then rest
-  pub put : List MarkedCopy
-  pub left : IsLeftBy now log (kept_some_at stop) (acting_at now log lines)
-      (acting_at now log (take (length by_then) lines)) put file
 
 -- The copies that it judged on a channel begin those that were found, and what is printed of them
 -- is what it put. Those that had ended in the lines behind which it read on are among them.

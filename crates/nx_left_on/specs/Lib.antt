@@ -1,4 +1,5 @@
 pub mod AtHand
+pub mod Call
 pub mod Chain
 pub mod LeftOn
 pub mod Example

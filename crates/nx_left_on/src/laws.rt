@@ -21,7 +21,8 @@ ghost use Rattle.nx_watch.specs.Stamp.{Stamp};
 ghost use Rattle.nx_watch.specs.declared.watch_fault.WatchFault.{WatchFault};
 ghost use Rattle.nx_watch.specs.declared.watch_report.WatchReport.{WatchReport};
 ghost use Rattle.nx_watch.specs.Watch.{AnswersWatch, PrintsUntil, StandsForEntries, Stop, starts_at};
-ghost use Rattle.nx_left_on.specs.AtHand.{AtHand, WasLeftBehind, telling};
+ghost use Rattle.nx_left_on.specs.AtHand.{AtHand, telling};
+ghost use Rattle.nx_left_on.specs.Call.{IsOfCall, TellsAllKept, all_kept, left_behind};
 ghost use Rattle.nx_left_on.specs.Chain.{ClocksAreNear, GoesOn, HadRead, IsChain, IsLeftBy, Puts, Watch, acting_at, all_copies, all_put, answered, kept_all_at, kept_some_at, stopped, with_copies};
 ghost use Rattle.nx_left_on.specs.Example.{example_watches, first_acting, first_moment, first_watch, kept_bytes, one_entry, second_acting, second_watch};
 ghost use Rattle.nx_left_on.specs.LeftOn.{HasEndedAt, IsHeardInTimeOver, IsUnknownOver};
@@ -82,9 +83,9 @@ pub fn what_a_watch_keeps_goes_on()
 
 /// What the clause `watched` of `nx_watch::watch` says of each read of its input makes a crash
 /// leave a watch of a chain, where it comes behind such a read, by which no call of the disk had
-/// failed. That watch is sure of those of its lines that act and were whole at the read. The same
-/// holds of a file that is found when the watch is over, after a fault of the disk too, since a
-/// crash leaves it.
+/// failed. Its lines are those that act of the bytes that were read, and it is sure of those that
+/// were whole at that read. The same holds of a file that is found when the watch is over, after a
+/// fault of the disk too, since a crash leaves it.
 pub fn a_crash_behind_a_read_leaves_a_watch<D: DiskFile, R: Read, W: Write, N: Write>()
     ensures crash { (a : AtHand D R W N) (now : ℕ) (log : List MarkedCopy)
         (outcome : Result WatchReport WatchFault)
@@ -92,8 +93,9 @@ pub fn a_crash_behind_a_read_leaves_a_watch<D: DiskFile, R: Read, W: Write, N: W
         → AnswersWatch (telling D.DiskFile R.remaining W.contents N.contents a) now log outcome
         → Contains a.stamps at → D.faults at.disk ≡ D.faults a.disk
         → D.left_since a.start a.disk_after (D.moment at.disk) file
-        → WasLeftBehind (telling D.DiskFile R.remaining W.contents N.contents a) now log at.read
-        file }
+        → (watch : Watch)
+        × IsOfCall (telling D.DiskFile R.remaining W.contents N.contents a).streams now log
+        (left_behind at.read) file watch }
     ensures found { (a : AtHand D R W N) (now : ℕ) (log : List MarkedCopy)
         (outcome : Result WatchReport WatchFault)
         (at : Stamp D (CountedDevice W) (CountedDevice N)) (file : List ℕ)
@@ -101,8 +103,22 @@ pub fn a_crash_behind_a_read_leaves_a_watch<D: DiskFile, R: Read, W: Write, N: W
         → Contains a.stamps at → D.faults at.disk ≡ D.faults a.disk
         → D.moment at.disk ≤ D.moment a.disk_after
         → D.may_leave a.start a.disk_after file
-        → WasLeftBehind (telling D.DiskFile R.remaining W.contents N.contents a) now log at.read
-        file }
+        → (watch : Watch)
+        × IsOfCall (telling D.DiskFile R.remaining W.contents N.contents a).streams now log
+        (left_behind at.read) file watch }
+{}
+
+/// A watch that answered Ok, `Back` or `Read` leaves one of a chain too, which read on behind all
+/// its lines. Its file is what a read finds then, or what a crash leaves.
+pub fn an_answer_that_tells_all_is_kept_leaves_a_watch<D: DiskFile, R: Read, W: Write, N: Write>()
+    ensures { (a : AtHand D R W N) (now : ℕ) (log : List MarkedCopy)
+        (outcome : Result WatchReport WatchFault) (file : List ℕ)
+        → AnswersWatch (telling D.DiskFile R.remaining W.contents N.contents a) now log outcome
+        → TellsAllKept outcome
+        → (D.seen a.start a.disk_after ≡ file) ⊎ D.may_leave a.start a.disk_after file
+        → (watch : Watch)
+        × IsOfCall (telling D.DiskFile R.remaining W.contents N.contents a).streams now log
+        all_kept file watch }
 {}
 
 /// However the watches of a chain ended, the bytes that the last of them left stand for the entries

@@ -21,7 +21,8 @@ use Rattle.nx_watch.specs.Acting.{moments_said, with_start}
 use Rattle.nx_watch.specs.AnyLines.{AreLines, cut_line, ended}
 use Rattle.nx_watch.specs.LineRun.{StopsBehind}
 use Rattle.nx_watch.specs.Stamp.{Stamp}
-use Rattle.nx_watch.specs.Watch.{HasRead, HasWatched, HadKept, PrintsUntil, StandsForEntries, StoodAt}
+use Rattle.nx_watch.specs.Watch.{HasRead, HasWatched, HadKept, KeepsAll}
+use Rattle.nx_watch.specs.Watch.{PrintsUntil, StandsForEntries, StoodAt}
 use Rattle.nx_watch.specs.Watch.{Stop, WatchDevices, at_end, back, moments_at, starts_at, unread}
 use Rattle.nx_watch.specs.Watch.{unwritten}
 use Rattle.nx_watch.specs.declared.lines.line_effects.StartMoments.{StartMoments}
@@ -33,10 +34,12 @@ use Rattle.nx_watch.specs.declared.watch_report.WatchReport.{WatchReport}
 use Rattle.nx_watch.specs.declared.watch_fault.WatchFault.{WatchFault}
 use Rattle.nx_watch.specs.declared.watch_fault.WatchFault.TheVariants.{Open, Damaged, Disk, Memory}
 use Rattle.nx_watch.specs.declared.watch_fault.WatchFault.TheVariants.{Read, Back}
-use Rattle.nx_left_on.specs.AtHand.{WasLeftBehind}
-use Rattle.nx_left_on.specs.Chain.{IsLeftBehind, IsLeftBy, acting_at, kept_some_at}
+use Rattle.nx_left_on.specs.Call.{CallEnd, AreSure, IsOfCall, TellsAllKept, all_kept, ending_by}
+use Rattle.nx_left_on.specs.Call.{left_behind}
+use Rattle.nx_left_on.specs.Chain.{IsLeftBy, Watch, acting_at, kept_some_at, with_copies}
 use Rattle.nx_left_on.proofs.lemmas.chains.Found.{begins-itself, begins-more}
-use Rattle.nx_left_on.proofs.lemmas.chains.Keeps.{acting-begins, keeps-behind, turn-begins}
+use Rattle.nx_left_on.proofs.lemmas.chains.Keeps.{acting-begins, keeps-all, keeps-behind, turn-begins}
+use Rattle.nx_left_on.proofs.lemmas.entries.Judging.{goes-on}
 
 -- ---- the lines of a beginning of some bytes
 
@@ -253,6 +256,34 @@ module _ (now : ℕ) (entries copies printed : List MarkedCopy) (lines by_then :
         subst (IsSureOf stop) (sym (take_all (length by_then) lines enough))
         (sure-all stop h k.0 k.1)
 
+-- a call that read so, and was left so, leaves a watch
+of-call : {D R W N : Type 0} (d : WatchDevices D R W N) (now : ℕ) (entries copies : List MarkedCopy)
+    (stop : Stop) (lines sure : List (Option Line)) (end : CallEnd) (put : List MarkedCopy)
+    (file : List ℕ) (watched : HasWatched d now (starts_at now entries) entries stop lines copies)
+    → AreSure end watched.bytes lines sure
+    → IsLeftBy now entries (ending_by end stop) (acting_at now entries lines)
+    (acting_at now entries sure) put file
+    → (watch : Watch) × IsOfCall d.streams now entries end file watch
+of-call d now entries copies stop lines sure end put file watched are left =
+    let goes = goes-on entries left.watch left.puts in (
+      with_copies left.watch goes.0 goes.1,
+      record {
+        bytes = watched.bytes;
+        consumed = watched.consumed;
+        stop = stop;
+        lines = lines;
+        read = watched.read;
+        sure = sure;
+        are_sure = are;
+        started = left.started;
+        took = left.took;
+        read_on = left.read_on;
+        ended = left.ended;
+        left = left.left;
+        goes_on = goes.2;
+      },
+    )
+
 -- behind a read of the input by which no put had failed
 pub left-behind : {D R W N : Type 0} (d : WatchDevices D R W N) (now : ℕ)
     (entries copies : List MarkedCopy) (stop : Stop) (lines : List (Option Line))
@@ -260,7 +291,7 @@ pub left-behind : {D R W N : Type 0} (d : WatchDevices D R W N) (now : ℕ)
     (watched : HasWatched d now (starts_at now entries) entries stop lines copies)
     → Contains d.stamps at → d.tells.faults at.disk ≡ d.tells.faults d.disk
     → d.tells.left_since d.start d.disk_after (d.tells.moment at.disk) file
-    → IsLeftBehind now entries stop lines watched.bytes at.read file
+    → (watch : Watch) × IsOfCall d.streams now entries (left_behind at.read) file watch
 left-behind d now entries copies stop lines at file watched there well crash =
     let stood = All-contains (StoodAt d now (starts_at now entries) entries watched.bytes copies)
     d.stamps at watched.before_each_read there in
@@ -272,14 +303,25 @@ left-behind d now entries copies stop lines at file watched there well crash =
     let before = whole-before (IsReadOut d.streams ⊎ (length watched.bytes ≡ 9223372036854775807))
     (moments_at now (starts_at now entries)) stop watched.bytes lines stood.lines at.read stood.rest
     watched.read stood.whole stood.on in
-    record {
-      by_then = stood.lines;
-      rest = stood.rest;
-      whole = stood.whole;
-      put = take left.0 copies;
-      left = sure-of now entries copies stood.printed lines stood.lines file left.0 stood.prints
-          left.1 left.2 left.3 stop watched.printed before;
-    }
+    of-call d now entries copies stop lines (take (length stood.lines) lines) (left_behind at.read)
+    (take left.0 copies) file watched (stood.lines, stood.rest, stood.whole, refl)
+    (sure-of now entries copies stood.printed lines stood.lines file left.0 stood.prints left.1
+    left.2 left.3 stop watched.printed before)
+
+-- when all is over, where all is kept
+pub kept-over : {D R W N : Type 0} (d : WatchDevices D R W N) (now : ℕ)
+    (entries copies : List MarkedCopy) (stop : Stop) (lines : List (Option Line)) (file : List ℕ)
+    → HasWatched d now (starts_at now entries) entries stop lines copies
+    → KeepsAll d entries copies
+    → (d.tells.seen d.start d.disk_after ≡ file) ⊎ d.tells.may_leave d.start d.disk_after file
+    → (watch : Watch) × IsOfCall d.streams now entries all_kept file watch
+kept-over d now entries copies stop lines file watched kept over =
+    let stands : StandsForEntries (entries ++ copies) file = elim over [
+      | inl found ↦ subst (StandsForEntries (entries ++ copies)) found kept.found
+      | inr crash ↦ kept.left file crash
+    ] in
+    of-call d now entries copies stop lines lines all_kept copies file watched refl
+    (keeps-all now entries copies lines file stop watched.printed stands)
 
 -- ---- whatever the watch answers
 
@@ -293,22 +335,19 @@ module _ {D R W N : Type 0} (d : WatchDevices D R W N) (now : ℕ) (entries : Li
     (well : d.tells.faults at.disk ≡ d.tells.faults d.disk)
     (crash : d.tells.left_since d.start d.disk_after (d.tells.moment at.disk) file)
   where
-    started-left : (outcome : Result WatchReport WatchFault)
-        → AnswersStarted d now (starts_at now entries) entries outcome
-        → WasLeftBehind d now entries at.read file
-    started-left outcome s = record {
-      bytes = s.3.bytes;
-      consumed = s.3.consumed;
-      stop = s.0;
-      lines = s.1;
-      left = left-behind d now entries s.2 s.0 s.1 at file s.3 there well crash;
-    }
+    -- a watch that the call leaves
+    abbrev LeavesWatch : Type 0
+    LeavesWatch = (watch : Watch) × IsOfCall d.streams now entries (left_behind at.read) file watch
 
-    opened-left : HasOpened d entries → WasLeftBehind d now entries at.read file
+    started-left : (outcome : Result WatchReport WatchFault)
+        → AnswersStarted d now (starts_at now entries) entries outcome → LeavesWatch
+    started-left outcome s = left-behind d now entries s.2 s.0 s.1 at file s.3 there well crash
+
+    opened-left : HasOpened d entries → LeavesWatch
     opened-left o = absurd (none-stamped d.stamps at o.unstamped there)
 
     pub answer-left : (outcome : Result WatchReport WatchFault)
-        → AnswersWatch d now entries outcome → WasLeftBehind d now entries at.read file
+        → AnswersWatch d now entries outcome → LeavesWatch
     answer-left (Err Open) h = opened-left h
     answer-left (Err Memory) h = opened-left h
     answer-left (Err (Damaged line)) h = absurd h
@@ -319,3 +358,31 @@ module _ {D R W N : Type 0} (d : WatchDevices D R W N) (now : ℕ) (entries : Li
     answer-left (Err Read) h = started-left (Err Read) h
     answer-left (Err (Back line last given)) h = started-left (Err (Back line last given)) h
     answer-left (Ok report) h = started-left (Ok report) h
+
+module _ {D R W N : Type 0} (d : WatchDevices D R W N) (now : ℕ) (entries : List MarkedCopy)
+    (file : List ℕ)
+    (over : (d.tells.seen d.start d.disk_after ≡ file)
+    ⊎ d.tells.may_leave d.start d.disk_after file)
+  where
+    -- a watch that the call leaves, at its end
+    abbrev LeavesAtEnd : Type 0
+    LeavesAtEnd = (watch : Watch) × IsOfCall d.streams now entries all_kept file watch
+
+    started-over : (outcome : Result WatchReport WatchFault)
+        → AnswersStarted d now (starts_at now entries) entries outcome
+        → (outcome ≡ Err Disk → ⊥) → LeavesAtEnd
+    started-over outcome s other = elim s.4 [
+      | inl k ↦ kept-over d now entries s.2 s.0 s.1 file s.3 k.0 over
+      | inr k ↦ absurd (other k.1)
+    ]
+
+    pub answer-over : (outcome : Result WatchReport WatchFault)
+        → AnswersWatch d now entries outcome → TellsAllKept outcome → LeavesAtEnd
+    answer-over (Err Open) h t = absurd t
+    answer-over (Err Memory) h t = absurd t
+    answer-over (Err (Damaged line)) h t = absurd t
+    answer-over (Err Disk) h t = absurd t
+    answer-over (Err Read) h t = started-over (Err Read) h (λ e. cc)
+    answer-over (Err (Back line last given)) h t =
+        started-over (Err (Back line last given)) h (λ e. cc)
+    answer-over (Ok report) h t = started-over (Ok report) h (λ e. cc)
