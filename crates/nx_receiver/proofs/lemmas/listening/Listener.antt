@@ -765,18 +765,26 @@ if-empty : (b : Bool) → cond b (fed.elements []) [] ≡ []
 if-empty true = refl
 if-empty false = refl
 
+-- no elements of a channel change nothing
+pub none-given : {M : Type 0} {entries_of : M → List MemoryEntry} (starts : Starts)
+    (listener : ListeningOver M) (given : List Given) (channel : Channel)
+    (copies : List MarkedCopy) → HearsOver entries_of starts listener given copies
+    → HearsOver entries_of starts listener (then_elements given channel []) copies
+unfolding fed.elements_among
+none-given {M} {entries_of} starts listener given channel copies h =
+    hears-next starts listener listener given (to_one channel []) copies h refl
+    (elements-set channel []) refl refl
+    (λ other log s. subst (λ es. Stands entries_of (start_on starts other)
+    (receiver_on listener other) es log)
+    (sym (ap (λ es. share other given ++ es) (if-empty (same_channel channel other))
+    ∙ append-nil (share other given))) s)
+
 pub none-heard : (starts : Starts) (listener : Listening) (given : List Given)
     (channel : Channel) (bytes : List ℕ) → HearsLog starts listener given bytes
     → HearsLog starts listener (then_elements given channel []) bytes
-unfolding fed.elements_among
 none-heard starts listener given channel bytes h = record {
   log = h.log;
-  hears = hears-next starts listener listener given (to_one channel []) h.log h.hears refl
-      (elements-set channel []) refl refl
-      (λ other log s. subst (λ es. Stands content (start_on starts other)
-      (receiver_on listener other) es log)
-      (sym (ap (λ es. share other given ++ es) (if-empty (same_channel channel other))
-      ∙ append-nil (share other given))) s);
+  hears = none-given starts listener given channel h.log h.hears;
   spelled = h.spelled;
 }
 
