@@ -1,0 +1,13 @@
+use Rattle.std.proofs.Common.{length, ◌-◌, ◌≤◌, take}
+use Rattle.nx_handle.specs.Hearing.{elements_of}
+use Rattle.nx_handle.proofs.lemmas.Hearing.{HearsSilently}
+use Rattle.nx_handle.proofs.pieces.hear_all.Given as goal
+
+abbrev pub invariant-loop-heard : goal.invariant-loop-heard
+invariant-loop-heard l = record {
+  within : l.heard ≤ length l.elements;
+  silent : HearsSilently l.channel l.fn.listener l.listener (elements_of (take l.heard l.elements));
+}
+
+abbrev pub decreases-loop-heard : goal.decreases-loop-heard
+decreases-loop-heard l = length l.elements - l.heard

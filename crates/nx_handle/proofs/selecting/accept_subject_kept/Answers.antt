@@ -1,0 +1,17 @@
+use Rattle.std.proofs.Common.{refl, subst}
+use Rattle.nx_receiver.specs.Events as events
+use Rattle.nx_handle.specs.Selecting.{letter_status}
+use Rattle.nx_handle.specs.declared.kept.Stage.TheVariants.{Hearing}
+use Rattle.nx_handle.specs.declared.status.Status.TheVariants.{NoSubject}
+use Rattle.nx_handle.proofs.lemmas.Selecting.{Takes, selecting-done}
+use Rattle.nx_handle.proofs.selecting.accept_subject_kept.Goals as goal
+
+pub returns-in-Ok : goal.returns-in-Ok
+returns-in-Ok c =
+    let after = c.accept_subject.new.self in
+    selecting-done (letter_status NoSubject c.args.channel c.args.subject)
+    (events.accept_subject c.args.subject) c.args.channel c.in-Ok.channel c.args.kept.now
+    (record c.args.kept.now { stage = Hearing after }) c.in-Hearing.listener after
+    c.in-Hearing.is refl c.in-Ok.ensures.ok.0 c.in-Ok.ensures.ok.2
+    (subst (λ byte. Takes c.in-Ok.channel c.in-Hearing.listener after (events.accept_subject byte))
+    c.in-Ok.ensures.ok.1 c.accept_subject.ensures.heard)

@@ -1,0 +1,92 @@
+-- What hearing elements answers (this profile).
+use Rattle.std.specs.Prelude.{◌≡◌, ◌≢◌, ℕ, ◌<◌, ◌≤◌, ◌==◌, nat_lt, Bool, not, if◌then◌else◌, List, []}
+use Rattle.std.specs.Prelude.{◌++◌, length, map, take, Option, Some, None}
+use Rattle.std.specs.List.{list_all}
+use Rattle.nx_fec.specs.air_files.Channels.{channel_number}
+use Rattle.nx_fec.specs.declared.air_files.channel.Channel.{Channel}
+use Rattle.nx_receiver.specs.copies.FoundCopies.{TaggedCopy}
+use Rattle.nx_receiver.specs.copies.InTurn.{PrintsInTurn}
+use Rattle.nx_receiver.specs.Listener.{then_elements}
+use Rattle.nx_handle.specs.Receivers.{HearsGiven, Listening}
+use Rattle.nx_receiver.specs.copies.Log.{IsLog}
+use Rattle.nx_receiver.specs.copies.Shares.{Given, MarkedCopy, Starts, marked}
+use Rattle.nx_handle.specs.Life.{hearing}
+use Rattle.nx_handle.specs.Status.{number_of}
+use Rattle.nx_handle.specs.CallerRoom.{IsPut, Room}
+use Rattle.nx_handle.specs.declared.kept.Kept.{Kept}
+use Rattle.nx_handle.specs.declared.status.Status.{Status}
+use Rattle.nx_handle.specs.declared.status.Status.TheVariants as status
+
+-- a byte is one of an element: 1 for B, and 0 for Y
+abbrev pub is_element : ℕ → Bool
+is_element byte = nat_lt byte 2
+
+abbrev pub element_of : ℕ → Bool
+element_of byte = byte == 1
+
+abbrev pub elements_of : List ℕ → List Bool
+elements_of bytes = map element_of bytes
+
+-- the most bytes of an entry that is handed out
+abbrev pub longest_entry : ℕ
+longest_entry = 4163
+
+-- the status of a request to hear elements of a channel, with room for so many bytes, as many as an
+-- entry can need
+abbrev pub request_status : ℕ → List ℕ → ℕ → Status
+request_status channel bytes capacity =
+    if nat_lt 2 channel then status.NoChannel
+    else if not (list_all is_element bytes) then status.NoElement
+    else if nat_lt capacity longest_entry then status.NoRoom
+    else status.Done
+
+-- the same, of a receiver that hears, or doesn't
+abbrev pub hearing_status : Option Listening → ℕ → List ℕ → ℕ → Status
+hearing_status None channel bytes capacity = status.Closed
+hearing_status (Some listener) channel bytes capacity = request_status channel bytes capacity
+
+-- Elements of a channel are heard, and this is the log of the copies that they print: none, or one,
+-- which the last of them ends. Whatever was given before, and however much of these elements at
+-- once: the receivers then stand after them too, and no element before the last printed anything.
+pub record HearsElements (channel : Channel) (old new : Listening) (bits : List Bool)
+    (text : List ℕ)
+    : Type 0 where
+  pub next : List TaggedCopy
+  pub few : length next ≤ 1
+  pub spelled : IsLog (map (marked channel) next) text
+  pub heard : (starts : Starts) (given : List Given) (part : List Bool) (copies : List MarkedCopy)
+      → HearsGiven starts old (then_elements given channel part) copies
+      → HearsGiven starts new (then_elements given channel (part ++ bits))
+      (copies ++ map (marked channel) next)
+  pub first : (starts : Starts) (given : List Given) (part : List Bool) (copies : List MarkedCopy)
+      → HearsGiven starts old (then_elements given channel part) copies
+      → (k : ℕ) → k < length bits
+      → PrintsInTurn starts (then_elements given channel (part ++ take k bits)) copies
+
+-- So many of the elements of these bytes are heard on the channel of this number; all, where
+-- nothing is printed.
+pub record Hears (channel : ℕ) (old new : Option Kept) (bytes : List ℕ) (heard : ℕ)
+    (text : List ℕ)
+    : Type 0 where
+  pub on : Channel
+  pub is : channel_number on ≡ channel
+  pub listener : Listening
+  pub was : hearing old ≡ Some listener
+  pub after : Listening
+  pub now : hearing new ≡ Some after
+  pub within : heard ≤ length bytes
+  pub hears : HearsElements on listener after (elements_of (take heard bytes)) text
+  pub all : text ≡ [] → heard ≡ length bytes
+
+-- Hearing elements: the status has its cause. Where all is done, they are heard, and the bytes of
+-- the entry are put into the room, which has room for them. Else nothing is heard, the receiver
+-- stays as it was, and nothing is put.
+pub record AnswersHearing (channel : ℕ) (bytes : List ℕ) (old new : Option Kept) (heard : ℕ)
+    (log : Room) (answer : ℕ)
+    : Type 0 where
+  pub cause : answer ≡ number_of (hearing_status (hearing old) channel bytes (length log.old))
+  pub text : List ℕ
+  pub put : IsPut text log
+  pub fits : length text ≤ length log.old
+  pub done : answer ≡ 0 → Hears channel old new bytes heard text
+  pub refused : answer ≢ 0 → (new ≡ old) × (heard ≡ 0) × (text ≡ [])

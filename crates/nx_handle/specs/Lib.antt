@@ -1,0 +1,11 @@
+pub mod Status
+pub mod CallerRoom
+pub mod StateFaults
+pub mod Receivers
+pub mod Life
+pub mod Opening
+pub mod Hearing
+pub mod Closing
+pub mod Selecting
+pub mod Saving
+pub mod WholeLife

@@ -1,0 +1,50 @@
+-- The whole life of a receiver that is kept between calls (this profile).
+use Rattle.std.specs.Prelude.{◌≡◌, ℕ, List, [], ◌∷◌, ◌++◌, map, Option}
+use Rattle.std.specs.List.{flat_map}
+use Rattle.nx_receiver.specs.copies.Log.{IsLog}
+use Rattle.nx_receiver.specs.copies.Shares.{Given, MarkedCopy, Starts}
+use Rattle.nx_handle.specs.Closing.{Closes}
+use Rattle.nx_handle.specs.Life.{HasHeard}
+use Rattle.nx_handle.specs.declared.kept.Kept.{Kept}
+
+-- The receiver hears, and stands after this was given to it; these bytes are the log of what it
+-- printed.
+pub record HasLogged (starts : Starts) (receiver : Option Kept) (given : List Given) (log : List ℕ)
+    : Type 0 where
+  pub copies : List MarkedCopy
+  pub heard : HasHeard starts receiver given copies
+  pub spelled : IsLog copies log
+
+-- what a call gives to the receivers, and the bytes that it hands out
+pub record Step : Type 0 where
+  pub given : Given
+  pub text : List ℕ
+
+abbrev pub step : Given → List ℕ → Step
+step given text = record { given = given; text = text }
+
+-- A call is this step: whatever the receiver was given before, it then stands after this too, and
+-- the bytes follow in its log.
+abbrev pub IsStep : Option Kept → Step → Option Kept → Type 0
+IsStep old one new =
+    (starts : Starts) (given : List Given) (log : List ℕ) → HasLogged starts old given log
+    → HasLogged starts new (given ++ one.given ∷ []) (log ++ one.text)
+
+-- calls are these steps, one after another
+abbrev pub AreSteps : Option Kept → List Step → Option Kept → Type 0
+AreSteps old [] new = new ≡ old
+AreSteps old (one ∷ steps) new =
+    (mid : Option Kept) × IsStep old one mid × AreSteps mid steps new
+
+-- calls close the receiver, and hand out these texts, one after another, the last of which is empty
+abbrev pub AreCloses : Option Kept → List (List ℕ) → Option Kept → Type 0
+AreCloses old [] new = new ≡ old
+AreCloses old (text ∷ texts) new =
+    (mid : Option Kept) × Closes old mid text × AreCloses mid texts new
+
+-- what steps give, and all bytes that they hand out
+abbrev pub given_in : List Step → List Given
+given_in steps = map (λ one. one.given) steps
+
+abbrev pub texts_of : List Step → List ℕ
+texts_of steps = flat_map (λ one. one.text) steps

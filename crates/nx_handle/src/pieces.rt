@@ -1,0 +1,62 @@
+//! Hearing elements, piece by piece.
+
+ghost use Rattle.std.specs.Prelude.{◌≡◌, ◌≢◌, ◌≤◌, [], false, true, if◌then◌else◌, length, take};
+ghost use Rattle.nx_fec.specs.air_files.AirFile.{element_digit};
+ghost use Rattle.nx_handle.specs.Hearing.{HearsElements, element_of, elements_of};
+
+use arrayvec::ArrayVec;
+use nx_fec::{Channel, PackedElements};
+use nx_memory::PlainRecall;
+use nx_receiver::{Listener, MAX_ENTRY};
+
+/// The most elements of a piece.
+const MAX_PIECE: usize = 512;
+
+/// Hears elements of a channel, up to and with the one that ends the first copy that is printed;
+/// says how many it heard, and whether `entry` has the bytes of an entry then.
+pub(crate) fn hear_all(
+    listener: &mut Listener<PlainRecall>,
+    channel: Channel,
+    elements: &[u8],
+    entry: &mut ArrayVec<u8, MAX_ENTRY>,
+) -> (usize, bool)
+    ensures hears { HearsElements channel listener.old listener.new
+        (elements_of (take result.0 elements.now)) (if result.1 then entry.new.items else []) }
+    ensures within { result.0 ≤ length elements.now }
+    ensures all { result.1 ≡ false → result.0 ≡ length elements.now }
+    ensures some { result.1 ≡ true → entry.new.items ≢ [] }
+{
+    let mut heard = 0;
+    while heard < elements.len() {
+        let end = elements.len().min(heard.saturating_add(MAX_PIECE));
+        let packed = pack(&elements[heard..end]);
+        let (count, is_printed) = listener.hear_spelled(channel, &packed, 0, entry);
+        heard += count;
+        if is_printed {
+            return (heard, true);
+        }
+    }
+    (heard, false)
+}
+
+/// Packs the elements of these bytes.
+fn pack(bytes: &[u8]) -> PackedElements
+    requires { length bytes.now ≤ 512 }
+    ensures { result ≡ elements_of bytes.now }
+{
+    let mut digits = [b'0'; MAX_PIECE];
+    for place in 0..bytes.len() {
+        digits[place] = digit_of(bytes[place]);
+    }
+    let mut packed = PackedElements::new();
+    // True exactly where there are elements.
+    let _ = packed.read(&digits[..bytes.len()]);
+    packed
+}
+
+/// The digit of the element of a byte.
+fn digit_of(byte: u8) -> u8
+    ensures { result ≡ element_digit (element_of byte) }
+{
+    if byte == 1 { b'1' } else { b'0' }
+}

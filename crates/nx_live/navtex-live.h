@@ -1,0 +1,100 @@
+/* The calls of a NAVTEX receiver without a heap: libnavtex_live.a has them. What is kept of a receiver
+ * lies in room that its caller lends; no call takes memory, reads a clock or touches a file.
+ *
+ * What each call answers is proved, in crates/nx_handle and crates/nx_live; that this header says the
+ * same as the library is not: no compiler compares the two.
+ *
+ * What a caller owes, and nothing checks:
+ *  - Behind each pointer to bytes as many lie as the length after it says, readable, and writable
+ *    where the pointer is to no const; no pointer is NULL, also where the length is 0; a length is
+ *    less than 2^63. What is written to may hold anything before the call.
+ *  - What a call writes to overlaps nothing else that it is given.
+ *  - A receiver is made by nx_live_lend, and is never written or copied. The room is the receiver's
+ *    until nx_live_return. Each call on a receiver has ended before the next begins.
+ *  - A receiver is closed or abandoned before its room is given back.
+ */
+#ifndef NAVTEX_LIVE_H
+#define NAVTEX_LIVE_H
+
+#include <stddef.h>
+#include <stdint.h>
+
+#ifdef __cplusplus
+extern "C" {
+#endif
+
+/* How a call ended. The numbers are those of navtex.h. */
+enum nx_live_status {
+    NX_LIVE_DONE = 0,
+    NX_LIVE_NO_ROOM = 1,       /* nx_live_save: `written` is greater than the capacity; else less than
+                                * NX_LIVE_MAX_ENTRY of room was given, and nothing was done */
+    NX_LIVE_READ = 2,          /* a read failed: bytes in memory never do, but no proof says so */
+    NX_LIVE_WRITE = 3,         /* a state that is too long: none is, but no proof says so */
+    NX_LIVE_MEMORY = 4,        /* no memory: none is taken, but no proof says so */
+    NX_LIVE_MOMENT_RANGE = 11, /* the moment is past the year 2999 */
+    NX_LIVE_MOMENT_BACK = 12,  /* the moment is before the one in force */
+    NX_LIVE_VITAL = 13,        /* the subject can't be refused */
+    NX_LIVE_STATE_LINE = 14,   /* a line of the state is not understood */
+    NX_LIVE_STATE_CUT = 15,    /* the state has no end */
+    NX_LIVE_NO_STATION = 28,   /* the byte names no station */
+    NX_LIVE_CLOSED = 32,       /* the receiver is closed, or its end has begun */
+    NX_LIVE_ALREADY_OPEN = 33, /* the receiver is open */
+    NX_LIVE_NO_CHANNEL = 34,   /* the number is that of no channel */
+    NX_LIVE_NO_ELEMENT = 35,   /* a byte is none of an element */
+    NX_LIVE_NO_SUBJECT = 36    /* the byte names no subject */
+};
+
+/* How many bytes of room a receiver needs, and how they are aligned. */
+#define NX_LIVE_ROOM 26584
+#define NX_LIVE_ROOM_ALIGNMENT 8
+
+/* Room for this many bytes holds each entry. */
+#define NX_LIVE_MAX_ENTRY 4163
+
+/* A receiver: where the room lies that was lent to it. */
+struct nx_live {
+    void *room;
+};
+
+/* Makes a closed receiver of NX_LIVE_ROOM bytes of room, whatever lies there. */
+void nx_live_lend(struct nx_live *receiver, void *room);
+
+/* Gives the room of a closed receiver back. No call may take the receiver any more. */
+void nx_live_return(struct nx_live *receiver);
+
+/* Opens a closed receiver at a moment, in seconds since 1970-01-01 00:00:00 UTC. */
+uint32_t nx_live_open(struct nx_live *receiver, uint64_t moment);
+
+/* Opens a closed receiver from the text of a state, as nx_live_save writes it. */
+uint32_t nx_live_open_from(struct nx_live *receiver, const uint8_t *state, size_t length);
+
+/* Sets the moment from here on, of all channels. */
+uint32_t nx_live_set_moment(struct nx_live *receiver, uint64_t moment);
+
+/* Hears elements of a channel, 0 to 2, each a byte, 1 for B and 0 for Y: up to and with the one that
+ * ends the first message that is printed. `heard` is how many it heard, and `written` the length of
+ * the entry; 0 where nothing is printed, and then it heard all. Ask with NX_LIVE_MAX_ENTRY of room. */
+uint32_t nx_live_hear(struct nx_live *receiver, uint8_t channel, const uint8_t *elements, size_t count,
+                      size_t *heard, uint8_t *log, size_t capacity, size_t *written);
+
+/* Refuse a station or a subject, 'A' to 'Z', on a channel from here on, and refuse it no longer. */
+uint32_t nx_live_refuse_station(struct nx_live *receiver, uint8_t channel, uint8_t station);
+uint32_t nx_live_accept_station(struct nx_live *receiver, uint8_t channel, uint8_t station);
+uint32_t nx_live_refuse_subject(struct nx_live *receiver, uint8_t channel, uint8_t subject);
+uint32_t nx_live_accept_subject(struct nx_live *receiver, uint8_t channel, uint8_t subject);
+
+/* Writes the text of a state, with which nx_live_open_from goes on: at most 12,288 bytes. */
+uint32_t nx_live_save(struct nx_live *receiver, uint8_t *state, size_t capacity, size_t *written);
+
+/* Hands out what the end prints, one entry a call; `written` is 0 where none is left, and then the
+ * receiver is closed, and may be opened again. Room as for nx_live_hear. */
+uint32_t nx_live_close(struct nx_live *receiver, uint8_t *log, size_t capacity, size_t *written);
+
+/* Closes a receiver, and prints nothing. */
+void nx_live_abandon(struct nx_live *receiver);
+
+#ifdef __cplusplus
+}
+#endif
+
+#endif

@@ -1,0 +1,151 @@
+//! The calls of a receiver. Each does what the call of `nx_handle` does that has its name.
+
+ghost use Rattle.std.specs.Prelude.{◌≡◌, None};
+ghost use Rattle.nx_receiver.specs.Events as events;
+ghost use Rattle.nx_handle.specs.CallerRoom.{room};
+ghost use Rattle.nx_handle.specs.Closing.{AnswersClosing};
+ghost use Rattle.nx_handle.specs.Hearing.{AnswersHearing};
+ghost use Rattle.nx_handle.specs.Life.{hearing};
+ghost use Rattle.nx_handle.specs.Opening.{AnswersMoment, AnswersOpening};
+ghost use Rattle.nx_handle.specs.Saving.{AnswersOpeningFrom, AnswersSaving};
+ghost use Rattle.nx_handle.specs.Selecting.{AnswersSelecting, letter_status, subject_status};
+ghost use Rattle.nx_handle.specs.declared.status.Status.TheVariants.{NoStation, NoSubject};
+
+use crate::handle::NxLive;
+use crate::lending::{ROOM, ROOM_ALIGNMENT};
+use nx_handle::Kept;
+use std::alloc::Global;
+
+/// Opens a receiver at a moment, in whole seconds since 1970-01-01 00:00:00 UTC: it has heard
+/// nothing, remembers nothing, and everything is selected.
+///
+/// Where the answer isn't 0, the receiver stays as it was.
+#[unsafe(no_mangle)]
+pub extern "C" fn nx_live_open(alloc: Global, receiver: &mut NxLive, moment: u64) -> u32
+    ensures { AnswersOpening moment receiver.old.value receiver.new.value result }
+{
+    prove!(size_of::<Option<Kept>>() == ROOM);
+    prove!(align_of::<Option<Kept>>() == ROOM_ALIGNMENT);
+    nx_handle::open(alloc, receiver.slot(), moment)
+}
+
+/// Opens a receiver from the state with which these bytes begin: it remembers the state's entries,
+/// has its selection on each channel, and the greatest moment of an entry. What stands behind the
+/// state isn't read.
+///
+/// Where the answer isn't 0, the receiver stays as it was.
+#[unsafe(no_mangle)]
+pub extern "C" fn nx_live_open_from(alloc: Global, receiver: &mut NxLive, state: &[u8]) -> u32
+    ensures { AnswersOpeningFrom state.now receiver.old.value receiver.new.value result }
+{
+    nx_handle::open_from(alloc, receiver.slot(), state)
+}
+
+/// Sets the moment from here on, of all channels. Refused where it is past the year 2999, or before
+/// the one in force; the receiver then stays as it was.
+#[unsafe(no_mangle)]
+pub extern "C" fn nx_live_set_moment(receiver: &mut NxLive, moment: u64) -> u32
+    ensures { AnswersMoment moment receiver.old.value receiver.new.value result
+        (hearing receiver.old.value) }
+{
+    nx_handle::set_moment(receiver.slot(), moment)
+}
+
+/// Hears elements of a channel, 0 to 2, each a byte, 1 for B and 0 for Y: up to and with the one
+/// that ends the first copy that is printed. `heard` is how many it heard; the bytes of the entry
+/// are put into the caller's room, and `written` is their number, 0 where nothing is printed: then
+/// it heard all.
+///
+/// There has to be room for the largest entry, so that none is lost. Where the answer isn't 0,
+/// nothing is heard.
+#[unsafe(no_mangle)]
+pub extern "C" fn nx_live_hear(
+    receiver: &mut NxLive,
+    channel: u8,
+    elements: &[u8],
+    heard: &mut usize,
+    log: &mut [u8],
+    written: &mut usize,
+) -> u32
+    ensures { AnswersHearing channel elements.now receiver.old.value receiver.new.value heard.new
+        (room log.old log.new written.new) result }
+{
+    nx_handle::hear(receiver.slot(), channel, elements, heard, log, written)
+}
+
+/// Refuses a station, 'A' to 'Z', on a channel, for all its subjects, from here on.
+#[unsafe(no_mangle)]
+pub extern "C" fn nx_live_refuse_station(receiver: &mut NxLive, channel: u8, station: u8) -> u32
+    ensures { AnswersSelecting (letter_status NoStation channel station)
+        (events.refuse_station station)
+        channel receiver.old.value receiver.new.value result }
+{
+    nx_handle::refuse_station(receiver.slot(), channel, station)
+}
+
+/// Refuses a station on a channel no longer, from here on.
+#[unsafe(no_mangle)]
+pub extern "C" fn nx_live_accept_station(receiver: &mut NxLive, channel: u8, station: u8) -> u32
+    ensures { AnswersSelecting (letter_status NoStation channel station)
+        (events.accept_station station)
+        channel receiver.old.value receiver.new.value result }
+{
+    nx_handle::accept_station(receiver.slot(), channel, station)
+}
+
+/// Refuses a subject on a channel, of all stations, from here on. A, B, D and L can't be refused
+/// (ITU-R M.540).
+#[unsafe(no_mangle)]
+pub extern "C" fn nx_live_refuse_subject(receiver: &mut NxLive, channel: u8, subject: u8) -> u32
+    ensures { AnswersSelecting (subject_status channel subject) (events.refuse_subject subject)
+        channel receiver.old.value receiver.new.value result }
+{
+    nx_handle::refuse_subject(receiver.slot(), channel, subject)
+}
+
+/// Refuses a subject on a channel no longer, from here on.
+#[unsafe(no_mangle)]
+pub extern "C" fn nx_live_accept_subject(receiver: &mut NxLive, channel: u8, subject: u8) -> u32
+    ensures { AnswersSelecting (letter_status NoSubject channel subject)
+        (events.accept_subject subject)
+        channel receiver.old.value receiver.new.value result }
+{
+    nx_handle::accept_subject(receiver.slot(), channel, subject)
+}
+
+/// Puts the text of a state into the caller's room, with which `nx_live_open_from` goes on: of each
+/// channel the last 200 entries, and what is selected now. Copies that stand open are no part of
+/// it.
+///
+/// `written` is the length of the whole text; where there is no room for all of it, its first bytes
+/// stand in the room. The receiver stays as it was.
+#[unsafe(no_mangle)]
+pub extern "C" fn nx_live_save(receiver: &mut NxLive, state: &mut [u8], written: &mut usize) -> u32
+    ensures { AnswersSaving receiver.old.value receiver.new.value
+        (room state.old state.new written.new) result }
+{
+    nx_handle::save(receiver.slot(), state, written)
+}
+
+/// Ends the elements of all channels, and hands out what their end prints, by channel: one entry a
+/// call, whose bytes are put into the caller's room. `written` is their number, and 0 where none is
+/// left: the receiver is closed then, and its room serves again. From the first call on it hears
+/// nothing more.
+///
+/// There has to be room for the largest entry, so that none is lost. Where the answer isn't 0, the
+/// receiver stays as it was.
+#[unsafe(no_mangle)]
+pub extern "C" fn nx_live_close(receiver: &mut NxLive, log: &mut [u8], written: &mut usize) -> u32
+    ensures { AnswersClosing receiver.old.value receiver.new.value
+        (room log.old log.new written.new) result }
+{
+    nx_handle::close(receiver.slot(), log, written)
+}
+
+/// Closes a receiver, and prints nothing. Its room serves again.
+#[unsafe(no_mangle)]
+pub extern "C" fn nx_live_abandon(receiver: &mut NxLive)
+    ensures { receiver.new.value ≡ None }
+{
+    nx_handle::abandon(receiver.slot());
+}
