@@ -3,6 +3,7 @@ pub mod LogArguments
 pub mod Program
 pub mod Report
 pub mod WatchCommand
+pub mod WatchRuns
 pub mod Arguments
 pub mod FaultText
 pub mod private

@@ -14,6 +14,7 @@ pub mod log_laws;
 mod program;
 mod slots;
 mod watch_command;
+pub mod watch_laws;
 
 pub use arguments::Call;
 pub use fault::CallFault;

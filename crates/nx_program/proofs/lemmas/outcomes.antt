@@ -2,3 +2,4 @@
 pub mod Program
 pub mod Report
 pub mod WatchLines
+pub mod WatchRuns

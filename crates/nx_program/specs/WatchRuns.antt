@@ -1,0 +1,132 @@
+-- Runs of `navtex watch FILE MOMENT` over one log, one after another, and what the log holds then
+-- (this profile).
+use Rattle.std.specs.Prelude.{◌≡◌, ◌⊎◌, ⊤, ℕ, List, [], ◌∷◌, ◌++◌, Contains, Option, Some, None}
+use Rattle.std.specs.Prelude.{Result, Ok, Err}
+use Rattle.clap.specs.Words.{Text}
+use Rattle.nx_disk.specs.Fresh.{IsFresh}
+use Rattle.nx_disk.specs.declared.file.FileFault.{FileFault}
+use Rattle.nx_envelope.specs.Message.{MessageView}
+use Rattle.nx_fec.specs.Transfers.{CountedDevice, Devices, devices}
+use Rattle.nx_fec.specs.declared.air_files.channel.Channel.{Channel}
+use Rattle.nx_kept.specs.declared.disk.DiskFile.{Ghosts as TellsOfDisk}
+use Rattle.nx_left_on.specs.Call.{CallEnd, IsOfCall, TellsAllKept, all_kept, left_behind}
+use Rattle.nx_left_on.specs.Chain.{ClocksAreNear, IsChain, Watch, all_put}
+use Rattle.nx_left_on.specs.LeftOn.{IsHeardInTimeOver}
+use Rattle.nx_receiver.specs.copies.Shares.{MarkedCopy, copies_on}
+use Rattle.nx_receiver.specs.laws.Once.{IsPrintedOnce}
+use Rattle.nx_watch.specs.Stamp.{Stamp}
+use Rattle.nx_watch.specs.Watch.{StandsForEntries}
+use Rattle.nx_program.specs.WatchCommand.{Beside, WatchesLog, beside}
+use Rattle.nx_program.specs.declared.fault.Fault.{Fault}
+use Rattle.nx_program.specs.declared.fault.Fault.TheVariants as fault
+use Rattle.nx_program.specs.declared.watch_command.WatchFailure.TheVariants.{Ended}
+
+-- A run of the program as a watch, by values alone: the name of its log, its MOMENT, and what opens
+-- the log. Then come its input, its output and standard error, as they stand before the watch and
+-- after it, the file that is handed back, what stood at each read of the input, and how it ended.
+-- And there are the bytes that it found in the log, and those that it left. A crash, or a fault of
+-- the disk, may have cut it off behind a read of its input; else it was over.
+pub record WatchRun (F D R W E : Type 0) : Type 0 where
+  pub name : Text
+  pub moment : ℕ
+  pub files : F
+  pub reader : CountedDevice R
+  pub reader_after : CountedDevice R
+  pub writer : CountedDevice W
+  pub writer_after : CountedDevice W
+  pub faults : CountedDevice E
+  pub faults_after : CountedDevice E
+  pub disk_after : Option D
+  pub stamps : List (Stamp D (CountedDevice W) (CountedDevice E))
+  pub outcome : Result (Unit {0}) Fault
+  pub found : List ℕ
+  pub left : List ℕ
+  pub cut_off : Option (Stamp D (CountedDevice W) (CountedDevice E))
+
+-- the run succeeded, or its lines went back, or a read failed: so all is kept
+abbrev pub HasKeptAll : Result (Unit {0}) Fault → Type 0
+HasKeptAll (Ok done) = ⊤
+HasKeptAll (Err (fault.Watch name (Ended why))) = TellsAllKept (Err why)
+HasKeptAll (Err _) = ⊥
+
+-- whatever entries the one file stands for, the other stands for them too
+abbrev pub StandsAlike : List ℕ → List ℕ → Type 0
+StandsAlike one other = (entries : List MarkedCopy) → StandsForEntries entries one
+    → StandsForEntries entries other
+
+-- no call was made of a log that opening it gives
+abbrev pub OpensFresh : {F D : Type 0} → (F → List ℕ → Result D FileFault → Type 0)
+    → TellsOfDisk D → Type 0
+OpensFresh {F} {D} gives tells = (files : F) (name : Text) (disk : D) → gives files name (Ok disk)
+    → (first : List (List ℕ)) × IsFresh tells first disk
+
+-- the bytes that the last of the runs left, or these, where there is none
+abbrev pub left_last : {F D R W E : Type 0} → List ℕ → List (WatchRun F D R W E) → List ℕ
+left_last file [] = file
+left_last file (run ∷ runs) = left_last run.left runs
+
+-- how the call of the watch ended in a run that was over, or cut off there
+abbrev pub call_end : {D W E : Type 0} → Option (Stamp D W E) → CallEnd
+call_end None = all_kept
+call_end (Some at) = left_behind at.read
+
+module _ {F D R W E : Type 0} (gives : F → List ℕ → Result D FileFault → Type 0)
+    (tells : TellsOfDisk D) (remaining : R → Option (List ℕ)) (contents : W → Option (List ℕ))
+    (told : E → Option (List ℕ)) where
+  abbrev pub streams_of : WatchRun F D R W E → Devices R W
+  streams_of run =
+      devices remaining contents run.reader run.reader_after run.writer run.writer_after
+
+  abbrev pub beside_of : WatchRun F D R W E → Beside F D W E
+  beside_of run =
+      beside run.files gives run.disk_after tells told run.faults run.faults_after run.stamps
+
+  -- What the run left in this file. Where it was over and kept all, that is what a read finds then,
+  -- or what a crash may leave. Else a crash left it at some moment from that read on, by which no
+  -- call of the disk had failed.
+  abbrev pub HasLeft : WatchRun F D R W E → D → Option (Stamp D (CountedDevice W) (CountedDevice E))
+      → Type 0
+  HasLeft run disk None =
+      HasKeptAll run.outcome
+      × ((tells.seen run.found disk ≡ run.left) ⊎ tells.may_leave run.found disk run.left)
+  HasLeft run disk (Some at) =
+      Contains run.stamps at × (tells.faults at.disk ≡ 0)
+      × tells.left_since run.found disk (tells.moment at.disk) run.left
+
+  -- The run did what the program says of a watch. What it found explains what its file answered,
+  -- and it left what it did.
+  pub record WasRun (run : WatchRun F D R W E) : Type 0 where
+    pub watched : WatchesLog (streams_of run) (beside_of run) run.name run.moment run.outcome
+    pub disk : D
+    pub handed_back : run.disk_after ≡ Some disk
+    pub explained : tells.explains run.found disk
+    pub has_left : HasLeft run disk run.cut_off
+
+  -- The runs, one after another, are of one log that had these bytes at first. Each found what the
+  -- one before left, or what stands for the same entries.
+  abbrev pub AreOfOneLog : List ℕ → List (WatchRun F D R W E) → Type 0
+  AreOfOneLog file [] = ⊤
+  AreOfOneLog file (run ∷ runs) =
+      StandsAlike file run.found × WasRun run × AreOfOneLog run.left runs
+
+  -- each is the watch of the run in the same place, behind these entries and all put before
+  abbrev pub AreWatchesOf : List MarkedCopy → List (WatchRun F D R W E) → List Watch → Type 0
+  AreWatchesOf log [] [] = ⊤
+  AreWatchesOf log (run ∷ runs) (watch ∷ watches) =
+      IsOfCall (streams_of run) run.moment log (call_end run.cut_off) run.left watch
+      × AreWatchesOf (log ++ watch.put) runs watches
+  AreWatchesOf log runs watches = ⊥
+
+  -- The runs are a chain of watches behind these entries. What the last of them left stands for the
+  -- entries, and then for the joined entries of what each put. Where no clock is 66 hours behind, a
+  -- message that is heard in time over the watches has exactly one entry of its channel among
+  -- these: full, with 0 errors, letter for letter.
+  pub record KeepsOnce (log : List MarkedCopy) (file : List ℕ) (runs : List (WatchRun F D R W E))
+      : Type 0 where
+    pub watches : List Watch
+    pub of_runs : AreWatchesOf log runs watches
+    pub chain : IsChain log watches
+    pub stands : StandsForEntries (log ++ all_put watches) (left_last file runs)
+    pub once : (channel : Channel) (message : MessageView) → ClocksAreNear channel log watches
+        → IsHeardInTimeOver channel watches message
+        → IsPrintedOnce message (copies_on channel (all_put watches))

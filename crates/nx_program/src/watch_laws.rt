@@ -1,0 +1,60 @@
+//! The law of a receiver that is left on, of runs of the program. Each function does nothing; its
+//! contract is the law.
+
+ghost use Rattle.std.specs.Prelude.{◌≡◌, ℕ, List, [], Result, Some};
+ghost use Rattle.clap.specs.Words.{Text};
+ghost use Rattle.nx_fec.specs.Transfers.{CountedDevice};
+ghost use Rattle.nx_program.specs.Arguments.{Names};
+ghost use Rattle.nx_program.specs.Report.{Answers};
+ghost use Rattle.nx_program.specs.WatchCommand.{WatchesLog, with_faults};
+ghost use Rattle.nx_program.specs.WatchRuns.{AreOfOneLog, KeepsOnce, OpensFresh, WatchRun, beside_of, streams_of};
+ghost use Rattle.nx_program.specs.declared.arguments.Call.TheVariants.{Watch};
+ghost use Rattle.nx_program.specs.declared.fault.Fault.{Fault};
+ghost use Rattle.nx_receiver.specs.copies.Shares.{MarkedCopy};
+ghost use Rattle.nx_watch.specs.Watch.{StandsForEntries};
+
+use crate::watch_command::{LogFiles, SystemFiles};
+use nx_disk::{LogFile, Noted};
+use nx_kept::DiskFile;
+use std::fs::{File, Files};
+use std::io::{Read, Write};
+
+/// The law of a receiver that is left on. Take runs `navtex watch FILE MOMENT` over one log, one
+/// after another, of each of which holds what `answer` says of it (`WatchesLog`). A run was over,
+/// by the end of its input, a clock that went back, or a failed read. Or a crash cut it off at any
+/// moment behind a read of its input, or a fault of the disk did. The runs are a chain of watches,
+/// of the lines that act of what each read. What the last one left stands for the entries from
+/// before, and then for what each put. A message that is heard in time over them has exactly one
+/// entry of its channel among these. An empty log stands for no entries.
+pub fn a_message_stands_once_in_the_log_of_runs<F: LogFiles, R: Read, W: Write, E: Write>()
+    ensures once { (log : List MarkedCopy) (file : List ℕ) (runs : List (WatchRun F F.Disk R W E))
+        → OpensFresh F.gives F.Disk.DiskFile → StandsForEntries log file
+        → AreOfOneLog F.gives F.Disk.DiskFile R.remaining W.contents E.contents file runs
+        → KeepsOnce F.gives F.Disk.DiskFile R.remaining W.contents E.contents log file runs }
+    ensures from_nothing { StandsForEntries [] [] }
+{}
+
+/// Where a run with the arguments `watch FILE MOMENT` hands a file back, the clause `exits` of
+/// `answer` says that it did what a watch does. Standard error is told of as it stood behind the
+/// watch, before a fault was reported there.
+pub fn a_run_that_hands_its_log_back_watched_it<F: LogFiles, R: Read, W: Write, E: Write>()
+    ensures { (arguments : List Text) (run : WatchRun F F.Disk R W E) (reported : CountedDevice E)
+        (disk : F.Disk) (status : ℕ) → Names arguments (Watch run.name run.moment)
+        → run.disk_after ≡ Some disk
+        → Answers arguments
+        (streams_of F.gives F.Disk.DiskFile R.remaining W.contents E.contents run)
+        (with_faults (beside_of F.gives F.Disk.DiskFile R.remaining W.contents E.contents run)
+        reported)
+        status
+        → (behind : CountedDevice E) × (outcome : Result (Unit {0}) Fault)
+        × WatchesLog (streams_of F.gives F.Disk.DiskFile R.remaining W.contents E.contents run)
+        (with_faults (beside_of F.gives F.Disk.DiskFile R.remaining W.contents E.contents run)
+        behind)
+        run.name run.moment outcome }
+{}
+
+/// Opening a log in the files of the system gives a file of which no call was made.
+pub fn the_files_of_the_system_open_fresh<'a, S: Files<File = File> + 'a>()
+    ensures { OpensFresh ⟦<SystemFiles<'a, S> as LogFiles>⟧.gives
+        ⟦<Noted<LogFile<'a, S>> as DiskFile>⟧ }
+{}
