@@ -110,9 +110,10 @@ class Mixer:
             return np.zeros(0, complex)
         nearest = np.round(moments).astype(int)
         reach = np.arange(-self.half, self.half + 1)
-        away = (nearest - moments)[:, None] + reach
+        late, which = np.unique(np.round(nearest - moments, 9), return_inverse=True)
+        away = late[:, None] + reach
         weights = np.sinc(2 * BAND / self.rate * away) * (0.5 + 0.5 * np.cos(np.pi * away / (self.half + 1)))
-        made = np.sum(weights * self.held[nearest[:, None] + reach], 1) * (2 * BAND / self.rate)
+        made = np.sum(weights[which] * self.held[nearest[:, None] + reach], 1) * (2 * BAND / self.rate)
         self.made += len(made)
         drop = max(0, int(self.made * step - self.begin) - self.half - 2)
         self.held, self.begin = self.held[drop:], self.begin + drop
