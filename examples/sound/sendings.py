@@ -13,7 +13,7 @@ TRAFFIC = [int(n, 16) for n in (            # the 32 traffic combinations (ITU-R
 P1, P2 = 0x0F, 0x66                         # the phasing signals
 WORD, TURN, GAP = 7, 14, 35                 # elements of a word, of two slots, between both sendings
 T = 0.01                                    # seconds of an element
-NEAR = 20                                   # elements on each side that tell loudness and noise
+BEFORE, BEHIND = 50, 20                     # elements on each side that tell loudness and noise
 BACK, ON = 14, 10                           # positions before and behind that tell a lock
 LOCK, LOSE, BETTER = 14.0, 5.0, 8.0         # evidence for a lock, against it, and for another one
 SURE = 0.98                                 # a word is written where it is so probable
@@ -21,8 +21,18 @@ FARTHEST, JUMP = 30, 14.0                   # elements that words jump at most, 
 EVER = 1 << 60                              # the last element of a stretch without an end
 PAIR = 0.06                                 # for a lock one tone has this part of the other's A^2
 SPOILT = 0.002                              # how often one sending of a word is spoilt in any way
-ENTER, LEAVE = 0.01, 0.1                    # how often a fade begins, and ends, at an element
-WEAK = 0.07                                 # how often an element has half its size
+CHANGE = 0.03                               # how often another case begins at an element
+CASES = np.array([      # how often; A^2 of the upper and the lower tone, N of both, as parts of those near
+    (0.80, 1, 1, 1, 1),                                                       # as near it
+    (0.02, 2.5, 2.5, 1, 1),                                                   # louder
+    (0.04, 1/4, 1/4, 1, 1), (0.03, 1/16, 1/16, 1, 1), (0.04, 0, 0, 1, 1),     # in a fade
+    (0.01, 1/4, 1, 1, 1), (0.01, 1, 1/4, 1, 1),                               # one tone of them
+    (0.005, 1/16, 1, 1, 1), (0.005, 1, 1/16, 1, 1),
+    (0.02, 1, 1, 4, 4), (0.01, 1, 1, 16, 16), (0.005, 1, 1, 64, 64),          # in a burst of noise
+    (0.01, 1, 1, 8, 1), (0.01, 1, 1, 1, 8),                                   # at one tone
+    (0.005, 1, 1, 64, 1), (0.005, 1, 1, 1, 64),
+    (0.01, 1/4, 1/4, 1/4, 1/4), (0.01, 1/16, 1/16, 1/16, 1/16),               # with the gain down
+    (0.01, 1/64, 1/64, 1/64, 1/64), (0.02, 0, 0, 1/64, 1/64)])                # or in silence
 
 PATTERNS = (np.arange(128)[:, None] >> np.arange(WORD)) & 1          # the elements of each word
 PICK = np.concatenate((PATTERNS, 1 - PATTERNS), 1).T.astype(float)   # the same, by tone
@@ -57,19 +67,28 @@ def likely(power, loud, noise):
     return log_i0(2 * np.sqrt(loud) * size / noise) - loud / noise
 
 
-def fades(proof):
-    """The odds that each element is heard, by those before it and by those behind it: the passes of
-    a hidden Markov model of two states, heard and faded (Rabiner 1989). `proof` is the likelihood
-    of each element."""
-    before, behind, odds, back = [], [], 10.0, 1.0
-    for one in proof:
-        odds = (odds * (1 - ENTER) + LEAVE) / (odds * ENTER + 1 - LEAVE)
-        before.append(odds)
-        odds = min(odds * one, 1e12)
-    for one in proof[::-1]:
-        behind.append(back)
-        back = ((1 - ENTER) * one * back + ENTER) / (LEAVE * one * back + 1 - LEAVE)
-    return np.array(before) * behind[::-1]
+def weighed(power, loud, noise):
+    """What each of CASES explains, by the passes of a hidden Markov model (Rabiner 1989): the
+    likelihood of each tone at each element, where its case is told by the others, and the
+    probability of each case, of which the element tells too."""
+    often, parts = CASES[:, 0] / CASES[:, 0].sum(), CASES[:, 1:].T
+    power, loud, noise = power[..., None], loud[..., None] * parts[:2], noise[..., None] * parts[2:]
+    still = -power / noise - np.log(noise)                               # element, tone, case
+    sent = still + log_i0(2 * np.sqrt(loud * power) / noise) - loud / noise
+    likes = np.stack((sent[:, 0] + still[:, 1], still[:, 0] + sent[:, 1]))
+    likes = np.exp(likes - likes.max((0, 2), keepdims=True))             # tone, element, case
+    either = likes.sum(0) + 1e-30
+    shares, begins, before, behind = np.empty_like(either), CHANGE * often, often, np.ones(len(often))
+    for place, one in enumerate(either):
+        shares[place] = before
+        before = before * one * ((1 - CHANGE) / (before @ one)) + begins
+    for place in range(len(either) - 1, -1, -1):
+        shares[place] *= behind
+        heard = behind * either[place]
+        behind = heard * ((1 - CHANGE) / (heard @ often)) + CHANGE
+    likes = np.log((likes * shares).sum(2).T + 1e-300)
+    shares = shares * either
+    return likes, shares / shares.sum(1, keepdims=True)
 
 
 def spoilt(models):
@@ -131,7 +150,7 @@ class Sendings:
         self.phasing = self.phases = 0           # pairs of phasing positions met; those in a row now
         self.tones = Store(2, dtype=complex)     # r of the upper and of the lower tone
         self.mixed = Store()                     # the frequency that they were mixed down by
-        self.state = Store(2, 3)                 # of each tone A^2, N, and its likelihood
+        self.state = Store(2, 4)                 # of each tone A^2, A / N, A^2 / N, and its likelihood
         self.words = Store(128)                  # the likelihood of each word that begins here
         self.proof = Store(2)                    # that of a position that begins here; exchanged
         self.slopes = Store(2, dtype=complex)    # how the phase of its words grows; exchanged
@@ -160,15 +179,14 @@ class Sendings:
 
     def hear_tones(self):
         """A^2 and N of each tone, by two rounds of expectation and maximisation over the elements
-        near it (Dempster, Laird and Rubin 1977), and its likelihood, where the element may also be
-        weak or in a fade."""
-        first, end = self.state.end, self.tones.end - NEAR
+        near it (Dempster, Laird and Rubin 1977); then what each of the cases makes of them."""
+        first, end = self.state.end, self.tones.end - BEHIND
         if end <= first:
             return
-        begin = max(0, first - NEAR)
-        power = np.abs(self.tones[begin:end + NEAR]) ** 2 + 1e-15
+        begin = max(0, first - BEFORE)
+        power = np.abs(self.tones[begin:end + BEHIND]) ** 2 + 1e-15
         rows = np.arange(first, end) - begin
-        since, upto = np.maximum(rows - NEAR, 0), rows + NEAR + 1
+        since, upto = np.maximum(rows - BEFORE, 0), rows + BEHIND + 1
         sums = lambda x: np.cumsum(np.concatenate((np.zeros((1, 2)), x)), 0)
         near = lambda x: sums(x)[upto] - sums(x)[since]
         wide = np.clip(np.arange(len(power)) - rows[0], 0, len(rows) - 1)
@@ -178,18 +196,17 @@ class Sendings:
             loud = np.maximum(near(sent * power) / near(sent) - noise, 0.05 * noise)
             likes = likely(power, loud[wide], noise[wide])
             sent = part(likes - likes[:, ::-1])
-        likes = np.logaddexp(likes, likely(power, loud[wide] / 4, noise[wide]) + np.log(WEAK))
-        proof = np.exp(np.clip(log_sum(likes) - np.log(2), -30, 30))
-        odds = fades(proof)[rows, None]
-        heard = odds * proof[rows, None]
-        likes = np.logaddexp(likes[rows] + np.log(odds), 0) - np.log(odds + 1)
-        self.state.add(np.stack((loud * heard / (heard + 1), noise, likes), 2))
+        likes, shares = weighed(power, loud[wide], noise[wide])
+        likes, shares, parts = likes[rows], shares[rows], CASES[:, 1:].T
+        sizes = np.sqrt(loud) / noise * (shares @ (np.sqrt(parts[:2]) / parts[2:]).T)
+        ratios = loud / noise * (shares @ (parts[:2] / parts[2:]).T)
+        self.state.add(np.stack((loud, sizes, ratios, likes), 2))
 
     def hear_words(self):
         """The likelihood of each word: the sum of those of its elements, without their phase."""
         first, end = self.words.end, self.state.end - WORD + 1
         if end > first:
-            likes = self.state[first:end + WORD - 1][:, :, 2]
+            likes = self.state[first:end + WORD - 1][:, :, 3]
             rows = np.lib.stride_tricks.sliding_window_view(likes, WORD, 0)   # place, tone, element
             self.words.add(rows.reshape(len(rows), 2 * WORD) @ PICK)
 
@@ -215,7 +232,7 @@ class Sendings:
         places, tone = np.arange(first, end)[:, None] + np.arange(WORD), 1 - PATTERNS[words]
         state = self.state.rows[places - self.state.first, tone]
         turned = self.tones.rows[places - self.tones.first, tone] * TURNED[words]
-        turned *= np.sqrt(state[..., 0]) / state[..., 1]
+        turned *= state[..., 1]
         return sum(np.sum(turned[:, m:] * turned[:, :WORD - m].conj(), 1) for m in (1, 2, 3))
 
     def decide(self):
@@ -344,7 +361,7 @@ class Sendings:
         ln I0(|sum of 2 A r e^(-i phi) / N|) - sum of A^2 / N; phi grows by 0.85 turns an
         element."""
         state = self.state[place:place + WORD]
-        rows = 2 * np.sqrt(state[:, :, 0]) / state[:, :, 1] * self.tones[place:place + WORD]
+        rows = 2 * state[:, :, 1] * self.tones[place:place + WORD]
         rows = rows * np.exp(-2j * np.pi * off * T * np.arange(WORD))[:, None]
         total = np.sum(np.where(PATTERNS, rows[:, 0], rows[:, 1]) * TURNED, 1)
-        return log_i0(np.abs(total)) - (state[:, :, 0] / state[:, :, 1]).T.reshape(-1) @ PICK
+        return log_i0(np.abs(total)) - state[:, :, 2].T.reshape(-1) @ PICK
