@@ -4,17 +4,20 @@ log is, not from the program's code, and it holds all bytes at once.
 
 usage: ci/log_reader.py [--kept] [--json] < FILE
 
-It prints the entries, as they stand in a log or as JSON. Where the bytes are damaged it says at
-which line, with status 2.
+It prints the entries, as they stand in a log or as JSON, and says on standard error which lines have
+a torn entry. Where the bytes are damaged it says at which line, with status 2.
 
 An entry is `[`, two letters, two digits, `/1` or `/2` on these channels, a space, the moment as
 `YYYY-MM-DD HH:MM:SS`, a space, `full`, `cut` or `long`, a space, the number of `*` of the text,
 `/`, the number of its bytes, `]`, a newline; the text; a newline if the text isn't empty and
 doesn't end with one; a newline.
 
-A log is entries in a row. Before each, and at the end, newlines and spaces are passed over, or one
-byte of any kind. At the end bytes are passed over behind the last space before them, where they are
-no whole entry: a put that was torn.
+A log is cut before each `[`. Before the first one stands a tail. Each other part is an entry and a
+tail, or the longest beginning of an entry, which is torn, and a tail. A tail is a gap: newlines and
+spaces, or one byte of any kind. Or it is within reach of the last space of a gap, and then it is
+torn: behind an entry, or before the first `[`, up to its first byte that is no newline and no space
+it is a gap all the same; behind the beginning of an entry it is torn with it. A space reaches 4,147
+bytes. A torn entry is told by the line of its first byte.
 
 A kept log is a gate, an entry, a gate, an entry, and so on, a gate. A gate is one byte, closed
 where it is a space. It stands for the entries that have an open gate before them. Behind these
@@ -24,6 +27,7 @@ Damaged bytes are damaged at the line of the first byte with which no bytes to c
 where they end too early, at the line in which they end.
 """
 
+import calendar
 import json
 import re
 import sys
@@ -124,31 +128,138 @@ def line_of(data, place):
     return 1 + data.count(b"\n", 0, place)
 
 
+DIGITS = "0123456789"
+LETTERS = "ABCDEFGHIJKLMNOPQRSTUVWXYZ"
+
+
+def two(numbers, behind=""):
+    """These numbers, each of two digits, with a text behind."""
+    return [f"{it:02}{behind}" for it in numbers]
+
+
+def pieces_of_a_head():
+    """The pieces of a head in order: each is a list of its spellings, or a call that gives it for
+    the spellings before."""
+    yield lambda said: ["["]
+    for _ in range(2):
+        yield lambda said: list(LETTERS)
+    for _ in range(2):
+        yield lambda said: list(DIGITS)
+    yield lambda said: [" ", "/1 ", "/2 "]
+    yield lambda said: [f"{it}-" for it in range(1970, 3000)]
+    yield lambda said: two(range(1, 13), "-")
+    yield lambda said: two(range(1, calendar.monthrange(int(said[-2][:4]), int(said[-1][:2]))[1] + 1), " ")
+    yield lambda said: two(range(24), ":")
+    yield lambda said: two(range(60), ":")
+    yield lambda said: two(range(60), " ")
+    yield lambda said: ["full ", "cut ", "long "]
+    yield lambda said: [f"{it}/" for it in range(MOST_CHARACTERS + 1)]
+    yield lambda said: [f"{it}]" for it in range(int(said[-1][:-1]), MOST_CHARACTERS + 1)]
+    yield lambda said: ["\n"]
+
+
+def shared(one, other):
+    """How many first characters the two share."""
+    count = 0
+    while count < min(len(one), len(other)) and one[count] == other[count]:
+        count += 1
+    return count
+
+
+def longest_beginning(part):
+    """How many first bytes of these are the beginning of an entry. No entry is their beginning."""
+    rest, at, said = part.decode("latin-1"), 0, []
+    for piece in pieces_of_a_head():
+        spellings = piece(said)
+        whole = [it for it in spellings if rest.startswith(it, at)]
+        if not whole:
+            left = rest[at : at + 8]
+            return at + max(shared(left, it) for it in spellings)
+        said.append(whole[0])
+        at += len(whole[0])
+    errors, characters = int(said[-3][:-1]), int(said[-2][:-1])
+    return entry_at_text(part, at, errors, characters)
+
+
+def entry_at_text(part, begin, errors, characters):
+    """The place of the byte with which a text that begins there is none any more, or its end."""
+    lost = 0
+    for place in range(begin, min(begin + characters, len(part))):
+        lost += part[place] == ord("*")
+        left = begin + characters - place - 1
+        if part[place] not in TEXT_BYTES or lost > errors or errors - lost > left:
+            return place
+    end = begin + characters
+    while end < len(part) and part[end : end + 1] == b"\n":
+        end += 1
+    return min(end, len(part))
+
+
+def blanks_in(tail):
+    """With how many newlines and spaces the bytes begin."""
+    return len(tail) - len(tail.lstrip(b"\n "))
+
+
+def is_gap(tail):
+    """Whether the bytes are newlines and spaces, or one byte."""
+    return blanks_in(tail) == len(tail) or len(tail) == 1
+
+
+def reach_behind(reach, gap):
+    """How many bytes more the last space reaches behind these bytes of a gap."""
+    if b" " in gap:
+        return max(0, MOST_TORN - (len(gap) - 1 - gap.rindex(b" ")))
+    return max(0, reach - len(gap))
+
+
+def first_bad(part, head, is_torn, reach):
+    """How many first bytes of a part can stand in a log."""
+    for count in range(head, len(part) + 1):
+        if not is_gap(part[head:count]):
+            from_gap = head if is_torn else head + blanks_in(part[head:count])
+            reached = reach - head if is_torn else reach_behind(reach - head, part[head:from_gap])
+            if count - from_gap > reached:
+                return count - 1
+    return len(part)
+
+
+def read_all(data):
+    """The entries of a log, the lines of its torn ones, and the line at which it is damaged, or
+    None. Then the torn entry of the last part isn't told."""
+    entries, torn, reach, begin = [], [], 0, 0
+    while True:
+        end = data.find(b"[", begin + (begin > 0 or data[:1] == b"["))
+        first = begin == 0 and data[:1] != b"["
+        end = len(data) if end < 0 else end
+        part = data[begin:end]
+        entry, place = (None, begin) if first else entry_at(data, begin)
+        is_torn = not first and entry is None
+        head = longest_beginning(part) if is_torn else place - begin
+        good = first_bad(part, head, is_torn, reach)
+        if entry:
+            entries.append(entry)
+        if good < len(part):
+            return entries, torn, line_of(data, begin + good)
+        tail = part[head:]
+        if is_gap(tail):
+            reach = reach_behind(max(0, reach - head), tail)
+            torn += [line_of(data, begin)] if is_torn else []
+        elif is_torn:
+            reach -= len(part)
+            torn.append(line_of(data, begin))
+        else:
+            blanks = blanks_in(tail)
+            reach = reach_behind(max(0, reach - head), tail[:blanks]) - (len(tail) - blanks)
+            torn.append(line_of(data, begin + head + blanks))
+        if end == len(data):
+            return entries, torn, None
+        begin = end
+
+
 def read_log(data):
     """The entries of a log, and the line at which it is damaged, or None."""
-    entries, at = [], 0
-    while True:
-        begin = at
-        while data[begin : begin + 1] in (b" ", b"\n"):
-            begin += 1
-        if begin == len(data):
-            return entries, None
-        entry, place = entry_at(data, begin)
-        if not entry and begin == at:
-            # One byte of any kind may stand before it.
-            if at + 1 == len(data):
-                return entries, None
-            entry, other = entry_at(data, at + 1)
-            place = other if entry else max(place, other)
-        if not entry:
-            space = data.rfind(b" ", at, begin)
-            if space >= 0:
-                if len(data) - space - 1 <= MOST_TORN:
-                    return entries, None
-                place = max(place, space + 1 + MOST_TORN)
-            return entries, line_of(data, place)
-        entries.append(entry)
-        at = place
+    entries, _, line = read_all(data)
+    return entries, line
 
 
 def read_kept(data):
@@ -178,11 +289,17 @@ def main():
     options = sys.argv[1:]
     if set(options) - {"--kept", "--json"}:
         sys.exit(__doc__)
-    entries, line = (read_kept if "--kept" in options else read_log)(sys.stdin.buffer.read())
+    data = sys.stdin.buffer.read()
+    if "--kept" in options:
+        (entries, line), torn = read_kept(data), []
+    else:
+        entries, torn, line = read_all(data)
     for it in entries:
         sys.stdout.buffer.write(json_of(it) if "--json" in options else bytes_of(it))
+    sys.stdout.flush()
+    for it in torn:
+        print(f"line {it}: a torn entry was passed over", file=sys.stderr)
     if line:
-        sys.stdout.flush()
         print(f"line {line} is not of a log", file=sys.stderr)
     return 2 if line else 0
 

@@ -4,6 +4,7 @@ pub mod LogReader
 pub mod LogReading
 pub mod LogRun
 pub mod Logged
+pub mod Notices
 pub mod Query
 pub mod Reading
 pub mod Runs

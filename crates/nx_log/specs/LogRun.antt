@@ -8,7 +8,8 @@ use Rattle.nx_receiver.specs.copies.Shares.{MarkedCopy}
 use Rattle.nx_log.specs.Json.{IsJsonLine}
 use Rattle.nx_log.specs.Logged.{IsLoggedAs}
 use Rattle.nx_log.specs.Query.{admitted}
-use Rattle.nx_log.specs.Reading.{HoldEntries, HoldEntriesToEnd, StopAtLine, StopAtLineToEnd}
+use Rattle.nx_log.specs.Notices.{HaveToldTorn, Notices}
+use Rattle.nx_log.specs.Reading.{HoldEntries, HoldEntriesToEnd, StopAtLine}
 use Rattle.nx_log.specs.declared.writing.form.Form.{Form}
 use Rattle.nx_log.specs.declared.writing.form.Form.TheVariants.{Log, Json}
 use Rattle.nx_log.specs.declared.log_fault.LogFault.{LogFault}
@@ -31,12 +32,13 @@ pub record IsOutput (query : Query) (form : Form) (entries : List MarkedCopy) (o
   pub each : AllZip (IsInForm form) (admitted query entries) texts
   pub joined : output ≡ concat texts
 
--- the bytes begin with these entries, whole, whatever stands behind them
-pub record BeginWithEntries (bytes : List ℕ) (entries : List MarkedCopy) : Type 0 where
+-- some first of the bytes hold these entries, whole, and the torn ones on these lines
+pub record BeginWithEntries (bytes : List ℕ) (entries : List MarkedCopy) (torn : List ℕ)
+    : Type 0 where
   pub front : List ℕ
   pub more : List ℕ
   pub split : bytes ≡ front ++ more
-  pub hold : HoldEntries front entries
+  pub hold : HoldEntries front entries torn
 
 -- the output of these entries, for this query and in this form, was written
 pub record WroteOutput (query : Query) (form : Form) (contents : Contents)
@@ -54,44 +56,45 @@ pub record WrotePart (query : Query) (form : Form) (contents : Contents)
   pub part : WroteSome contents.before contents.after output written
 
 -- A run over a log by this query, in this form, on these devices.
-module _ {R W : Type 0} (query : Query) (form : Form) (d : Devices R W) where
+module _ {R W : Type 0} (query : Query) (form : Form) (d : Devices R W) (n : Notices) where
   -- these bytes are all: none is left, or there are as many as are read
   abbrev pub AreAll : List ℕ → Type 0
   AreAll bytes = IsReadOut d ⊎ (length bytes ≡ most_read)
 
-  -- What it answers of the bytes that it read. Where they are all and a log, it is how many of
-  -- their entries the query admits, and the output of all was written. After a failed read the
-  -- output of all whole entries of the bytes was written, so it is written before each further
-  -- read. A bad log stops being one at this line, or the bytes are all and end too early there; the
-  -- output of the entries before that was written. After a failed write the first bytes were
-  -- written of the output of entries with which they begin. Memory runs out before anything is read
-  -- or written.
+  -- What it answers of the bytes that it read, and what it told. Where they are all and a log, it
+  -- is how many of their entries the query admits; the output of all was written, and each torn one
+  -- was told. After a failed read the output of all whole entries of the bytes was written, and
+  -- each torn one told, so both come before each further read. A bad log stops being one at this
+  -- line; the output of the entries before that was written, and each torn one told. After a failed
+  -- write the first bytes were written of the output of entries with which they begin, and what was
+  -- told is that of the same front. Memory runs out before anything is read, written or told.
   abbrev pub AnswersLogRun : Result ℕ LogFault → List ℕ → Type 0
   AnswersLogRun (Ok count) bytes =
-      AreAll bytes × (entries : List MarkedCopy) × HoldEntriesToEnd bytes entries
-      × WroteOutput query form (contents_of d) entries
-      × (count ≡ length (admitted query entries))
+      AreAll bytes × (entries : List MarkedCopy) × (torn : List ℕ)
+      × HoldEntriesToEnd bytes entries torn × WroteOutput query form (contents_of d) entries
+      × HaveToldTorn n torn × (count ≡ length (admitted query entries))
   AnswersLogRun (Err Read) bytes =
-      (entries : List MarkedCopy) × HoldEntries bytes entries
-      × WroteOutput query form (contents_of d) entries
+      (entries : List MarkedCopy) × (torn : List ℕ) × HoldEntries bytes entries torn
+      × WroteOutput query form (contents_of d) entries × HaveToldTorn n torn
   AnswersLogRun (Err (BadLog line)) bytes =
-      (entries : List MarkedCopy)
-      × (StopAtLine bytes entries line ⊎ (AreAll bytes × StopAtLineToEnd bytes entries line))
-      × WroteOutput query form (contents_of d) entries
+      (entries : List MarkedCopy) × (torn : List ℕ) × StopAtLine bytes entries torn line
+      × WroteOutput query form (contents_of d) entries × HaveToldTorn n torn
   AnswersLogRun (Err (Write written)) bytes =
-      (entries : List MarkedCopy) × BeginWithEntries bytes entries
-      × WrotePart query form (contents_of d) entries written
+      (entries : List MarkedCopy) × (torn : List ℕ) × BeginWithEntries bytes entries torn
+      × WrotePart query form (contents_of d) entries written × HaveToldTorn n torn
   AnswersLogRun (Err (Memory error)) bytes =
       (bytes ≡ []) × (d.reader_after ≡ d.reader) × (d.writer_after ≡ d.writer)
+      × HaveToldTorn n []
 
 -- A run over a log. It answers so to the bytes that it read, at most 2^63 - 1, however they came. A
--- read failed, at most one, exactly where the outcome is `Read`, and a write where it is `Write`.
+-- read failed, at most one, exactly where the outcome is `Read`, and a write of the output where it
+-- is `Write`.
 pub record RunsOverLog {R W : Type 0} (query : Query) (form : Form) (d : Devices R W)
-    (outcome : Result ℕ LogFault) : Type 0 where
+    (n : Notices) (outcome : Result ℕ LogFault) : Type 0 where
   pub bytes : List ℕ
   pub consumed : Consumes (d.remaining d.reader.inner) (d.remaining d.reader_after.inner) bytes
   pub within : length bytes ≤ most_read
-  pub answer : AnswersLogRun query form d outcome bytes
+  pub answer : AnswersLogRun query form d n outcome bytes
   pub unread : IsErrOf outcome Read ↔ (d.reader_after.failures ≡ 1)
   pub read_once : d.reader_after.failures ≤ 1
   pub unwritten : ((written : ℕ) × (outcome ≡ Err (Write written)))

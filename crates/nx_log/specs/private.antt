@@ -1,7 +1,6 @@
 pub mod Heads
 pub mod JsonParts
 pub mod LogRunning
-pub mod Rooms
 pub mod Stages
 pub mod Steps
 pub mod Standing

@@ -2,8 +2,8 @@
 
 pub(crate) mod beginning;
 pub(crate) mod entry;
-pub(crate) mod gap;
 pub(crate) mod head;
 pub(crate) mod moment;
 pub(crate) mod reader;
 pub(crate) mod start;
+pub(crate) mod tail;

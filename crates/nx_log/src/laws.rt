@@ -22,7 +22,7 @@ ghost use Rattle.nx_receiver.specs.declared.air_file_runs.listening.Report.{Repo
 ghost use Rattle.nx_receiver.specs.declared.air_file_runs.resume_fault.ResumeFault.{ResumeFault};
 ghost use Rattle.nx_receiver.specs.declared.air_file_runs.resume_fault.Want.TheVariants.{Log};
 ghost use Rattle.nx_log.specs.Logged.{IsLogged, IsLoggedAs, IsLogOfLogged, kept_entries, remembered_on};
-ghost use Rattle.nx_log.specs.Reading.{AreReadAs, HoldEntries, HoldEntriesToEnd, StopAtLine, StopAtLineToEnd};
+ghost use Rattle.nx_log.specs.Reading.{HoldEntries, HoldEntriesToEnd, IsNoBracket, StopAtLine, bracket};
 ghost use Rattle.nx_log.specs.Runs.{ResumedEntries, WroteEntries};
 
 /// A log is read in one way: its bytes are the log of one list of logged entries. No entry's bytes
@@ -39,18 +39,27 @@ pub fn a_log_is_read_in_one_way()
         → length bytes ≤ 4146 }
 {}
 
-/// Bytes are read in one way: they have one list of whole entries, and behind these the same is
-/// left. Where they stop being a log, they do so at one line, and don't hold the entries of one.
+/// Bytes are read in one way: they have one list of whole entries and one of torn ones, so far and
+/// at their end. Where they stop being a log, they do so at one line, and don't hold the entries of
+/// one.
 pub fn bytes_are_read_in_one_way()
-    ensures one_reading { (entries others : List MarkedCopy) (rest left bytes : List ℕ)
-        → AreReadAs entries rest bytes → AreReadAs others left bytes
-        → (entries ≡ others) × (rest ≡ left) }
-    ensures one_line { (entries others : List MarkedCopy) (bytes : List ℕ) (line other : ℕ)
-        → StopAtLine bytes entries line → StopAtLine bytes others other → line ≡ other }
-    ensures stopped { (entries others : List MarkedCopy) (bytes : List ℕ) (line : ℕ)
-        → StopAtLine bytes entries line → ¬ HoldEntries bytes others }
-    ensures ended { (entries others : List MarkedCopy) (bytes : List ℕ) (line : ℕ)
-        → StopAtLineToEnd bytes entries line → ¬ HoldEntriesToEnd bytes others }
+    ensures one_reading { (entries others : List MarkedCopy) (torn lines bytes : List ℕ)
+        → HoldEntries bytes entries torn → HoldEntries bytes others lines
+        → (entries ≡ others) × (torn ≡ lines) }
+    ensures one_end { (entries others : List MarkedCopy) (torn lines bytes : List ℕ)
+        → HoldEntriesToEnd bytes entries torn → HoldEntriesToEnd bytes others lines
+        → (entries ≡ others) × (torn ≡ lines) }
+    ensures one_line { (entries others : List MarkedCopy) (torn lines bytes : List ℕ)
+        (line other : ℕ) → StopAtLine bytes entries torn line
+        → StopAtLine bytes others lines other → line ≡ other }
+    ensures stopped { (entries others : List MarkedCopy) (torn lines bytes : List ℕ) (line : ℕ)
+        → StopAtLine bytes entries torn line → ¬ HoldEntries bytes others lines }
+{}
+
+/// A bracket begins an entry wherever it stands: each entry has one, its first byte, and no other.
+pub fn a_bracket_begins_an_entry()
+    ensures { (one : MarkedCopy) (bytes : List ℕ) → IsLoggedAs one bytes
+        → (more : List ℕ) × (bytes ≡ bracket ∷ more) × All IsNoBracket more }
 {}
 
 /// A civil time shows one moment.

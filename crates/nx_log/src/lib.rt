@@ -12,7 +12,7 @@ mod writing;
 pub use entries::entry::{EntryView, MAX_LOGGED, entry_at};
 pub use entries::head::LoggedHead;
 pub use entries::moment::moment_of;
-pub use entries::reader::{BadLine, LogReader, Pushed};
+pub use entries::reader::{BadLine, LogReader, Pushed, TornLine};
 pub use entries::start::{EntryStart, entry_start};
 pub use kept::remembered_of;
 pub use log_fault::LogFault;

@@ -14,6 +14,10 @@ use Rattle.nx_fec.specs.texts.TableText.{table_text}
 use Rattle.nx_locks.specs.Run.{ShowsLocks}
 use Rattle.nx_memory.specs.Saved.{SavedStates}
 use Rattle.nx_log.specs.LogRun.{RunsOverLog}
+use Rattle.nx_log.specs.Notices.{Notices}
+use Rattle.nx_log.specs.declared.log_fault.LogFault.{LogFault}
+use Rattle.nx_log.specs.declared.queries.query.Query.{Query}
+use Rattle.nx_log.specs.declared.writing.form.Form.{Form}
 use Rattle.nx_receiver.specs.copies.Shares.{all_at_zero}
 use Rattle.nx_receiver.specs.laws.ListenOnce.{ListensOnce}
 use Rattle.nx_receiver.specs.air_file_runs.Resume.{ReadStateAlone, Resumes}
@@ -38,7 +42,8 @@ use Rattle.nx_program.specs.declared.fault.CallFault.TheVariants as call
 use Rattle.nx_program.specs.declared.fault.Fault.{Fault}
 use Rattle.nx_program.specs.declared.fault.Fault.TheVariants as fault
 use Rattle.nx_program.specs.Status.{status_of}
-use Rattle.nx_program.specs.WatchCommand.{Beside, IsUnused, WatchesLog}
+use Rattle.nx_program.specs.WatchCommand.{Beside, IsUnused, OpensNoFile, WatchesLog}
+use Rattle.nx_program.specs.WatchCommand.{notices_between}
 use Rattle.nx_program.specs.Arguments.{AsksForHelp, AsksForVersion, IsRefusedByClap, LacksKind}
 use Rattle.nx_program.specs.Arguments.{LacksStation, LacksValue, Names}
 
@@ -114,8 +119,8 @@ ReadsStateBeforeWant d own =
     × (d.writer_after ≡ d.writer)
 
 -- The call did on its input and its output what its outcome says. What stands on the output behind
--- what stood there is what the call wrote, and nothing before it, nor behind it. A watch has a file
--- too, and is none of these calls.
+-- what stood there is what the call wrote, and nothing before it, nor behind it. A watch and a run
+-- over a log tell something on standard error too, and are none of these calls.
 abbrev pub PerformsOnStreams : {R W : Type 0} → Call → Devices R W → Result (Unit {0}) CallFault
     → Type 0
 PerformsOnStreams Decode d outcome = Tells (λ why. call.Run why) (Decodes d) outcome
@@ -141,8 +146,7 @@ PerformsOnStreams (Slots station moment) d outcome =
 PerformsOnStreams (Damage kind from count) d outcome =
     Tells (λ why. call.Damage why)
     (Damages (record { kind = kind; from = from; count = count }) d) outcome
-PerformsOnStreams (LogCall query form) d outcome =
-    Tells (λ why. call.Log why) (RunsOverLog query form d) outcome
+PerformsOnStreams (LogCall query form) d outcome = ⊥
 PerformsOnStreams (Watch name moment) d outcome = ⊥
 
 -- the arguments name a call, which had this outcome
@@ -181,7 +185,7 @@ pub record LacksMemory {R W : Type 0} (d : Devices R W) (why : CallFault) : Type
   pub untouched : IsUntouched d
   pub memory : why ≡ call.Run (run.Memory alloc_error)
 
--- how the program ends where its arguments name no watch
+-- how the program ends where its arguments name neither a watch nor a run over a log
 abbrev pub EndsOnStreams : {R W : Type 0} → List Text → Devices R W → Result (Unit {0}) Fault
     → Type 0
 EndsOnStreams arguments d (Ok done) =
@@ -206,17 +210,48 @@ pub record RunsWatch {R W F D E : Type 0} (arguments : List Text) (d : Devices R
   pub named : Names arguments (Watch name moment)
   pub watched : WatchesLog d b name moment outcome
 
--- how the program ends: as a watch, or with no file and nothing told on standard error
+-- what a run over a log answered, as the program tells it
+abbrev pub log_outcome : Result ℕ LogFault → Result (Unit {0}) Fault
+log_outcome (Ok count) = Ok tt
+log_outcome (Err why) = Err (fault.Call (call.Log why))
+
+-- a run over a log by this query, in this form, which told this, had an outcome of its own, and the
+-- program tells it so
+abbrev pub EndsLog : {R W : Type 0} → Query → Form → Devices R W → Notices
+    → Result (Unit {0}) Fault → Type 0
+EndsLog query form d n outcome =
+    (own : Result ℕ LogFault) × RunsOverLog query form d n own × (outcome ≡ log_outcome own)
+
+-- the same, with what was told on standard error; no file was opened
+abbrev pub ReadsLog : {R W F D E : Type 0} → Query → Form → Devices R W → Beside F D W E
+    → Result (Unit {0}) Fault → Type 0
+ReadsLog query form d b outcome =
+    OpensNoFile b
+    × EndsLog query form d (notices_between b.contents b.faults b.faults_after) outcome
+
+-- the arguments name a run over a log, which had this outcome
+pub record RunsLog {R W F D E : Type 0} (arguments : List Text) (d : Devices R W)
+    (b : Beside F D W E) (outcome : Result (Unit {0}) Fault) : Type 0 where
+  pub query : Query
+  pub form : Form
+  pub named : Names arguments (LogCall query form)
+  pub read : ReadsLog query form d b outcome
+
+-- how the program ends: as a watch, as a run over a log, or with no file and nothing told on
+-- standard error
 abbrev pub EndsRun : {R W F D E : Type 0} → List Text → Devices R W → Beside F D W E
     → Result (Unit {0}) Fault → Type 0
 EndsRun arguments d b outcome =
-    RunsWatch arguments d b outcome ⊎ (IsUnused b × EndsOnStreams arguments d outcome)
+    RunsWatch arguments d b outcome
+    ⊎ (RunsLog arguments d b outcome ⊎ (IsUnused b × EndsOnStreams arguments d outcome))
 
 -- The call did what its outcome says: a watch on its file, its input, its output and standard
--- error, and each other call on its input and its output alone.
+-- error, a run over a log on these but a file, and each other call on its input and its output
+-- alone.
 abbrev pub Performs : {R W F D E : Type 0} → Call → Devices R W → Beside F D W E
     → Result (Unit {0}) Fault → Type 0
 Performs (Watch name moment) d b outcome = WatchesLog d b name moment outcome
+Performs (LogCall query form) d b outcome = ReadsLog query form d b outcome
 Performs call d b (Ok done) = IsUnused b × PerformsOnStreams call d (Ok done)
 Performs call d b (Err (fault.Call why)) = IsUnused b × PerformsOnStreams call d (Err why)
 Performs call d b (Err _) = ⊥
@@ -236,3 +271,11 @@ Succeeds arguments d b = EndsRun arguments d b (Ok tt)
 -- the arguments name a watch
 abbrev pub NamesWatch : List Text → Type 0
 NamesWatch arguments = (name : Text) × (moment : ℕ) × Names arguments (Watch name moment)
+
+-- the arguments name a run over a log
+abbrev pub NamesLog : List Text → Type 0
+NamesLog arguments = (query : Query) × (form : Form) × Names arguments (LogCall query form)
+
+-- the arguments name a call that tells on standard error more than a fault
+abbrev pub NamesTelling : List Text → Type 0
+NamesTelling arguments = NamesWatch arguments ⊎ NamesLog arguments

@@ -7,6 +7,7 @@ use Rattle.nx_kept.specs.Disk.{OnlyReads}
 use Rattle.nx_kept.specs.Kept.{IsDamaged, IsKeptLog}
 use Rattle.nx_kept.specs.declared.disk.DiskFile.{Ghosts as TellsOfDisk}
 use Rattle.nx_log.specs.Entries.{IsWholeEntry}
+use Rattle.nx_log.specs.Notices.{Notices}
 use Rattle.nx_receiver.specs.copies.Shares.{MarkedCopy}
 use Rattle.nx_disk.specs.declared.file.FileFault.{FileFault}
 use Rattle.nx_disk.specs.declared.file.FileFault.TheVariants as file
@@ -53,6 +54,20 @@ beside files gives disk_after tells contents faults faults_after stamps = record
 -- the same with standard error as it stood at another moment after the call
 abbrev pub with_faults : {F D W E : Type 0} → Beside F D W E → CountedDevice E → Beside F D W E
 with_faults b after = record b { faults_after = after }
+
+-- no file was opened, and no read was stamped
+pub record OpensNoFile {F D W E : Type 0} (b : Beside F D W E) : Type 0 where
+  pub unopened : b.disk_after ≡ None
+  pub unstamped : b.stamps ≡ []
+
+-- standard error as what it was told between two moments
+abbrev pub notices_between : {E : Type 0} → (E → Option (List ℕ)) → CountedDevice E
+    → CountedDevice E → Notices
+notices_between contents old new = record {
+  before = contents old.inner;
+  after = contents new.inner;
+  failures = new.failures;
+}
 
 -- no file was opened, no read was stamped, and nothing was told on standard error
 pub record IsUnused {F D W E : Type 0} (b : Beside F D W E) : Type 0 where

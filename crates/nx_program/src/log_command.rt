@@ -25,7 +25,9 @@ a head, the text, and an empty line.
 Reads a log from standard input, to its end: what listen and resume write, the
 log file of watch, several of them one behind the other, or what tail -F shows
 of one that grows. Newlines and spaces between entries are passed over, or one
-other byte, and behind the last space an entry that lacks its end.
+other byte. An entry that was torn is passed over too, and told on standard
+error with its line: one that lacks its end, or what stands behind a space. The
+next [ begins an entry again. While a watch puts an entry, it may be told so.
 
 Writes those entries to standard output of which all options are true, in the
 order in which they stand, each before it reads on. With no option that is every

@@ -1,11 +1,11 @@
 //! The program without its process.
 
 ghost use Rattle.std.specs.Prelude.{◌≡◌, ◌≢◌, ◌⊎◌, [], IfErr, IfOk, IfSome, List, MatchResult, None, Option, map, string_bytes, ℕ};
-ghost use Rattle.nx_program.specs.Program.{EndsOnStreams, EndsRun, Exits, NamesWatch, Performs, PerformsOnStreams};
+ghost use Rattle.nx_program.specs.Program.{EndsLog, EndsOnStreams, EndsRun, Exits, NamesTelling, Performs, PerformsOnStreams};
 ghost use Rattle.nx_program.specs.Program.{Succeeds, WritesText, fresh_device, version_text};
 ghost use Rattle.nx_program.specs.Report.{Answers, IsFaultLine, IsWantOfArguments, LacksArguments, WritesOne};
 ghost use Rattle.nx_program.specs.Status.{IsStatus};
-ghost use Rattle.nx_program.specs.WatchCommand.{WatchesLog, beside};
+ghost use Rattle.nx_program.specs.WatchCommand.{WatchesLog, beside, notices_between};
 ghost use Rattle.nx_watch.specs.Stamps.{IsFresh, counted_of, stamps_of};
 ghost use Rattle.nx_program.specs.Arguments.{IsRefused, Names};
 ghost use Rattle.nx_program.specs.private.Reading.{ExplainsArguments, IsOnStreams};
@@ -24,7 +24,7 @@ use nx_disk::Noted;
 use nx_fec::{Counting, RunFault, decode_run, encode_run, show_run, write_out, write_table};
 use nx_kept::DiskFile;
 use nx_locks::locks;
-use nx_log::log_run;
+use nx_log::{Form, Query, log_run};
 use nx_receiver::{Want, listen, resume};
 use nx_station::{check_run, damage, send};
 use nx_watch::StampedReader;
@@ -46,7 +46,8 @@ fn print_code<W: Write>(writer: &mut Counting<W>) -> Result<(), RunFault>
     Ok(())
 }
 
-/// Does what the call says, from the reader to the writer. It is no watch.
+/// Does what the call says, from the reader to the writer. It is neither a watch nor a run over a
+/// log.
 fn perform<R: Read, W: Write>(
     alloc: Global,
     call: Call,
@@ -94,9 +95,7 @@ fn perform<R: Read, W: Write>(
         Call::Damage { kind, from, count } => {
             damage(reader, writer, kind, from, count)?;
         }
-        Call::Log { query, form } => {
-            log_run(alloc, reader, writer, &query, form)?;
-        }
+        Call::Log { .. } => unreachable!(),
     }
     Ok(())
 }
@@ -125,7 +124,8 @@ fn give_version<W: Write>(writer: &mut Counting<W>) -> Result<(), RunFault>
     Ok(())
 }
 
-/// Does what the arguments ask for that were read so, where they name no watch.
+/// Does what the arguments ask for that were read so, where they name neither a watch nor a run
+/// over a log.
 fn obey_on_streams<R: Read, W: Write>(
     alloc: Global,
     read: Result<Call, ArgumentsFault>,
@@ -197,6 +197,7 @@ fn obey<'a, S: AsStr, R: Read, W: Write, E: Write, F: LogFiles + Drop>(
         Ok(Call::Watch { file, moment }) => {
             watch_input(alloc, file, moment, files, input, writer, faults)
         }
+        Ok(Call::Log { query, form }) => log_input(alloc, &query, form, input, writer, faults),
         Ok(call) => obey_unstamped(alloc, Ok(call), input, writer),
         Err(why) => obey_unstamped(alloc, Err(why), input, writer),
     }
@@ -230,8 +231,61 @@ fn watch_input<'a, R: Read, W: Write, E: Write, F: LogFiles + Drop>(
     }
 }
 
-/// Does what the arguments ask for that were read so, where they name no watch. Its reads need no
-/// stamps.
+/// Prints the entries of the log on the input that the query admits, and tells of torn ones. Its
+/// reads need no stamps.
+fn log_input<R: Read, D, W: Write, E: Write>(
+    alloc: Global,
+    query: &Query,
+    form: Form,
+    input: Input<R, D, W, E>,
+    writer: &mut Counting<W>,
+    faults: &mut Counting<E>,
+) -> Obeyed<'static, Input<R, D, W, E>, D>
+    requires input { IsFresh input }
+    requires writer { writer.old.failures ≡ 0 }
+    requires faults { faults.old.failures ≡ 0 }
+    ensures ended { EndsLog query.now form
+        (devices R.remaining W.contents (counted_of input) (counted_of result.input) writer.old
+        writer.new)
+        (notices_between E.contents faults.old faults.new)
+        result.outcome }
+    ensures unopened { result.file ≡ None }
+    ensures unstamped { stamps_of result.input ≡ [] }
+{
+    let mut reader = input.into_inner();
+    let outcome = print_log(alloc, query, form, &mut reader, writer, faults);
+    Obeyed {
+        outcome,
+        input: StampedReader::new(reader),
+        file: None,
+    }
+}
+
+/// Prints the entries of a log that the query admits, and tells of torn ones.
+fn print_log<R: Read, W: Write, E: Write>(
+    alloc: Global,
+    query: &Query,
+    form: Form,
+    reader: &mut Counting<R>,
+    writer: &mut Counting<W>,
+    faults: &mut Counting<E>,
+) -> Result<(), Fault<'static>>
+    requires reader { reader.old.failures ≡ 0 }
+    requires writer { writer.old.failures ≡ 0 }
+    requires faults { faults.old.failures ≡ 0 }
+    ensures { EndsLog query.now form
+        (devices R.remaining W.contents reader.old reader.new writer.old writer.new)
+        (notices_between E.contents faults.old faults.new)
+        result }
+{
+    match log_run(alloc, reader, writer, faults, query, form) {
+        Ok(_printed) => Ok(()),
+        Err(why) => Err(Fault::Call(CallFault::Log(why))),
+    }
+}
+
+/// Does what the arguments ask for that were read so, where they name neither a watch nor a run
+/// over a log. Its reads need no stamps.
 fn obey_unstamped<R: Read, W: Write, E: Write, D>(
     alloc: Global,
     read: Result<Call, ArgumentsFault>,
@@ -363,10 +417,10 @@ pub fn answer<R: Read, W: Write, E: Write, F: LogFiles + Drop>(
         (stamps_of result.input))
         (Ok tt)) }
 
-    // A success leaves nothing on standard error, but for a watch. A fault leaves one text, behind
-    // what a watch told there: `navtex: `, the fault, and a newline, but for a text of clap on the
-    // arguments.
-    ensures silent { IfOk arguments (λ given. (NamesWatch (map string_bytes given.items) → ⊥)
+    // A success leaves nothing on standard error, but for a watch and a run over a log. A fault
+    // leaves one text, behind what these told there: `navtex: `, the fault, and a newline, but for
+    // a text of clap on the arguments.
+    ensures silent { IfOk arguments (λ given. (NamesTelling (map string_bytes given.items) → ⊥)
         → result.status ≡ 0 → faults.new ≡ faults.old) }
     ensures reported { result.status ≢ 0
         → WritesOne (λ text. result.status ≢ 64 → IsFaultLine text)

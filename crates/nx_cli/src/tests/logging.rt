@@ -1,7 +1,8 @@
 //! `navtex log` on arguments and bytes: which entries are asked for, in which form, and what it
 //! refuses.
 
-use super::{expect_fault, expect_output};
+use super::air::join;
+use super::{expect_fault, expect_output, run_on};
 
 const FIRST: &[u8] = b"[EA01 2025-01-01 00:40:00 full 0/5]\nTEST\n\n";
 
@@ -81,4 +82,17 @@ fn refuses_values_and_bytes(rt: HostRuntime) {
     for &(arguments, status, line) in &ROWS {
         expect_fault(&rt, rt.alloc(), line, arguments, b"TEST\n", (status, line));
     }
+}
+
+#[test]
+fn goes_on_behind_a_torn_entry(rt: HostRuntime) {
+    let torn = join(&rt, rt.alloc(), &[FIRST, b"[BB08 2026-\n", FIRST]);
+    let both = join(&rt, rt.alloc(), &[FIRST, FIRST]);
+    let told = b"navtex: line 4: a torn entry was passed over\n";
+    let ended = run_on(rt.alloc(), &["navtex", "log"], &torn);
+    ended.expect(&rt, "log-torn", 0, &both, told);
+    let refused = join(&rt, rt.alloc(), &[&torn, b"TEST\n"]);
+    let lines = b"navtex: line 4: a torn entry was passed over\nnavtex: line 8 is not of a log\n";
+    let ended = run_on(rt.alloc(), &["navtex", "log"], &refused);
+    ended.expect(&rt, "log-torn, and no log", 2, &both, lines);
 }

@@ -142,7 +142,15 @@ fn kept_damaged(rt: HostRuntime) {
 fn kept_torn(rt: HostRuntime) {
     let torn = join(&rt, rt.alloc(), &[KEPT, b"[EA02 2025"]);
     let told = "navtex: 10 bytes at line 5 of the log are no kept entry, and are cut\n";
-    expect_kept(&rt, rt.alloc(), "kept-torn", &torn, b"", (0, told, b""), KEPT);
+    expect_kept(
+        &rt,
+        rt.alloc(),
+        "kept-torn",
+        &torn,
+        b"",
+        (0, told, b""),
+        KEPT,
+    );
 }
 
 // Two entries that somebody appended, of 42 and 37 bytes.
@@ -162,7 +170,15 @@ fn kept_appended(rt: HostRuntime) {
 #[test]
 fn kept_gate(rt: HostRuntime) {
     let told = "navtex: 1 bytes at line 1 of the log are no kept entry, and are cut\n";
-    expect_kept(&rt, rt.alloc(), "kept-gate", b"x", b"", (0, told, b""), b" ");
+    expect_kept(
+        &rt,
+        rt.alloc(),
+        "kept-gate",
+        b"x",
+        b"",
+        (0, told, b""),
+        b" ",
+    );
 }
 
 // The third call is the cut, which fails: behind what it would have cut, that is told.
@@ -172,7 +188,14 @@ fn its_cut_fails(rt: HostRuntime) {
         navtex: the log x.log can't be written\n";
     let files = file_of(&rt, rt.alloc(), b" [EA02 2025", 3);
     let mut source = Source::of(AIR_FILE_OF_EA01);
-    expect_watch(&rt, rt.alloc(), "its-cut-fails", files, &mut source, (1, told, b""));
+    expect_watch(
+        &rt,
+        rt.alloc(),
+        "its-cut-fails",
+        files,
+        &mut source,
+        (1, told, b""),
+    );
 }
 
 #[test]

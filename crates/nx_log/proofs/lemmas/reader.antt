@@ -1,10 +1,5 @@
--- What a reader of a log stands for, piece by piece.
-pub mod Before
+-- A reader of a log, stage by stage.
 pub mod Begun
-pub mod Gap
 pub mod Judged
-pub mod Rooms
-pub mod Stands
 pub mod Steps
-pub mod Taken
-pub mod Tears
+pub mod Tails

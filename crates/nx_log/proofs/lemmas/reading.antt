@@ -1,8 +1,10 @@
--- Bytes are read as entries and gaps in one way.
+pub mod Brackets
 pub mod Entries
+pub mod Fronts
 pub mod Gaps
 pub mod Heads
 pub mod Numbers
+pub mod Parts
 pub mod Pieces
 pub mod Reads
 pub mod Views

@@ -1,3 +1,4 @@
--- Runs over a log, and what is remembered of it.
+-- What runs wrote, remembered and told.
 pub mod LogRuns
 pub mod Remembering
+pub mod Telling

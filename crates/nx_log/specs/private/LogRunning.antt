@@ -4,8 +4,9 @@ use Rattle.nx_fec.specs.Transfers.{Contents}
 use Rattle.nx_fec.specs.air_files.LineRuns.{HasGiven}
 use Rattle.nx_receiver.specs.copies.Shares.{MarkedCopy}
 use Rattle.nx_log.specs.LogReading.{LogReading}
-use Rattle.nx_log.specs.LogReader.{EndEarlyAt, IsAt, StopAt}
+use Rattle.nx_log.specs.LogReader.{IsAt, StopAt}
 use Rattle.nx_log.specs.LogRun.{BeginWithEntries, IsOutput, WroteOutput, WrotePart}
+use Rattle.nx_log.specs.Notices.{HaveToldTorn, Notices}
 use Rattle.nx_log.specs.Query.{admitted}
 use Rattle.nx_log.specs.Reading.{HoldEntries, HoldEntriesToEnd}
 use Rattle.nx_log.specs.declared.writing.form.Form.{Form}
@@ -16,7 +17,12 @@ use Rattle.nx_log.specs.declared.queries.query.Query.{Query}
 
 -- the reader was given some bytes
 abbrev pub IsReading : LogReading → Type 0
-IsReading log = (bytes : List ℕ) × (entries : List MarkedCopy) × IsAt log bytes entries
+IsReading log = (bytes : List ℕ) × (entries : List MarkedCopy) × (torn : List ℕ)
+    × IsAt log bytes entries torn
+
+-- what a writer of notices held and holds, and how many writes failed
+abbrev pub notices_of : Option (List ℕ) → Option (List ℕ) → ℕ → Notices
+notices_of old new failures = record { before = old; after = new; failures = failures }
 
 -- The output of these entries was given: the first of it is written, and the rest waits. The
 -- entries that the query admits are counted.
@@ -28,40 +34,40 @@ pub record HasGivenOutput (query : Query) (form : Form) (old new : Option (List 
   pub given : HasGiven old new output.batch bytes
   pub counted : output.admitted ≡ min (length (admitted query entries)) (2 ^ 64 - 1)
 
--- the run read these bytes, and the output of their whole entries was given
+-- the run read these bytes, the output of their whole entries was given, and each torn one told
 pub record IsRunning (query : Query) (form : Form) (old : Option (List ℕ)) (log : LogReading)
-    (new : Option (List ℕ)) (output : Output) (bytes : List ℕ) : Type 0 where
+    (new : Option (List ℕ)) (output : Output) (n : Notices) (bytes : List ℕ) : Type 0 where
   pub entries : List MarkedCopy
-  pub at : IsAt log bytes entries
+  pub torn : List ℕ
+  pub at : IsAt log bytes entries torn
   pub given : HasGivenOutput query form old new output entries
+  pub told : HaveToldTorn n torn
 
--- the run ends so with this fault in the bytes, before their end
-abbrev pub EndsRun : Query → Form → Contents → List ℕ → LogFault → Type 0
-EndsRun query form contents bytes Read =
-    (entries : List MarkedCopy) × HoldEntries bytes entries
-    × WroteOutput query form contents entries
-EndsRun query form contents bytes (Write written) =
-    (entries : List MarkedCopy) × BeginWithEntries bytes entries
-    × WrotePart query form contents entries written
-EndsRun query form contents bytes (BadLog line) =
-    (entries : List MarkedCopy) × StopAt bytes entries (record { line = line })
-    × WroteOutput query form contents entries
-EndsRun query form contents bytes fault = ⊥
+-- the run ends so with this fault in the bytes
+abbrev pub EndsRun : Query → Form → Contents → Notices → List ℕ → LogFault → Type 0
+EndsRun query form contents n bytes Read =
+    (entries : List MarkedCopy) × (torn : List ℕ) × HoldEntries bytes entries torn
+    × WroteOutput query form contents entries × HaveToldTorn n torn
+EndsRun query form contents n bytes (Write written) =
+    (entries : List MarkedCopy) × (torn : List ℕ) × BeginWithEntries bytes entries torn
+    × WrotePart query form contents entries written × HaveToldTorn n torn
+EndsRun query form contents n bytes (BadLog line) =
+    (entries : List MarkedCopy) × (torn : List ℕ)
+    × StopAt bytes entries torn (record { line = line })
+    × WroteOutput query form contents entries × HaveToldTorn n torn
+EndsRun query form contents n bytes fault = ⊥
 
--- the run ends so with a fault at the end of the bytes
-abbrev pub EndsRunAtEnd : Query → Form → Contents → List ℕ → LogFault → Type 0
-EndsRunAtEnd query form contents bytes (Write written) =
-    (entries : List MarkedCopy) × BeginWithEntries bytes entries
-    × WrotePart query form contents entries written
-EndsRunAtEnd query form contents bytes (BadLog line) =
-    (entries : List MarkedCopy) × EndEarlyAt bytes entries (record { line = line })
-    × WroteOutput query form contents entries
-EndsRunAtEnd query form contents bytes fault = ⊥
+-- the bytes are all, and each torn entry of them was told
+abbrev pub EndsTold : Notices → List ℕ → List MarkedCopy → Type 0
+EndsTold n bytes entries =
+    (torn : List ℕ) × HoldEntriesToEnd bytes entries torn × HaveToldTorn n torn
 
 -- all bytes are of a log, the output of their entries was written, and those admitted are counted
-pub record HasRunOver (query : Query) (form : Form) (contents : Contents) (bytes : List ℕ)
-    (count : ℕ) : Type 0 where
+pub record HasRunOver (query : Query) (form : Form) (contents : Contents) (n : Notices)
+    (bytes : List ℕ) (count : ℕ) : Type 0 where
   pub entries : List MarkedCopy
-  pub hold : HoldEntriesToEnd bytes entries
+  pub torn : List ℕ
+  pub hold : HoldEntriesToEnd bytes entries torn
   pub wrote : WroteOutput query form contents entries
+  pub told : HaveToldTorn n torn
   pub counted : count ≡ min (length (admitted query entries)) (2 ^ 64 - 1)

@@ -9,6 +9,7 @@ use Rattle.nx_envelope.specs.declared.identity.Identity.{Identity}
 use Rattle.nx_fec.specs.declared.air_files.channel.Channel.{Channel}
 use Rattle.nx_receiver.specs.copies.Log.{channel_mark, how_name, missing_newline}
 use Rattle.nx_log.specs.Logged.{is_text_byte}
+use Rattle.nx_log.specs.Reading.{bracket}
 
 -- a piece of these spellings, and behind it what may stand behind that piece
 pub record Joined {A : Type 0} (piece_is : A → List ℕ → Type 0) (rest_is : A → List ℕ → Type 0)
@@ -32,10 +33,7 @@ pub record IsPartOf {A : Type 0} (piece_is : A → List ℕ → Type 0) (bytes :
   pub is_piece : piece_is piece (bytes ++ more)
   pub lacks : more ≢ []
 
--- the brackets before and behind a head, and the slash in it
-abbrev pub bracket : ℕ
-bracket = 91
-
+-- the bracket behind a head, and the slash in it
 abbrev pub closing_bracket : ℕ
 closing_bracket = 93
 

@@ -1,128 +1,156 @@
 -- What the stage of a reader and the bytes that it holds stand for: what came behind the last
--- entry.
-use Rattle.std.specs.Prelude.{◌≡◌, ◌≢◌, ◌⊎◌, ℕ, ◌+◌, ◌<◌, List, [], ◌∷◌, ◌++◌, drop, length, max, take, Option, None, Some}
+-- part that is over.
+use Rattle.std.specs.Prelude.{◌≡◌, ◌≢◌, ℕ, ◌-◌, ◌^◌, Bool, true, false, List, [], ◌∷◌, ◌++◌, length, min, Option, None, Some}
 use Rattle.std.specs.List.{All}
-use Rattle.nx_log.specs.Entries.{IsUnfinishedEntry}
-use Rattle.nx_log.specs.Reading.{CanGoOn, HasNext, IsBlank}
-use Rattle.nx_log.specs.declared.entries.gap.Stage.{Stage}
-use Rattle.nx_log.specs.declared.entries.gap.Stage.TheVariants.{Start, Blank, Gap, Bracket, Begun, Torn}
-use Rattle.nx_log.specs.private.Stages as stages
-use Rattle.nx_log.specs.private.Stages.{bracket}
-use Rattle.nx_log.specs.private.Rooms.{room_less, room_of, room_over}
+use Rattle.nx_log.specs.Reading.{Head, IsBlank, IsGap, IsHead, IsInReach, IsNoBracket, IsPart, IsTail, LogRead, begun, is_begun, line_behind, reach_behind}
+use Rattle.nx_log.specs.declared.entries.reader.Stage.{Stage}
+use Rattle.nx_log.specs.declared.entries.reader.Stage.TheVariants as stages
+use Rattle.nx_log.specs.declared.entries.reader.TornLine.{TornLine}
+use Rattle.nx_log.specs.declared.entries.tail.Tail.{Tail}
+use Rattle.nx_log.specs.declared.entries.tail.Shape.{Shape}
+use Rattle.nx_log.specs.declared.entries.tail.Shape.TheVariants as shapes
 
--- newlines and spaces, one or more, and behind them another byte
-pub record BlanksBefore (gap bytes : List ℕ) : Type 0 where
-  pub blank : All IsBlank gap
-  pub some : gap ≢ []
-  pub first : ℕ
-  pub more : List ℕ
-  pub split : bytes ≡ first ∷ more
-  pub other : ¬ IsBlank first
+-- how many bytes more can be torn behind newlines and spaces: behind the beginning of an entry
+-- their own spaces don't reach
+abbrev pub torn_reach_behind : Bool → ℕ → List ℕ → ℕ
+torn_reach_behind true reach blanks = reach - length blanks
+torn_reach_behind false reach blanks = reach_behind reach blanks
 
--- no gap, and a bracket, behind which no other bracket stands
-pub record NoneBefore (gap bytes : List ℕ) : Type 0 where
-  pub none : gap ≡ []
-  pub second : ℕ
-  pub more : List ℕ
-  pub split : bytes ≡ bracket ∷ (second ∷ more)
-  pub other : second ≢ bracket
+-- newlines and spaces, one or more
+pub record AreBlanks (tail : Tail) (reach : ℕ) (bytes : List ℕ) : Type 0 where
+  pub blank : All IsBlank bytes
+  pub some : bytes ≢ []
+  pub reach_is : tail.reach ≡ reach_behind reach bytes
+  pub torn_is : tail.torn_reach ≡ torn_reach_behind tail.is_torn reach bytes
 
--- one byte that is no newline and no space, and behind it another; behind a bracket another bracket
-pub record OneBefore (gap bytes : List ℕ) : Type 0 where
+-- one other byte
+pub record IsOther (tail : Tail) (reach : ℕ) (bytes : List ℕ) : Type 0 where
   pub byte : ℕ
-  pub one : gap ≡ byte ∷ []
+  pub is : bytes ≡ byte ∷ []
   pub not_blank : ¬ IsBlank byte
-  pub first : ℕ
-  pub more : List ℕ
-  pub split : bytes ≡ first ∷ more
-  pub bracket : byte ≡ stages.bracket → first ≡ stages.bracket
+  pub reach_is : tail.reach ≡ reach - 1
+  pub torn_is : tail.torn_reach ≡ reach - 1
 
--- no other gap than this stands before an entry that begins these bytes
-abbrev pub IsGapBefore : List ℕ → List ℕ → Type 0
-IsGapBefore gap bytes =
-    BlanksBefore gap bytes ⊎ (NoneBefore gap bytes ⊎ OneBefore gap bytes)
+-- torn bytes within reach
+pub record AreTorn (tail : Tail) (reach : ℕ) (bytes blanks : List ℕ) : Type 0 where
+  pub no_gap : ¬ IsGap bytes
+  pub in_reach : IsInReach tail.is_torn reach bytes blanks tail.reach
+  pub torn_is : tail.torn_reach ≡ tail.reach
 
--- a gap and the beginning of an entry, which is held, and the room behind them
-pub record HasBegun (room : Option ℕ) (held rest : List ℕ) : Type 0 where
-  pub gap : List ℕ
-  pub split : rest ≡ gap ++ held
-  pub before : IsGapBefore gap held
-  pub unfinished : IsUnfinishedEntry held
-  pub room_left : room ≡ room_less (room_of gap) (length held)
+-- the byte goes on with the gap in this shape
+abbrev pub StaysGap : Shape → ℕ → Type 0
+StaysGap shapes.Nothing byte = Unit {0}
+StaysGap shapes.Blanks byte = IsBlank byte
+StaysGap shapes.One byte = ⊥
+StaysGap shapes.Torn byte = ⊥
 
--- newlines and spaces, and behind them bytes of which none begin an entry; so many more have room
-pub record HasTorn (room : ℕ) (rest : List ℕ) : Type 0 where
-  pub gap : List ℕ
-  pub torn : List ℕ
-  pub split : rest ≡ gap ++ torn
-  pub before : BlanksBefore gap torn
-  pub room_left : Some room ≡ room_less (room_of gap) (length torn)
-  pub no_entry : (more : List ℕ) → ¬ HasNext (rest ++ more)
+-- it doesn't, so it can only be torn
+abbrev pub CanTear : Shape → ℕ → Type 0
+CanTear shapes.Nothing byte = ⊥
+CanTear shapes.Blanks byte = ¬ IsBlank byte
+CanTear shapes.One byte = Unit {0}
+CanTear shapes.Torn byte = Unit {0}
 
--- one byte that is no newline, no space and no bracket
-pub record IsOther (byte : ℕ) (rest : List ℕ) : Type 0 where
-  pub split : rest ≡ byte ∷ []
-  pub not_blank : ¬ IsBlank byte
-  pub not_bracket : byte ≢ bracket
+-- the tail behind one more newline or space of a gap
+abbrev pub torn_behind : Bool → ℕ → ℕ → ℕ
+torn_behind true torn reach = torn - 1
+torn_behind false torn reach = reach
 
--- newlines and spaces, one or more, and the room behind them
-pub record AreBlanks (room : Option ℕ) (rest : List ℕ) : Type 0 where
-  pub blank : All IsBlank rest
-  pub some : rest ≢ []
-  pub room_left : room ≡ room_of rest
+abbrev pub with_blank : Tail → ℕ → Tail
+with_blank tail byte = record {
+  is_torn = tail.is_torn;
+  shape = shapes.Blanks;
+  reach = reach_behind tail.reach (byte ∷ []);
+  torn_reach =
+      torn_behind tail.is_torn tail.torn_reach (reach_behind tail.reach (byte ∷ []));
+  torn_line = tail.torn_line;
+}
 
--- at this stage, with these bytes held, a reader stands for the rest behind the last entry
-abbrev pub StandsFor : Stage → List ℕ → List ℕ → Type 0
-StandsFor Start held rest = rest ≡ []
-StandsFor (Blank room) held rest = AreBlanks room rest
-StandsFor Gap held rest = (byte : ℕ) × IsOther byte rest
-StandsFor Bracket held rest = rest ≡ bracket ∷ []
-StandsFor (Begun room) held rest = HasBegun room held rest
-StandsFor (Torn room) held rest = HasTorn room rest
+-- behind another byte, which is the gap
+abbrev pub with_other : Tail → Tail
+with_other tail = record {
+  is_torn = tail.is_torn;
+  shape = shapes.One;
+  reach = tail.reach - 1;
+  torn_reach = tail.torn_reach - 1;
+  torn_line = tail.torn_line;
+}
 
--- a gap, and what is held of the entry behind it, if it has begun; the bytes left have to begin it
--- or go on with it
-pub record Enters (room : Option ℕ) (held rest left : List ℕ) : Type 0 where
-  pub gap : List ℕ
-  pub split : rest ≡ gap ++ held
-  pub before : IsGapBefore gap (held ++ left)
-  pub begun : (held ≡ []) ⊎ IsUnfinishedEntry held
-  pub room_left : room ≡ room_less (room_of gap) (length held)
+-- the line of a torn entry that has begun, or begins on this line
+abbrev pub line_torn : Bool → Shape → ℕ → ℕ → ℕ
+line_torn true shape torn line = torn
+line_torn false shapes.Torn torn line = torn
+line_torn false shape torn line = line
 
--- behind the gap, when its bytes have been taken
-abbrev pub StandsBefore : Stage → List ℕ → List ℕ → List ℕ → Type 0
-StandsBefore (Begun room) held rest left = Enters room held rest left
-StandsBefore (Torn room) held rest left = HasTorn room rest
-StandsBefore stage held rest left = StandsFor stage held rest × (left ≡ [])
+-- the torn entry of a tail, if it has one
+abbrev pub torn_in : Bool → Shape → ℕ → Option TornLine
+torn_in true shape line = Some (record { line = line })
+torn_in false shapes.Torn line = Some (record { line = line })
+torn_in false shape line = None
 
--- what is held as a piece begins: the beginning of an entry
-abbrev pub begun_bytes : Stage → List ℕ → List ℕ
-begun_bytes (Begun room) held = held
-begun_bytes Bracket held = bracket ∷ []
-begun_bytes stage held = []
+abbrev pub torn_of : Tail → Option TornLine
+torn_of tail = torn_in tail.is_torn tail.shape tail.torn_line
 
--- at the byte at this place behind the rest, the bytes stop being a log
-pub record StopsAfter (rest bytes : List ℕ) (place : ℕ) : Type 0 where
-  pub within : place < length bytes
-  pub good_before : CanGoOn (rest ++ take place bytes)
-  pub bad_with_it : ¬ CanGoOn (rest ++ take (place + 1) bytes)
+-- behind another byte, which is torn and stands on this line
+abbrev pub with_torn : Tail → ℕ → Tail
+with_torn tail line = record {
+  is_torn = tail.is_torn;
+  shape = shapes.Torn;
+  reach = tail.torn_reach - 1;
+  torn_reach = tail.torn_reach - 1;
+  torn_line = line_torn tail.is_torn tail.shape tail.torn_line line;
+}
 
--- the number of bytes for which there is room
-abbrev pub room_size : Option ℕ → ℕ
-room_size None = 0
-room_size (Some room) = room
+-- in this shape a tail stands for these bytes, of which the torn ones stand behind these blanks
+abbrev pub StandsAs : Shape → Tail → ℕ → List ℕ → Option (List ℕ) → Type 0
+StandsAs shapes.Nothing tail reach bytes torn =
+    (bytes ≡ []) × (torn ≡ None) × (tail.reach ≡ reach) × (tail.torn_reach ≡ reach)
+StandsAs shapes.Blanks tail reach bytes torn = (torn ≡ None) × AreBlanks tail reach bytes
+StandsAs shapes.One tail reach bytes torn = (torn ≡ None) × IsOther tail reach bytes
+StandsAs shapes.Torn tail reach bytes torn =
+    (blanks : List ℕ) × (torn ≡ Some blanks) × AreTorn tail reach bytes blanks
 
--- Behind the rest the bytes can only be of a torn end, from the place on. If there is room they
--- are; else they stop being a log where the room ends, or at the place if it ends before.
-pub record CanTear (room : Option ℕ) (place : ℕ) (rest bytes : List ℕ) : Type 0 where
-  pub torn : (left : ℕ) → room_less room (length bytes) ≡ Some left → HasTorn left (rest ++ bytes)
-  pub stops : room_less room (length bytes) ≡ None
-      → StopsAfter rest bytes (max place (room_size room))
+-- the line that the tail tells of is that of its torn entry
+abbrev pub TellsLine : Tail → List ℕ → List ℕ → Option (List ℕ) → Bool → Type 0
+TellsLine tail before front torn true = tail.torn_line ≡ min (line_behind before) (2 ^ 64 - 1)
+TellsLine tail before front None false = Unit {0}
+TellsLine tail before front (Some blanks) false =
+    tail.torn_line ≡ min (line_behind (before ++ (front ++ blanks))) (2 ^ 64 - 1)
 
--- newlines and spaces at the beginning of a piece, so many, have been passed
-abbrev pub BlanksPassed : Option ℕ → List ℕ → ℕ → Stage → Type 0
-BlanksPassed before piece passed (Blank room) = (passed ≡ length piece)
-    × (room ≡ room_over before (take passed piece))
-BlanksPassed before piece passed (Begun room) = (room ≡ room_over before (take passed piece))
-    × ((first : ℕ) × (more : List ℕ) × (drop passed piece ≡ first ∷ more) × ¬ IsBlank first)
-BlanksPassed before piece passed stage = ⊥
+-- The tail stands for these bytes behind the front of a part, and behind what was read before.
+pub record StandsBehind (tail : Tail) (before front : List ℕ) (reach : ℕ) (bytes : List ℕ)
+    (torn : Option (List ℕ)) : Type 0 where
+  pub no_bracket : All IsNoBracket bytes
+  pub stands : StandsAs tail.shape tail reach bytes torn
+  pub tells : TellsLine tail before front torn tail.is_torn
+
+-- the same, wherever the torn bytes begin
+abbrev pub StandsSomehow : Tail → List ℕ → List ℕ → ℕ → List ℕ → Type 0
+StandsSomehow tail before front reach bytes =
+    (torn : Option (List ℕ)) × StandsBehind tail before front reach bytes torn
+
+-- some tail is these bytes
+abbrev pub IsSomeTail : Bool → ℕ → List ℕ → Type 0
+IsSomeTail is_torn reach bytes =
+    (torn : Option (List ℕ)) × (left : ℕ) × IsTail is_torn reach bytes torn left
+
+-- at this stage a reader stands so in a part: its entry goes on, or its tail
+abbrev pub StageIs : Stage → List ℕ → LogRead → Head → List ℕ → List ℕ → Option (List ℕ) → Type 0
+StageIs (stages.Begun entry) held before head front behind torn =
+    (head ≡ begun) × (held ≡ front) × (behind ≡ []) × (torn ≡ None)
+    × (entry.reach ≡ before.reach) × (entry.line ≡ min (line_behind before.bytes) (2 ^ 64 - 1))
+StageIs (stages.Behind tail) held before head front behind torn =
+    (tail.is_torn ≡ is_begun head) × (is_begun head ≡ true → behind ≢ [])
+    × StandsBehind tail before.bytes front (before.reach - length front) behind torn
+
+-- at this stage, with these bytes held, a reader stands for the part behind what was read before
+pub record StandsFor (stage : Stage) (held : List ℕ) (first : Bool) (before : LogRead)
+    (bytes : List ℕ) : Type 0 where
+  pub head : Head
+  pub front : List ℕ
+  pub behind : List ℕ
+  pub torn : Option (List ℕ)
+  pub split : bytes ≡ before.bytes ++ (front ++ behind)
+  pub is_part : IsPart first (front ++ behind)
+  pub is_head : IsHead first head front behind
+  pub stage_is : StageIs stage held before head front behind torn

@@ -1,6 +1,6 @@
 //! A log read in pieces.
 
-ghost use Rattle.std.specs.Prelude.{◌≡◌, ◌↔◌, ◌+◌, ◌-◌, ◌≤◌, ◌==◌, ℕ, List, [], ◌++◌, IfErr, IsTrue, OnOk, count_by, length, min, take};
+ghost use Rattle.std.specs.Prelude.{◌≡◌, ◌+◌, ◌-◌, ◌≤◌, ◌==◌, ℕ, List, [], ◌++◌, count_by, length, min, take};
 ghost use Rattle.nx_code.specs.Reading.{newline};
 ghost use Rattle.nx_receiver.specs.copies.Shares.{MarkedCopy};
 ghost use Rattle.nx_log.specs.LogReader.{most_lines};
@@ -9,8 +9,8 @@ ghost use Rattle.nx_log.specs.Starts.{StartsAs};
 ghost use Rattle.nx_log.specs.private.Steps.{part_held};
 
 use crate::entries::entry::MAX_LOGGED;
-use crate::entries::gap::{Stage, pass_gap, room_after};
 use crate::entries::start::{EntryStart, entry_start};
+use crate::entries::tail::{Tail, TailEnd, TailPassed, pass_tail};
 use arrayvec::ArrayVec;
 use std::marker::Model;
 use std::mem::size_of;
@@ -24,6 +24,13 @@ pub struct BadLine {
     pub line: u64,
 }
 
+/// The line on which a torn entry stands, from 1.
+#[derive(Clone, Copy, Debug, Drop, PartialEq, Eq)]
+pub struct TornLine {
+    /// Its number.
+    pub line: u64,
+}
+
 /// What a piece of a log brings.
 #[derive(Clone, Copy, Debug, Drop, PartialEq, Eq)]
 pub enum Pushed {
@@ -33,19 +40,42 @@ pub enum Pushed {
         /// How many bytes were taken.
         taken: usize,
     },
+    /// Before the last of its first so many bytes a torn entry ended; the others weren't taken.
+    Torn {
+        /// How many bytes were taken.
+        taken: usize,
+        /// Where it stands.
+        at: TornLine,
+    },
     /// All its bytes were taken, and no entry ended.
     All,
     /// The bytes stop being a log. The reader is of no use any more.
     Bad(BadLine),
 }
 
-/// Reads a log of which it is given the bytes in pieces of any length, and gives each entry with
-/// its last byte.
+/// What a reader has read of the bytes from the last bracket on.
+#[derive(Clone, Copy, Debug, Drop, PartialEq, Eq)]
+pub(crate) enum Stage {
+    /// The beginning of an entry.
+    Begun(Begun),
+    /// What stands behind an entry, or behind the beginning of a torn one.
+    Behind(Tail),
+}
+
+/// Where an entry begins: how many bytes the last space before it reaches, and its line.
+#[derive(Clone, Copy, Debug, Drop, PartialEq, Eq)]
+pub(crate) struct Begun {
+    pub(crate) reach: usize,
+    pub(crate) line: u64,
+}
+
+/// Reads a log of which it is given the bytes in pieces of any length. It gives each entry with its
+/// last byte, and each torn one with the bracket behind it.
 ///
-/// Behind the last entry it holds the beginning of the next, and else nothing.
+/// It holds the beginning of an entry, and how far the last space reaches, and else nothing.
 #[derive(Debug, Drop)]
 pub struct LogReader {
-    /// What stands behind the last entry.
+    /// What it has read from the last bracket on.
     stage: Stage,
     /// The bytes of the entry that has begun, or of the one that was given last.
     held: ArrayVec<u8, MAX_LOGGED>,
@@ -68,35 +98,33 @@ impl Model for LogReader {
 }
 
 impl LogReader {
-    ghost use Rattle.nx_log.specs.LogReader.{EndEarlyAt, IsAt, Shows, Takes};
+    ghost use Rattle.nx_log.specs.LogReader.{EndsSo, IsAt, Shows, Takes};
     ghost use Rattle.nx_log.specs.Logged.{IsLoggedAs};
-    ghost use Rattle.nx_log.specs.Reading.{HoldEntriesToEnd};
-    ghost use Rattle.nx_log.specs.private.Standing.{CanTear, Enters, StandsBefore, begun_bytes};
-    ghost use Rattle.nx_log.specs.private.Steps.{CameBefore, TakesWithin};
+    ghost use Rattle.nx_log.specs.private.Steps.{Ends, IsAtTail, Opens, TakesWithin};
 
     /// A reader that was given no byte yet.
     pub fn new() -> LogReader
-        ensures { IsAt result [] [] }
+        ensures { IsAt result [] [] [] }
     {
-        prove!(size_of::<LogReader>() == 4192);
+        prove!(size_of::<LogReader>() == 4208);
         LogReader {
-            stage: Stage::Start,
+            stage: Stage::Behind(Tail::behind(0)),
             held: ArrayVec::new(),
             line: 1,
         }
     }
 
-    /// Takes the bytes of the piece up to the end of the first entry that ends in it, or all of
-    /// them.
+    /// Takes the bytes of the piece up to the end of the first entry that ends in it, or up to the
+    /// bracket behind the first torn one, or all of them.
     pub fn push(&mut self, piece: &[u8]) -> Pushed
-        ensures { (bytes : List ℕ) (entries : List MarkedCopy) → IsAt self.old bytes entries
-            → Takes bytes entries piece.now self.new result }
+        ensures { (bytes : List ℕ) (entries : List MarkedCopy) (torn : List ℕ)
+            → IsAt self.old bytes entries torn
+            → Takes bytes entries torn piece.now self.new result }
     {
-        self.begin_held();
-        let gap = pass_gap(self.stage, piece);
-        let (passed, rest) = piece.split_at(gap.passed);
-        self.line = line_after(self.line, passed);
-        self.take_behind(gap.stage, rest).behind(gap.passed)
+        match self.stage {
+            Stage::Begun(entry) => self.go_on(entry, piece),
+            Stage::Behind(tail) => self.pass(tail, piece),
+        }
     }
 
     /// The bytes of the entry that the last piece ended.
@@ -106,60 +134,45 @@ impl LogReader {
         self.held.as_slice()
     }
 
-    /// Whether the bytes that were given are all of a log: else the line whose newline is missing.
-    pub fn finish(&self) -> Result<(), BadLine>
-        ensures ok { (bytes : List ℕ) (entries : List MarkedCopy) → IsAt self.now bytes entries
-            → OnOk result (HoldEntriesToEnd bytes entries) }
-        ensures early { (bytes : List ℕ) (entries : List MarkedCopy) → IsAt self.now bytes entries
-            → IfErr result (EndEarlyAt bytes entries) }
-    {
-        if lacks_room(self.stage) {
-            return Err(BadLine { line: self.line });
-        }
-        Ok(())
-    }
-
-    /// Holds what has come of the next entry, in place of the last one.
-    fn begin_held(&mut self)
-        ensures held { self.new.held ≡ begun_bytes self.old.stage self.old.held }
-        ensures stage { self.new.stage ≡ self.old.stage }
-        ensures line { self.new.line ≡ self.old.line }
+    /// The torn entry with which the bytes end that were given, where they end with one.
+    pub fn finish(&self) -> Option<TornLine>
+        ensures { (bytes : List ℕ) (entries : List MarkedCopy) (torn : List ℕ)
+            → IsAt self.now bytes entries torn → EndsSo bytes entries torn result }
     {
         match self.stage {
-            Stage::Begun(_) => {}
-            Stage::Bracket => {
-                self.held.clear();
-                self.held.push(b'[');
-            }
-            Stage::Start | Stage::Blank(_) | Stage::Gap | Stage::Torn(_) => self.held.clear(),
+            Stage::Begun(entry) => Some(TornLine { line: entry.line }),
+            Stage::Behind(tail) => tail.torn(),
         }
     }
 
-    /// Takes bytes where a gap is over, or has taken all bytes.
-    fn take_behind(&mut self, stage: Stage, bytes: &[u8]) -> Pushed
+    /// Takes bytes behind an entry.
+    fn pass(&mut self, tail: Tail, bytes: &[u8]) -> Pushed
         ensures within { TakesWithin (length bytes.now) result }
-        ensures takes { (before rest : List ℕ) (entries : List MarkedCopy)
-            → CameBefore self.old.line before entries rest
-            → StandsBefore stage self.old.held rest bytes.now
-            → Takes before entries bytes.now self.new result }
+        ensures takes { (given : List ℕ) (entries : List MarkedCopy) (torn : List ℕ)
+            → IsAtTail tail self.old.line given entries torn bytes.now
+            → Takes given entries torn bytes.now self.new result }
     {
-        match stage {
-            Stage::Begun(room) => self.go_on(bytes, room),
-            Stage::Torn(room) => self.pass_torn(bytes, Some(room), 0),
-            Stage::Start | Stage::Blank(_) | Stage::Gap | Stage::Bracket => {
-                self.stage = stage;
-                Pushed::All
-            }
+        let passed = pass_tail(tail, self.line, bytes);
+        if passed.opens() {
+            let begun = Begun {
+                reach: passed.tail.reach,
+                line: passed.line,
+            };
+            self.held.clear();
+            self.line = passed.line;
+            return self
+                .go_on(begun, &bytes[passed.count..])
+                .behind(passed.count);
         }
+        self.end(passed)
     }
 
-    /// Takes bytes where an entry has to begin or to go on.
-    fn go_on(&mut self, bytes: &[u8], room: Option<usize>) -> Pushed
+    /// Takes bytes with which an entry begins or goes on.
+    fn go_on(&mut self, entry: Begun, bytes: &[u8]) -> Pushed
         ensures within { TakesWithin (length bytes.now) result }
-        ensures takes { (before rest : List ℕ) (entries : List MarkedCopy)
-            → CameBefore self.old.line before entries rest
-            → Enters room self.old.held rest bytes.now
-            → Takes before entries bytes.now self.new result }
+        ensures takes { (given : List ℕ) (entries : List MarkedCopy) (torn : List ℕ)
+            → Opens entry self.old.held self.old.line given entries torn bytes.now
+            → Takes given entries torn bytes.now self.new result }
     {
         let held = self.held.len();
         match judge(&mut self.held, bytes) {
@@ -167,41 +180,50 @@ impl LogReader {
                 // What is held isn't whole yet, so it is less.
                 let taken = len.saturating_sub(held);
                 self.line = line_after(self.line, &bytes[..taken]);
-                self.stage = Stage::Start;
+                self.stage = Stage::Behind(Tail::behind(entry.reach.saturating_sub(len)));
                 Pushed::Entry { taken }
             }
             EntryStart::Unfinished => {
                 self.line = line_after(self.line, bytes);
-                self.stage = Stage::Begun(room_after(room, bytes.len()));
+                self.stage = Stage::Begun(entry);
                 Pushed::All
             }
-            // Nor is it broken yet.
-            EntryStart::Broken(place) => self.pass_torn(bytes, room, place.saturating_sub(held)),
+            EntryStart::Broken(place) => {
+                let tail = Tail::behind_begun(entry.reach.saturating_sub(place), entry.line);
+                // Nor is it broken yet.
+                let begun = place.saturating_sub(held);
+                let line = line_after(self.line, &bytes[..begun]);
+                let passed = pass_tail(tail, line, &bytes[begun..]);
+                self.end(passed).behind(begun)
+            }
         }
     }
 
-    /// Takes bytes that can only be of a torn end, from the place on. If there is room, it takes
-    /// all of them. Else they stop being a log where the room ends, or at the place if it ends
-    /// before.
-    fn pass_torn(&mut self, bytes: &[u8], room: Option<usize>, place: usize) -> Pushed
-        requires { place ≤ length bytes.now }
-        ensures within { TakesWithin (length bytes.now) result }
-        ensures takes { (before rest : List ℕ) (entries : List MarkedCopy)
-            → CameBefore self.old.line before entries rest
-            → CanTear room place rest bytes.now
-            → Takes before entries bytes.now self.new result }
+    /// Takes bytes that were passed behind an entry, and the bracket behind a torn one.
+    fn end(&mut self, passed: TailPassed) -> Pushed
+        ensures { Ends passed self.new result }
     {
-        match room_after(room, bytes.len()) {
-            Some(left) => {
-                self.line = line_after(self.line, bytes);
-                self.stage = Stage::Torn(left);
+        self.line = passed.line;
+        match passed.end {
+            TailEnd::All => {
+                self.stage = Stage::Behind(passed.tail);
                 Pushed::All
             }
-            None => {
-                let place = place.max(room.unwrap_or(0));
-                let line = line_after(self.line, &bytes[..place]);
-                Pushed::Bad(BadLine { line })
+            TailEnd::Bracket => {
+                self.held.clear();
+                self.held.push(b'[');
+                self.stage = Stage::Begun(Begun {
+                    reach: passed.tail.reach,
+                    line: passed.line,
+                });
+                Pushed::Torn {
+                    taken: passed.count.saturating_add(1),
+                    at: TornLine {
+                        line: passed.tail.torn_line,
+                    },
+                }
             }
+            TailEnd::Bad => Pushed::Bad(BadLine { line: passed.line }),
         }
     }
 }
@@ -218,16 +240,13 @@ impl Pushed {
             Pushed::Entry { taken } => Pushed::Entry {
                 taken: passed + taken,
             },
+            Pushed::Torn { taken, at } => Pushed::Torn {
+                taken: passed + taken,
+                at,
+            },
             Pushed::All | Pushed::Bad(_) => self,
         }
     }
-}
-
-/// An entry has begun, and its beginning can't be a torn end.
-fn lacks_room(stage: Stage) -> bool
-    ensures { IsTrue result ↔ (stage ≡ Stage.Begun None) }
-{
-    matches!(stage, Stage::Begun(None))
 }
 
 /// What stands at the held bytes and these behind them. Then the entry is held that is whole, or

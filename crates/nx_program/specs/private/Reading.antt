@@ -93,9 +93,10 @@ LacksRange rows =
     (k : DamageKind) (f c : ℕ) → IsKind rows k → IsNumber (codes "FROM") rows f
     → IsNumber (codes "COUNT") rows c → ⊥
 
--- the call is no watch
+-- the call is neither a watch nor a run over a log
 abbrev pub IsOnStreams : Call → Type 0
 IsOnStreams (call.Watch name moment) = ⊥
+IsOnStreams (call.Log query form) = ⊥
 IsOnStreams _ = ⊤
 
 -- the call is one that takes values

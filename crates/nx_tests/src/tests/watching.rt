@@ -115,12 +115,10 @@ fn an_entry_is_kept_once(rt: HostRuntime) {
     again
         .extend_from_slice(behind_moment(&first))
         .expect(&rt, "memory");
-    let mut torn = KEPT.to_vec(alloc).expect(&rt, "memory");
-    torn.extend_from_slice(b"[EA02 2025").expect(&rt, "memory");
     let mut twice = KEPT.to_vec(alloc).expect(&rt, "memory");
     twice.truncate(43);
     twice.extend_from_slice(KEPT).expect(&rt, "memory");
-    let cases: [(&str, &[u8], u64, &[u8], u64, &[u8]); 9] = [
+    let cases: [(&str, &[u8], u64, &[u8], u64, &[u8]); 8] = [
         ("kept-x", b"", FIRST, &first, 1, KEPT),
         (
             "watch-no-moment",
@@ -140,7 +138,6 @@ fn an_entry_is_kept_once(rt: HostRuntime) {
         ),
         ("kept-repeat", KEPT, FIRST, &second, 0, KEPT),
         ("kept-after-66-hours", KEPT, FIRST, &again, 1, KEPT_TWICE),
-        ("kept-torn", &torn, FIRST, b"", 0, KEPT),
         ("kept-future", KEPT, 1_735_454_400, &first, 1, &twice),
         ("kept-near", KEPT, 1_735_454_401, &first, 0, KEPT),
         ("empty", b"", FIRST, b"", 0, b" "),
@@ -153,6 +150,24 @@ fn an_entry_is_kept_once(rt: HostRuntime) {
         expect_text(&rt, row, &seen.written, b"");
         expect_text(&rt, row, &seen.told, b"");
     }
+}
+
+/// What stands behind the last space is cut, and told: ten bytes, of which the first is on line 5.
+#[test]
+fn a_torn_entry_is_cut_and_told(rt: HostRuntime) {
+    let alloc = rt.alloc();
+    let mut torn = KEPT.to_vec(alloc).expect(&rt, "memory");
+    torn.extend_from_slice(b"[EA02 2025").expect(&rt, "memory");
+    let seen = watch_file(alloc, file_of(&rt, alloc, &torn), FIRST, b"");
+    assert_eq!(&rt; seen.answer, Ok(report(0, 0, None, 0)), "kept-torn");
+    expect_text(&rt, "kept-torn", seen.file.bytes(), KEPT);
+    expect_text(&rt, "kept-torn", &seen.written, b"");
+    expect_text(
+        &rt,
+        "kept-torn",
+        &seen.told,
+        b"navtex: 10 bytes at line 5 of the log are no kept entry, and are cut\n",
+    );
 }
 
 /// A file that is no kept log is refused, and stays as it is.

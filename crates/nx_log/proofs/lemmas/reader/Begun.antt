@@ -52,7 +52,8 @@ pub breaks : (bytes : List ℕ) (place : ℕ) → StartsAs bytes (Broken place) 
 breaks bytes place s =
     record { within = s.0; good = s.1; no_whole = s.2; no_more = s.3 }
 
-whole_or_more : (bytes rest : List ℕ) (one : MarkedCopy) → IsLoggedAs one (bytes ++ rest)
+-- what begins an entry is a whole one or lacks its end
+pub whole_or_more : (bytes rest : List ℕ) (one : MarkedCopy) → IsLoggedAs one (bytes ++ rest)
     → IsWholeEntry bytes ⊎ IsUnfinishedEntry bytes
 whole_or_more bytes [] one l = inl (one, subst (IsLoggedAs one) (append-nil bytes) l)
 whole_or_more bytes (x ∷ rest) one l =

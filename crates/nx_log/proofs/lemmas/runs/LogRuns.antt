@@ -1,9 +1,11 @@
 -- A run over a log, step by step.
 use Rattle.std.proofs.Common.{◌≡◌, ℕ, zero, suc, ◌+◌, ◌-◌, ◌^◌, ◌≤◌, ◌<◌, Bool, true, false, cond, min, List, [], ◌∷◌, ◌++◌, length, take, drop}
-use Rattle.std.proofs.Common.{refl, sym, ap, ◌∙◌, subst, arith, append_assoc, append-nil, length-append, take-append-drop, Option, Result, Ok, Err, inl, inr}
+use Rattle.std.proofs.Common.{refl, sym, ap, ◌∙◌, subst, arith, append_assoc, append-nil, length-append, take-append-drop, Option, None, Some, Result, Ok, Err, inl}
 use Rattle.std.specs.Prelude.{MatchResult, OnOk, ◌==◌}
-use Rattle.std.specs.List.{AllZip, concat}
+use Rattle.std.specs.List.{All, AllZip, concat}
+use Rattle.std.proofs.lemmas.List.Elements.{All-append, All-cons, All-nil, All-weaker}
 use Rattle.std.specs.Io.KnownBytes.{Appends}
+use Rattle.std.proofs.KnownBytes.{Appends-nil}
 use Rattle.std.proofs.lemmas.List.Elements.{filter-append}
 use Rattle.std.proofs.lemmas.List.Folds.{concat-append}
 use Rattle.std.proofs.lemmas.List.Sums.{count_by-le-length, length-filter}
@@ -13,11 +15,12 @@ use Rattle.nx_fec.specs.Transfers.{Devices, WroteSome, contents_of}
 use Rattle.nx_fec.specs.declared.fault.WriteFault.{WriteFault}
 use Rattle.nx_receiver.specs.copies.Shares.{MarkedCopy}
 use Rattle.nx_log.specs.LogReading.{LogReading}
-use Rattle.nx_log.specs.LogReader.{EndEarlyAt, IsAt, StopAt, Takes, most_lines}
+use Rattle.nx_log.specs.LogReader.{IsAt, StopAt, Takes, most_lines}
 use Rattle.nx_log.specs.LogRun.{AnswersLogRun, AreAll, BeginWithEntries, IsInForm, IsOutput, WroteOutput, WrotePart, most_read}
 use Rattle.nx_log.specs.Logged.{IsLoggedAs}
 use Rattle.nx_log.specs.Query.{admits, admitted}
-use Rattle.nx_log.specs.Reading.{AreReadAs, HoldEntries, StopAtLine, StopAtLineToEnd, line_behind}
+use Rattle.nx_log.specs.Notices.{HaveToldTorn, Notices}
+use Rattle.nx_log.specs.Reading.{AreRead, Head, HoldEntriesToEnd, IsHead, IsTail, LogRead, StopAtLine, begun, entries_of, is_begun, is_first, line_behind, nothing, torn_line, whole}
 use Rattle.nx_log.specs.View.{IsViewOf, copy_said}
 use Rattle.nx_log.specs.declared.entries.entry.EntryView.{EntryView}
 use Rattle.nx_log.specs.declared.writing.form.Form.{Form}
@@ -25,9 +28,12 @@ use Rattle.nx_log.specs.declared.log_fault.LogFault.{LogFault}
 use Rattle.nx_log.specs.declared.log_fault.LogFault.TheVariants.{Read, Write, BadLog, Memory}
 use Rattle.nx_log.specs.declared.writing.output.Output.{Output}
 use Rattle.nx_log.specs.declared.queries.query.Query.{Query}
-use Rattle.nx_log.specs.declared.entries.reader.Pushed.TheVariants.{Entry}
-use Rattle.nx_log.specs.private.LogRunning.{EndsRun, EndsRunAtEnd, HasGivenOutput, HasRunOver, IsRunning}
-use Rattle.nx_log.proofs.lemmas.reading.Reads.{same_reading}
+use Rattle.nx_log.specs.declared.entries.reader.Pushed.TheVariants.{Entry, Torn}
+use Rattle.nx_log.specs.declared.entries.reader.TornLine.{TornLine}
+use Rattle.nx_log.specs.private.LogRunning.{EndsRun, HasGivenOutput, HasRunOver, notices_of}
+use Rattle.nx_log.proofs.lemmas.reader.Steps.{holds_at}
+use Rattle.nx_log.proofs.lemmas.reader.Tails.{all_front, all_last}
+use Rattle.nx_log.proofs.lemmas.reading.Reads.{same_held}
 use Rattle.nx_log.proofs.lemmas.reading.Entries.{entry_is_some, one_entry}
 
 pub match-map : {A E : Type 0} (r : Result A E) (P P' : A → Type 0) (Q Q' : E → Type 0)
@@ -169,47 +175,166 @@ given-sent (Err fault) query form old now new before after entries h count k non
 -- ---- a piece
 
 -- with an entry some bytes are taken
-pub taken-some : (bytes piece : List ℕ) (entries : List MarkedCopy) (old new : LogReading)
-    (taken : ℕ)
-    → IsAt old bytes entries → Takes bytes entries piece new (Entry taken) → 0 < taken
-taken-some bytes piece entries old new zero at t =
-    let next = t.1.2 in
-    let same = same_reading entries (entries ++ t.1.0 ∷ []) at.rest next.rest bytes at.read
-    (subst (AreReadAs (entries ++ t.1.0 ∷ []) next.rest) (append-nil bytes) next.read) in
+pub taken-some : (bytes piece : List ℕ) (entries : List MarkedCopy) (torn : List ℕ)
+    (old new : LogReading) (taken : ℕ) → IsAt old bytes entries torn
+    → Takes bytes entries torn piece new (Entry taken) → 0 < taken
+taken-some bytes piece entries torn old new zero at t =
+    let next = subst (λ l. IsAt new l (entries ++ t.1.0 ∷ []) torn) (append-nil bytes) t.1.2 in
+    let same = same_held entries (entries ++ t.1.0 ∷ []) torn torn bytes
+    (holds_at old bytes entries torn at) (holds_at new bytes (entries ++ t.1.0 ∷ []) torn next) in
     let long = ap length same.entries_are ∙ length-append entries (t.1.0 ∷ []) in
     absurd (omega (arith, long))
-taken-some bytes piece entries old new (suc n) at t = omega arith
+taken-some bytes piece entries torn old new (suc n) at t = omega arith
 
-pub hold-at : (log : LogReading) (bytes : List ℕ) (entries : List MarkedCopy)
-    → IsAt log bytes entries → HoldEntries bytes entries
-hold-at log bytes entries at = record { rest = at.rest; read = at.read; can_go_on = at.can_go_on }
+-- so they are with a torn one
+pub torn-some : (bytes piece : List ℕ) (entries : List MarkedCopy) (torn : List ℕ)
+    (old new : LogReading) (taken : ℕ) (line : TornLine) → IsAt old bytes entries torn
+    → Takes bytes entries torn piece new (Torn taken line) → 0 < taken
+torn-some bytes piece entries torn old new zero line at t =
+    let next = subst (λ l. IsAt new l entries (torn ++ t.1.0 ∷ [])) (append-nil bytes) t.1.2 in
+    let same = same_held entries entries torn (torn ++ t.1.0 ∷ []) bytes
+    (holds_at old bytes entries torn at) (holds_at new bytes entries (torn ++ t.1.0 ∷ []) next) in
+    let long = ap length same.torn_are ∙ length-append torn (t.1.0 ∷ []) in
+    absurd (omega (arith, long))
+torn-some bytes piece entries torn old new (suc n) line at t = omega arith
 
 pub begin-at : (log : LogReading) (front more : List ℕ) (entries : List MarkedCopy)
-    → IsAt log front entries → BeginWithEntries (front ++ more) entries
-begin-at log front more entries at =
-    record { front = front; more = more; split = refl; hold = hold-at log front entries at }
+    (torn : List ℕ) → IsAt log front entries torn → BeginWithEntries (front ++ more) entries torn
+begin-at log front more entries torn at =
+    record { front = front; more = more; split = refl; hold = holds_at log front entries torn at }
 
 -- the bytes up to the end of an entry in a piece
 pub begin-in : (log : LogReading) (bytes piece : List ℕ) (taken : ℕ) (entries : List MarkedCopy)
-    → IsAt log (bytes ++ take taken piece) entries → BeginWithEntries (bytes ++ piece) entries
-begin-in log bytes piece taken entries at =
-    subst (λ l. BeginWithEntries l entries)
+    (torn : List ℕ) → IsAt log (bytes ++ take taken piece) entries torn
+    → BeginWithEntries (bytes ++ piece) entries torn
+begin-in log bytes piece taken entries torn at =
+    subst (λ l. BeginWithEntries l entries torn)
     (append_assoc bytes (take taken piece) (drop taken piece)
     ∙ ap (λ l. bytes ++ l) (take-append-drop taken piece))
-    (begin-at log (bytes ++ take taken piece) (drop taken piece) entries at)
+    (begin-at log (bytes ++ take taken piece) (drop taken piece) entries torn at)
 
-pub begin-all : (log : LogReading) (bytes : List ℕ) (entries : List MarkedCopy)
-    → IsAt log bytes entries → BeginWithEntries bytes entries
-begin-all log bytes entries at =
-    subst (λ l. BeginWithEntries l entries) (append-nil bytes) (begin-at log bytes [] entries at)
+pub begin-all : (log : LogReading) (bytes : List ℕ) (entries : List MarkedCopy) (torn : List ℕ)
+    → IsAt log bytes entries torn → BeginWithEntries bytes entries torn
+begin-all log bytes entries torn at =
+    subst (λ l. BeginWithEntries l entries torn) (append-nil bytes)
+    (begin-at log bytes [] entries torn at)
+
+-- ---- lines and entries are no more than the bytes
+
+line-small : (bytes : List ℕ) → line_behind bytes ≤ length bytes + 1
+line-small bytes =
+    omega (arith, count_by-le-length (λ byte. byte == newline) bytes)
+
+abbrev IsSmall : ℕ → ℕ → Type 0
+IsSmall size line = line ≤ size + 1
+
+torn-small : (head : Head) (before front tail : List ℕ) (torn : Option (List ℕ)) (reach left : ℕ)
+    → IsTail (is_begun head) reach tail torn left
+    → All (IsSmall (length (before ++ (front ++ tail)))) (torn_line head before front torn)
+torn-small begun before front tail torn reach left t =
+    All-cons (IsSmall (length (before ++ (front ++ tail)))) (line_behind before) []
+    (omega (arith, line-small before, length-append before (front ++ tail))) (All-nil _)
+torn-small nothing before front tail None reach left t = All-nil _
+torn-small nothing before front tail (Some blanks) reach left t =
+    All-cons (IsSmall (length (before ++ (front ++ tail))))
+    (line_behind (before ++ (front ++ blanks))) [] (omega (
+      arith,
+      line-small (before ++ (front ++ blanks)),
+      length-append before (front ++ tail),
+      length-append front tail,
+      length-append before (front ++ blanks),
+      length-append front blanks,
+      ap length t.1.split,
+      length-append blanks t.1.torn,
+    )) (All-nil _)
+torn-small (whole one) before front tail None reach left t = All-nil _
+torn-small (whole one) before front tail (Some blanks) reach left t =
+    All-cons (IsSmall (length (before ++ (front ++ tail))))
+    (line_behind (before ++ (front ++ blanks))) [] (omega (
+      arith,
+      line-small (before ++ (front ++ blanks)),
+      length-append before (front ++ tail),
+      length-append front tail,
+      length-append before (front ++ blanks),
+      length-append front blanks,
+      ap length t.1.split,
+      length-append blanks t.1.torn,
+    )) (All-nil _)
+
+all-small : (parts : List (List ℕ)) (read : LogRead) → AreRead parts read
+    → All (IsSmall (length read.bytes)) (read.told ++ read.last)
+all-small [] read r =
+    subst (λ (l : LogRead). All (IsSmall (length l.bytes)) (l.told ++ l.last)) (sym r) (All-nil _)
+all-small (part ∷ parts) read r =
+    let before = r.0 in
+    let n = r.2 in
+    let bytes_are : read.bytes ≡ before.bytes ++ (n.front ++ n.tail) =
+    n.bytes ∙ ap (λ l. before.bytes ++ l) n.split in
+    let size : length before.bytes ≤ length read.bytes =
+    omega (arith, ap length bytes_are, length-append before.bytes (n.front ++ n.tail)) in
+    let early = All-weaker (IsSmall (length before.bytes)) (IsSmall (length read.bytes))
+    (λ line h. omega (arith, h, size)) (before.told ++ before.last) (all-small parts before r.1) in
+    let late : All (IsSmall (length read.bytes)) (torn_line n.head before.bytes n.front n.torn) =
+    subst (λ l. All (IsSmall (length l)) (torn_line n.head before.bytes n.front n.torn))
+    (sym bytes_are)
+    (torn-small n.head before.bytes n.front n.tail n.torn _ read.reach n.is_tail) in
+    subst (λ l. All (IsSmall (length read.bytes)) (l ++ read.last)) (sym n.told)
+    (subst (λ l. All (IsSmall (length read.bytes)) ((before.told ++ before.last) ++ l)) (sym n.last)
+    (All-append (IsSmall (length read.bytes)) (before.told ++ before.last) _ early late))
+
+last-of : (xs : List ℕ) (x size : ℕ) → All (IsSmall size) (xs ++ x ∷ []) → IsSmall size x
+last-of xs x size h = all_last (IsSmall size) xs x h
+
+-- a torn entry is told at its line
+pub told-line : (log : LogReading) (bytes : List ℕ) (entries : List MarkedCopy) (torn : List ℕ)
+    (line counted : ℕ) → length bytes ≤ most_read → IsAt log bytes entries (torn ++ line ∷ [])
+    → counted ≡ min line most_lines → counted ≡ line
+told-line log bytes entries torn line counted within at is =
+    let h = holds_at log bytes entries (torn ++ line ∷ []) at in
+    let lines = all-small (h.is.part ∷ h.is.earlier) h.read h.is.are in
+    let told = all_front (IsSmall (length h.read.bytes)) h.read.told h.read.last lines in
+    let small = last-of torn line (length h.read.bytes)
+    (subst (All (IsSmall (length h.read.bytes))) (sym h.are_torn) told) in
+    omega (arith, is, small, ap length h.is.all, within)
+
+-- so is one at the end
+pub told-last : (bytes : List ℕ) (entries : List MarkedCopy) (torn : List ℕ) (line counted : ℕ)
+    → length bytes ≤ most_read → HoldEntriesToEnd bytes entries (torn ++ line ∷ [])
+    → counted ≡ min line most_lines → counted ≡ line
+told-last bytes entries torn line counted within h is =
+    let lines = all-small (h.is.part ∷ h.is.earlier) h.read h.is.are in
+    let small = last-of torn line (length h.read.bytes)
+    (subst (All (IsSmall (length h.read.bytes))) (sym h.are_torn) lines) in
+    omega (arith, is, small, ap length h.is.all, within)
+
+one-entry-each : (first : Bool) (head : Head) (front tail : List ℕ)
+    → IsHead first head front tail → length (entries_of head) ≤ length (front ++ tail)
+one-entry-each first nothing front tail h = omega arith
+one-entry-each first begun front tail h = omega arith
+one-entry-each true (whole one) front tail h = absurd h
+one-entry-each false (whole one) front tail h =
+    omega (arith, entry_is_some one front h.entry, length-append front tail)
+
+-- there are no more entries than bytes
+few-entries : (parts : List (List ℕ)) (read : LogRead) → AreRead parts read
+    → length read.entries ≤ length read.bytes
+few-entries [] read r =
+    subst (λ (l : LogRead). length l.entries ≤ length l.bytes) (sym r) (omega arith)
+few-entries (part ∷ parts) read r =
+    let before = r.0 in
+    let n = r.2 in
+    omega (
+      arith,
+      few-entries parts before r.1,
+      one-entry-each (is_first parts) n.head n.front n.tail n.is_head,
+      ap length n.entries,
+      ap length n.bytes,
+      ap length n.split,
+      length-append before.entries (entries_of n.head),
+      length-append before.bytes part,
+    )
 
 -- ---- a whole run
-
-pub run-starts : (query : Query) (form : Form) (old : Option (List ℕ)) (log : LogReading)
-    (output : Output)
-    → IsAt log [] [] → HasGivenOutput query form old old output []
-    → IsRunning query form old log old output []
-run-starts query form old log output at given = record { entries = []; at = at; given = given }
 
 line-bound : (bytes : List ℕ) (n line : ℕ) → length bytes ≤ most_read
     → line ≡ min (line_behind (take n bytes)) most_lines → line ≡ line_behind (take n bytes)
@@ -227,83 +352,57 @@ line-bound bytes n line within is =
               (drop n bytes),
         )
 
-whole-line-bound : (bytes : List ℕ) (line : ℕ) → length bytes ≤ most_read
-    → line ≡ min (line_behind bytes) most_lines → line ≡ line_behind bytes
-whole-line-bound bytes line within is =
-    let few = count_by-le-length (λ byte. byte == newline) bytes in
-    omega (arith, is, few, within)
-
-stop-line : (bytes : List ℕ) (entries : List MarkedCopy) (line : ℕ) → length bytes ≤ most_read
-    → StopAt bytes entries (record { line = line }) → StopAtLine bytes entries line
-stop-line bytes entries line within h =
+stop-line : (bytes : List ℕ) (entries : List MarkedCopy) (torn : List ℕ) (line : ℕ)
+    → length bytes ≤ most_read → StopAt bytes entries torn (record { line = line })
+    → StopAtLine bytes entries torn line
+stop-line bytes entries torn line within h =
     let s = h.stop in
-    let n = length bytes - length s.rest + s.place in
-    let same : line ≡ h.line = line-bound bytes n line within
+    let same : line ≡ h.line = line-bound bytes s.place line within
     (h.counted ∙ ap (λ l. min l most_lines) s.is_line) ∙ sym s.is_line in
-    subst (StopAtLine bytes entries) (sym same) s
+    subst (StopAtLine bytes entries torn) (sym same) s
 
-end-line : (bytes : List ℕ) (entries : List MarkedCopy) (line : ℕ) → length bytes ≤ most_read
-    → EndEarlyAt bytes entries (record { line = line }) → StopAtLineToEnd bytes entries line
-end-line bytes entries line within h =
-    let s = h.stop in
-    let same : line ≡ h.line = whole-line-bound bytes line within
-    (h.counted ∙ ap (λ l. min l most_lines) s.is_line) ∙ sym s.is_line in
-    subst (StopAtLineToEnd bytes entries) (sym same) s
-
--- there are no more entries than bytes
-few-entries : (entries : List MarkedCopy) (rest bytes : List ℕ) → AreReadAs entries rest bytes
-    → length entries ≤ length bytes
-few-entries [] rest bytes h = omega arith
-few-entries (one ∷ entries) rest bytes h =
-    let next = h.1 in
-    let fewer = few-entries entries rest h.0 h.2 in
-    let some = entry_is_some one next.entry next.is_entry.entry in
-    omega (
-      arith,
-      fewer,
-      some,
-      ap length next.split,
-      length-append next.gap (next.entry ++ h.0),
-      length-append next.entry h.0,
-    )
-
-count-exact : (query : Query) (entries : List MarkedCopy) (rest bytes : List ℕ) (count : ℕ)
-    → length bytes ≤ most_read → AreReadAs entries rest bytes
+count-exact : (query : Query) (entries : List MarkedCopy) (torn bytes : List ℕ) (count : ℕ)
+    → length bytes ≤ most_read → HoldEntriesToEnd bytes entries torn
     → count ≡ min (length (admitted query entries)) (2 ^ 64 - 1)
     → count ≡ length (admitted query entries)
-count-exact query entries rest bytes count within read is =
+count-exact query entries torn bytes count within h is =
     omega (
       arith,
       is,
       within,
-      few-entries entries rest bytes read,
+      few-entries (h.is.part ∷ h.is.earlier) h.read h.is.are,
+      ap length h.is.all,
+      ap length h.are_entries,
       length-filter (admits query) entries,
       count_by-le-length (admits query) entries,
     )
 
-module _ {R W : Type 0} (query : Query) (form : Form) (d : Devices R W) (bytes : List ℕ)
-    (within : length bytes ≤ most_read) where
-  pub ends-answer : (fault : LogFault) → EndsRun query form (contents_of d) bytes fault
-      → AnswersLogRun query form d (Err fault) bytes
+-- nothing is told yet
+pub none-told : (old : Option (List ℕ)) (failures : ℕ) → failures ≡ 0
+    → HaveToldTorn (notices_of old old failures) []
+none-told old failures none = inl (none, Appends-nil old)
+
+module _ {R W : Type 0} (query : Query) (form : Form) (d : Devices R W) (n : Notices)
+    (bytes : List ℕ) (within : length bytes ≤ most_read) where
+  pub ends-answer : (fault : LogFault) → EndsRun query form (contents_of d) n bytes fault
+      → AnswersLogRun query form d n (Err fault) bytes
   ends-answer Read h = h
   ends-answer (Write written) h = h
-  ends-answer (BadLog line) h = (h.0, inl (stop-line bytes h.0 line within h.1), h.2)
+  ends-answer (BadLog line) h = (h.0, h.1, stop-line bytes h.0 h.1 line within h.2, h.3, h.4)
   ends-answer (Memory error) h = absurd h
 
-  pub finished-answer : (outcome : Result ℕ LogFault) → AreAll query form d bytes
+  pub finished-answer : (outcome : Result ℕ LogFault) → AreAll query form d n bytes
       → MatchResult outcome
-      (λ count. HasRunOver query form (contents_of d) bytes count)
-      (λ fault. EndsRunAtEnd query form (contents_of d) bytes fault)
-      → AnswersLogRun query form d outcome bytes
+      (λ count. HasRunOver query form (contents_of d) n bytes count)
+      (λ fault. EndsRun query form (contents_of d) n bytes fault)
+      → AnswersLogRun query form d n outcome bytes
   finished-answer (Ok count) all h = (
     all,
     h.entries,
+    h.torn,
     h.hold,
     h.wrote,
-    count-exact query h.entries h.hold.rest bytes count within h.hold.read h.counted,
+    h.told,
+    count-exact query h.entries h.torn bytes count within h.hold h.counted,
   )
-  finished-answer (Err Read) all h = absurd h
-  finished-answer (Err (Write written)) all h = h
-  finished-answer (Err (BadLog line)) all h =
-      (h.0, inr (all, end-line bytes h.0 line within h.1), h.2)
-  finished-answer (Err (Memory error)) all h = absurd h
+  finished-answer (Err fault) all h = ends-answer fault h

@@ -33,9 +33,13 @@ use Rattle.nx_watch.specs.declared.watch_report.WatchReport.{WatchReport}
 use Rattle.nx_program.specs.declared.watch_command.WatchFailure.{WatchFailure}
 use Rattle.nx_program.specs.declared.watch_command.WatchFailure.TheVariants.{Ended, Unopened}
 use Rattle.nx_program.specs.Program.{EndsOnStreams, EndsRun, Exits, IsUntouchedByWant, Performs}
-use Rattle.nx_program.specs.Program.{PerformsOnStreams, Succeeds, Tells, fresh_device}
+use Rattle.nx_program.specs.Program.{EndsLog, PerformsOnStreams, RunsLog, Succeeds, Tells, fresh_device}
+use Rattle.nx_program.specs.Program.{log_outcome}
+use Rattle.nx_log.specs.Notices.{Notices}
+use Rattle.nx_log.specs.declared.queries.query.Query.{Query}
+use Rattle.nx_log.specs.declared.writing.form.Form.{Form}
 use Rattle.nx_program.specs.WatchCommand.{Beside, IsUnused, WatchesLog, beside, watch_outcome}
-use Rattle.nx_program.specs.declared.arguments.Call.TheVariants.{Watch}
+use Rattle.nx_program.specs.declared.arguments.Call.TheVariants.{Log, Watch}
 use Rattle.std.specs.declared.alloc.AllocError.{AllocError}
 use Rattle.nx_program.specs.Status.{IsStatus, call_status, check_status, damage_status}
 use Rattle.nx_program.specs.Status.{fault_status, listen_status, log_status, resume_status}
@@ -229,6 +233,19 @@ watch-arguments d b name moment outcome (Ok disk, gives, opened) is =
       | inr two ↦ absurd (omega (arith, e, two))
     ]
 
+-- nor does a run over a log
+log-arguments : {R W : Type 0} (query : Query) (form : Form) (d : Devices R W) (n : Notices)
+    (outcome : Result (Unit {0}) Fault) → EndsLog query form d n outcome
+    → status_of outcome ≡ 64 → ⊥
+log-arguments query form d n outcome (own, runs, told) is = go own (sym (ap status_of told) ∙ is)
+  where
+    go : (own : Result ℕ LogFault) → status_of (log_outcome own) ≡ 64 → ⊥
+    go (Ok count) e = absurd (omega (arith, e))
+    go (Err why) e = elim (log-status why) [
+      | inl one ↦ absurd (omega (arith, e, one))
+      | inr two ↦ absurd (omega (arith, e, two))
+    ]
+
 arguments-end : {R W : Type 0} (arguments : List Text) (d : Devices R W)
     (outcome : Result (Unit {0}) Fault)
     → EndsOnStreams arguments d outcome → status_of outcome ≡ 64 → IsRefused arguments
@@ -252,7 +269,9 @@ pub arguments-exit : {R W F D E : Type 0} (arguments : List Text) (d : Devices R
 arguments-exit arguments d b status exits is = elim exits.ends [
   | inl runs ↦ absurd (watch-arguments d b runs.name runs.moment exits.outcome runs.watched
       (sym exits.status_is ∙ is))
-  | inr ends ↦ arguments-end arguments d exits.outcome ends.1 (sym exits.status_is ∙ is)
+  | inr (inl runs) ↦ absurd (log-arguments runs.query runs.form d _ exits.outcome runs.read.1
+      (sym exits.status_is ∙ is))
+  | inr (inr ends) ↦ arguments-end arguments d exits.outcome ends.1 (sym exits.status_is ∙ is)
 ]
 
 refused-ends : {R W : Type 0} (arguments : List Text) (d : Devices R W)
@@ -285,16 +304,19 @@ pub refused-exits : {R W F D E : Type 0} (arguments : List Text) (d : Devices R 
     → IsRefused arguments → (status ≡ 64) ⊎ (status ≡ 1)
 refused-exits arguments d b status exits refused = elim exits.ends [
   | inl runs ↦ absurd (named_not_refused arguments (Watch runs.name runs.moment) runs.named refused)
-  | inr ends ↦ elim (refused-ends arguments d exits.outcome ends.1 refused) [
+  | inr (inl runs) ↦ absurd (named_not_refused arguments (Log runs.query runs.form) runs.named
+      refused)
+  | inr (inr ends) ↦ elim (refused-ends arguments d exits.outcome ends.1 refused) [
     | inl is ↦ inl (exits.status_is ∙ is)
     | inr is ↦ inr (exits.status_is ∙ is)
   ]
 ]
 
--- what a call did that is no watch
+-- what a call did that is neither a watch nor a run over a log
 performs-streams : {R W F D E : Type 0} (call : Call) (d : Devices R W) (b : Beside F D W E)
     → IsUnused b → PerformsOnStreams call d (Ok tt) → Performs call d b (Ok tt)
 performs-streams (Watch name moment) d b unused performed = absurd performed
+performs-streams (Log query form) d b unused performed = absurd performed
 performs-streams call d b unused performed = (unused, performed)
 
 -- a success of arguments that name a call is the success of that call
@@ -307,11 +329,14 @@ success-named arguments d b call named success = elim success [
   | inl runs ↦ let P : Call → Type 0 = λ c. Performs c d b (Ok tt) in
       subst P (named_once arguments
       (Watch runs.name runs.moment) call runs.named named) runs.watched
-  | inr (unused, inl runs) ↦ let P : Call → Type 0 = λ c. PerformsOnStreams c d (Ok tt) in
+  | inr (inl runs) ↦ let P : Call → Type 0 = λ c. Performs c d b (Ok tt) in
+      subst P (named_once arguments (Log runs.query runs.form) call runs.named named) runs.read
+  | inr (inr (unused, inl runs)) ↦ let P : Call → Type 0 = λ c. PerformsOnStreams c d (Ok tt) in
       performs-streams call d b unused
       (subst P (named_once arguments runs.call call runs.named named) runs.performed)
-  | inr (unused, inr (inl help)) ↦ absurd (named_not_help arguments call named help.asked)
-  | inr (unused, inr (inr version)) ↦ absurd (named_not_version arguments call named version.asked)
+  | inr (inr (unused, inr (inl help))) ↦ absurd (named_not_help arguments call named help.asked)
+  | inr (inr (unused, inr (inr version))) ↦ absurd (named_not_version arguments call named
+      version.asked)
 ]
 
 -- what a run answered is told

@@ -21,11 +21,17 @@ use Rattle.nx_watch.specs.LineRun.{HasTold, TellsOfLines, first_told, number_tol
 use Rattle.nx_program.specs.declared.fault.Fault.{Fault}
 use Rattle.nx_program.specs.declared.fault.Fault.TheVariants as fault
 use Rattle.nx_program.specs.FaultText.{call_fault_line, call_text}
-use Rattle.nx_program.specs.Program.{EndsRun, Exits, NamesWatch, Performs}
+use Rattle.nx_log.specs.LogRun.{AnswersLogRun}
+use Rattle.nx_log.specs.Notices.{HaveToldTorn, Notices, torn_notice, torn_notices}
+use Rattle.nx_log.specs.declared.log_fault.LogFault.{LogFault}
+use Rattle.nx_log.specs.declared.log_fault.LogFault.TheVariants as log
+use Rattle.nx_log.specs.declared.queries.query.Query.{Query}
+use Rattle.nx_log.specs.declared.writing.form.Form.{Form}
+use Rattle.nx_program.specs.Program.{EndsRun, Exits, NamesTelling, Performs, ReadsLog}
 use Rattle.nx_program.specs.Report.{Answers, IsFaultLine, IsFaultText, Reports, WritesLast, WritesOne}
 use Rattle.nx_program.specs.Status.{fault_status, status_of}
 use Rattle.nx_program.specs.WatchCommand.{Beside, IsUnused, WatchesLog, watch_fault_line}
-use Rattle.nx_program.specs.WatchCommand.{with_faults}
+use Rattle.nx_program.specs.WatchCommand.{notices_between, with_faults}
 use Rattle.nx_program.specs.Arguments.{Names}
 use Rattle.nx_program.specs.declared.arguments.Call.{Call}
 use Rattle.nx_program.proofs.lemmas.outcomes.Program.{fault-status, success-exits, success-named}
@@ -230,54 +236,97 @@ module _ {E : Type 0} (contents : E → Option (List ℕ)) (told : List ℕ)
       (sym (last.stopped (omega (arith, h.0))))
       (behind-part old mid h.1 h.0 h.2 h.3 text is)
 
--- what was told on standard error before a fault was reported
+-- What was told on standard error before a fault was reported: the line of a fault behind it is
+-- still one text that begins and ends as a line does.
+pub record HasLed {E : Type 0} (contents : E → Option (List ℕ)) (old mid : CountedDevice E)
+    : Type 0 where
+  told : List ℕ
+  leads : (text : List ℕ) → IsFaultLine text → IsFaultLine (told ++ text)
+  written : HasTold (contents old.inner) (contents mid.inner) mid.failures told
+
+-- nothing leads
 nothing-told : {F D W E : Type 0} (b : Beside F D W E) → b.faults.failures ≡ 0 → IsUnused b
-    → TellsOfLines (b.contents b.faults.inner) (b.contents b.faults_after.inner)
-    b.faults_after.failures
-nothing-told {F} {D} {E} b none unused =
-    subst (λ (e : CountedDevice E). TellsOfLines (b.contents b.faults.inner) (b.contents e.inner)
-    e.failures) (sym unused.untold) (
-      [],
-      (0, [], [], refl, refl),
-      record { newest = 0; started = 0 },
-      [],
-      inl (none, Appends-nil (b.contents b.faults.inner)),
-    )
+    → HasLed b.contents b.faults b.faults_after
+nothing-told {F} {D} {W} {E} b none unused =
+    subst (λ (e : CountedDevice E). HasLed b.contents b.faults e) (sym unused.untold) (record {
+      told = [];
+      leads = λ text line. line;
+      written = inl (none, Appends-nil (b.contents b.faults.inner));
+    })
+
+-- what is told of a cut and of lines leads
+lines-told : {E : Type 0} (contents : E → Option (List ℕ)) (old mid : CountedDevice E)
+    → TellsOfLines (contents old.inner) (contents mid.inner) mid.failures → HasLed contents old mid
+lines-told contents old mid told =
+    let lines = told_of told.2 told.3 in
+    record {
+      told = told.0 ++ lines;
+      leads = λ text line. subst IsFaultLine (sym (append_assoc told.0 lines text))
+          (behind-cut told.0 (lines ++ text) told.1
+          (behind-told lines text (first_without told.2 told.3) (count_without told.2 told.3) refl
+          line));
+      written = told.4;
+    }
 
 watch-told : {R W F D E : Type 0} (d : Devices R W) (b : Beside F D W E) (name : Text) (moment : ℕ)
     (outcome : Result (Unit {0}) Fault) → b.faults.failures ≡ 0
-    → WatchesLog d b name moment outcome
-    → TellsOfLines (b.contents b.faults.inner) (b.contents b.faults_after.inner)
-    b.faults_after.failures
+    → WatchesLog d b name moment outcome → HasLed b.contents b.faults b.faults_after
 watch-told d b name moment outcome none (Err why, gives, opened) = nothing-told b none opened.2
-watch-told d b name moment outcome none (Ok disk, gives, opened) = opened.3.told
+watch-told d b name moment outcome none (Ok disk, gives, opened) =
+    lines-told b.contents b.faults b.faults_after opened.3.told
+
+-- what is told of torn entries leads
+behind-torn : (torn : List ℕ) (text : List ℕ) → IsFaultLine text
+    → IsFaultLine (torn_notices torn ++ text)
+behind-torn [] text line = line
+behind-torn (n ∷ torn) text line =
+    subst IsFaultLine (sym (append_assoc (torn_notice n) (torn_notices torn) text))
+    (behind-another (codes "line " ++ (decimal n ++ codes ": a torn entry was passed over\n"))
+    (torn_notices torn ++ text) (behind-torn torn text line))
+
+-- a run over a log told of some torn entries
+log-answer-told : {R W : Type 0} (query : Query) (form : Form) (d : Devices R W) (n : Notices)
+    (own : Result ℕ LogFault) (bytes : List ℕ) → AnswersLogRun query form d n own bytes
+    → (torn : List ℕ) × HaveToldTorn n torn
+log-answer-told query form d n (Ok count) bytes answer = (answer.2, answer.5)
+log-answer-told query form d n (Err log.Read) bytes answer = (answer.1, answer.4)
+log-answer-told query form d n (Err (log.BadLog line)) bytes answer = (answer.1, answer.4)
+log-answer-told query form d n (Err (log.Write written)) bytes answer = (answer.1, answer.4)
+log-answer-told query form d n (Err (log.Memory want)) bytes answer = ([], answer.3)
+
+log-told : {R W F D E : Type 0} (query : Query) (form : Form) (d : Devices R W)
+    (b : Beside F D W E) (outcome : Result (Unit {0}) Fault) → ReadsLog query form d b outcome
+    → HasLed b.contents b.faults b.faults_after
+log-told query form d b outcome (opens, (own, runs, told)) =
+    let torn = log-answer-told query form d
+    (notices_between b.contents b.faults b.faults_after) own runs.bytes runs.answer in
+    record {
+      told = torn_notices torn.0;
+      leads = behind-torn torn.0;
+      written = torn.1;
+    }
 
 pub ends-told : {R W F D E : Type 0} (arguments : List Text) (d : Devices R W) (b : Beside F D W E)
     (outcome : Result (Unit {0}) Fault) → b.faults.failures ≡ 0 → EndsRun arguments d b outcome
-    → TellsOfLines (b.contents b.faults.inner) (b.contents b.faults_after.inner)
-    b.faults_after.failures
+    → HasLed b.contents b.faults b.faults_after
 ends-told arguments d b outcome none (inl runs) =
     watch-told d b runs.name runs.moment outcome none runs.watched
-ends-told arguments d b outcome none (inr ends) = nothing-told b none ends.0
+ends-told arguments d b outcome none (inr (inl runs)) =
+    log-told runs.query runs.form d b outcome runs.read
+ends-told arguments d b outcome none (inr (inr ends)) = nothing-told b none ends.0
 
 -- a fault is one text on standard error, with what was told before
 pub reported-line : {E : Type 0} (contents : E → Option (List ℕ)) (old mid new : CountedDevice E)
     (outcome : Result (Unit {0}) Fault) (status : ℕ) → status ≡ status_of outcome
-    → TellsOfLines (contents old.inner) (contents mid.inner) mid.failures
-    → Reports contents mid new outcome → status ≢ 0
+    → HasLed contents old mid → Reports contents mid new outcome → status ≢ 0
     → WritesOne (λ text. status ≢ 64 → IsFaultLine text) contents old new
-reported-line contents old mid new (Ok done) status is told reports not_zero = absurd (not_zero is)
-reported-line contents old mid new (Err why) status is told reports not_zero =
+reported-line contents old mid new (Ok done) status is led reports not_zero = absurd (not_zero is)
+reported-line contents old mid new (Err why) status is led reports not_zero =
     let line = fault-text why in
-    let lines = told_of told.2 told.3 in
-    behind contents (told.0 ++ lines) (IsFaultText why)
-    (λ text. status ≢ 64 → IsFaultLine text)
-    (λ text is_text other. subst IsFaultLine (sym (append_assoc told.0 lines text))
-    (behind-cut told.0 (lines ++ text) told.1
-    (behind-told lines text (first_without told.2 told.3)
-    (count_without told.2 told.3) refl
-    (text-line why text (λ arguments. other (is ∙ arguments)) is_text))))
-    old mid new line.0 line.1 told.4 reports
+    behind contents led.told (IsFaultText why) (λ text. status ≢ 64 → IsFaultLine text)
+    (λ text is_text other. led.leads text
+    (text-line why text (λ arguments. other (is ∙ arguments)) is_text))
+    old mid new line.0 line.1 led.written reports
 
 -- the same device in both has the same content and the same failures
 pub inner-same : {D : Type 0} (a b : CountedDevice D) → a ≡ b → a.inner ≡ b.inner
@@ -296,21 +345,23 @@ answers-reported arguments d b status none answers not_zero =
     (ends-told arguments d (with_faults b answers.behind_call) answers.outcome none answers.ends)
     answers.reported not_zero
 
--- and a success nothing, but for a watch
+-- and a success nothing, but for a watch and a run over a log
 silent-outcome : {R W F D E : Type 0} (arguments : List Text) (d : Devices R W) (b : Beside F D W E)
     (behind_call : CountedDevice E) (outcome : Result (Unit {0}) Fault)
     → EndsRun arguments d (with_faults b behind_call) outcome
     → Reports b.contents behind_call b.faults_after outcome → status_of outcome ≡ 0
-    → (NamesWatch arguments → ⊥) → b.faults_after ≡ b.faults
+    → (NamesTelling arguments → ⊥) → b.faults_after ≡ b.faults
 silent-outcome arguments d b behind_call (Err why) ends reports zero none = absurd (failed why zero)
 silent-outcome arguments d b behind_call (Ok done) (inl runs) reports zero none =
-    absurd (none (runs.name, runs.moment, runs.named))
-silent-outcome arguments d b behind_call (Ok done) (inr ends) reports zero none =
+    absurd (none (inl (runs.name, runs.moment, runs.named)))
+silent-outcome arguments d b behind_call (Ok done) (inr (inl runs)) reports zero none =
+    absurd (none (inr (runs.query, runs.form, runs.named)))
+silent-outcome arguments d b behind_call (Ok done) (inr (inr ends)) reports zero none =
     reports ∙ ends.0.untold
 
 pub answers-silent : {R W F D E : Type 0} (arguments : List Text) (d : Devices R W)
     (b : Beside F D W E)
-    (status : ℕ) → Answers arguments d b status → (NamesWatch arguments → ⊥) → status ≡ 0
+    (status : ℕ) → Answers arguments d b status → (NamesTelling arguments → ⊥) → status ≡ 0
     → b.faults_after ≡ b.faults
 answers-silent arguments d b status answers none zero =
     silent-outcome arguments d b answers.behind_call answers.outcome answers.ends answers.reported
@@ -351,7 +402,8 @@ pub ends-none : {R W F D E : Type 0} (arguments : List Text) (d : Devices R W) (
     → EndsRun arguments d b outcome → b.disk_after ≡ None
 ends-none arguments d b outcome never (inl runs) =
     watch-none d b runs.name runs.moment outcome (never runs.name) runs.watched
-ends-none arguments d b outcome never (inr ends) = ends.0.unopened
+ends-none arguments d b outcome never (inr (inl runs)) = runs.read.0.unopened
+ends-none arguments d b outcome never (inr (inr ends)) = ends.0.unopened
 
 -- and no read is stamped
 watch-unstamped : {R W F D E : Type 0} (d : Devices R W) (b : Beside F D W E) (name : Text)
@@ -368,4 +420,5 @@ pub ends-unstamped : {R W F D E : Type 0} (arguments : List Text) (d : Devices R
     → EndsRun arguments d b outcome → b.stamps ≡ []
 ends-unstamped arguments d b outcome never (inl runs) =
     watch-unstamped d b runs.name runs.moment outcome (never runs.name) runs.watched
-ends-unstamped arguments d b outcome never (inr ends) = ends.0.unstamped
+ends-unstamped arguments d b outcome never (inr (inl runs)) = runs.read.0.unstamped
+ends-unstamped arguments d b outcome never (inr (inr ends)) = ends.0.unstamped

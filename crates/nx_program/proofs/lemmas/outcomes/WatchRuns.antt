@@ -60,7 +60,8 @@ hands-back arguments d b reported name moment disk status named back answers =
                 (subst (λ (n : Text). WatchesLog d b_after n runs.moment answers.outcome) names
                 runs.watched),
           )
-      | inr ends ↦ absurd (none-some b.disk_after disk ends.0.unopened back)
+      | inr (inl runs) ↦ absurd (none-some b.disk_after disk runs.read.0.unopened back)
+      | inr (inr ends) ↦ absurd (none-some b.disk_after disk ends.0.unopened back)
     ]
 
 module _ {F D R W E : Type 0} (gives : F → List ℕ → Result D FileFault → Type 0)

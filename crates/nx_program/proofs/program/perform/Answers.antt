@@ -4,7 +4,6 @@ use Rattle.nx_fec.specs.Transfers.{devices}
 use Rattle.nx_station.specs.Damage.{Damages}
 use Rattle.nx_station.specs.FileSending.{Sends}
 use Rattle.nx_locks.specs.Run.{ShowsLocks}
-use Rattle.nx_log.specs.LogRun.{RunsOverLog}
 use Rattle.nx_receiver.specs.laws.ListenOnce.{ListensOnce}
 use Rattle.nx_receiver.specs.air_file_runs.Resume.{Resumes}
 use Rattle.nx_receiver.specs.copies.Shares.{all_at_zero}
@@ -168,26 +167,3 @@ returns-in_err-resume-in-Save g c =
     (tells-err (λ why. call.Resume why) (λ own. Resumes State d own × ReadsStateBeforeWant d own)
     outcome own.field-0.0 p.0
     (own.ensures.resumes, own.ensures.memory) p.1 p.2)
-
-pub returns-in_err-log_run-in-Log : goal.returns-in_err-log_run-in-Log
-returns-in_err-log_run-in-Log g c =
-    let own = c.in_err-log_run-in-Log in
-    let d = devices g.R.Read.remaining g.W.Write.contents c.args.reader.now
-    c.log_run.new.reader c.args.writer.now c.log_run.new.writer in
-    let outcome = c.from_residual-in_err-log_run-in-Log.result in
-    let p = err_from_is_err_and outcome c.from_residual-in_err-log_run-in-Log.ensures.1 in
-    let P : Call → Type 0 = λ call. PerformsOnStreams call d outcome in
-    subst P (sym c.in-Log.is)
-    (tells-err (λ why. call.Log why) (RunsOverLog c.in-Log.query c.in-Log.form d) outcome
-    own.field-0.0
-    p.0 own.ensures p.1 p.2)
-
-pub returns-in_ok-log_run-in-Log : goal.returns-in_ok-log_run-in-Log
-returns-in_ok-log_run-in-Log g c =
-    let own = c.in_ok-log_run-in-Log in
-    let d = devices g.R.Read.remaining g.W.Write.contents c.args.reader.now
-    c.log_run.new.reader c.args.writer.now c.log_run.new.writer in
-    let P : Call → Type 0 = λ call. PerformsOnStreams call d (Ok tt) in
-    subst P (sym c.in-Log.is)
-    (tells-ok (λ why. call.Log why) (RunsOverLog c.in-Log.query c.in-Log.form d) own.field-0
-    own.ensures)

@@ -5,12 +5,13 @@ use Rattle.std.proofs.lemmas.List.{length-take-le, take-append-le}
 use Rattle.std.proofs.lemmas.Result.{err_from_is_err_and}
 use Rattle.std.specs.Io.KnownBytes.{Consumes}
 use Rattle.nx_fec.proofs.lemmas.devices.TransferLaws.{Ok-not_err, Writes-sound}
-use Rattle.nx_log.proofs.lemmas.runs.LogRuns.{begin-all, hold-at}
+use Rattle.nx_log.proofs.lemmas.reader.Steps.{holds_at}
+use Rattle.nx_log.proofs.lemmas.runs.LogRuns.{begin-all}
 use Rattle.nx_log.proofs.log_runs.LogRun.read_log.Goals as goal
 
 pub returns-in_err-send-clause-read : goal.returns-in_err-send-clause-read
-returns-in_err-send-clause-read g c = λ old h.
-    let r = c.loop-room.invariant.read old h in
+returns-in_err-send-clause-read g c = λ old told h.
+    let r = c.loop-room.invariant.read old told h in
     let run = r.3 in
     let p = err_from_is_err_and c.from_residual.result c.from_residual.ensures.1 in (
       r.0,
@@ -18,8 +19,10 @@ returns-in_err-send-clause-read g c = λ old h.
       omega (arith, r.2),
       rw p.1 (rw p.2 (
         run.entries,
-        begin-all c.loop-room.self.log r.0 run.entries run.at,
+        run.torn,
+        begin-all c.loop-room.self.log r.0 run.entries run.torn run.at,
         c.in_err-send.ensures.given c.args.query.now c.args.form old run.entries run.given,
+        run.told,
       )),
     )
 
@@ -40,30 +43,45 @@ returns-in_err-send-clause-writes g c =
     }
 
 pub returns-in-End-clause-read : goal.returns-in-End-clause-read
-returns-in-End-clause-read g c = λ old h.
-    let r = c.loop-room.invariant.read old h in
+returns-in-End-clause-read g c = λ old told h.
+    let r = c.loop-room.invariant.read old told h in
     let run = r.3 in
     let sent = c.in_ok-send.ensures.given c.args.query.now c.args.form old run.entries run.given in (
       r.0,
       Consumes-kept _ _ _ r.0 r.1 c.in-End.ensures.0,
       omega (arith, r.2),
-      (inl c.in-End.ensures.1, record { entries = run.entries; at = run.at; given = sent.0 }),
+      (
+        inl c.in-End.ensures.1,
+        record {
+          entries = run.entries;
+          torn = run.torn;
+          at = run.at;
+          given = sent.0;
+          told = run.told;
+        },
+      ),
     )
 
 pub returns-in-Failed-clause-read : goal.returns-in-Failed-clause-read
-returns-in-Failed-clause-read g c = λ old h.
-    let r = c.loop-room.invariant.read old h in
+returns-in-Failed-clause-read g c = λ old told h.
+    let r = c.loop-room.invariant.read old told h in
     let run = r.3 in
     let sent = c.in_ok-send.ensures.given c.args.query.now c.args.form old run.entries run.given in (
       r.0,
       Consumes-kept _ _ _ r.0 r.1 c.in-Failed.ensures.0,
       omega (arith, r.2),
-      (run.entries, hold-at c.loop-room.self.log r.0 run.entries run.at, sent.1),
+      (
+        run.entries,
+        run.torn,
+        holds_at c.loop-room.self.log r.0 run.entries run.torn run.at,
+        sent.1,
+        run.told,
+      ),
     )
 
 pub returns-in_err-take_piece-clause-read : goal.returns-in_err-take_piece-clause-read
-returns-in_err-take_piece-clause-read g c = λ old h.
-    let r = c.loop-room.invariant.read old h in
+returns-in_err-take_piece-clause-read g c = λ old told h.
+    let r = c.loop-room.invariant.read old told h in
     let run = r.3 in
     let sent = c.in_ok-send.ensures.given c.args.query.now c.args.form old run.entries run.given in
     let b = c.next_piece.new.buffer in
@@ -92,8 +110,23 @@ returns-in_err-take_piece-clause-read g c = λ old h.
         fits,
         c.min-most.ensures,
       ),
-      rw p.1 (rw p.2 (c.in_err-take_piece.ensures.taken old r.0
-          (record { entries = run.entries; at = run.at; given = sent.0 }))),
+      rw p.1 (rw p.2 (c.in_err-take_piece.ensures.taken old told r.0
+          (omega (
+            arith,
+            r.2,
+            length-append r.0 piece,
+            size,
+            c.in-Bytes.ensures.1,
+            fits,
+            c.min-most.ensures,
+          ))
+          (record {
+            entries = run.entries;
+            torn = run.torn;
+            at = run.at;
+            given = sent.0;
+            told = run.told;
+          }))),
     )
 
 pub loop-room-preserved : goal.loop-room-preserved
@@ -126,22 +159,29 @@ loop-room-preserved g c =
       );
       bound = omega (arith, inv.bound);
       reading = c.in_ok-take_piece.ensures.reading;
-      read = λ old h.
-          let r = inv.read old h in
+      read = λ old told h.
+          let r = inv.read old told h in
           let run = r.3 in
           let sent = c.in_ok-send.ensures.given c.args.query.now c.args.form old run.entries
           run.given in (
             r.0 ++ piece,
             Consumes-trans _ _ _ _ _ r.1 read',
             omega (arith, r.2, size, low, length-append r.0 piece),
-            c.in_ok-take_piece.ensures.taken old r.0
-                (record { entries = run.entries; at = run.at; given = sent.0 }),
+            c.in_ok-take_piece.ensures.taken old told r.0
+                (omega (arith, r.2, size, low, length-append r.0 piece))
+                (record {
+                  entries = run.entries;
+                  torn = run.torn;
+                  at = run.at;
+                  given = sent.0;
+                  told = run.told;
+                }),
           );
     }
 
 pub returns-clause-read : goal.returns-clause-read
-returns-clause-read g c = λ old h.
-    let r = c.loop-room.invariant.read old h in (
+returns-clause-read g c = λ old told h.
+    let r = c.loop-room.invariant.read old told h in (
       r.0,
       r.1,
       omega (arith, r.2),

@@ -1,5 +1,6 @@
 use Rattle.std.proofs.Common.{◌≡◌, ◌-◌, ◌≤◌, ℕ, Option, List, ◌++◌, length, take}
-use Rattle.nx_log.specs.private.LogRunning.{IsReading, IsRunning}
+use Rattle.nx_log.specs.LogRun.{most_read}
+use Rattle.nx_log.specs.private.LogRunning.{IsReading, IsRunning, notices_of}
 use Rattle.nx_log.proofs.log_runs.LogRun.take_piece.Given as goal
 
 -- the entries that ended so far were given
@@ -8,10 +9,13 @@ invariant-loop-at g l = record {
   writer : l.writer.failures ≡ 0;
   within : l.at ≤ length l.piece;
   reading : IsReading l.self.log;
-  taken : (old : Option (List ℕ)) (bytes : List ℕ)
+  taken : (old told : Option (List ℕ)) (bytes : List ℕ)
+      → length (bytes ++ l.piece) ≤ most_read
       → IsRunning l.query l.form old l.fn.self.log (g.W.Write.contents l.fn.writer.inner)
-      l.fn.self.output bytes
+      l.fn.self.output
+      (notices_of told (g.N.Write.contents l.fn.notices.inner) l.fn.notices.failures) bytes
       → IsRunning l.query l.form old l.self.log (g.W.Write.contents l.writer.inner) l.self.output
+      (notices_of told (g.N.Write.contents l.notices.inner) l.notices.failures)
       (bytes ++ take l.at l.piece);
 }
 

@@ -1,18 +1,16 @@
-use Rattle.std.proofs.Common.{◌∙◌, ap, sym}
-use Rattle.std.proofs.lemmas.Bool.{true≢false}
+use Rattle.std.proofs.Common.{◌∙◌, ap, refl, subst, sym}
 use Rattle.nx_log.specs.LogReading.{LogReading}
-use Rattle.nx_log.proofs.lemmas.reader.Steps.{at_early_end, at_end}
+use Rattle.nx_log.specs.LogReader.{EndsSo}
+use Rattle.nx_log.proofs.lemmas.reader.Steps.{ends_begun, ends_behind}
 use Rattle.nx_log.proofs.entries.reader.LogReader.finish.Goals as goal
 
-pub returns-then-lacks_room-clause-early : goal.returns-then-lacks_room-clause-early
-returns-then-lacks_room-clause-early c = λ bytes entries at.
-    at_early_end c.args.self.now bytes entries (record { line = c.self.inside.line }) at
-    (ap (λ (r : LogReading). r.stage) (sym c.self.view_is)
-    ∙ c.lacks_room.ensures.0 c.if-lacks_room.true)
-    (ap (λ (r : LogReading). r.line) c.self.view_is)
+pub returns-in-Begun : goal.returns-in-Begun
+returns-in-Begun c = λ bytes entries torn at.
+    ends_begun c.args.self.now bytes entries torn c.in-Begun.entry _ at
+    (ap (λ (r : LogReading). r.stage) (sym c.self.view_is) ∙ c.in-Begun.is) refl
 
-pub returns-clause-ok : goal.returns-clause-ok
-returns-clause-ok c = λ bytes entries at.
-    at_end c.args.self.now bytes entries at
-    (λ is. true≢false (sym (c.lacks_room.ensures.1
-    (ap (λ (r : LogReading). r.stage) c.self.view_is ∙ is)) ∙ c.if-lacks_room.false))
+pub returns-in-Behind : goal.returns-in-Behind
+returns-in-Behind c = λ bytes entries torn at.
+    subst (EndsSo bytes entries torn) (sym c.torn.ensures)
+    (ends_behind c.args.self.now bytes entries torn c.in-Behind.tail at
+    (ap (λ (r : LogReading). r.stage) (sym c.self.view_is) ∙ c.in-Behind.is))

@@ -1,14 +1,24 @@
-use Rattle.std.proofs.Common.{[], refl}
-use Rattle.nx_log.specs.declared.entries.gap.Stage.TheVariants.{Start}
-use Rattle.nx_log.proofs.lemmas.reader.Stands.{stands_goes_on}
-use Rattle.nx_log.proofs.lemmas.reader.Taken.{none_in_nothing}
+use Rattle.std.proofs.Common.{[], None, refl}
+use Rattle.std.proofs.lemmas.List.Elements.{All-nil}
+use Rattle.nx_log.specs.Reading.{IsNoBracket, nothing, nothing_read}
 use Rattle.nx_log.proofs.entries.reader.LogReader.new.Goals as goal
 
 pub returns : goal.returns
 returns c = record {
-  rest = [];
-  read = (refl, none_in_nothing);
-  can_go_on = stands_goes_on Start c.new.result.items [] refl;
-  stands = refl;
+  earlier = [];
+  before = nothing_read;
+  are = refl;
+  last = record {
+    head = nothing;
+    front = [];
+    behind = [];
+    torn = None;
+    split = refl;
+    is_part = All-nil IsNoBracket;
+    is_head = refl;
+    stage_is = (c.behind.ensures.whole, (λ e. cc), c.behind.ensures.stands [] []);
+  };
+  are_entries = refl;
+  are_torn = refl;
   line = refl;
 }
