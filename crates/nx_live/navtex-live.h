@@ -1,5 +1,6 @@
-/* The calls of a NAVTEX receiver without a heap: libnavtex_live.a has them. What is kept of a receiver
- * lies in room that its caller lends; no call takes memory, reads a clock or touches a file.
+/* The calls of a NAVTEX receiver without a heap: `rt lib` in crates/nx_live makes libnx_live.a, which
+ * has them. What is kept of a receiver lies in room that its caller lends; no call takes memory, reads a
+ * clock or touches a file.
  *
  * What each call answers is proved, in crates/nx_handle and crates/nx_live; that this header says the
  * same as the library is not: no compiler compares the two.
