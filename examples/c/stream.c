@@ -7,6 +7,10 @@
  *   stream entries                   reads a log on standard input entry by entry, and writes each
  *                                    again by what it says
  *   stream refusals                  what calls answer that are refused
+ *   stream rooms                     opens from states of 0 to 600 entries, and saves each into
+ *                                    rooms up to the one that it needs; none names want of memory
+ *   stream blocks                    closes one receiver that heard, and abandons two; how many
+ *                                    blocks of memory are left of each
  *   stream days N                    hears three channels for so many days without a block of
  *                                    memory; how many entries
  *   stream fail                      opens while each block of memory is refused in turn, hears
@@ -200,6 +204,49 @@ static int refusals(void) {
     return 0;
 }
 
+/* Writes the state of so many entries, at most 200 a channel, of identities and moments of their
+ * own; says how long it is. */
+static size_t state_of(char *text, unsigned entries) {
+    unsigned at = 0;
+    size_t length = (size_t)sprintf(text, "STATE 2\n");
+    for (unsigned channel = 0; channel < 3; channel++) {
+        length += (size_t)sprintf(text + length, "C%u\n", channel);
+        for (; at < entries && at < 200 * (channel + 1); at++)
+            length += (size_t)sprintf(text + length, "%cE%02u %u\n", 'A' + at % 24, 1 + at / 24, 1735692000 + 60 * at);
+    }
+    return length + (size_t)sprintf(text + length, "END\n");
+}
+
+/* Opens from the state of so many entries, and saves it into rooms up to the one that it needs. */
+static void save_in_rooms(unsigned entries, size_t step) {
+    static char state[1 << 15];
+    static uint8_t saved[sizeof state];
+    struct nx_receiver receiver = {0};
+    size_t length = state_of(state, entries), written;
+    done("open from a state", nx_open_from(&receiver, (const uint8_t *)state, length));
+    for (size_t size = 0; size < length; size += step) {
+        is("save in a room that is too small", nx_save(&receiver, saved, size, &written), NX_NO_ROOM);
+        if (written != length)
+            stop("nx_save asks for another room", NX_NO_ROOM);
+    }
+    for (size_t size = length; size <= sizeof saved; size += sizeof saved - length) {
+        done("save in a room that suffices", nx_save(&receiver, saved, size, &written));
+        if (written != length || memcmp(saved, state, length) != 0)
+            stop("another state is saved", NX_DONE);
+    }
+    nx_abandon(&receiver);
+    if (receiver.kept != NULL)
+        stop("a receiver that was abandoned is open", NX_DONE);
+}
+
+/* States of 0 to 600 entries, and of 600 each room. */
+static int rooms(void) {
+    for (unsigned entries = 0; entries <= 600; entries++)
+        save_in_rooms(entries, 997);
+    save_in_rooms(600, 1);
+    return 0;
+}
+
 /* Puts the elements of the file on standard input into a room; says how many there are. */
 static size_t elements_in(uint8_t *elements, size_t most) {
     char line[1024];
@@ -232,6 +279,8 @@ static int speed(size_t piece, size_t times) {
 #ifdef FAIL
 /* The blocks of memory that are asked for: the one with this number is refused. */
 static long left = -1;
+/* How many blocks are in use. */
+static long in_use = 0;
 
 struct tried {
     _Bool ok;
@@ -242,6 +291,7 @@ struct tried rattle_alloc(size_t size, size_t align) {
     if (left >= 0 && left-- == 0)
         return (struct tried){0, NULL};
     void *block = malloc(size > 0 ? size : align);
+    in_use += block != NULL;
     return (struct tried){block != NULL, block};
 }
 
@@ -254,6 +304,7 @@ struct tried rattle_realloc(void *block, size_t kept, size_t size, size_t align)
 }
 
 void rattle_dealloc(void *block) {
+    in_use--;
     free(block);
 }
 
@@ -277,6 +328,25 @@ static int days(size_t count) {
     }
     printf("%zu\n", entries);
     nx_abandon(&receiver);
+    return 0;
+}
+
+/* Hears the file, and closes the receiver; abandons one that was opened, and one from a state. */
+static int blocks(void) {
+    struct nx_receiver receiver = {0};
+    uint8_t state[64];
+    size_t written;
+    done("nx_open", nx_open(&receiver, 0));
+    done("nx_save", nx_save(&receiver, state, sizeof state, &written));
+    give_file(&receiver, 7);
+    close_all(&receiver);
+    fprintf(stderr, "%ld", in_use);
+    done("nx_open", nx_open(&receiver, 0));
+    nx_abandon(&receiver);
+    fprintf(stderr, " %ld", in_use);
+    done("nx_open_from", nx_open_from(&receiver, state, written));
+    nx_abandon(&receiver);
+    fprintf(stderr, " %ld\n", in_use);
     return 0;
 }
 
@@ -345,11 +415,15 @@ int main(int count, char **arguments) {
         return entries();
     if (count == 2 && strcmp(name, "refusals") == 0)
         return refusals();
+    if (count == 2 && strcmp(name, "rooms") == 0)
+        return rooms();
     if (count == 4 && strcmp(name, "speed") == 0)
         return speed(strtoul(arguments[2], NULL, 10), strtoul(arguments[3], NULL, 10));
 #ifdef FAIL
     if (count == 2 && strcmp(name, "fail") == 0)
         return fail();
+    if (count == 2 && strcmp(name, "blocks") == 0)
+        return blocks();
     if (count == 3 && strcmp(name, "days") == 0)
         return days(strtoul(arguments[2], NULL, 10));
 #endif
