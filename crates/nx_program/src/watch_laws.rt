@@ -21,11 +21,15 @@ use std::io::{Read, Write};
 
 /// The law of a receiver that is left on. Take runs `navtex watch FILE MOMENT` over one log, one
 /// after another, of each of which holds what `answer` says of it (`WatchesLog`). A run was over,
-/// by the end of its input, a clock that went back, or a failed read. Or a crash cut it off at any
-/// moment behind a read of its input, or a fault of the disk did. The runs are a chain of watches,
-/// of the lines that act of what each read. What the last one left stands for the entries from
-/// before, and then for what each put. A message that is heard in time over them has exactly one
-/// entry of its channel among these. An empty log stands for no entries.
+/// by the end of its input, a clock that went back, or a failed read. Or a crash cut it off, or a
+/// fault of the disk did: behind a read of its input, or at any moment from the opening of its log
+/// on, also before its first read. What a crash could leave before such a run is what the run
+/// before it could leave, or what stands for the same entries as what it found. The runs are a
+/// chain of watches, of the lines that act of what each read. One that was cut off at any moment
+/// may be none of them: it left what the run before it could leave, which then counts as left by
+/// that run. What the last one left stands for the entries from before, and then for what each put.
+/// A message that is heard in time over them has exactly one entry of its channel among these. An
+/// empty log stands for no entries.
 pub fn a_message_stands_once_in_the_log_of_runs<F: LogFiles, R: Read, W: Write, E: Write>()
     ensures once { (log : List MarkedCopy) (file : List ℕ) (runs : List (WatchRun F F.Disk R W E))
         → OpensFresh F.gives F.Disk.DiskFile → StandsForEntries log file
