@@ -26,13 +26,13 @@ TellsAllKept (Err _) = ⊥
 pub data CallEnd : Type 0 where
   all_kept : CallEnd
   left_behind : ℕ → CallEnd
-  left_anywhere : CallEnd
+  left_at_any_moment : CallEnd
 
 -- how the watch ended then that stopped so
 abbrev pub ending_by : CallEnd → Stop → Ending
 ending_by all_kept stop = kept_all_at stop
 ending_by (left_behind read) stop = kept_some_at stop
-ending_by left_anywhere stop = kept_some_at stop
+ending_by left_at_any_moment stop = kept_some_at stop
 
 -- Behind these lines, of those of the bytes, the watch surely read on: behind all; or behind those
 -- that were whole of the bytes that had come; or behind none.
@@ -41,7 +41,7 @@ AreSure all_kept bytes lines sure = sure ≡ lines
 AreSure (left_behind read) bytes lines sure =
     (by_then : List (Option Line)) × (rest : List ℕ) × AreLines (take read bytes) by_then rest
     × (sure ≡ take (length by_then) lines)
-AreSure left_anywhere bytes lines sure = sure ≡ []
+AreSure left_at_any_moment bytes lines sure = sure ≡ []
 
 -- The watch of a chain is that of a call with these streams, which started at this moment behind
 -- these entries, ended so, and left this file. It took the lines that act of those of the bytes

@@ -9,7 +9,7 @@ use Rattle.nx_envelope.specs.Message.{MessageView}
 use Rattle.nx_fec.specs.Transfers.{CountedDevice, Devices, devices}
 use Rattle.nx_fec.specs.declared.air_files.channel.Channel.{Channel}
 use Rattle.nx_kept.specs.declared.disk.DiskFile.{Ghosts as TellsOfDisk}
-use Rattle.nx_left_on.specs.Call.{CallEnd, IsOfCall, TellsAllKept, all_kept, left_anywhere}
+use Rattle.nx_left_on.specs.Call.{CallEnd, IsOfCall, TellsAllKept, all_kept, left_at_any_moment}
 use Rattle.nx_left_on.specs.Call.{left_behind}
 use Rattle.nx_left_on.specs.Chain.{ClocksAreNear, IsChain, Watch, all_put}
 use Rattle.nx_left_on.specs.LeftOn.{IsHeardInTimeOver}
@@ -28,7 +28,7 @@ use Rattle.nx_program.specs.declared.watch_command.WatchFailure.TheVariants.{End
 pub data RunEnd (A : Type 0) : Type 0 where
   kept_all : RunEnd A
   cut_behind : A → RunEnd A
-  cut_anywhere : RunEnd A
+  cut_at_any_moment : RunEnd A
 
 -- A run of the program as a watch, by values alone: the name of its log, its MOMENT, and what opens
 -- the log. Then come its input, its output and standard error, as they stand before the watch and
@@ -78,7 +78,7 @@ left_last file (run ∷ runs) = left_last run.left runs
 abbrev pub call_end : {D W E : Type 0} → RunEnd (Stamp D W E) → CallEnd
 call_end kept_all = all_kept
 call_end (cut_behind at) = left_behind at.read
-call_end cut_anywhere = left_anywhere
+call_end cut_at_any_moment = left_at_any_moment
 
 module _ {F D R W E : Type 0} (gives : F → List ℕ → Result D FileFault → Type 0)
     (tells : TellsOfDisk D) (remaining : R → Option (List ℕ)) (contents : W → Option (List ℕ))
@@ -102,7 +102,7 @@ module _ {F D R W E : Type 0} (gives : F → List ℕ → Result D FileFault →
   Leaves run disk (cut_behind at) left =
       Contains run.stamps at × (tells.faults at.disk ≡ 0)
       × tells.left_since run.found disk (tells.moment at.disk) left
-  Leaves run disk cut_anywhere left = tells.left_since run.found disk 0 left
+  Leaves run disk cut_at_any_moment left = tells.left_since run.found disk 0 left
 
   -- it could leave them in the file that it handed back
   abbrev pub CouldLeave : WatchRun F D R W E → List ℕ → Type 0
@@ -118,13 +118,13 @@ module _ {F D R W E : Type 0} (gives : F → List ℕ → Result D FileFault →
     pub explained : tells.explains run.found disk
     pub has_left : Leaves run disk run.ended run.left
 
-  -- Where a run was cut off anywhere: what a crash could leave before its first call had this, or
-  -- it stands for the same entries as what the run found.
-  abbrev pub BeginsWith : (List ℕ → Type 0) → WatchRun F D R W E
+  -- Of a run that was cut off at any moment: what a crash could leave before its first call had
+  -- this, or it stands for the same entries as what the run found.
+  abbrev pub ComesBehind : (List ℕ → Type 0) → WatchRun F D R W E
       → RunEnd (Stamp D (CountedDevice W) (CountedDevice E)) → Type 0
-  BeginsWith Could run kept_all = ⊤
-  BeginsWith Could run (cut_behind at) = ⊤
-  BeginsWith Could run cut_anywhere = (disk : D) (file : List ℕ)
+  ComesBehind Could run kept_all = ⊤
+  ComesBehind Could run (cut_behind at) = ⊤
+  ComesBehind Could run cut_at_any_moment = (disk : D) (file : List ℕ)
       → gives run.files run.name (Ok disk) → tells.may_leave run.found disk file
       → Could file ⊎ StandsAlike run.found file
 
@@ -134,19 +134,20 @@ module _ {F D R W E : Type 0} (gives : F → List ℕ → Result D FileFault →
   abbrev pub FollowOn : List ℕ → (List ℕ → Type 0) → List (WatchRun F D R W E) → Type 0
   FollowOn file Could [] = ⊤
   FollowOn file Could (run ∷ runs) =
-      StandsAlike file run.found × WasRun run × BeginsWith Could run run.ended
+      StandsAlike file run.found × WasRun run × ComesBehind Could run run.ended
       × FollowOn run.left (CouldLeave run) runs
 
-  -- The runs, one after another, are of one log that had these bytes at first, and no others.
+  -- The runs, one after another, are of one log that had these bytes at first, and could have been
+  -- left as no others.
   abbrev pub AreOfOneLog : List ℕ → List (WatchRun F D R W E) → Type 0
   AreOfOneLog file runs = FollowOn file (λ other. other ≡ file) runs
 
   -- A run that left these bytes left this file: the same, or what the next one left in turn, which
-  -- was cut off anywhere.
+  -- was cut off at any moment.
   abbrev pub IsLeftOver : List ℕ → List (WatchRun F D R W E) → List ℕ → Type 0
   IsLeftOver left [] file = file ≡ left
   IsLeftOver left (next ∷ runs) file =
-      (file ≡ left) ⊎ ((next.ended ≡ cut_anywhere) × IsLeftOver next.left runs file)
+      (file ≡ left) ⊎ ((next.ended ≡ cut_at_any_moment) × IsLeftOver next.left runs file)
 
   -- the watch is that of the run behind these entries, which left this, with these runs behind it
   pub record IsWatchOf (log : List MarkedCopy) (run : WatchRun F D R W E)
@@ -158,15 +159,15 @@ module _ {F D R W E : Type 0} (gives : F → List ℕ → Result D FileFault →
     pub called : IsOfCall (streams_of run) run.moment log (call_end run.ended) file watch
 
   -- Each is the watch of a run, in order, behind these entries and all put before. A run that was
-  -- cut off anywhere may have none: then it left what the one before could leave, or what stands
-  -- for the same entries.
+  -- cut off at any moment may have none: then it left what the one before could leave, or what
+  -- stands for the same entries.
   abbrev pub AreWatchesOf : List MarkedCopy → List (WatchRun F D R W E) → List Watch → Type 0
   AreWatchesOf log [] [] = ⊤
   AreWatchesOf log [] (watch ∷ watches) = ⊥
-  AreWatchesOf log (run ∷ runs) [] = (run.ended ≡ cut_anywhere) × AreWatchesOf log runs []
+  AreWatchesOf log (run ∷ runs) [] = (run.ended ≡ cut_at_any_moment) × AreWatchesOf log runs []
   AreWatchesOf log (run ∷ runs) (watch ∷ watches) =
       (IsWatchOf log run runs watch × AreWatchesOf (log ++ watch.put) runs watches)
-      ⊎ ((run.ended ≡ cut_anywhere) × AreWatchesOf log runs (watch ∷ watches))
+      ⊎ ((run.ended ≡ cut_at_any_moment) × AreWatchesOf log runs (watch ∷ watches))
 
   -- The runs are a chain of watches behind these entries. What the last of them left stands for the
   -- entries, and then for the joined entries of what each put. Where no clock is 66 hours behind, a

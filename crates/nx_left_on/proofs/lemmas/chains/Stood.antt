@@ -38,7 +38,7 @@ use Rattle.nx_watch.specs.declared.watch_fault.WatchFault.{WatchFault}
 use Rattle.nx_watch.specs.declared.watch_fault.WatchFault.TheVariants.{Open, Damaged, Disk, Memory}
 use Rattle.nx_watch.specs.declared.watch_fault.WatchFault.TheVariants.{Read, Back}
 use Rattle.nx_left_on.specs.Call.{CallEnd, AreSure, IsOfCall, TellsAllKept, all_kept, ending_by}
-use Rattle.nx_left_on.specs.Call.{left_anywhere, left_behind}
+use Rattle.nx_left_on.specs.Call.{left_at_any_moment, left_behind}
 use Rattle.nx_left_on.specs.Chain.{IsLeftBy, Watch, acting_at, kept_some_at, with_copies}
 use Rattle.nx_left_on.proofs.lemmas.chains.Found.{begins-itself, begins-more}
 use Rattle.nx_left_on.proofs.lemmas.chains.Keeps.{acting-begins, keeps-all, keeps-behind, keeps-some, turn-begins}
@@ -395,7 +395,7 @@ module _ {D R W N : Type 0} (d : WatchDevices D R W N) (now : ℕ) (entries : Li
 -- a call that read nothing, and left what stands for the entries, leaves a watch
 unheard : {D R W N : Type 0} (d : WatchDevices D R W N) (now : ℕ) (entries : List MarkedCopy)
     (file : List ℕ) → d.streams.reader_after ≡ d.streams.reader → StandsForEntries entries file
-    → (watch : Watch) × IsOfCall d.streams now entries left_anywhere file watch
+    → (watch : Watch) × IsOfCall d.streams now entries left_at_any_moment file watch
 unheard d now entries file unread_so stands =
     let left = keeps-some now entries [] [] file 0 unread (nothing-given (starts_at now entries))
     (subst (λ es. StandsForEntries es file) (sym (append-nil entries)) stands) in
@@ -427,14 +427,14 @@ module _ {D R W N : Type 0} (d : WatchDevices D R W N) (now : ℕ) (entries : Li
     -- what could be left before the call, or a watch
     abbrev LeavesSome : Type 0
     LeavesSome = d.tells.may_leave d.start d.disk file
-        ⊎ ((watch : Watch) × IsOfCall d.streams now entries left_anywhere file watch)
+        ⊎ ((watch : Watch) × IsOfCall d.streams now entries left_at_any_moment file watch)
 
     started-some : (outcome : Result WatchReport WatchFault)
         → AnswersStarted d now (starts_at now entries) entries outcome → LeavesSome
     started-some outcome s = elim (s.3.any_moment.each file crash) [
       | inl before ↦ inl before
-      | inr k ↦ inr (of-call d now entries s.2 s.0 s.1 [] left_anywhere (take k.0 s.2) file s.3 refl
-          (keeps-some now entries s.2 s.1 file k.0 s.0 s.3.printed k.2))
+      | inr k ↦ inr (of-call d now entries s.2 s.0 s.1 [] left_at_any_moment (take k.0 s.2) file
+          s.3 refl (keeps-some now entries s.2 s.1 file k.0 s.0 s.3.printed k.2))
     ]
 
     opened-some : HasOpened d entries → LeavesSome

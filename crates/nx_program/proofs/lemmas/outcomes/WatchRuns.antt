@@ -21,10 +21,10 @@ use Rattle.nx_program.specs.WatchCommand.{with_faults}
 use Rattle.nx_program.specs.declared.arguments.Call.TheVariants.{Watch as WatchCall}
 use Rattle.nx_program.specs.declared.fault.Fault.{Fault}
 use Rattle.nx_program.proofs.lemmas.arguments.Arguments.{named_once}
-use Rattle.nx_program.specs.WatchRuns.{AreOfOneLog, AreWatchesOf, BeginsWith, CouldLeave, FollowOn}
+use Rattle.nx_program.specs.WatchRuns.{AreOfOneLog, AreWatchesOf, ComesBehind, CouldLeave, FollowOn}
 use Rattle.nx_program.specs.WatchRuns.{HasKeptAll, IsLeftOver, KeepsOnce, Leaves, OpensFresh, RunEnd}
 use Rattle.nx_program.specs.WatchRuns.{StandsAlike, WasRun, WatchRun, beside_of, call_end}
-use Rattle.nx_program.specs.WatchRuns.{cut_anywhere, cut_behind, kept_all, left_last}
+use Rattle.nx_program.specs.WatchRuns.{cut_at_any_moment, cut_behind, kept_all, left_last}
 use Rattle.nx_program.specs.WatchRuns.{streams_of}
 
 -- nothing at all stands for no entries
@@ -73,13 +73,13 @@ module _ {F D R W E : Type 0} (gives : F → List ℕ → Result D FileFault →
   Run = WatchRun F D R W E
 
   -- a run that ended so leaves a watch behind these entries, which left this file; or it was cut
-  -- off anywhere, and could have left so much before
+  -- off at any moment, and this file could be left before
   abbrev LeavesSo : (List ℕ → Type 0) → List MarkedCopy → (run : Run)
       → RunEnd (Stamp D (CountedDevice W) (CountedDevice E)) → List ℕ → Type 0
   LeavesSo Could log run end file =
       ((watch : Watch) × IsOfCall (streams_of gives tells remaining contents told run) run.moment
       log (call_end end) file watch)
-      ⊎ ((end ≡ cut_anywhere) × (Could file ⊎ StandsAlike run.found file))
+      ⊎ ((end ≡ cut_at_any_moment) × (Could file ⊎ StandsAlike run.found file))
 
   -- what the program tells as all kept, the watch answered so
   tells-kept : (run : Run) (name : Text) (answer : Result WatchReport WatchFault)
@@ -109,7 +109,7 @@ module _ {F D R W E : Type 0} (gives : F → List ℕ → Result D FileFault →
 
     file-leaves : (Could : List ℕ → Type 0) (file : List ℕ)
         (end : RunEnd (Stamp D (CountedDevice W) (CountedDevice E)))
-        → BeginsWith gives tells remaining contents told Could run end
+        → ComesBehind gives tells remaining contents told Could run end
         → Leaves gives tells remaining contents told run disk_after end file
         → LeavesSo Could log run end file
     file-leaves Could file kept_all begins h =
@@ -122,7 +122,7 @@ module _ {F D R W E : Type 0} (gives : F → List ℕ → Result D FileFault →
         (beside_of gives tells remaining contents told run) disk disk_after run.found) run.moment
         log at file h.0
         (h.1 ∙ sym ((fresh run.files run.name disk given).1.no_faults)) h.2 answer answered-so)
-    file-leaves Could file cut_anywhere begins h =
+    file-leaves Could file cut_at_any_moment begins h =
         elim (answer-some (devices_of (streams_of gives tells remaining contents told run)
         (beside_of gives tells remaining contents told run) disk disk_after run.found) run.moment
         log file (subst (λ t. tells.left_since run.found disk_after t file)
@@ -137,7 +137,7 @@ module _ {F D R W E : Type 0} (gives : F → List ℕ → Result D FileFault →
       → WatchesLog (streams_of gives tells remaining contents told run)
       (beside_of gives tells remaining contents told run) run.name run.moment run.outcome
       → run.disk_after ≡ Some disk → tells.explains run.found disk
-      → BeginsWith gives tells remaining contents told Could run run.ended
+      → ComesBehind gives tells remaining contents told Could run run.ended
       → Leaves gives tells remaining contents told run disk run.ended file
       → StandsForEntries log run.found → LeavesSo Could log run run.ended file
   log-leaves Could run log disk file (Err why, given, rest) back explained begins left stands =
@@ -151,7 +151,7 @@ module _ {F D R W E : Type 0} (gives : F → List ℕ → Result D FileFault →
 
   run-leaves : (Could : List ℕ → Type 0) (run : Run) (log : List MarkedCopy) (file : List ℕ)
       → WasRun gives tells remaining contents told run
-      → BeginsWith gives tells remaining contents told Could run run.ended
+      → ComesBehind gives tells remaining contents told Could run run.ended
       → CouldLeave gives tells remaining contents told run file → StandsForEntries log run.found
       → LeavesSo Could log run run.ended file
   run-leaves Could run log file was begins could stands =
@@ -173,8 +173,8 @@ module _ {F D R W E : Type 0} (gives : F → List ℕ → Result D FileFault →
   abbrev Logged : List ℕ → Type 0
   Logged file = (log : List MarkedCopy) × StandsForEntries log file
 
-  -- What was left before the runs is this file, or what they left in turn that were cut off
-  -- anywhere. Behind its entries they keep what they keep.
+  -- What was left before the runs is this file, or what they left in turn that were cut off at any
+  -- moment. Behind its entries they keep what they keep.
   record KeptFrom (file : List ℕ) (Could : List ℕ → Type 0)
       (logged : (other : List ℕ) → Could other → Logged other) (runs : List Run)
       : Type 0 where
@@ -194,9 +194,9 @@ module _ {F D R W E : Type 0} (gives : F → List ℕ → Result D FileFault →
   logged-by Could logged run log file stands (inr (cut, inl could)) = logged file could
   logged-by Could logged run log file stands (inr (cut, inr alike)) = (log, alike log stands)
 
-  -- a run that was cut off anywhere may have no watch
+  -- a run that was cut off at any moment may have no watch
   left-out : (log : List MarkedCopy) (run : Run) (runs : List Run) (watches : List Watch)
-      → run.ended ≡ cut_anywhere
+      → run.ended ≡ cut_at_any_moment
       → AreWatchesOf gives tells remaining contents told log runs watches
       → AreWatchesOf gives tells remaining contents told log (run ∷ runs) watches
   left-out log run runs [] cut are = (cut, are)
