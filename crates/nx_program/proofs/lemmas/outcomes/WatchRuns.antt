@@ -222,6 +222,7 @@ module _ {F D R W E : Type 0} (gives : F → List ℕ → Result D FileFault →
         → (l : LeavesSo Could log run run.ended left)
         → Kept (logged-by Could logged run log left stands l).0 left runs
         → KeptFrom file Could logged (run ∷ runs)
+    unfolding logged-by
     join stands left can still (inl w) kept = record {
       from = file;
       could = could;
