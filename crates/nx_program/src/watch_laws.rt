@@ -1,13 +1,14 @@
 //! The law of a receiver that is left on, of runs of the program. Each function does nothing; its
 //! contract is the law.
 
-ghost use Rattle.std.specs.Prelude.{◌≡◌, ℕ, List, [], Result, Some};
+ghost use Rattle.std.specs.Prelude.{◌≡◌, ◌⊎◌, ℕ, Contains, List, [], Ok, Result, Some};
 ghost use Rattle.clap.specs.Words.{Text};
+ghost use Rattle.nx_disk.specs.Fresh.{IsFresh};
 ghost use Rattle.nx_fec.specs.Transfers.{CountedDevice};
 ghost use Rattle.nx_program.specs.Arguments.{Names};
 ghost use Rattle.nx_program.specs.Report.{Answers};
 ghost use Rattle.nx_program.specs.WatchCommand.{WatchesLog, with_faults};
-ghost use Rattle.nx_program.specs.WatchRuns.{AreOfOneLog, KeepsOnce, OpensFresh, WatchRun, beside_of, streams_of};
+ghost use Rattle.nx_program.specs.WatchRuns.{AreOfOneLog, ComesBehind, CouldLeave, KeepsOnce, OpensFresh, StandsAlike, WatchRun, beside_of, streams_of};
 ghost use Rattle.nx_program.specs.declared.arguments.Call.TheVariants.{Watch};
 ghost use Rattle.nx_program.specs.declared.fault.Fault.{Fault};
 ghost use Rattle.nx_receiver.specs.copies.Shares.{MarkedCopy};
@@ -36,6 +37,27 @@ pub fn a_message_stands_once_in_the_log_of_runs<F: LogFiles, R: Read, W: Write, 
         → AreOfOneLog F.gives F.Disk.DiskFile R.remaining W.contents E.contents file runs
         → KeepsOnce F.gives F.Disk.DiskFile R.remaining W.contents E.contents log file runs }
     ensures from_nothing { StandsForEntries [] [] }
+{}
+
+/// What a crash could leave before a run is what the run found, or a file of the list that was
+/// handed in where its log was opened. So what the law above asks of a run that was cut off at any
+/// moment is asked of these files alone: behind another run, and of the first one.
+pub fn what_is_handed_in_could_be_left_before<F: LogFiles, R: Read, W: Write, E: Write>()
+    ensures behind { (before run : WatchRun F F.Disk R W E) (left : List (List ℕ))
+        → ((disk : F.Disk) → F.gives run.files run.name (Ok disk)
+        → IsFresh F.Disk.DiskFile left disk)
+        → ((file : List ℕ) → Contains left file
+        → CouldLeave F.gives F.Disk.DiskFile R.remaining W.contents E.contents before file
+        ⊎ StandsAlike run.found file)
+        → ComesBehind F.gives F.Disk.DiskFile R.remaining W.contents E.contents
+        (CouldLeave F.gives F.Disk.DiskFile R.remaining W.contents E.contents before) run run.ended }
+    ensures first { (file : List ℕ) (run : WatchRun F F.Disk R W E) (left : List (List ℕ))
+        → ((disk : F.Disk) → F.gives run.files run.name (Ok disk)
+        → IsFresh F.Disk.DiskFile left disk)
+        → ((other : List ℕ) → Contains left other
+        → (other ≡ file) ⊎ StandsAlike run.found other)
+        → ComesBehind F.gives F.Disk.DiskFile R.remaining W.contents E.contents
+        (λ other. other ≡ file) run run.ended }
 {}
 
 /// Where a run with the arguments `watch FILE MOMENT` hands a file back, the clause `exits` of

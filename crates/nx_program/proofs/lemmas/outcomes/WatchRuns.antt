@@ -1,7 +1,9 @@
 -- Runs of a watch over one log are a chain of watches.
 use Rattle.std.proofs.Common.{◌≡◌, ◌⊎◌, inl, inr, ℕ, List, [], ◌∷◌, ◌++◌, Option, Some, None, Result}
 use Rattle.std.proofs.Common.{Ok, Err, refl, sym, ◌∙◌, subst, append-nil, append_assoc}
+use Rattle.std.specs.List.{Contains}
 use Rattle.clap.specs.Words.{Text}
+use Rattle.nx_disk.specs.Fresh.{IsFresh}
 use Rattle.nx_disk.specs.declared.file.FileFault.{FileFault}
 use Rattle.nx_fec.specs.Transfers.{CountedDevice, Devices}
 use Rattle.nx_kept.specs.declared.disk.DiskFile.{Ghosts as TellsOfDisk}
@@ -308,3 +310,21 @@ module _ {F D R W E : Type 0} (gives : F → List ℕ → Result D FileFault →
         once = λ channel message clocks heard.
             put-once log k.watches channel message k.chain clocks heard;
       }
+
+-- what is handed in could be left before, and so could what a run found
+module _ {F D R W E : Type 0} (gives : F → List ℕ → Result D FileFault → Type 0)
+    (tells : TellsOfDisk D) (remaining : R → Option (List ℕ)) (contents : W → Option (List ℕ))
+    (told : E → Option (List ℕ)) (Could : List ℕ → Type 0) (run : WatchRun F D R W E)
+    (first : List (List ℕ))
+    (opens : (disk : D) → gives run.files run.name (Ok disk) → IsFresh tells first disk)
+    (all : (file : List ℕ) → Contains first file → Could file ⊎ StandsAlike run.found file)
+  where
+    pub comes-behind : (end : RunEnd (Stamp D (CountedDevice W) (CountedDevice E)))
+        → ComesBehind gives tells remaining contents told Could run end
+    comes-behind kept_all = tt
+    comes-behind (cut_behind at) = tt
+    comes-behind cut_at_any_moment = λ disk file given left.
+        elim (((opens disk given).leaves run.found file).0 left) [
+          | inl is ↦ inr (subst (StandsAlike run.found) (sym is) (λ entries stands. stands))
+          | inr there ↦ all file there
+        ]
