@@ -21,8 +21,8 @@ TellsAllKept (Err Read) = ⊤
 TellsAllKept (Err _) = ⊥
 
 -- How a call ended, by the file that it left: one of its end, where all is kept; or one that a
--- crash left, or a fault of the disk, behind a read before which so many bytes had come; or one
--- that was left so at any moment of the call, also before its first read.
+-- crash left, or a fault of the disk. That was behind a read before which so many bytes had come,
+-- or at any moment of the call, also before its first read.
 pub data CallEnd : Type 0 where
   all_kept : CallEnd
   left_behind : ℕ → CallEnd

@@ -22,9 +22,9 @@ use Rattle.nx_program.specs.declared.fault.Fault.{Fault}
 use Rattle.nx_program.specs.declared.fault.Fault.TheVariants as fault
 use Rattle.nx_program.specs.declared.watch_command.WatchFailure.TheVariants.{Ended}
 
--- How a run ended: it was over, with all kept; or a crash, or a fault of the disk, cut it off
--- behind a read of its input; or at any moment from the opening of its log on, also before its
--- first read.
+-- How a run ended: it was over, with all kept; or a crash, or a fault of the disk, cut it off.
+-- That was behind a read of its input, or at any moment from the opening of its log on, also before
+-- its first read.
 pub data RunEnd (A : Type 0) : Type 0 where
   kept_all : RunEnd A
   cut_behind : A → RunEnd A

@@ -251,11 +251,11 @@ module _ {D R W E : Type 0} (d : WatchDevices D R W E) where
         (d.streams.contents d.streams.writer_after.inner) d.streams.writer_after.failures log
 
   -- A watch that opened this file, which stands for these entries, and started so at this moment
-  -- read these lines until it stopped so. They print these copies; at each moment a crash leaves
+  -- read these lines until it stopped so. They print these copies. At each moment a crash leaves
   -- what it could leave before, or a file that stands for the entries and a beginning of the
-  -- copies; and what the start cut was told, and what is told of the lines. At each read of the
-  -- input all of that stood already, of the lines that were whole by then. A read failed exactly
-  -- where it stopped at a failed read; a write failed only where it stopped at that, or closed.
+  -- copies. What the start cut was told, and what is told of the lines. At each read of the input
+  -- all of that stood already, of the lines that were whole by then. A read failed exactly where it
+  -- stopped at a failed read; a write failed only where it stopped at that, or closed.
   pub record HasWatchedOver (file : List ℕ) (now : ℕ) (starts : Starts)
       (entries : List MarkedCopy) (stop : Stop)
       (lines : List (Option Line)) (copies : List MarkedCopy)

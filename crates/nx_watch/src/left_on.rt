@@ -42,11 +42,11 @@ use std::io::{Read, Write};
 /// to `writer`, each before the next read, as `listen` writes them. Whatever ends the watch then, a
 /// failed write there too, it is answered as `Disk`. Nothing else is written to `writer`.
 ///
-/// A crash at any moment of the call, from before the first read on, leaves what it could leave
-/// before the call, or a file that stands for the entries from before and a beginning of those that
-/// the lines print. The reader notes what stood at each of its reads. A crash at any moment from a
-/// read on leaves at least the entries of the lines that were whole at it, where no put had failed
-/// by then; else they stood on `writer`.
+/// A crash may come at any moment of the call, also before the first read. It leaves what it could
+/// leave before the call, or a file that stands for the entries from before and a beginning of
+/// those that the lines print. The reader notes what stood at each of its reads. A crash at any
+/// moment from a read on leaves at least the entries of the lines that were whole at it, where no
+/// put had failed by then; else they stood on `writer`.
 pub fn watch<D: DiskFile + Drop, R: Read, W: Write, F: Write>(
     alloc: Global,
     moment: u64,
