@@ -69,6 +69,11 @@ abbrev pub OpensFresh : {F D : Type 0} → (F → List ℕ → Result D FileFaul
 OpensFresh {F} {D} gives tells = (files : F) (name : Text) (disk : D) → gives files name (Ok disk)
     → (first : List (List ℕ)) × IsFresh tells first disk
 
+-- a crash may leave a file as a read finds it
+abbrev pub MayBeLeftAsFound : {D : Type 0} → TellsOfDisk D → Type 0
+MayBeLeftAsFound {D} tells =
+    (start : List ℕ) (disk : D) → tells.may_leave start disk (tells.seen start disk)
+
 -- the bytes that the last of the runs left, or these, where there is none
 abbrev pub left_last : {F D R W E : Type 0} → List ℕ → List (WatchRun F D R W E) → List ℕ
 left_last file [] = file

@@ -8,7 +8,7 @@ ghost use Rattle.nx_fec.specs.Transfers.{CountedDevice};
 ghost use Rattle.nx_program.specs.Arguments.{Names};
 ghost use Rattle.nx_program.specs.Report.{Answers};
 ghost use Rattle.nx_program.specs.WatchCommand.{WatchesLog, with_faults};
-ghost use Rattle.nx_program.specs.WatchRuns.{AreOfOneLog, ComesBehind, CouldLeave, KeepsOnce, OpensFresh, StandsAlike, WatchRun, beside_of, streams_of};
+ghost use Rattle.nx_program.specs.WatchRuns.{AreOfOneLog, ComesBehind, CouldLeave, KeepsOnce, Leaves, MayBeLeftAsFound, OpensFresh, StandsAlike, WatchRun, beside_of, cut_at_any_moment, streams_of};
 ghost use Rattle.nx_program.specs.declared.arguments.Call.TheVariants.{Watch};
 ghost use Rattle.nx_program.specs.declared.fault.Fault.{Fault};
 ghost use Rattle.nx_receiver.specs.copies.Shares.{MarkedCopy};
@@ -60,6 +60,15 @@ pub fn what_is_handed_in_could_be_left_before<F: LogFiles, R: Read, W: Write, E:
         (λ other. other ≡ file) run run.ended }
 {}
 
+/// A run may end by a fault, and no crash comes. Then the next one finds what a read finds, and the
+/// run counts as cut off at any moment, where a crash may leave a file as a read finds it.
+pub fn what_is_found_after_a_fault_is_left<F: LogFiles, R: Read, W: Write, E: Write>()
+    ensures { (run : WatchRun F F.Disk R W E) (disk : F.Disk)
+        → MayBeLeftAsFound F.Disk.DiskFile
+        → Leaves F.gives F.Disk.DiskFile R.remaining W.contents E.contents run disk
+        cut_at_any_moment (F.Disk.seen run.found disk) }
+{}
+
 /// Where a run with the arguments `watch FILE MOMENT` hands a file back, the clause `exits` of
 /// `answer` says that it did what a watch does. Standard error is told of as it stood behind the
 /// watch, before a fault was reported there.
@@ -83,4 +92,9 @@ pub fn a_run_that_hands_its_log_back_watched_it<F: LogFiles, R: Read, W: Write, 
 pub fn the_files_of_the_system_open_fresh<'a, S: Files<File = File> + 'a>()
     ensures { OpensFresh ⟦<SystemFiles<'a, S> as LogFiles>⟧.gives
         ⟦<Noted<LogFile<'a, S>> as DiskFile>⟧ }
+{}
+
+/// A crash may leave a file of the system as a read finds it.
+pub fn the_files_of_the_system_may_be_left_as_found<'a, S: Files<File = File> + 'a>()
+    ensures { MayBeLeftAsFound ⟦<Noted<LogFile<'a, S>> as DiskFile>⟧ }
 {}
