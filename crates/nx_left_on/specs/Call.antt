@@ -1,5 +1,5 @@
 -- The watch of a chain that a call of `watch` leaves (this profile).
-use Rattle.std.specs.Prelude.{◌≡◌, ◌⊎◌, ⊤, ℕ, List, length, take, Option, Result, Ok, Err}
+use Rattle.std.specs.Prelude.{◌≡◌, ◌⊎◌, ⊤, ℕ, List, [], length, take, Option, Result, Ok, Err}
 use Rattle.std.specs.Io.KnownBytes.{Consumes}
 use Rattle.nx_fec.specs.air_files.AirFile.{Line}
 use Rattle.nx_fec.specs.Transfers.{Devices, IsReadOut}
@@ -21,23 +21,27 @@ TellsAllKept (Err Read) = ⊤
 TellsAllKept (Err _) = ⊥
 
 -- How a call ended, by the file that it left: one of its end, where all is kept; or one that a
--- crash left, or a fault of the disk, behind a read before which so many bytes had come.
+-- crash left, or a fault of the disk. That was behind a read before which so many bytes had come,
+-- or at any moment of the call, also before its first read.
 pub data CallEnd : Type 0 where
   all_kept : CallEnd
   left_behind : ℕ → CallEnd
+  left_at_any_moment : CallEnd
 
 -- how the watch ended then that stopped so
 abbrev pub ending_by : CallEnd → Stop → Ending
 ending_by all_kept stop = kept_all_at stop
 ending_by (left_behind read) stop = kept_some_at stop
+ending_by left_at_any_moment stop = kept_some_at stop
 
--- Behind these lines, of those of the bytes, the watch read on: behind all; or behind those that
--- were whole of the bytes that had come.
+-- Behind these lines, of those of the bytes, the watch surely read on: behind all; or behind those
+-- that were whole of the bytes that had come; or behind none.
 abbrev pub AreSure : CallEnd → List ℕ → List (Option Line) → List (Option Line) → Type 0
 AreSure all_kept bytes lines sure = sure ≡ lines
 AreSure (left_behind read) bytes lines sure =
     (by_then : List (Option Line)) × (rest : List ℕ) × AreLines (take read bytes) by_then rest
     × (sure ≡ take (length by_then) lines)
+AreSure left_at_any_moment bytes lines sure = sure ≡ []
 
 -- The watch of a chain is that of a call with these streams, which started at this moment behind
 -- these entries, ended so, and left this file. It took the lines that act of those of the bytes

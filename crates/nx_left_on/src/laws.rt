@@ -22,7 +22,7 @@ ghost use Rattle.nx_watch.specs.declared.watch_fault.WatchFault.{WatchFault};
 ghost use Rattle.nx_watch.specs.declared.watch_report.WatchReport.{WatchReport};
 ghost use Rattle.nx_watch.specs.Watch.{AnswersWatch, PrintsUntil, StandsForEntries, Stop, starts_at};
 ghost use Rattle.nx_left_on.specs.AtHand.{AtHand, telling};
-ghost use Rattle.nx_left_on.specs.Call.{IsOfCall, TellsAllKept, all_kept, left_behind};
+ghost use Rattle.nx_left_on.specs.Call.{IsOfCall, TellsAllKept, all_kept, left_at_any_moment, left_behind};
 ghost use Rattle.nx_left_on.specs.Chain.{ClocksAreNear, GoesOn, HadRead, IsChain, IsLeftBy, Puts, Watch, acting_at, all_copies, all_put, answered, kept_all_at, kept_some_at, stopped, with_copies};
 ghost use Rattle.nx_left_on.specs.Example.{example_watches, first_acting, first_moment, first_watch, kept_bytes, one_entry, second_acting, second_watch};
 ghost use Rattle.nx_left_on.specs.LeftOn.{HasEndedAt, IsHeardInTimeOver, IsUnknownOver};
@@ -106,6 +106,21 @@ pub fn a_crash_behind_a_read_leaves_a_watch<D: DiskFile, R: Read, W: Write, N: W
         → (watch : Watch)
         × IsOfCall (telling D.DiskFile R.remaining W.contents N.contents a).streams now log
         (left_behind at.read) file watch }
+{}
+
+/// A crash may come at any moment of a call, also before its first read. Whatever `watch` answers,
+/// the file that it leaves then could be left before the call, or it is left by a watch of a chain,
+/// which is sure of no line. So a call that ended before its first read takes no entry from a log
+/// that couldn't have been lost before it.
+pub fn a_crash_at_any_moment_leaves_a_watch<D: DiskFile, R: Read, W: Write, N: Write>()
+    ensures { (a : AtHand D R W N) (now : ℕ) (log : List MarkedCopy)
+        (outcome : Result WatchReport WatchFault) (file : List ℕ)
+        → AnswersWatch (telling D.DiskFile R.remaining W.contents N.contents a) now log outcome
+        → D.left_since a.start a.disk_after (D.moment a.disk) file
+        → D.may_leave a.start a.disk file
+        ⊎ ((watch : Watch)
+        × IsOfCall (telling D.DiskFile R.remaining W.contents N.contents a).streams now log
+        left_at_any_moment file watch) }
 {}
 
 /// A watch that answered Ok, `Back` or `Read` leaves one of a chain too, which read on behind all

@@ -11,8 +11,8 @@ use Rattle.nx_log.specs.Notices.{Notices}
 use Rattle.nx_receiver.specs.copies.Shares.{MarkedCopy}
 use Rattle.nx_disk.specs.declared.file.FileFault.{FileFault}
 use Rattle.nx_disk.specs.declared.file.FileFault.TheVariants as file
-use Rattle.nx_watch.specs.Watch.{AnswersWatch, HasCause, RefusesLog, StandsForEntries, WatchDevices}
-use Rattle.nx_watch.specs.Watch.{longest_entry}
+use Rattle.nx_watch.specs.Watch.{AnswersWatch, FailsWithin, HasCause, RefusesLog, StandsForEntries}
+use Rattle.nx_watch.specs.Watch.{WatchDevices, longest_entry}
 use Rattle.nx_watch.specs.LineRun.{TellsOfLines}
 use Rattle.nx_watch.specs.Stamp.{Stamp}
 use Rattle.nx_watch.specs.declared.watch_fault.WatchFault.{WatchFault}
@@ -115,8 +115,8 @@ module _ {R W F D E : Type 0} (d : Devices R W) (b : Beside F D W E) where
   -- said for each first content that explains what it answered. Where it stood for entries, all is
   -- said of what was read, kept, written and told; where it was damaged, at which line. Where it
   -- was no kept log, it was refused, and nothing was done but to read it. The disk is blamed only
-  -- where it failed. Whatever the file was, it was told on standard error what is cut, and of some
-  -- lines, and nothing else.
+  -- where it failed, and that was at a place within the file or at its end. Whatever the file was,
+  -- it was told on standard error what is cut, and of some lines, and nothing else.
   pub record WatchesFile (moment : ℕ) (disk disk_after : D) (answer : Result WatchReport WatchFault)
       : Type 0 where
     pub watched : (start : List ℕ) (entries : List MarkedCopy)
@@ -135,6 +135,8 @@ module _ {R W F D E : Type 0} (d : Devices R W) (b : Beside F D W E) where
         → (IsKeptLog IsWholeEntry longest_entry (b.tells.seen start disk) → ⊥)
         → RefusesLog (b.tells.seen start disk) answer
     pub cause : HasCause b.tells answer disk disk_after
+    pub within : (start : List ℕ) → b.tells.explains start disk_after
+        → FailsWithin b.tells start disk disk_after
     pub explained : (start : List ℕ) → b.tells.explains start disk_after
         → b.tells.explains start disk
     pub told : TellsOfLines (b.contents b.faults.inner) (b.contents b.faults_after.inner)

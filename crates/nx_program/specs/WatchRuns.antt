@@ -1,6 +1,6 @@
 -- Runs of `navtex watch FILE MOMENT` over one log, one after another, and what the log holds then
 -- (this profile).
-use Rattle.std.specs.Prelude.{◌≡◌, ◌⊎◌, ⊤, ℕ, List, [], ◌∷◌, ◌++◌, Contains, Option, Some, None}
+use Rattle.std.specs.Prelude.{◌≡◌, ◌⊎◌, ⊤, ℕ, List, [], ◌∷◌, ◌++◌, Contains, Option, Some}
 use Rattle.std.specs.Prelude.{Result, Ok, Err}
 use Rattle.clap.specs.Words.{Text}
 use Rattle.nx_disk.specs.Fresh.{IsFresh}
@@ -9,7 +9,8 @@ use Rattle.nx_envelope.specs.Message.{MessageView}
 use Rattle.nx_fec.specs.Transfers.{CountedDevice, Devices, devices}
 use Rattle.nx_fec.specs.declared.air_files.channel.Channel.{Channel}
 use Rattle.nx_kept.specs.declared.disk.DiskFile.{Ghosts as TellsOfDisk}
-use Rattle.nx_left_on.specs.Call.{CallEnd, IsOfCall, TellsAllKept, all_kept, left_behind}
+use Rattle.nx_left_on.specs.Call.{CallEnd, IsOfCall, TellsAllKept, all_kept, left_at_any_moment}
+use Rattle.nx_left_on.specs.Call.{left_behind}
 use Rattle.nx_left_on.specs.Chain.{ClocksAreNear, IsChain, Watch, all_put}
 use Rattle.nx_left_on.specs.LeftOn.{IsHeardInTimeOver}
 use Rattle.nx_receiver.specs.copies.Shares.{MarkedCopy, copies_on}
@@ -21,11 +22,19 @@ use Rattle.nx_program.specs.declared.fault.Fault.{Fault}
 use Rattle.nx_program.specs.declared.fault.Fault.TheVariants as fault
 use Rattle.nx_program.specs.declared.watch_command.WatchFailure.TheVariants.{Ended}
 
+-- How a run ended: it was over, with all kept; or a crash, or a fault of the disk, cut it off.
+-- That was behind a read of its input, or at any moment from the opening of its log on, also before
+-- its first read.
+pub data RunEnd (A : Type 0) : Type 0 where
+  kept_all : RunEnd A
+  cut_behind : A → RunEnd A
+  cut_at_any_moment : RunEnd A
+
 -- A run of the program as a watch, by values alone: the name of its log, its MOMENT, and what opens
 -- the log. Then come its input, its output and standard error, as they stand before the watch and
--- after it, the file that is handed back, what stood at each read of the input, and how it ended.
--- And there are the bytes that it found in the log, and those that it left. A crash, or a fault of
--- the disk, may have cut it off behind a read of its input; else it was over.
+-- after it, the file that is handed back, what stood at each read of the input, and what the
+-- program answers. And there are the bytes that it found in the log, those that it left, and how it
+-- ended.
 pub record WatchRun (F D R W E : Type 0) : Type 0 where
   pub name : Text
   pub moment : ℕ
@@ -41,7 +50,7 @@ pub record WatchRun (F D R W E : Type 0) : Type 0 where
   pub outcome : Result (Unit {0}) Fault
   pub found : List ℕ
   pub left : List ℕ
-  pub cut_off : Option (Stamp D (CountedDevice W) (CountedDevice E))
+  pub ended : RunEnd (Stamp D (CountedDevice W) (CountedDevice E))
 
 -- the run succeeded, or its lines went back, or a read failed: so all is kept
 abbrev pub HasKeptAll : Result (Unit {0}) Fault → Type 0
@@ -60,15 +69,21 @@ abbrev pub OpensFresh : {F D : Type 0} → (F → List ℕ → Result D FileFaul
 OpensFresh {F} {D} gives tells = (files : F) (name : Text) (disk : D) → gives files name (Ok disk)
     → (first : List (List ℕ)) × IsFresh tells first disk
 
+-- a crash may leave a file as a read finds it
+abbrev pub MayBeLeftAsFound : {D : Type 0} → TellsOfDisk D → Type 0
+MayBeLeftAsFound {D} tells =
+    (start : List ℕ) (disk : D) → tells.may_leave start disk (tells.seen start disk)
+
 -- the bytes that the last of the runs left, or these, where there is none
 abbrev pub left_last : {F D R W E : Type 0} → List ℕ → List (WatchRun F D R W E) → List ℕ
 left_last file [] = file
 left_last file (run ∷ runs) = left_last run.left runs
 
--- how the call of the watch ended in a run that was over, or cut off there
-abbrev pub call_end : {D W E : Type 0} → Option (Stamp D W E) → CallEnd
-call_end None = all_kept
-call_end (Some at) = left_behind at.read
+-- how the call of the watch ended in a run that ended so
+abbrev pub call_end : {D W E : Type 0} → RunEnd (Stamp D W E) → CallEnd
+call_end kept_all = all_kept
+call_end (cut_behind at) = left_behind at.read
+call_end cut_at_any_moment = left_at_any_moment
 
 module _ {F D R W E : Type 0} (gives : F → List ℕ → Result D FileFault → Type 0)
     (tells : TellsOfDisk D) (remaining : R → Option (List ℕ)) (contents : W → Option (List ℕ))
@@ -81,41 +96,83 @@ module _ {F D R W E : Type 0} (gives : F → List ℕ → Result D FileFault →
   beside_of run =
       beside run.files gives run.disk_after tells told run.faults run.faults_after run.stamps
 
-  -- What the run left in this file. Where it was over and kept all, that is what a read finds then,
-  -- or what a crash may leave. Else a crash left it at some moment from that read on, by which no
-  -- call of the disk had failed.
-  abbrev pub HasLeft : WatchRun F D R W E → D → Option (Stamp D (CountedDevice W) (CountedDevice E))
-      → Type 0
-  HasLeft run disk None =
+  -- These bytes are what a run could leave in this file that ended so. Where it was over and kept
+  -- all, that is what a read finds then, or what a crash may leave. Else a crash leaves it at some
+  -- moment: from that read on, by which no call of the disk had failed; or from the opening on.
+  abbrev pub Leaves : WatchRun F D R W E → D → RunEnd (Stamp D (CountedDevice W) (CountedDevice E))
+      → List ℕ → Type 0
+  Leaves run disk kept_all left =
       HasKeptAll run.outcome
-      × ((tells.seen run.found disk ≡ run.left) ⊎ tells.may_leave run.found disk run.left)
-  HasLeft run disk (Some at) =
+      × ((tells.seen run.found disk ≡ left) ⊎ tells.may_leave run.found disk left)
+  Leaves run disk (cut_behind at) left =
       Contains run.stamps at × (tells.faults at.disk ≡ 0)
-      × tells.left_since run.found disk (tells.moment at.disk) run.left
+      × tells.left_since run.found disk (tells.moment at.disk) left
+  Leaves run disk cut_at_any_moment left = tells.left_since run.found disk 0 left
+
+  -- it could leave them in the file that it handed back
+  abbrev pub CouldLeave : WatchRun F D R W E → List ℕ → Type 0
+  CouldLeave run left =
+      (disk : D) × (run.disk_after ≡ Some disk) × Leaves run disk run.ended left
 
   -- The run did what the program says of a watch. What it found explains what its file answered,
-  -- and it left what it did.
+  -- and it left what it could leave.
   pub record WasRun (run : WatchRun F D R W E) : Type 0 where
     pub watched : WatchesLog (streams_of run) (beside_of run) run.name run.moment run.outcome
     pub disk : D
     pub handed_back : run.disk_after ≡ Some disk
     pub explained : tells.explains run.found disk
-    pub has_left : HasLeft run disk run.cut_off
+    pub has_left : Leaves run disk run.ended run.left
 
-  -- The runs, one after another, are of one log that had these bytes at first. Each found what the
-  -- one before left, or what stands for the same entries.
+  -- Of a run that was cut off at any moment: what a crash could leave before its first call had
+  -- this, or it stands for the same entries as what the run found.
+  abbrev pub ComesBehind : (List ℕ → Type 0) → WatchRun F D R W E
+      → RunEnd (Stamp D (CountedDevice W) (CountedDevice E)) → Type 0
+  ComesBehind Could run kept_all = ⊤
+  ComesBehind Could run (cut_behind at) = ⊤
+  ComesBehind Could run cut_at_any_moment = (disk : D) (file : List ℕ)
+      → gives run.files run.name (Ok disk) → tells.may_leave run.found disk file
+      → Could file ⊎ StandsAlike run.found file
+
+  -- The runs follow one another over a log that has these bytes, and could have been left as these.
+  -- Each found what the one before left, or what stands for the same entries. What a crash could
+  -- leave before it is what the one before could leave.
+  abbrev pub FollowOn : List ℕ → (List ℕ → Type 0) → List (WatchRun F D R W E) → Type 0
+  FollowOn file Could [] = ⊤
+  FollowOn file Could (run ∷ runs) =
+      StandsAlike file run.found × WasRun run × ComesBehind Could run run.ended
+      × FollowOn run.left (CouldLeave run) runs
+
+  -- The runs, one after another, are of one log that had these bytes at first, and could have been
+  -- left as no others.
   abbrev pub AreOfOneLog : List ℕ → List (WatchRun F D R W E) → Type 0
-  AreOfOneLog file [] = ⊤
-  AreOfOneLog file (run ∷ runs) =
-      StandsAlike file run.found × WasRun run × AreOfOneLog run.left runs
+  AreOfOneLog file runs = FollowOn file (λ other. other ≡ file) runs
 
-  -- each is the watch of the run in the same place, behind these entries and all put before
+  -- A run that left these bytes left this file: the same, or what the next one left in turn, which
+  -- was cut off at any moment.
+  abbrev pub IsLeftOver : List ℕ → List (WatchRun F D R W E) → List ℕ → Type 0
+  IsLeftOver left [] file = file ≡ left
+  IsLeftOver left (next ∷ runs) file =
+      (file ≡ left) ⊎ ((next.ended ≡ cut_at_any_moment) × IsLeftOver next.left runs file)
+
+  -- the watch is that of the run behind these entries, which left this, with these runs behind it
+  pub record IsWatchOf (log : List MarkedCopy) (run : WatchRun F D R W E)
+      (runs : List (WatchRun F D R W E)) (watch : Watch)
+      : Type 0 where
+    pub file : List ℕ
+    pub could : CouldLeave run file
+    pub left_over : IsLeftOver run.left runs file
+    pub called : IsOfCall (streams_of run) run.moment log (call_end run.ended) file watch
+
+  -- Each is the watch of a run, in order, behind these entries and all put before. A run that was
+  -- cut off at any moment may have none: then it left what the one before could leave, or what
+  -- stands for the same entries.
   abbrev pub AreWatchesOf : List MarkedCopy → List (WatchRun F D R W E) → List Watch → Type 0
   AreWatchesOf log [] [] = ⊤
+  AreWatchesOf log [] (watch ∷ watches) = ⊥
+  AreWatchesOf log (run ∷ runs) [] = (run.ended ≡ cut_at_any_moment) × AreWatchesOf log runs []
   AreWatchesOf log (run ∷ runs) (watch ∷ watches) =
-      IsOfCall (streams_of run) run.moment log (call_end run.cut_off) run.left watch
-      × AreWatchesOf (log ++ watch.put) runs watches
-  AreWatchesOf log runs watches = ⊥
+      (IsWatchOf log run runs watch × AreWatchesOf (log ++ watch.put) runs watches)
+      ⊎ ((run.ended ≡ cut_at_any_moment) × AreWatchesOf log runs (watch ∷ watches))
 
   -- The runs are a chain of watches behind these entries. What the last of them left stands for the
   -- entries, and then for the joined entries of what each put. Where no clock is 66 hours behind, a

@@ -1,13 +1,14 @@
 //! The law of a receiver that is left on, of runs of the program. Each function does nothing; its
 //! contract is the law.
 
-ghost use Rattle.std.specs.Prelude.{◌≡◌, ℕ, List, [], Result, Some};
+ghost use Rattle.std.specs.Prelude.{◌≡◌, ◌⊎◌, ℕ, Contains, List, [], Ok, Result, Some};
 ghost use Rattle.clap.specs.Words.{Text};
+ghost use Rattle.nx_disk.specs.Fresh.{IsFresh};
 ghost use Rattle.nx_fec.specs.Transfers.{CountedDevice};
 ghost use Rattle.nx_program.specs.Arguments.{Names};
 ghost use Rattle.nx_program.specs.Report.{Answers};
 ghost use Rattle.nx_program.specs.WatchCommand.{WatchesLog, with_faults};
-ghost use Rattle.nx_program.specs.WatchRuns.{AreOfOneLog, KeepsOnce, OpensFresh, WatchRun, beside_of, streams_of};
+ghost use Rattle.nx_program.specs.WatchRuns.{AreOfOneLog, ComesBehind, CouldLeave, KeepsOnce, Leaves, MayBeLeftAsFound, OpensFresh, StandsAlike, WatchRun, beside_of, cut_at_any_moment, streams_of};
 ghost use Rattle.nx_program.specs.declared.arguments.Call.TheVariants.{Watch};
 ghost use Rattle.nx_program.specs.declared.fault.Fault.{Fault};
 ghost use Rattle.nx_receiver.specs.copies.Shares.{MarkedCopy};
@@ -21,17 +22,51 @@ use std::io::{Read, Write};
 
 /// The law of a receiver that is left on. Take runs `navtex watch FILE MOMENT` over one log, one
 /// after another, of each of which holds what `answer` says of it (`WatchesLog`). A run was over,
-/// by the end of its input, a clock that went back, or a failed read. Or a crash cut it off at any
-/// moment behind a read of its input, or a fault of the disk did. The runs are a chain of watches,
-/// of the lines that act of what each read. What the last one left stands for the entries from
-/// before, and then for what each put. A message that is heard in time over them has exactly one
-/// entry of its channel among these. An empty log stands for no entries.
+/// by the end of its input, a clock that went back, or a failed read. Or a crash cut it off, or a
+/// fault of the disk did: behind a read of its input, or at any moment from the opening of its log
+/// on, also before its first read. What a crash could leave before such a run is what the run
+/// before it could leave, or what stands for the same entries as what it found. The runs are a
+/// chain of watches, of the lines that act of what each read. One that was cut off at any moment
+/// may be none of them: it left what the run before it could leave, which then counts as left by
+/// that run. What the last one left stands for the entries from before, and then for what each put.
+/// A message that is heard in time over them has exactly one entry of its channel among these. An
+/// empty log stands for no entries.
 pub fn a_message_stands_once_in_the_log_of_runs<F: LogFiles, R: Read, W: Write, E: Write>()
     ensures once { (log : List MarkedCopy) (file : List ℕ) (runs : List (WatchRun F F.Disk R W E))
         → OpensFresh F.gives F.Disk.DiskFile → StandsForEntries log file
         → AreOfOneLog F.gives F.Disk.DiskFile R.remaining W.contents E.contents file runs
         → KeepsOnce F.gives F.Disk.DiskFile R.remaining W.contents E.contents log file runs }
     ensures from_nothing { StandsForEntries [] [] }
+{}
+
+/// What a crash could leave before a run is what the run found, or a file of the list that was
+/// handed in where its log was opened. So what the law above asks of a run that was cut off at any
+/// moment is asked of these files alone: behind another run, and of the first one.
+pub fn what_is_handed_in_could_be_left_before<F: LogFiles, R: Read, W: Write, E: Write>()
+    ensures behind { (before run : WatchRun F F.Disk R W E) (left : List (List ℕ))
+        → ((disk : F.Disk) → F.gives run.files run.name (Ok disk)
+        → IsFresh F.Disk.DiskFile left disk)
+        → ((file : List ℕ) → Contains left file
+        → CouldLeave F.gives F.Disk.DiskFile R.remaining W.contents E.contents before file
+        ⊎ StandsAlike run.found file)
+        → ComesBehind F.gives F.Disk.DiskFile R.remaining W.contents E.contents
+        (CouldLeave F.gives F.Disk.DiskFile R.remaining W.contents E.contents before) run run.ended }
+    ensures first { (file : List ℕ) (run : WatchRun F F.Disk R W E) (left : List (List ℕ))
+        → ((disk : F.Disk) → F.gives run.files run.name (Ok disk)
+        → IsFresh F.Disk.DiskFile left disk)
+        → ((other : List ℕ) → Contains left other
+        → (other ≡ file) ⊎ StandsAlike run.found other)
+        → ComesBehind F.gives F.Disk.DiskFile R.remaining W.contents E.contents
+        (λ other. other ≡ file) run run.ended }
+{}
+
+/// A run may end by a fault, and no crash comes. Then the next one finds what a read finds, and the
+/// run counts as cut off at any moment, where a crash may leave a file as a read finds it.
+pub fn what_is_found_after_a_fault_is_left<F: LogFiles, R: Read, W: Write, E: Write>()
+    ensures { (run : WatchRun F F.Disk R W E) (disk : F.Disk)
+        → MayBeLeftAsFound F.Disk.DiskFile
+        → Leaves F.gives F.Disk.DiskFile R.remaining W.contents E.contents run disk
+        cut_at_any_moment (F.Disk.seen run.found disk) }
 {}
 
 /// Where a run with the arguments `watch FILE MOMENT` hands a file back, the clause `exits` of
@@ -57,4 +92,9 @@ pub fn a_run_that_hands_its_log_back_watched_it<F: LogFiles, R: Read, W: Write, 
 pub fn the_files_of_the_system_open_fresh<'a, S: Files<File = File> + 'a>()
     ensures { OpensFresh ⟦<SystemFiles<'a, S> as LogFiles>⟧.gives
         ⟦<Noted<LogFile<'a, S>> as DiskFile>⟧ }
+{}
+
+/// A crash may leave a file of the system as a read finds it.
+pub fn the_files_of_the_system_may_be_left_as_found<'a, S: Files<File = File> + 'a>()
+    ensures { MayBeLeftAsFound ⟦<Noted<LogFile<'a, S>> as DiskFile>⟧ }
 {}

@@ -1,6 +1,6 @@
 -- A receiver that is left on, and the kept log that is its memory too (this profile).
-use Rattle.std.specs.Prelude.{◌≡◌, ◌⊎◌, ◌↔◌, ℕ, ◌+◌, ◌<◌, ◌≤◌, true, List, [], ◌∷◌, ◌++◌}
-use Rattle.std.specs.Prelude.{◌-◌, suc, length, take, drop, Option, Some, Result, Ok, Err, ⊤}
+use Rattle.std.specs.Prelude.{◌≡◌, ◌≢◌, ◌⊎◌, ◌↔◌, ℕ, ◌+◌, ◌<◌, ◌≤◌, true, List, [], ◌∷◌, ◌++◌}
+use Rattle.std.specs.Prelude.{suc, length, take, drop, Option, Some, Result, Ok, Err, ⊤}
 use Rattle.std.specs.List.{All, AllZip}
 use Rattle.std.specs.Io.KnownBytes.{Appends, Consumes}
 use Rattle.nx_fec.specs.air_files.AirFile.{Line, moment}
@@ -61,10 +61,6 @@ pub record TellsOfCut (file text : List ℕ) : Type 0 where
   pub heads : List (List ℕ)
   pub are : AreHeads (cut_of stands.tail) heads
   pub told : text ≡ cut_told (line_behind stands.front) (cut_of stands.tail) heads
-
--- all of these entries but the last
-abbrev pub all_but_last : List MarkedCopy → List MarkedCopy
-all_but_last entries = take (length entries - 1) entries
 
 -- what is remembered of a channel by these entries, at this moment; everything is selected
 abbrev pub saved_at : ℕ → List MarkedCopy → Channel → SavedState
@@ -168,18 +164,11 @@ module _ {D R W E : Type 0} (d : WatchDevices D R W E) where
   abbrev pub LeavesAtLast : (List ℕ → Type 0) → Type 0
   LeavesAtLast P = (file : List ℕ) → d.tells.may_leave d.start d.disk_after file → P file
 
-  -- each file that a crash could leave before the first call stands for the entries, or for all but
-  -- the last of them
-  abbrev pub CouldLeaveAtFirst : List MarkedCopy → Type 0
-  CouldLeaveAtFirst entries = (file : List ℕ) → d.tells.may_leave d.start d.disk file
-      → StandsForEntries entries file ⊎ StandsForEntries (all_but_last entries) file
-
-  -- Where that holds, a crash at any moment leaves a file that has this, or stands for all entries
-  -- but the last.
-  abbrev pub LeavesAtAnyMoment : List MarkedCopy → (List ℕ → Type 0) → Type 0
-  LeavesAtAnyMoment entries P = CouldLeaveAtFirst entries
-      → LeavesOnly d.tells.moment (d.tells.left_since d.start) d.disk d.disk_after
-      (λ file. StandsForEntries (all_but_last entries) file ⊎ P file)
+  -- A crash at any moment, from before the first call on, leaves what it could leave before that,
+  -- or a file that has this.
+  abbrev pub LeavesAtAnyMoment : (List ℕ → Type 0) → Type 0
+  LeavesAtAnyMoment P = LeavesOnly d.tells.moment (d.tells.left_since d.start) d.disk d.disk_after
+      (λ file. d.tells.may_leave d.start d.disk file ⊎ P file)
 
   -- At a read no put had failed, and these copies had been printed. Nothing had been written. Each
   -- file that a crash leaves from then on stands for the entries and a beginning of all copies of
@@ -262,11 +251,11 @@ module _ {D R W E : Type 0} (d : WatchDevices D R W E) where
         (d.streams.contents d.streams.writer_after.inner) d.streams.writer_after.failures log
 
   -- A watch that opened this file, which stands for these entries, and started so at this moment
-  -- read these lines until it stopped so. They print these copies; at each moment the file stands
-  -- for the entries and a beginning of the copies; and what the start cut was told, and what is
-  -- told of the lines. At each read of the input all of that stood already, of the lines that were
-  -- whole by then. A read failed exactly where it stopped at a failed read; a write failed only
-  -- where it stopped at that, or closed.
+  -- read these lines until it stopped so. They print these copies. At each moment a crash leaves
+  -- what it could leave before, or a file that stands for the entries and a beginning of the
+  -- copies. What the start cut was told, and what is told of the lines. At each read of the input
+  -- all of that stood already, of the lines that were whole by then. A read failed exactly where it
+  -- stopped at a failed read; a write failed only where it stopped at that, or closed.
   pub record HasWatchedOver (file : List ℕ) (now : ℕ) (starts : Starts)
       (entries : List MarkedCopy) (stop : Stop)
       (lines : List (Option Line)) (copies : List MarkedCopy)
@@ -280,8 +269,7 @@ module _ {D R W E : Type 0} (d : WatchDevices D R W E) where
     pub printed : PrintsUntil stop starts
         (given_by (acting_lines (moments_at now starts) lines)) copies
     pub before_each_read : All (StoodOver file now starts entries bytes copies) d.stamps
-    pub any_moment : LeavesAtAnyMoment entries (λ file.
-        (count : ℕ) × (count ≤ length copies)
+    pub any_moment : LeavesAtAnyMoment (λ file. (count : ℕ) × (count ≤ length copies)
         × StandsForEntries (entries ++ take count copies) file)
     pub failed_read : (stop ≡ unread) ↔ (d.streams.reader_after.failures ≡ 1)
     pub failed_write : FailsWrites stop d.streams.writer_after.failures
@@ -294,10 +282,11 @@ module _ {D R W E : Type 0} (d : WatchDevices D R W E) where
   HasWatched now starts entries stop lines copies =
       HasWatchedOver (d.tells.seen d.start d.disk) now starts entries stop lines copies
 
-  -- Only the file was touched, and at each moment it stands for the entries. What is to be cut of
-  -- it was told; or nothing was told, and the file is only read.
+  -- Only the file was touched, and at each moment a crash leaves what it could leave before, or a
+  -- file that stands for the entries. What is to be cut of it was told; or nothing was told, and
+  -- the file is only read.
   pub record HasOpened (entries : List MarkedCopy) : Type 0 where
-    pub any_moment : LeavesAtAnyMoment entries (StandsForEntries entries)
+    pub any_moment : LeavesAtAnyMoment (StandsForEntries entries)
     pub unread : d.streams.reader_after ≡ d.streams.reader
     pub unstamped : d.stamps ≡ []
     pub unwritten : d.streams.writer_after ≡ d.streams.writer
@@ -342,6 +331,12 @@ HasCause tells (Err Open) old new =
 HasCause tells (Err Disk) old new =
     FailedOnce (tells.faults old) (tells.faults new) (tells.has_failed_to_write new)
 HasCause tells outcome old new = tells.faults new ≡ tells.faults old
+
+-- A call of the disk that failed, where one did, was at a place within the file or at its end,
+-- where the file had these bytes at first.
+abbrev pub FailsWithin : {D : Type 0} → TellsOfDisk D → List ℕ → D → D → Type 0
+FailsWithin tells start old new =
+    tells.faults new ≢ tells.faults old → tells.has_failed_within start new
 
 -- What a watch answers of a file that is no kept log: it is damaged at its line, or a call of the
 -- disk failed, or memory ran out.

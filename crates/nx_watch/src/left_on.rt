@@ -6,7 +6,7 @@ ghost use Rattle.nx_kept.specs.Disk.{OnlyReads};
 ghost use Rattle.nx_kept.specs.Kept.{IsDamaged, IsKeptLog};
 ghost use Rattle.nx_log.specs.Entries.{IsWholeEntry};
 ghost use Rattle.nx_receiver.specs.copies.Shares.{MarkedCopy};
-ghost use Rattle.nx_watch.specs.Watch.{AnswersWatch, HasCause, RefusesLog, StandsForEntries, longest_entry};
+ghost use Rattle.nx_watch.specs.Watch.{AnswersWatch, FailsWithin, HasCause, RefusesLog, StandsForEntries, longest_entry};
 ghost use Rattle.nx_watch.specs.LineRun.{TellsOfLines};
 ghost use Rattle.nx_watch.specs.Stamps.{IsFresh, counted_of, stamps_of};
 ghost use Rattle.nx_watch.specs.private.Answering.{fault_answered};
@@ -42,11 +42,11 @@ use std::io::{Read, Write};
 /// to `writer`, each before the next read, as `listen` writes them. Whatever ends the watch then, a
 /// failed write there too, it is answered as `Disk`. Nothing else is written to `writer`.
 ///
-/// Where each file that a crash could leave before the call stands for the entries from before, or
-/// for all but the last of them, a crash at any moment leaves a file that stands for so much, or
-/// for the entries and a beginning of those that the lines print. The reader notes what stood at
-/// each of its reads. A crash at any moment from a read on leaves at least the entries of the lines
-/// that were whole at it, where no put had failed by then; else they stood on `writer`.
+/// A crash may come at any moment of the call, also before the first read. It leaves what it could
+/// leave before the call, or a file that stands for the entries from before and a beginning of
+/// those that the lines print. The reader notes what stood at each of its reads. A crash at any
+/// moment from a read on leaves at least the entries of the lines that were whole at it, where no
+/// put had failed by then; else they stood on `writer`.
 pub fn watch<D: DiskFile + Drop, R: Read, W: Write, F: Write>(
     alloc: Global,
     moment: u64,
@@ -89,6 +89,10 @@ pub fn watch<D: DiskFile + Drop, R: Read, W: Write, F: Write>(
 
     // The disk is blamed only where it failed, and called no more after that.
     ensures cause { HasCause D.DiskFile result.0 device result.1 }
+
+    // The call that failed was at a place within the file or at its end, whatever the file is.
+    ensures within { (start : List ℕ) → D.explains start result.1
+        → FailsWithin D.DiskFile start device result.1 }
     ensures explained { (start : List ℕ) → D.explains start result.1 → D.explains start device }
 
     // Whatever the file is, it was told on `notices` what is cut, and of some lines; nothing else.

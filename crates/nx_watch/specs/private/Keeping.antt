@@ -58,6 +58,8 @@ module _ {D : Type 0} (disk : TellsOfDisk D) where
     pub rest : given ≡ concat (drop count texts)
     pub failed : FailedOnce (disk.faults start.log.device) (disk.faults now.log.device)
         (disk.has_failed_to_write now.log.device)
+    pub within : (content : List ℕ) (before : List (List ℕ)) → KeepsTexts content before start
+        → disk.has_failed_within content now.log.device
     pub explained : (content : List ℕ) → disk.explains content now.log.device
         → disk.explains content start.log.device
     pub left : (content : List ℕ) (before : List (List ℕ)) → KeepsTexts content before start

@@ -10,7 +10,7 @@ use Rattle.nx_receiver.specs.air_file_runs.Listen.{given_by}
 use Rattle.nx_receiver.specs.Listener.{HearsGiven, starts_of}
 use Rattle.nx_receiver.specs.copies.InTurn.{PrintAllToEnd}
 use Rattle.nx_receiver.specs.copies.Shares.{Given, MarkedCopy, Starts}
-use Rattle.nx_watch.specs.Watch.{AnswersOver, HasCause, TellsOfCut, WatchDevices}
+use Rattle.nx_watch.specs.Watch.{AnswersOver, FailsWithin, HasCause, TellsOfCut, WatchDevices}
 use Rattle.nx_watch.specs.declared.kept_log.keeper.Keeper.{Keeper}
 use Rattle.nx_watch.specs.declared.watch_fault.WatchFault.{WatchFault}
 use Rattle.nx_watch.specs.declared.watch_report.WatchReport.{WatchReport}
@@ -63,7 +63,8 @@ module _ {D : Type 0} (disk : TellsOfDisk D) where
   -- One that had heard and kept nothing ran over its input, and started at this moment, behind this
   -- text on the notices: with what it had at hand, by each first content of the file, it answers so
   -- of the entries that its log kept, where the text tells what was cut of the file. The outcome
-  -- has its cause, and the file after it tells of itself what it told before.
+  -- has its cause; a call that failed was at a place within the file or at its end; and the file
+  -- after it tells of itself what it told before.
   pub record HasRun {R W E : Type 0} (started : ℕ) (cut : List ℕ) (logging : LoggingListener D)
       (at_hand : List ℕ → WatchDevices D R W E) (outcome : Result WatchReport WatchFault)
       (device : D) : Type 0 where
@@ -72,5 +73,8 @@ module _ {D : Type 0} (disk : TellsOfDisk D) where
         → KeepsTexts disk content texts logging.keeper
         → AnswersOver (at_hand content) file started (starts_of logging.listener) entries outcome
     pub cause : HasCause disk outcome logging.keeper.log.device device
+    pub within : (content : List ℕ) (texts : List (List ℕ))
+        → KeepsTexts disk content texts logging.keeper
+        → FailsWithin disk content logging.keeper.log.device device
     pub explained : (content : List ℕ) → disk.explains content device
         → disk.explains content logging.keeper.log.device

@@ -6,7 +6,7 @@ ghost use Rattle.nx_kept.specs.Kept.{IsDamaged, IsKeptLog, StandsFor};
 ghost use Rattle.nx_kept.specs.Open.{HasCause, KeepsRecords};
 ghost use Rattle.nx_kept.specs.declared.fault.OpenFault.TheVariants as why;
 ghost use Rattle.nx_log.specs.Entries.{IsWholeEntry};
-ghost use Rattle.nx_watch.specs.Watch.{longest_entry};
+ghost use Rattle.nx_watch.specs.Watch.{FailsWithin, longest_entry};
 ghost use Rattle.nx_watch.specs.CutTold.{TellsOfSomeCut};
 ghost use Rattle.nx_watch.specs.private.Cutting.{HasToldCut, HearsOfCut, OpensLog, TakesEntry, TellsMore};
 
@@ -62,6 +62,8 @@ impl<'a, F: Write> LogOpening<'a, F> {
         ensures faults { IfOk result (λ log. D.faults log.device ≡ D.faults device) }
         ensures cause { IfErr result (λ e.
             HasCause D.faults D.has_failed_to_read D.has_failed_to_write e.0 device e.1) }
+        ensures within { IfErr result (λ e. (start : List ℕ) → D.explains start e.1 →
+            FailsWithin D.DiskFile start device e.1) }
         ensures explained { IfOk result (λ log. (start : List ℕ) →
             D.explains start log.device → D.explains start device) }
         ensures explained_err { IfErr result (λ e. (start : List ℕ) →
@@ -106,6 +108,8 @@ pub(crate) fn open_log<D: DiskFile, F: Write>(
     ensures faults { IfOk result (λ log. D.faults log.device ≡ D.faults device) }
     ensures cause { IfErr result (λ e.
         HasCause D.faults D.has_failed_to_read D.has_failed_to_write e.0 device e.1) }
+    ensures within { IfErr result (λ e. (start : List ℕ) → D.explains start e.1 →
+        FailsWithin D.DiskFile start device e.1) }
     ensures explained { IfOk result (λ log. (start : List ℕ) →
         D.explains start log.device → D.explains start device) }
     ensures explained_err { IfErr result (λ e. (start : List ℕ) →

@@ -5,6 +5,8 @@ use Rattle.std.proofs.Common.{◌++◌, length, take, drop, Option, Some, refl, 
 use Rattle.std.proofs.Common.{append-nil, append_assoc, cond, length-append, nat_le, None}
 use Rattle.std.specs.List.{Contains, flat_map}
 use Rattle.std.specs.Prelude.{Result, Ok, Err}
+use Rattle.std.specs.Io.KnownBytes.{Consumes}
+use Rattle.std.proofs.KnownBytes.{Consumes-nil}
 use Rattle.std.proofs.Math.Seq.{take-append_seam}
 use Rattle.std.proofs.lemmas.List.{take-append-drop, take_all}
 use Rattle.std.proofs.lemmas.List.Elements.{All-contains}
@@ -16,6 +18,7 @@ use Rattle.nx_fec.specs.Transfers.{CountedDevice, IsReadOut}
 use Rattle.nx_receiver.specs.air_file_runs.Listen.{given_by}
 use Rattle.nx_receiver.specs.copies.InTurn.{PrintsInTurn}
 use Rattle.nx_receiver.specs.copies.Shares.{MarkedCopy}
+use Rattle.nx_receiver.proofs.lemmas.channels.Added.{nothing-given}
 use Rattle.nx_watch.specs.Acting.{ends_watch, goes_on, goes_on_behind, moment_said, moments_behind}
 use Rattle.nx_watch.specs.Acting.{moments_said, with_start}
 use Rattle.nx_watch.specs.AnyLines.{AreLines, cut_line, ended}
@@ -35,10 +38,10 @@ use Rattle.nx_watch.specs.declared.watch_fault.WatchFault.{WatchFault}
 use Rattle.nx_watch.specs.declared.watch_fault.WatchFault.TheVariants.{Open, Damaged, Disk, Memory}
 use Rattle.nx_watch.specs.declared.watch_fault.WatchFault.TheVariants.{Read, Back}
 use Rattle.nx_left_on.specs.Call.{CallEnd, AreSure, IsOfCall, TellsAllKept, all_kept, ending_by}
-use Rattle.nx_left_on.specs.Call.{left_behind}
+use Rattle.nx_left_on.specs.Call.{left_at_any_moment, left_behind}
 use Rattle.nx_left_on.specs.Chain.{IsLeftBy, Watch, acting_at, kept_some_at, with_copies}
 use Rattle.nx_left_on.proofs.lemmas.chains.Found.{begins-itself, begins-more}
-use Rattle.nx_left_on.proofs.lemmas.chains.Keeps.{acting-begins, keeps-all, keeps-behind, turn-begins}
+use Rattle.nx_left_on.proofs.lemmas.chains.Keeps.{acting-begins, keeps-all, keeps-behind, keeps-some, turn-begins}
 use Rattle.nx_left_on.proofs.lemmas.entries.Judging.{goes-on}
 
 -- ---- the lines of a beginning of some bytes
@@ -386,3 +389,69 @@ module _ {D R W N : Type 0} (d : WatchDevices D R W N) (now : ℕ) (entries : Li
     answer-over (Err (Back line last given)) h t =
         started-over (Err (Back line last given)) h (λ e. cc)
     answer-over (Ok report) h t = started-over (Ok report) h (λ e. cc)
+
+-- ---- at any moment, before the first read too
+
+-- a call that read nothing, and left what stands for the entries, leaves a watch
+unheard : {D R W N : Type 0} (d : WatchDevices D R W N) (now : ℕ) (entries : List MarkedCopy)
+    (file : List ℕ) → d.streams.reader_after ≡ d.streams.reader → StandsForEntries entries file
+    → (watch : Watch) × IsOfCall d.streams now entries left_at_any_moment file watch
+unheard d now entries file unread_so stands =
+    let left = keeps-some now entries [] [] file 0 unread (nothing-given (starts_at now entries))
+    (subst (λ es. StandsForEntries es file) (sym (append-nil entries)) stands) in
+    let goes = goes-on entries left.watch left.puts in (
+      with_copies left.watch goes.0 goes.1,
+      record {
+        bytes = [];
+        consumed = subst (λ r. Consumes (d.streams.remaining d.streams.reader.inner)
+            (d.streams.remaining r.inner) []) (sym unread_so)
+            (Consumes-nil (d.streams.remaining d.streams.reader.inner));
+        stop = unread;
+        lines = [];
+        read = ([], record { texts = []; whole = refl; each = tt; part = tt }, refl);
+        sure = [];
+        are_sure = refl;
+        started = left.started;
+        took = left.took;
+        read_on = left.read_on;
+        ended = left.ended;
+        left = left.left;
+        goes_on = goes.2;
+      },
+    )
+
+module _ {D R W N : Type 0} (d : WatchDevices D R W N) (now : ℕ) (entries : List MarkedCopy)
+    (file : List ℕ)
+    (crash : d.tells.left_since d.start d.disk_after (d.tells.moment d.disk) file)
+  where
+    -- what could be left before the call, or a watch
+    abbrev LeavesSome : Type 0
+    LeavesSome = d.tells.may_leave d.start d.disk file
+        ⊎ ((watch : Watch) × IsOfCall d.streams now entries left_at_any_moment file watch)
+
+    started-some : (outcome : Result WatchReport WatchFault)
+        → AnswersStarted d now (starts_at now entries) entries outcome → LeavesSome
+    started-some outcome s = elim (s.3.any_moment.each file crash) [
+      | inl before ↦ inl before
+      | inr k ↦ inr (of-call d now entries s.2 s.0 s.1 [] left_at_any_moment (take k.0 s.2) file
+          s.3 refl (keeps-some now entries s.2 s.1 file k.0 s.0 s.3.printed k.2))
+    ]
+
+    opened-some : HasOpened d entries → LeavesSome
+    opened-some o = elim (o.any_moment.each file crash) [
+      | inl before ↦ inl before
+      | inr stands ↦ inr (unheard d now entries file o.unread stands)
+    ]
+
+    pub answer-some : (outcome : Result WatchReport WatchFault)
+        → AnswersWatch d now entries outcome → LeavesSome
+    answer-some (Err Open) h = opened-some h
+    answer-some (Err Memory) h = opened-some h
+    answer-some (Err (Damaged line)) h = absurd h
+    answer-some (Err Disk) h = elim h [
+      | inl o ↦ opened-some o
+      | inr s ↦ started-some (Err Disk) s
+    ]
+    answer-some (Err Read) h = started-some (Err Read) h
+    answer-some (Err (Back line last given)) h = started-some (Err (Back line last given)) h
+    answer-some (Ok report) h = started-some (Ok report) h

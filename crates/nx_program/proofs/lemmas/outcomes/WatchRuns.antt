@@ -1,14 +1,16 @@
 -- Runs of a watch over one log are a chain of watches.
-use Rattle.std.proofs.Common.{◌≡◌, inl, inr, ℕ, List, [], ◌∷◌, ◌++◌, Option, Some, None, Result}
+use Rattle.std.proofs.Common.{◌≡◌, ◌⊎◌, inl, inr, ℕ, List, [], ◌∷◌, ◌++◌, Option, Some, None, Result}
 use Rattle.std.proofs.Common.{Ok, Err, refl, sym, ◌∙◌, subst, append-nil, append_assoc}
+use Rattle.std.specs.List.{Contains}
 use Rattle.clap.specs.Words.{Text}
+use Rattle.nx_disk.specs.Fresh.{IsFresh}
 use Rattle.nx_disk.specs.declared.file.FileFault.{FileFault}
 use Rattle.nx_fec.specs.Transfers.{CountedDevice, Devices}
 use Rattle.nx_kept.specs.declared.disk.DiskFile.{Ghosts as TellsOfDisk}
 use Rattle.nx_left_on.specs.Call.{IsOfCall, TellsAllKept}
 use Rattle.nx_left_on.specs.Chain.{IsChain, Watch, all_put}
 use Rattle.nx_left_on.proofs.lemmas.chains.Once.{put-once}
-use Rattle.nx_left_on.proofs.lemmas.chains.Stood.{answer-left, answer-over}
+use Rattle.nx_left_on.proofs.lemmas.chains.Stood.{answer-left, answer-over, answer-some}
 use Rattle.nx_receiver.specs.copies.Shares.{MarkedCopy}
 use Rattle.nx_watch.specs.Stamp.{Stamp}
 use Rattle.nx_watch.specs.Watch.{AnswersWatch, StandsForEntries}
@@ -21,8 +23,10 @@ use Rattle.nx_program.specs.WatchCommand.{with_faults}
 use Rattle.nx_program.specs.declared.arguments.Call.TheVariants.{Watch as WatchCall}
 use Rattle.nx_program.specs.declared.fault.Fault.{Fault}
 use Rattle.nx_program.proofs.lemmas.arguments.Arguments.{named_once}
-use Rattle.nx_program.specs.WatchRuns.{AreOfOneLog, AreWatchesOf, HasKeptAll, HasLeft, KeepsOnce}
-use Rattle.nx_program.specs.WatchRuns.{OpensFresh, WasRun, WatchRun, beside_of, call_end, left_last}
+use Rattle.nx_program.specs.WatchRuns.{AreOfOneLog, AreWatchesOf, ComesBehind, CouldLeave, FollowOn}
+use Rattle.nx_program.specs.WatchRuns.{HasKeptAll, IsLeftOver, KeepsOnce, Leaves, OpensFresh, RunEnd}
+use Rattle.nx_program.specs.WatchRuns.{StandsAlike, WasRun, WatchRun, beside_of, call_end}
+use Rattle.nx_program.specs.WatchRuns.{cut_at_any_moment, cut_behind, kept_all, left_last}
 use Rattle.nx_program.specs.WatchRuns.{streams_of}
 
 -- nothing at all stands for no entries
@@ -70,10 +74,14 @@ module _ {F D R W E : Type 0} (gives : F → List ℕ → Result D FileFault →
   abbrev Run : Type 0
   Run = WatchRun F D R W E
 
-  abbrev IsWatchOf : List MarkedCopy → Run → Watch → Type 0
-  IsWatchOf log run watch =
-      IsOfCall (streams_of gives tells remaining contents told run) run.moment log
-      (call_end run.cut_off) run.left watch
+  -- a run that ended so leaves a watch behind these entries, which left this file; or it was cut
+  -- off at any moment, and this file could be left before
+  abbrev LeavesSo : (List ℕ → Type 0) → List MarkedCopy → (run : Run)
+      → RunEnd (Stamp D (CountedDevice W) (CountedDevice E)) → List ℕ → Type 0
+  LeavesSo Could log run end file =
+      ((watch : Watch) × IsOfCall (streams_of gives tells remaining contents told run) run.moment
+      log (call_end end) file watch)
+      ⊎ ((end ≡ cut_at_any_moment) × (Could file ⊎ StandsAlike run.found file))
 
   -- what the program tells as all kept, the watch answered so
   tells-kept : (run : Run) (name : Text) (answer : Result WatchReport WatchFault)
@@ -101,83 +109,222 @@ module _ {F D R W E : Type 0} (gives : F → List ℕ → Result D FileFault →
         (subst (StandsForEntries log)
         (sym ((fresh run.files run.name disk given).1.seen run.found)) stands)
 
-    file-leaves : (cut_off : Option (Stamp D (CountedDevice W) (CountedDevice E)))
-        → HasLeft gives tells remaining contents told run disk_after cut_off
-        → (watch : Watch)
-        × IsOfCall (streams_of gives tells remaining contents told run) run.moment log
-        (call_end cut_off) run.left watch
-    file-leaves None h =
-        answer-over (devices_of (streams_of gives tells remaining contents told run)
+    file-leaves : (Could : List ℕ → Type 0) (file : List ℕ)
+        (end : RunEnd (Stamp D (CountedDevice W) (CountedDevice E)))
+        → ComesBehind gives tells remaining contents told Could run end
+        → Leaves gives tells remaining contents told run disk_after end file
+        → LeavesSo Could log run end file
+    file-leaves Could file kept_all begins h =
+        inl (answer-over (devices_of (streams_of gives tells remaining contents told run)
         (beside_of gives tells remaining contents told run) disk disk_after run.found) run.moment
-        log run.left h.1 answer answered-so
-        (tells-kept run run.name answer (subst HasKeptAll told_so h.0))
-    file-leaves (Some at) h =
-        answer-left (devices_of (streams_of gives tells remaining contents told run)
+        log file h.1 answer answered-so
+        (tells-kept run run.name answer (subst HasKeptAll told_so h.0)))
+    file-leaves Could file (cut_behind at) begins h =
+        inl (answer-left (devices_of (streams_of gives tells remaining contents told run)
         (beside_of gives tells remaining contents told run) disk disk_after run.found) run.moment
-        log at run.left h.0
-        (h.1 ∙ sym ((fresh run.files run.name disk given).1.no_faults)) h.2 answer answered-so
+        log at file h.0
+        (h.1 ∙ sym ((fresh run.files run.name disk given).1.no_faults)) h.2 answer answered-so)
+    file-leaves Could file cut_at_any_moment begins h =
+        elim (answer-some (devices_of (streams_of gives tells remaining contents told run)
+        (beside_of gives tells remaining contents told run) disk disk_after run.found) run.moment
+        log file (subst (λ t. tells.left_since run.found disk_after t file)
+        (sym ((fresh run.files run.name disk given).1.no_moment)) h) answer answered-so) [
+          | inl before ↦ inr (refl, begins disk file given before)
+          | inr watch ↦ inl watch
+        ]
 
-  -- each run leaves a watch
-  log-leaves : (run : Run) (log : List MarkedCopy) (disk : D)
+  -- each run leaves a watch, or what could be left before it
+  log-leaves : (Could : List ℕ → Type 0) (run : Run) (log : List MarkedCopy) (disk : D)
+      (file : List ℕ)
       → WatchesLog (streams_of gives tells remaining contents told run)
       (beside_of gives tells remaining contents told run) run.name run.moment run.outcome
       → run.disk_after ≡ Some disk → tells.explains run.found disk
-      → HasLeft gives tells remaining contents told run disk run.cut_off
-      → StandsForEntries log run.found → (watch : Watch) × IsWatchOf log run watch
-  log-leaves run log disk (Err why, given, rest) back explained left stands =
+      → ComesBehind gives tells remaining contents told Could run run.ended
+      → Leaves gives tells remaining contents told run disk run.ended file
+      → StandsForEntries log run.found → LeavesSo Could log run run.ended file
+  log-leaves Could run log disk file (Err why, given, rest) back explained begins left stands =
       absurd (none-some run.disk_after disk rest.2.unopened back)
-  log-leaves run log disk (Ok opened, given, rest) back explained left stands =
+  log-leaves Could run log disk file (Ok opened, given, rest) back explained begins left stands =
       let same : rest.0 ≡ disk = some-same rest.0 disk (sym rest.1 ∙ back) in
       file-leaves run log opened rest.0 rest.2 rest.3 rest.4 given
-      (subst (tells.explains run.found) (sym same) explained) stands run.cut_off
-      (subst (λ after. HasLeft gives tells remaining contents told run after run.cut_off)
+      (subst (tells.explains run.found) (sym same) explained) stands Could file run.ended begins
+      (subst (λ after. Leaves gives tells remaining contents told run after run.ended file)
       (sym same) left)
 
-  run-leaves : (run : Run) (log : List MarkedCopy)
-      → WasRun gives tells remaining contents told run → StandsForEntries log run.found
-      → (watch : Watch) × IsWatchOf log run watch
-  run-leaves run log was stands =
-      log-leaves run log was.disk was.watched was.handed_back was.explained was.has_left stands
+  run-leaves : (Could : List ℕ → Type 0) (run : Run) (log : List MarkedCopy) (file : List ℕ)
+      → WasRun gives tells remaining contents told run
+      → ComesBehind gives tells remaining contents told Could run run.ended
+      → CouldLeave gives tells remaining contents told run file → StandsForEntries log run.found
+      → LeavesSo Could log run run.ended file
+  run-leaves Could run log file was begins could stands =
+      log-leaves Could run log could.0 file was.watched could.1
+      (subst (tells.explains run.found)
+      (some-same was.disk could.0 (sym was.handed_back ∙ could.1)) was.explained) begins could.2
+      stands
 
-  -- what the runs keep
+  -- ---- the runs, one behind another
+
+  -- what the runs keep behind these entries, where the last before them left this file
   record Kept (log : List MarkedCopy) (file : List ℕ) (runs : List Run) : Type 0 where
     watches : List Watch
     of_runs : AreWatchesOf gives tells remaining contents told log runs watches
     chain : IsChain log watches
     stands : StandsForEntries (log ++ all_put watches) (left_last file runs)
 
-  runs-keep : (log : List MarkedCopy) (file : List ℕ) (runs : List Run)
-      → StandsForEntries log file → AreOfOneLog gives tells remaining contents told file runs
-      → Kept log file runs
-  runs-keep log file [] stands are = record {
-    watches = [];
-    of_runs = tt;
-    chain = tt;
-    stands = subst (λ entries. StandsForEntries entries file) (sym (append-nil log)) stands;
-  }
-  runs-keep log file (run ∷ runs) stands are =
-      let one = run-leaves run log are.1 (are.0 log stands) in
-      let watch = one.0 in
-      let rest = runs-keep (log ++ watch.put) run.left runs
-      (subst (StandsForEntries (log ++ watch.put)) one.1.left one.1.goes_on.puts.stands) are.2 in
-      record {
-        watches = watch ∷ rest.watches;
-        of_runs = (one.1, rest.of_runs);
-        chain = (one.1.goes_on, rest.chain);
+  -- the entries for which a file stands
+  abbrev Logged : List ℕ → Type 0
+  Logged file = (log : List MarkedCopy) × StandsForEntries log file
+
+  -- What was left before the runs is this file, or what they left in turn that were cut off at any
+  -- moment. Behind its entries they keep what they keep.
+  record KeptFrom (file : List ℕ) (Could : List ℕ → Type 0)
+      (logged : (other : List ℕ) → Could other → Logged other) (runs : List Run)
+      : Type 0 where
+    from : List ℕ
+    could : Could from
+    left_over : IsLeftOver gives tells remaining contents told file runs from
+    kept : Kept (logged from could).0 from runs
+
+  -- the entries of what a run leaves
+  logged-by : (Could : List ℕ → Type 0) (logged : (other : List ℕ) → Could other → Logged other)
+      (run : Run) (log : List MarkedCopy) (file : List ℕ) → StandsForEntries log run.found
+      → LeavesSo Could log run run.ended file → Logged file
+  logged-by Could logged run log file stands (inl w) = (
+    log ++ w.0.put,
+    subst (StandsForEntries (log ++ w.0.put)) w.1.left w.1.goes_on.puts.stands,
+  )
+  logged-by Could logged run log file stands (inr (cut, inl could)) = logged file could
+  logged-by Could logged run log file stands (inr (cut, inr alike)) = (log, alike log stands)
+
+  -- a run that was cut off at any moment may have no watch
+  left-out : (log : List MarkedCopy) (run : Run) (runs : List Run) (watches : List Watch)
+      → run.ended ≡ cut_at_any_moment
+      → AreWatchesOf gives tells remaining contents told log runs watches
+      → AreWatchesOf gives tells remaining contents told log (run ∷ runs) watches
+  left-out log run runs [] cut are = (cut, are)
+  left-out log run runs (watch ∷ watches) cut are = inr (cut, are)
+
+  -- what the last run leaves is the same, whichever of these files was left before
+  left-same : (left file : List ℕ) (runs : List Run)
+      → IsLeftOver gives tells remaining contents told left runs file
+      → left_last file runs ≡ left_last left runs
+  left-same left file [] is = is
+  left-same left file (run ∷ runs) over = refl
+
+  module _ (file : List ℕ) (Could : List ℕ → Type 0)
+      (logged : (other : List ℕ) → Could other → Logged other) (could : Could file) (run : Run)
+      (runs : List Run) where
+    abbrev log : List MarkedCopy
+    log = (logged file could).0
+
+    -- one run more
+    join : (stands : StandsForEntries log run.found) (left : List ℕ)
+        → CouldLeave gives tells remaining contents told run left
+        → IsLeftOver gives tells remaining contents told run.left runs left
+        → (l : LeavesSo Could log run run.ended left)
+        → Kept (logged-by Could logged run log left stands l).0 left runs
+        → KeptFrom file Could logged (run ∷ runs)
+    unfolding logged-by
+    join stands left can still (inl w) kept = record {
+      from = file;
+      could = could;
+      left_over = inl refl;
+      kept = record {
+        watches = w.0 ∷ kept.watches;
+        of_runs = inl (
+          record { file = left; could = can; left_over = still; called = w.1 },
+          kept.of_runs,
+        );
+        chain = (w.1.goes_on, kept.chain);
         stands = subst (λ entries. StandsForEntries entries (left_last run.left runs))
-            (append_assoc log watch.put (all_put rest.watches)) rest.stands;
-      }
+            (append_assoc log w.0.put (all_put kept.watches))
+            (subst (StandsForEntries ((log ++ w.0.put) ++ all_put kept.watches))
+            (left-same run.left left runs still) kept.stands);
+      };
+    }
+    join stands left can still (inr (cut, inl before)) kept = record {
+      from = left;
+      could = before;
+      left_over = inr (cut, still);
+      kept = record {
+        watches = kept.watches;
+        of_runs = left-out (logged left before).0 run runs kept.watches cut kept.of_runs;
+        chain = kept.chain;
+        stands = subst (StandsForEntries ((logged left before).0 ++ all_put kept.watches))
+            (left-same run.left left runs still) kept.stands;
+      };
+    }
+    join stands left can still (inr (cut, inr alike)) kept = record {
+      from = file;
+      could = could;
+      left_over = inl refl;
+      kept = record {
+        watches = kept.watches;
+        of_runs = left-out log run runs kept.watches cut kept.of_runs;
+        chain = kept.chain;
+        stands = subst (StandsForEntries (log ++ all_put kept.watches))
+            (left-same run.left left runs still) kept.stands;
+      };
+    }
+
+  keep-on : (file : List ℕ) (Could : List ℕ → Type 0)
+      (logged : (other : List ℕ) → Could other → Logged other) (could : Could file)
+      (runs : List Run) → FollowOn gives tells remaining contents told file Could runs
+      → KeptFrom file Could logged runs
+  keep-on file Could logged could [] are = record {
+    from = file;
+    could = could;
+    left_over = refl;
+    kept = record {
+      watches = [];
+      of_runs = tt;
+      chain = tt;
+      stands = subst (λ entries. StandsForEntries entries file)
+          (sym (append-nil (logged file could).0)) (logged file could).1;
+    };
+  }
+  keep-on file Could logged could (run ∷ runs) are =
+      let log = (logged file could).0 in
+      let stands : StandsForEntries log run.found = are.0 log (logged file could).1 in
+      let was = are.1 in
+      let rest = keep-on run.left (CouldLeave gives tells remaining contents told run)
+      (λ other can. logged-by Could logged run log other stands
+      (run-leaves Could run log other was are.2 can stands))
+      (was.disk, was.handed_back, was.has_left) runs are.3 in
+      join file Could logged could run runs stands rest.from rest.could rest.left_over
+      (run-leaves Could run log rest.from was are.2 rest.could stands) rest.kept
 
   pub runs-keep-once : (log : List MarkedCopy) (file : List ℕ) (runs : List Run)
       → StandsForEntries log file → AreOfOneLog gives tells remaining contents told file runs
       → KeepsOnce gives tells remaining contents told log file runs
   runs-keep-once log file runs stands are =
-      let kept = runs-keep log file runs stands are in
+      let kept = keep-on file (λ other. other ≡ file)
+      (λ other is. (log, subst (StandsForEntries log) (sym is) stands)) refl runs are in
+      let k = kept.kept in
       record {
-        watches = kept.watches;
-        of_runs = kept.of_runs;
-        chain = kept.chain;
-        stands = kept.stands;
+        watches = k.watches;
+        of_runs = k.of_runs;
+        chain = k.chain;
+        stands = subst (λ first. StandsForEntries (log ++ all_put k.watches)
+            (left_last first runs)) kept.could k.stands;
         once = λ channel message clocks heard.
-            put-once log kept.watches channel message kept.chain clocks heard;
+            put-once log k.watches channel message k.chain clocks heard;
       }
+
+-- what is handed in could be left before, and so could what a run found
+module _ {F D R W E : Type 0} (gives : F → List ℕ → Result D FileFault → Type 0)
+    (tells : TellsOfDisk D) (remaining : R → Option (List ℕ)) (contents : W → Option (List ℕ))
+    (told : E → Option (List ℕ)) (Could : List ℕ → Type 0) (run : WatchRun F D R W E)
+    (first : List (List ℕ))
+    (opens : (disk : D) → gives run.files run.name (Ok disk) → IsFresh tells first disk)
+    (all : (file : List ℕ) → Contains first file → Could file ⊎ StandsAlike run.found file)
+  where
+    pub comes-behind : (end : RunEnd (Stamp D (CountedDevice W) (CountedDevice E)))
+        → ComesBehind gives tells remaining contents told Could run end
+    comes-behind kept_all = tt
+    comes-behind (cut_behind at) = tt
+    comes-behind cut_at_any_moment = λ disk file given left.
+        elim (((opens disk given).leaves run.found file).0 left) [
+          | inl is ↦ inr (subst (StandsAlike run.found) (sym is) (λ entries stands. stands))
+          | inr there ↦ all file there
+        ]

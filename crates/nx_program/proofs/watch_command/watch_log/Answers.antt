@@ -31,6 +31,7 @@ returns-in-Ok-answer g c =
               );
           refused = c.watch-answer.ensures.refused;
           cause = c.watch-answer.ensures.cause;
+          within = c.watch-answer.ensures.within;
           explained = c.watch-answer.ensures.explained;
           told = c.watch-answer.ensures.told;
         },
@@ -65,6 +66,7 @@ returns-in-Err-answer g c =
               );
           refused = c.watch-answer.ensures.refused;
           cause = c.watch-answer.ensures.cause;
+          within = c.watch-answer.ensures.within;
           explained = c.watch-answer.ensures.explained;
           told = c.watch-answer.ensures.told;
         },

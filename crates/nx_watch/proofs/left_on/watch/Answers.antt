@@ -81,6 +81,9 @@ returns-in-Err-clause-cause g c =
     subst (λ f. HasCause disk (Err f) c.args.device c.in-Err.device) (sym c.fault_of.ensures)
     (cause-opening disk c.in-Err.fault c.args.device c.in-Err.device c.in-Err.ensures.cause)
 
+pub returns-in-Err-clause-within : goal.returns-in-Err-clause-within
+returns-in-Err-clause-within g c = λ start ex. c.in-Err.ensures.within start ex
+
 -- ---- memory ran out
 
 pub returns-in_default-clause-watched : goal.returns-in_default-clause-watched
@@ -147,6 +150,11 @@ pub returns-in_default-clause-explained : goal.returns-in_default-clause-explain
 returns-in_default-clause-explained g c = λ start ex.
     let disk = g.D.DiskFile in
     c.in-Ok.ensures.explained start (subst (disk.explains start) c.answer.ensures.device ex)
+
+pub returns-in_default-clause-within : goal.returns-in_default-clause-within
+returns-in_default-clause-within g c = λ start ex other.
+    let disk = g.D.DiskFile in
+    absurd (other (ap disk.faults c.answer.ensures.device ∙ c.in-Ok.ensures.faults))
 
 -- ---- it was started
 
@@ -237,6 +245,17 @@ returns-clause-cause g c =
     cause-behind disk c.run.result.0 c.args.device c.in-Ok.log.device c.run.result.1
     c.in-Ok.ensures.faults
     (c.run.ensures.runs c.args.notices.now some.0 some.2 b.0 refl b.1 b.2 b.3).cause
+
+pub returns-clause-within : goal.returns-clause-within
+returns-clause-within g c = λ start ex other.
+    let disk = g.D.DiskFile in
+    let b = begins g (goal.at.returns-clause-within g c).After-run in
+    let some = ran g (goal.at.returns-clause-within g c).After-run in
+    let ran-so = c.run.ensures.runs c.args.notices.now some.0 some.2 b.0 refl b.1 b.2 b.3 in
+    let o = c.in-Ok.ensures.opened start (ran-so.explained start ex) in
+    ran-so.within start o.records
+    (record { front = o.front; kept = o.kept; at_rest = o.at_rest })
+    (λ same. other (same ∙ c.in-Ok.ensures.faults))
 
 pub returns-clause-explained : goal.returns-clause-explained
 returns-clause-explained g c = λ start ex.

@@ -25,7 +25,7 @@ use Rattle.nx_receiver.specs.copies.Log.{IsLog}
 use Rattle.nx_receiver.specs.copies.Shares.{MarkedCopy, Starts, marked}
 use Rattle.nx_watch.specs.Acting.{acting_lines, first_without, goes_on, most_bytes}
 use Rattle.nx_watch.specs.declared.lines.line_effects.StartMoments.{StartMoments}
-use Rattle.nx_watch.specs.Watch.{AnswersOver, AnswersStop, FailsWrites, HadKept, HadWritten, HasCause, HasRead, HasWatchedOver, KeepsAll, KeepsSome, LeavesAtAnyMoment, StoodOver, TellsOfCut}
+use Rattle.nx_watch.specs.Watch.{AnswersOver, AnswersStop, FailsWithin, FailsWrites, HadKept, HadWritten, HasCause, HasRead, HasWatchedOver, KeepsAll, KeepsSome, LeavesAtAnyMoment, StoodOver, TellsOfCut}
 use Rattle.nx_watch.specs.Watch.{PrintsUntil, StandsForEntries, Stop, WatchDevices, at_end, back, moments_at, unread, unwritten}
 use Rattle.nx_watch.specs.LineRun.{HasTold, StandsWith, WereGiven, WithWriter, with_writer}
 use Rattle.nx_watch.specs.Stamp.{Stamp}
@@ -186,9 +186,9 @@ module _ {D R W E : Type 0} (disk : TellsOfDisk D) (content : List ℕ) (start :
         (now : Keeper D) (given : List ℕ) → AllZip IsLoggedAs entries texts
         → AllZip IsLoggedAs copies more → KeepsTexts disk content texts start
         → HasKeptSo disk now.has_failed start now more given
-        → LeavesAtAnyMoment (at-hand now.log.device) entries (λ file. (count : ℕ)
+        → LeavesAtAnyMoment (at-hand now.log.device) (λ file. (count : ℕ)
         × (count ≤ length copies) × StandsForEntries (entries ++ take count copies) file)
-    moments-of entries copies texts more now given each zip keeps kept = λ first.
+    moments-of entries copies texts more now given each zip keeps kept =
         weaker disk.moment (disk.left_since content) (disk.may_leave content) _
         (StandsForFirst texts more) start.log.device now.log.device
         (moments-so now.has_failed more now given kept texts keeps)
@@ -252,6 +252,18 @@ module _ {D : Type 0} (disk : TellsOfDisk D) where
           → disk.explains content now.log.device → disk.explains content start.log.device
       so false k = k.explained
       so true k = k.explained
+
+  pub within-of : (start now : Keeper D) (more : List (List ℕ)) (given : List ℕ)
+      → HasKeptSo disk now.has_failed start now more given → (content : List ℕ)
+      (texts : List (List ℕ)) → KeepsTexts disk content texts start
+      → FailsWithin disk content start.log.device now.log.device
+  within-of start now more given kept = so now.has_failed kept
+    where
+      so : (b : Bool) → HasKeptSo disk b start now more given → (content : List ℕ)
+          (texts : List (List ℕ)) → KeepsTexts disk content texts start
+          → FailsWithin disk content start.log.device now.log.device
+      so false k content texts keeps = λ other. absurd (other k.well)
+      so true k content texts keeps = λ other. k.within content texts keeps
 
 -- ---- how a watch stopped
 
@@ -646,6 +658,7 @@ module _ {D R W E : Type 0} (disk : TellsOfDisk D) (logging : LoggingListener D)
           cause = cause-of disk logging.keeper now h.texts h.given outcome so failed
               (λ w all. stop-cause disk logging.keeper.log.device
               now.log.device first stop h.lines h.copies outcome (well w all) all.well);
+          within = within-of disk logging.keeper now h.texts h.given so;
           explained = explained-of disk logging.keeper now h.texts h.given so;
         })
 

@@ -201,6 +201,8 @@ module _ {D : Type 0} (disk : TellsOfDisk D) where
       → now.has_failed ≡ true
       → FailedOnce (disk.faults old.log.device) (disk.faults now.log.device)
       (disk.has_failed_to_write now.log.device)
+      → ((content : List ℕ) (records : List (List ℕ)) → KeepsTexts disk content records old
+      → disk.has_failed_within content now.log.device)
       → ((content : List ℕ) → disk.explains content now.log.device
       → disk.explains content old.log.device)
       → ((content : List ℕ) (t : ℕ) (file : List ℕ) → t ≤ disk.moment now.log.device
@@ -210,7 +212,7 @@ module _ {D : Type 0} (disk : TellsOfDisk D) where
       (WithOrWithout IsWholeEntry longest_entry records entry))
       → AllKept disk start old texts given
       → HasKeptSo disk now.has_failed start now (texts ++ entry ∷ []) (given ++ entry)
-  put-failed start old now texts entry given failed once explained counts_now moments all =
+  put-failed start old now texts entry given failed once within explained counts_now moments all =
       subst (λ b. HasKeptSo disk b start now (texts ++ entry ∷ []) (given ++ entry)) (sym failed)
       (record {
         count = length texts;
@@ -219,6 +221,7 @@ module _ {D : Type 0} (disk : TellsOfDisk D) where
             ∙ sym (append-nil entry)
             ∙ ap concat (sym (drop_at texts (entry ∷ []) (length texts) refl));
         failed = record { once = once.once ∙ ap suc all.well; last = once.last };
+        within = λ content before k. within content (before ++ texts) (all.kept content before k);
         explained = λ content e. all.explained content (explained content e);
         left = λ content before k file left.
             let run = moments content (before ++ texts) (all.kept content before k) in
@@ -241,6 +244,7 @@ module _ {D : Type 0} (disk : TellsOfDisk D) where
             ∙ sym (concat-append (drop h.count texts) (entry ∷ []))
             ∙ ap concat (sym (drop-append-le h.count texts (entry ∷ []) few));
         failed = h.failed;
+        within = h.within;
         explained = h.explained;
         left = λ content before k file left.
             ⊎_elim (λ s. inl (subst (λ l. StandsForTexts (before ++ l) file)

@@ -78,9 +78,8 @@ module _ {D R W E : Type 0} (disk : TellsOfDisk D) (content : List ℕ) (old new
           stamps = stamps;
         }) entries
     has-opened entries texts each moments r w f stamps none = record {
-      any_moment = λ first.
-          weaker disk.moment (disk.left_since content) (disk.may_leave content) _ _ old new
-          moments (λ c h. ⊎_elim (λ left. ⊎_elim (λ s. inr s) (λ s. inl s) (first c left))
+      any_moment = weaker disk.moment (disk.left_since content) (disk.may_leave content) _ _ old
+          new moments (λ c h. ⊎_elim (λ left. inl left)
           (λ s. inr (record { texts = texts; each = each; stands = s })) h);
       unread = r;
       unstamped = none;
@@ -277,14 +276,13 @@ module _ {D R W E : Type 0} (disk : TellsOfDisk D) (content : List ℕ) (old mid
             before_each_read =
                 All-weaker _ _ (stood-before file now starts entries h.2 w.bytes same) stamps
                 w.before_each_read;
-            any_moment = λ first.
+            any_moment =
                 joined disk.moment (disk.left_since content) (disk.may_leave content) _ _ old mid
                 new
                 (weaker disk.moment (disk.left_since content) (disk.may_leave content) _ _ old mid
-                opened (λ c o. ⊎_elim (λ left. ⊎_elim (λ s. inr (before c s)) (λ s. inl s)
-                (first c left)) (λ s. inr (none c s)) o))
-                (w.any_moment (λ c left. inl (stood c (rests c left))))
-                (λ c o. o);
+                opened (λ c o. ⊎_elim (λ left. inl left) (λ s. inr (none c s)) o))
+                w.any_moment
+                (λ c o. ⊎_elim (λ left. inr (none c (rests c left))) (λ h. inr h) o);
             failed_read = w.failed_read;
             failed_write = w.failed_write;
             notices_told = w.notices_told;
@@ -311,17 +309,11 @@ module _ {D R W E : Type 0} (disk : TellsOfDisk D) (content : List ℕ) (old mid
               )) h.4,
         )
       where
-        stood : (c : List ℕ) → StandsForTexts texts c → StandsForEntries entries c
-        stood c s = record { texts = texts; each = each; stands = s }
-
-        before : (c : List ℕ) → StandsForEntries entries c
-            → (count : ℕ) × (count ≤ length h.2) × StandsForEntries (entries ++ take count h.2) c
-        before c s = (
-          0,
-          omega arith,
-          subst (λ l. StandsForEntries l c) (sym (append-nil entries)) s,
-        )
-
         none : (c : List ℕ) → StandsForTexts texts c
             → (count : ℕ) × (count ≤ length h.2) × StandsForEntries (entries ++ take count h.2) c
-        none c s = before c (stood c s)
+        none c s = (
+          0,
+          omega arith,
+          subst (λ l. StandsForEntries l c) (sym (append-nil entries))
+              (record { texts = texts; each = each; stands = s }),
+        )

@@ -34,7 +34,9 @@ returns-in-Err g c = λ start texts given is h.
     let since = drop start.put texts in
     kept-behind disk start _ texts c.args.entry.now (given ++ c.args.entry.now) h.before
     (put-failed disk start old _ since c.args.entry.now given refl
-    c.in-Err.ensures.faults.err c.put.ensures.explained
+    c.in-Err.ensures.faults.err
+    (λ content records k. c.in-Err.ensures.within content k.front k.at_rest)
+    c.put.ensures.explained
     (λ content t file le left. g.met.D.DiskFile.counts_now content _ t file le left)
     (λ content records k. c.put.ensures.any_moment content records is k)
     (subst (λ b. HasKeptSo disk b start old since given) c.if-self.false h.since))
