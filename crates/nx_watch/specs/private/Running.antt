@@ -67,15 +67,16 @@ abbrev pub HasToldSo : ToldBefore → Option (List ℕ) → ℕ → (List ℕ �
 HasToldSo old new failures IsTold =
     (text : List ℕ) × IsTold text × HasTold old.old new failures (old.text ++ text)
 
--- the run stands so behind these bytes: all lines with their ends were read, and those that act
--- were taken
+-- The run stands so behind these bytes: all lines with their ends were read, and those that act
+-- were taken. What was told of the lines is so whatever bytes come behind these.
 pub record IsRunning {T : Type 0} (stands : Standing T) (start now : T) (first : StartMoments)
     (run : LineRun) (old : ToldBeside) (new : Option (List ℕ)) (failures : ℕ) (bytes : List ℕ)
     : Type 0 where
   pub lines : List (Option Line)
   pub scans : IsScanning run.scanner bytes lines
   pub taken : HasTaken stands start now first lines
-  pub tells : TellsFirst first run.effects old new failures bytes lines
+  pub tells : (more : List ℕ)
+      → TellsFirst first run.effects old new failures (bytes ++ more) lines
 
 -- the run is over with this end, in these bytes
 abbrev pub EndsRun : {T : Type 0} → Standing T → T → T → StartMoments → LineEffects

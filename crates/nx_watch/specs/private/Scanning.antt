@@ -1,6 +1,6 @@
 -- How a scanner of any bytes stands.
 use Rattle.std.specs.Prelude.{◌≡◌, ℕ, ◌<◌, ◌≤◌, Bool, true, false, List, [], ◌∷◌, ◌++◌}
-use Rattle.std.specs.Prelude.{length, map, take, slice_index, Option, Some, None, option_to_list, ⊤, ⊥}
+use Rattle.std.specs.Prelude.{length, map, take, slice_index, Option, Some, None, option_to_list, ⊤}
 use Rattle.nx_code.specs.Reading.{newline}
 use Rattle.nx_fec.specs.air_files.AirFile.{IsNoLine, Line}
 use Rattle.nx_fec.specs.air_files.Lines.{Scans, max_line_bytes}
@@ -29,11 +29,12 @@ OnLine ALine P = P
 OnLine (Unknown why) P = ⊤
 
 -- where a line that isn't understood was ended, behind these lines of the bytes, it has no effect
--- for the reason that is said
+-- for the reason that is said, whatever comes behind these
 abbrev pub OnUnknown : Ended → List ℕ → List (Option Line) → Type 0
 OnUnknown Nothing bytes lines = ⊤
 OnUnknown ALine bytes lines = ⊤
-OnUnknown (Unknown why) bytes lines = IsReason bytes lines None why
+OnUnknown (Unknown why) bytes lines =
+    (more : List ℕ) → IsReason (bytes ++ more) lines None why
 
 -- these bytes behind those that the scanner took are passed over: the open line is too long
 abbrev pub ArePassed : Bool → List ℕ → List ℕ → Type 0

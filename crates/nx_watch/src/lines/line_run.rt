@@ -117,6 +117,7 @@ pub(crate) fn watch_lines<R: Read, D: DiskFile + Drop, W: Write, F: Write>(
     requires limit { limit ≤ most_bytes }
     ensures watched { (start : TheLoggingListener D) (old : ToldBefore)
         → (starts_of start.listener).moment ≡ first.newest
+        → logging.old.keeper.has_failed ≡ false
         → KeepsLines D.DiskFile start logging.old [] []
         → HasTold old.old (F.contents notices.old.inner) notices.old.failures old.text
         → (bytes : List ℕ)
@@ -217,15 +218,60 @@ impl LineRun {
                 Piece::End => return Ok(()),
                 Piece::Failed => return Err(WatchEnd::Read),
             };
-            let had_failed = logging.keeper.has_failed;
-            let taken = self.take_piece(&buffer[..count], writer, notices, logging);
-            tell_failed_put(had_failed, logging.keeper.has_failed, notices);
-            if let Err(end) = taken {
+            if let Err(end) = self.keep_piece(&buffer[..count], writer, notices, logging) {
                 return Err(end);
             }
             room -= count as u64;
         }
         Ok(())
+    }
+
+    /// Takes the lines that a piece ends, and tells of a put that failed at one of them.
+    fn keep_piece<D: DiskFile + Drop, W: Write, F: Write>(
+        &mut self,
+        piece: &[u8],
+        writer: &mut Counting<W>,
+        notices: &mut Counting<F>,
+        logging: &mut LoggingListener<D>,
+    ) -> Result<(), WatchEnd>
+        requires short { length piece.now ≤ CHUNK }
+        requires writer { writer.old.failures ≡ 0 }
+        requires room { length piece.now ≤ self.old.scanner.scanner.room }
+        requires within { self.old.scanner.scanner.room ≤ most_bytes }
+        requires few { self.old.effects.lines + length piece.now ≤ most_bytes }
+        requires fewer { self.old.effects.without_effect ≤ self.old.effects.lines }
+        ensures taken { (base : ToldBefore) (old : ToldBeside)
+            → IsBeside base logging.old.keeper.has_failed old
+            → (told : ToldBeside) × IsBeside base logging.new.keeper.has_failed told
+            × ((start : WithWriter (TheLoggingListener D) W) (first : TheStart) (bytes : List ℕ)
+            → (starts_of start.taker.listener).moment ≡ first.newest
+            → IsRunning (StandsWith (KeepsLines D.DiskFile) W.contents) start
+            (with_writer logging.old writer.old) first self.old old
+            (F.contents notices.old.inner) notices.old.failures bytes
+            → MatchResult result
+            (λ _. IsRunning (StandsWith (KeepsLines D.DiskFile) W.contents) start
+            (with_writer logging.new writer.new) first self.new told
+            (F.contents notices.new.inner) notices.new.failures (bytes ++ piece.now))
+            (λ end. (more : List ℕ) → EndsRun (StandsWith (KeepsLines D.DiskFile) W.contents) start
+            (with_writer logging.new writer.new) first
+            self.new.effects told (F.contents notices.new.inner) notices.new.failures end
+            ((bytes ++ piece.now) ++ more))) }
+        ensures room { OnOk result
+            (self.old.scanner.scanner.room ≤ self.new.scanner.scanner.room + length piece.now) }
+        ensures within { OnOk result (self.new.scanner.scanner.room ≤ most_bytes) }
+        ensures few { OnOk result
+            (self.new.effects.lines ≤ self.old.effects.lines + length piece.now) }
+        ensures fewer { OnOk result (self.new.effects.without_effect ≤ self.new.effects.lines) }
+        ensures grows { self.old.effects.lines ≤ self.new.effects.lines }
+        ensures unread { IsErrOf result ReadFailed → ⊥ }
+        ensures open { OnOk result (writer.new.failures ≡ 0) }
+        ensures unwritten { IsErrOf result WriteEnd ↔ (writer.new.failures ≡ 1) }
+        ensures written_once { writer.new.failures ≤ 1 }
+    {
+        let had_failed = logging.keeper.has_failed;
+        let taken = self.take_piece(piece, writer, notices, logging);
+        tell_failed_put(had_failed, logging.keeper.has_failed, notices);
+        taken
     }
 
     /// Takes the lines that a piece ends.
@@ -350,11 +396,13 @@ impl LineRun {
             → EndsInput first bytes lines old (F.contents notices.new.inner) notices.new.failures
             result }
     {
-        if let Some(why) = self.scanner.cut() {
-            self.pass_line(why, notices);
-            return self.count(notices);
+        match self.scanner.cut() {
+            Some(why) => {
+                self.pass_line(why, notices);
+                self.count(notices)
+            }
+            None => self.count(notices),
         }
-        self.count(notices)
     }
 
     /// Tells how many lines had no effect, and answers the counts.

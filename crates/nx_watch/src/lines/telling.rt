@@ -60,10 +60,10 @@ pub(crate) fn tell_number<F: Write>(count: u64, notices: &mut Counting<F>)
         → HasTold old (F.contents notices.new.inner) notices.new.failures
         (text ++ number_told count) }
 {
-    match count {
-        0 => {}
-        1 => tell(b"navtex: ", count, b" line had no effect\n", notices),
-        _ => tell(b"navtex: ", count, b" lines had no effect\n", notices),
+    if count > 1 {
+        tell(b"navtex: ", count, b" lines had no effect\n", notices);
+    } else if count > 0 {
+        tell(b"navtex: ", count, b" line had no effect\n", notices);
     }
 }
 
