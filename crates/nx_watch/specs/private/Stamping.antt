@@ -39,8 +39,8 @@ telling disk contents told old =
 
 module _ {D W N : Type 0} (tells : Telling D W N) where
   -- What stood at a read of a run, of these bytes: the lines that were whole, of which this holds,
-  -- had been taken; the first of them without effect had been told, and a put that had failed. Where
-  -- none had, the run went on so from what was kept then.
+  -- had been taken; the first of them without effect had been told, and a put that had failed.
+  -- Where none had, the run went on so from what was kept then.
   pub record WasRunning (start : WithWriter (LoggingListener D) W) (first : StartMoments)
       (bytes : List ℕ) (Behind : List (Option Line) → Type 0)
       (WentOn : WithWriter (LoggingListener D) W → Type 0)

@@ -138,7 +138,8 @@ passed-cause : (limit front : ℕ) (lines : List Line) (part piece rest : List �
     → HasNoEnd (take count piece) → length (part ++ take count piece) ≤ 514
     → IsCause limit front lines (part ++ take count piece) (byte ∷ rest) why
     → IsPassedOver (reason_of_fault why) part piece
-passed-cause limit front lines part piece rest count byte TooLong within here room none short cause =
+passed-cause limit front lines part piece rest count byte TooLong within here room none short
+    cause =
     absurd (omega (arith, room, cause))
 passed-cause limit front lines part piece rest count byte (LineLong line) within here room none
     short cause =

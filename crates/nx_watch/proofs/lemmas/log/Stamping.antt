@@ -319,7 +319,8 @@ module _ {D W N : Type 0} (disk : TellsOfDisk D) (contents : W → Option (List 
 
     -- the input ended, or the limit was reached
     pub running-stamped : (now : WithWriter (LoggingListener D) W) (run : LineRun)
-        (beside : ToldBeside) (new : Option (List ℕ)) (failures : ℕ) (bytes : List ℕ) (stamps : List AStamp)
+        (beside : ToldBeside) (new : Option (List ℕ)) (failures : ℕ) (bytes : List ℕ)
+        (stamps : List AStamp)
         → (h : RunsStamped (telling disk contents told old) first bytes run.effects.lines start
         (λ since. IsRunning Stands since now first run beside new failures bytes) stamps)
         → HasTaken (StandsStamped (telling disk contents told old) first bytes stamps) start now
@@ -342,8 +343,8 @@ module _ {D W N : Type 0} (disk : TellsOfDisk D) (contents : W → Option (List 
                 (lines-same bytes bytes [] [] k.lines s.lines
                 (run.scanner.scanner.part ++ k.scans.passed)
                 (run.scanner.scanner.part ++ s.scans.passed) (lines-of since k) are refl
-                (sym (k.tells []).kept_so.counted ∙ (s.tells []).kept_so.counted)) k.taken.stood) stamps
-                h.from_reads;
+                (sym (k.tells []).kept_so.counted ∙ (s.tells []).kept_so.counted)) k.taken.stood)
+                stamps h.from_reads;
           };
         }
       where
@@ -355,8 +356,8 @@ module _ {D W N : Type 0} (disk : TellsOfDisk D) (contents : W → Option (List 
 
     -- the run was over before
     pub ends-stamped : (now : WithWriter (LoggingListener D) W) (kept : LineEffects)
-        (beside : ToldBeside) (new : Option (List ℕ)) (failures : ℕ) (end : WatchEnd) (bytes : List ℕ)
-        (stamps : List AStamp)
+        (beside : ToldBeside) (new : Option (List ℕ)) (failures : ℕ) (end : WatchEnd)
+        (bytes : List ℕ) (stamps : List AStamp)
         → RunsStamped (telling disk contents told old) first bytes kept.lines start
         (λ since. EndsRun Stands since now first kept beside new failures end bytes) stamps
         → EndsRun (StandsStamped (telling disk contents told old) first bytes stamps) start now

@@ -84,8 +84,8 @@ returns-in-Ok-clause-runs g c = λ notices cut told is none range heard kept.
       );
       failed_write = c.finish.ensures.once;
       stamped = stamps-keep disk g.W.Write.contents g.F.Write.contents before c.args.first start
-          (with_writer c.watch_lines.new.logging c.watch_lines.new.writer) w.0 c.finish.result acting
-          (acting_lines c.args.first (w.3.1 ++ cut_line w.3.2)) closed.copies
+          (with_writer c.watch_lines.new.logging c.watch_lines.new.writer) w.0 c.finish.result
+          acting (acting_lines c.args.first (w.3.1 ++ cut_line w.3.2)) closed.copies
           (stamps_of c.watch_lines.new.reader) (acting-cut c.args.first w.3.1 w.3.2)
           (λ since same k. closed-on disk g.W.Write.contents (starts_of self.listener) since
           c.finish.result c.finish.new.writer acting closed.copies
@@ -138,7 +138,8 @@ returns-in-Back-clause-runs g c = λ notices cut told is none range heard kept.
     has-run disk self c.args.first g.R.Read.remaining (counted_of c.args.reader.now)
     (counted_of lines-read.reader)
     g.W.Write.contents c.args.writer.now c.finish-in-Back.new.writer g.F.Write.contents
-    notices c.finish-in-Back.new.notices cut (stamps_of lines-read.reader) stop c.finish-in-Back.result
+    notices c.finish-in-Back.new.notices cut (stamps_of lines-read.reader) stop
+    c.finish-in-Back.result
     (record {
       lines = lines;
       copies = closed.copies;
@@ -353,7 +354,8 @@ told-lines g c before said is range heard kept =
           lines-read.notices.failures
           (IsToldByEnd c.args.first w.0 lines lines-read.logging.keeper.has_failed);
     } in
-    (w.0, tells-some r c.watch_lines.result w.0 w.3)
+    let told = tells-some r c.watch_lines.result w.0 w.3 in
+    (w.0, told.0, told.1)
 
 -- behind what is cut
 told-behind : (first : StartMoments) (old new : Option (List ℕ)) (failures : ℕ) (cut : List ℕ)

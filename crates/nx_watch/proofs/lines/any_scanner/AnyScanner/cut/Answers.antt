@@ -8,10 +8,10 @@ returns-then-self c = λ bytes lines h.
 
 pub returns-then-is_err : goal.returns-then-is_err
 returns-then-is_err c = λ bytes lines h.
-    cuts-err c.args.self.now bytes lines c.end.result (sym c.is_err.ensures.value ∙ c.if-is_err.true)
-    c.if-self.false h c.end.ensures
+    cuts-err c.args.self.now bytes lines c.end.result
+    (sym c.is_err.ensures.value ∙ c.if-is_err.true) c.if-self.false h c.end.ensures
 
 pub returns : goal.returns
 returns c = λ bytes lines h.
-    cuts-ok c.args.self.now bytes lines c.end.result (sym c.is_err.ensures.value ∙ c.if-is_err.false)
-    c.if-self.false h c.end.ensures
+    cuts-ok c.args.self.now bytes lines c.end.result
+    (sym c.is_err.ensures.value ∙ c.if-is_err.false) c.if-self.false h c.end.ensures

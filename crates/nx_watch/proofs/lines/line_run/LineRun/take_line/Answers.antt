@@ -52,8 +52,8 @@ returns-in-Ok-clause-taken g c = λ start first old bytes force r.
     let one = some-line latest
     (subst (λ e. OnLine e (IsSomeAnd latest IsLine)) c.in-Line.is c.take-count.ensures.line) in
     let front = bytes ++ take c.take-count.result.0 c.args.piece.now in
-    let k = λ (behind : List ℕ). c.in-Ok.ensures.taken start first old (front ++ behind) r.lines one.0
-    force one.1 r.taken (tells-on first c.args.self.now.effects old
+    let k = λ (behind : List ℕ). c.in-Ok.ensures.taken start first old (front ++ behind) r.lines
+    one.0 force one.1 r.taken (tells-on first c.args.self.now.effects old
     (g.F.Write.contents c.args.notices.now.inner) c.args.notices.now.failures bytes
     (take c.take-count.result.0 c.args.piece.now) behind r.lines r.tells) in
     run-of stands start (with_writer c.take_known.new.taker c.take_known.new.writer) first
