@@ -2,6 +2,7 @@ pub mod Acting
 pub mod AnyLines
 pub mod CutTold
 pub mod LineRun
+pub mod LinesTold
 pub mod Stamp
 pub mod Stamps
 pub mod Start

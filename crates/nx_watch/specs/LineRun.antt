@@ -1,6 +1,6 @@
 -- A run over the lines of any bytes, for a taker of those that act (this profile).
-use Rattle.std.specs.Prelude.{◌≡◌, ◌⊎◌, ℕ, ◌+◌, ◌<◌, ◌≤◌, ◌==◌, if◌then◌else◌, true, false, List, [], ◌∷◌, ◌++◌, codes}
-use Rattle.std.specs.Prelude.{decimal, length, map, take, Option, Some, None, Result, Ok, Err, ⊤}
+use Rattle.std.specs.Prelude.{◌≡◌, ◌⊎◌, ℕ, ◌+◌, ◌<◌, ◌≤◌, Bool, true, false, List, [], ◌∷◌, ◌++◌}
+use Rattle.std.specs.Prelude.{length, map, take, Option, Some, None, Result, Ok, Err, ⊤}
 use Rattle.std.specs.Io.KnownBytes.{Appends}
 use Rattle.nx_envelope.specs.Moment.{last_moment}
 use Rattle.nx_fec.specs.air_files.AirFile.{Line, moment, elements, refuse_station, accept_station}
@@ -11,6 +11,7 @@ use Rattle.nx_watch.specs.Acting.{acting_lines, count_without, ends_watch, first
 use Rattle.nx_watch.specs.Acting.{goes_on, in_force, moments_behind, moments_said}
 use Rattle.nx_watch.specs.AnyLines.{AreLines, cut_line}
 use Rattle.nx_watch.specs.CutTold.{TellsOfSomeCut}
+use Rattle.nx_watch.specs.LinesTold.{IsToldAtEnd}
 use Rattle.nx_watch.specs.declared.lines.line_effects.StartMoments.{StartMoments}
 use Rattle.nx_watch.specs.declared.lines.line_run.LinesWatched.{LinesWatched}
 use Rattle.nx_watch.specs.declared.lines.line_run.WatchEnd.{WatchEnd}
@@ -38,22 +39,6 @@ MayAct first lines (accept_station mark letter) = ⊤
 MayAct first lines (refuse_subject mark letter) = is_vital letter ≡ false
 MayAct first lines (accept_subject mark letter) = ⊤
 
--- what is told of the first line without effect, if there is one
-abbrev pub first_told : Option ℕ → List ℕ
-first_told None = []
-first_told (Some line) = codes "navtex: line " ++ (decimal line ++ codes " had no effect\n")
-
--- what is told at the end of so many lines without effect, if there are any
-abbrev pub number_told : ℕ → List ℕ
-number_told count =
-    if count == 0 then []
-    else codes "navtex: " ++ (decimal count ++ codes " lines had no effect\n")
-
--- what is told of these lines
-abbrev pub told_of : StartMoments → List (Option Line) → List ℕ
-told_of first lines =
-    first_told (first_without first lines) ++ number_told (count_without first lines)
-
 -- this text was told: it was written, or a first part of it, but not all, where a write failed,
 -- after which none was tried
 abbrev pub HasTold : Option (List ℕ) → Option (List ℕ) → ℕ → List ℕ → Type 0
@@ -61,11 +46,12 @@ HasTold old new failures text =
     ((failures ≡ 0) × Appends old new text)
     ⊎ ((failures ≡ 1) × (taken : ℕ) × (taken < length text) × Appends old new (take taken text))
 
--- Some bytes were told of that are cut, and then some lines.
+-- Some bytes were told of that are cut, and then some lines, and a put that failed or none.
 abbrev pub TellsOfLines : Option (List ℕ) → Option (List ℕ) → ℕ → Type 0
 TellsOfLines old new failures =
-    (cut : List ℕ) × TellsOfSomeCut cut × (first : StartMoments) × (lines : List (Option Line))
-    × HasTold old new failures (cut ++ told_of first lines)
+    (cut : List ℕ) × TellsOfSomeCut cut × (first : StartMoments) × (bytes : List ℕ)
+    × (lines : List (Option Line)) × (failed : Bool) × (text : List ℕ)
+    × IsToldAtEnd first bytes lines failed text × HasTold old new failures (cut ++ text)
 
 -- These bytes were given to a writer: they were written, or a first part of them, where a write
 -- failed. Where there are none, it wasn't called.

@@ -1,5 +1,5 @@
 -- A receiver that is left on, and the kept log that is its memory too (this profile).
-use Rattle.std.specs.Prelude.{◌≡◌, ◌≢◌, ◌⊎◌, ◌↔◌, ℕ, ◌+◌, ◌<◌, ◌≤◌, true, List, [], ◌∷◌, ◌++◌}
+use Rattle.std.specs.Prelude.{◌≡◌, ◌≢◌, ◌⊎◌, ◌↔◌, ℕ, ◌+◌, ◌<◌, ◌≤◌, Bool, true, false, List, [], ◌∷◌, ◌++◌}
 use Rattle.std.specs.Prelude.{suc, length, take, drop, Option, Some, Result, Ok, Err, ⊤}
 use Rattle.std.specs.List.{All, AllZip}
 use Rattle.std.specs.Io.KnownBytes.{Appends, Consumes}
@@ -24,7 +24,8 @@ use Rattle.nx_watch.specs.Acting.{in_force, moments_behind, most_bytes}
 use Rattle.nx_watch.specs.AnyLines.{AreLines, cut_line}
 use Rattle.nx_watch.specs.CutTold.{AreHeads, cut_told}
 use Rattle.nx_watch.specs.Start.{remembered_at}
-use Rattle.nx_watch.specs.LineRun.{HasTold, StopsBehind, first_told, told_of}
+use Rattle.nx_watch.specs.LineRun.{HasTold, StopsBehind}
+use Rattle.nx_watch.specs.LinesTold.{IsToldAtEnd, IsToldByRead}
 use Rattle.nx_watch.specs.Stamp.{Stamp}
 use Rattle.nx_watch.specs.declared.lines.line_effects.StartMoments.{StartMoments}
 use Rattle.nx_watch.specs.declared.watch_report.WatchReport.{WatchReport}
@@ -204,11 +205,23 @@ module _ {D R W E : Type 0} (d : WatchDevices D R W E) where
       (cut : List ℕ) × TellsOfCut file cut
       × HasTold (d.told d.notices.inner) (d.told at.inner) at.failures (cut ++ text)
 
+  -- whether a call of the disk had failed since the watch began, as the disk stood
+  abbrev pub HadFailed : Bool → D → Type 0
+  HadFailed false at = d.tells.faults at ≡ d.tells.faults d.disk
+  HadFailed true at = d.tells.faults at ≡ suc (d.tells.faults d.disk)
+
+  -- Behind what the start cut, this had been told, of which this holds for a put that had failed by
+  -- then or none.
+  abbrev pub HasToldOf : List ℕ → D → CountedDevice E → (Bool → List ℕ → Type 0) → Type 0
+  HasToldOf file at notices IsTold =
+      (failed : Bool) × HadFailed failed at × (text : List ℕ) × IsTold failed text
+      × HasToldBehindCut file notices text
+
   -- What stood at a read of a watch that opened this file, started so at this moment, and printed
   -- these copies in all, where `bytes` are those of its input. The lines that were whole had been
   -- taken, and none ended the watch. What they print had been kept, or written from a failed put
-  -- on. What the start cut had been told, and the first of the lines without effect, or a write of
-  -- that had failed.
+  -- on. What the start cut had been told, the first of the lines without effect, and a put that had
+  -- failed, or a write of that had failed.
   pub record StoodOver (file : List ℕ) (now : ℕ) (starts : Starts) (entries : List MarkedCopy)
       (bytes : List ℕ)
       (copies : List MarkedCopy) (at : Stamp D (CountedDevice W) (CountedDevice E))
@@ -221,8 +234,8 @@ module _ {D R W E : Type 0} (d : WatchDevices D R W E) where
     pub printed : List MarkedCopy
     pub prints : PrintsInTurn starts (given_by (acting_lines (moments_at now starts) lines)) printed
     pub kept : HadKept entries printed copies at ⊎ HadWritten printed at
-    pub told : HasToldBehindCut file at.notices
-        (first_told (first_without (moments_at now starts) lines))
+    pub told : HasToldOf file at.disk at.notices
+        (IsToldByRead (moments_at now starts) (take at.read bytes) lines)
 
   -- the same over the file as it stood before the watch
   abbrev pub StoodAt : ℕ → Starts → List MarkedCopy → List ℕ → List MarkedCopy
@@ -273,8 +286,8 @@ module _ {D R W E : Type 0} (d : WatchDevices D R W E) where
         × StandsForEntries (entries ++ take count copies) file)
     pub failed_read : (stop ≡ unread) ↔ (d.streams.reader_after.failures ≡ 1)
     pub failed_write : FailsWrites stop d.streams.writer_after.failures
-    pub notices_told : HasToldBehindCut file d.notices_after
-        (told_of (moments_at now starts) lines)
+    pub notices_told : HasToldOf file d.disk_after d.notices_after
+        (IsToldAtEnd (moments_at now starts) bytes lines)
 
   -- the same over the file as it stood before the watch
   abbrev pub HasWatched : ℕ → Starts → List MarkedCopy → Stop → List (Option Line)

@@ -35,8 +35,10 @@ use std::io::{Read, Write};
 /// remembered one where that is later; one past the year 2999 isn't set. The end of the input
 /// closes the channels 0, 1 and 2 in order, and so does a moment that ends the watch. What is cut
 /// of the log is told on `notices` before it is cut. Lines without effect are told of there too:
-/// the first before the next read, and their number at the end. A failed write there is passed
-/// over. Memory is taken before the first read, and not later. Hands the file back.
+/// the first, and why it has none, before the next read, and their number at the end. A put that
+/// fails is told before the next read, or behind the number where it was in the closings. A failed
+/// write there is passed over. Memory is taken before the first read, and not later. Hands the file
+/// back.
 ///
 /// From a failed put on the disk isn't called any more: that entry and all later ones are written
 /// to `writer`, each before the next read, as `listen` writes them. Whatever ends the watch then, a

@@ -1,6 +1,6 @@
 //! The receivers of a watch, and the log in which it keeps what they print.
 
-ghost use Rattle.std.specs.Prelude.{◌≡◌, ◌+◌, ◌<◌, ◌≤◌, ℕ, Bool, List, [], ◌∷◌, ◌++◌, Option, length, take, drop, true, false};
+ghost use Rattle.std.specs.Prelude.{◌≡◌, ◌+◌, ◌<◌, ◌≤◌, ℕ, Bool, List, [], ◌∷◌, ◌++◌, Option, length, take, drop, true, false, ◌&&◌, not};
 ghost use Rattle.std.specs.List.{All, AllZip};
 ghost use Rattle.nx_envelope.specs.Moment.{last_moment};
 ghost use Rattle.nx_fec.specs.air_files.AirFile.{Line, elements};
@@ -17,6 +17,7 @@ ghost use Rattle.nx_watch.specs.declared.kept_log.keeper.Keeper.{Keeper as TheKe
 ghost use Rattle.nx_watch.specs.declared.logging_listener.LoggingListener.{LoggingListener as TheLoggingListener};
 ghost use Rattle.nx_watch.specs.CutTold.{TellsOfSomeCut};
 ghost use Rattle.nx_watch.specs.LineRun.{HasTold, TellsOfLines};
+ghost use Rattle.nx_watch.specs.LinesTold.{put_told};
 ghost use Rattle.nx_watch.specs.Stamps.{IsFresh, counted_of, stamps_of};
 ghost use Rattle.nx_watch.specs.private.Keeping.{HasKept, KeepsWith};
 ghost use Rattle.nx_watch.specs.private.LoggingListener.{HasClosed, HasRun, IsCopyInRange, IsLineInRange, KeepsHeard, KeepsLines};
@@ -25,6 +26,7 @@ use crate::kept_log::keeper::Keeper;
 use crate::lines::any_scanner::MOST_BYTES;
 use crate::lines::line_effects::StartMoments;
 use crate::lines::line_run::{ActingTaker, WatchEnd, WriteFailed, watch_lines};
+use crate::lines::telling::tell_failed_put;
 use crate::stamped::StampedReader;
 use crate::watch_fault::WatchFault;
 use crate::watch_report::WatchReport;
@@ -89,6 +91,7 @@ impl<D: DiskFile + Drop> LoggingListener<D> {
         ensures some { 0 < result }
         ensures within { from + result ≤ length packed.now }
         ensures once { writer.new.failures ≤ 1 }
+        ensures failed { self.old.keeper.has_failed ≡ true → self.new.keeper.has_failed ≡ true }
     {
         let (count, is_spelled) = self
             .listener
@@ -114,6 +117,7 @@ impl<D: DiskFile + Drop> LoggingListener<D> {
             → StandsWith (KeepsLines D.DiskFile) W.contents start
             (with_writer self.new writer.new) (lines ++ elements mark packed.now ∷ []) }
         ensures counts { FailsOnce writer.new result }
+        ensures failed { self.old.keeper.has_failed ≡ true → self.new.keeper.has_failed ≡ true }
     {
         let channel = Channel::of(mark);
         let mut at = 0;
@@ -136,6 +140,7 @@ impl<D: DiskFile + Drop> LoggingListener<D> {
             → HasClosed D.DiskFile W.contents (starts_of start.taker.listener)
             start.taker.keeper result start.writer writer.new lines }
         ensures once { writer.new.failures ≤ 1 }
+        ensures failed { self.keeper.has_failed ≡ true → result.has_failed ≡ true }
     {
         let LoggingListener {
             listener,
@@ -143,6 +148,31 @@ impl<D: DiskFile + Drop> LoggingListener<D> {
             entry: _,
         } = self;
         keep_last(keeper, listener.close(), writer)
+    }
+
+    /// Closes the channels, and tells of a put that failed then, where none had before.
+    fn finish<W: Write, F: Write>(
+        self,
+        writer: &mut Counting<W>,
+        notices: &mut Counting<F>,
+    ) -> Keeper<D>
+        requires { writer.old.failures ≤ 1 }
+        ensures closed { (start : WithWriter (TheLoggingListener D) W) (lines : List Line)
+            → StandsWith (KeepsLines D.DiskFile) W.contents start
+            (with_writer self writer.old) lines
+            → HasClosed D.DiskFile W.contents (starts_of start.taker.listener)
+            start.taker.keeper result start.writer writer.new lines }
+        ensures once { writer.new.failures ≤ 1 }
+        ensures failed { self.keeper.has_failed ≡ true → result.has_failed ≡ true }
+        ensures told { (old : Option (List ℕ)) (text : List ℕ)
+            → HasTold old (F.contents notices.old.inner) notices.old.failures text
+            → HasTold old (F.contents notices.new.inner) notices.new.failures
+            (text ++ put_told (result.has_failed && not self.keeper.has_failed)) }
+    {
+        let had_failed = self.keeper.has_failed;
+        let keeper = self.close(writer);
+        tell_failed_put(had_failed, keeper.has_failed, notices);
+        keeper
     }
 
     /// Who keeps its entries.
@@ -196,10 +226,10 @@ impl<D: DiskFile + Drop> LoggingListener<D> {
             → TellsOfLines old (F.contents notices.new.inner) notices.new.failures }
     {
         match watch_lines(reader, writer, notices, &mut self, first, MOST_BYTES) {
-            Ok(counts) => self.close(writer).answer(Ok(counts)),
+            Ok(counts) => self.finish(writer, notices).answer(Ok(counts)),
             Err(end) => match end {
                 WatchEnd::Back { line, last, given } => self
-                    .close(writer)
+                    .finish(writer, notices)
                     .answer(Err(WatchFault::Back { line, last, given })),
                 WatchEnd::Read => self.into_keeper().answer(Err(WatchFault::Read)),
                 WatchEnd::Write => self.into_keeper().answer(Err(WatchFault::Disk)),
@@ -224,6 +254,7 @@ fn keep_last<D: DiskFile + Drop, W: Write>(
         → KeepsWith D.DiskFile W.contents start keeper first writer.old texts
         → HasClosed D.DiskFile W.contents starts start result first writer.new lines }
     ensures once { writer.new.failures ≤ 1 }
+    ensures failed { keeper.has_failed ≡ true → result.has_failed ≡ true }
 {
     'entries: loop {
         let Some((channel, entry)) = last.take_next() else {
@@ -240,6 +271,8 @@ impl<D: DiskFile + Drop> ActingTaker for LoggingListener<D> {
     ghost first_moment = { λ logging. (starts_of logging.listener).moment };
 
     ghost stands = { KeepsLines D.DiskFile };
+
+    ghost has_failed = { λ logging. logging.keeper.has_failed };
 
     fn set_moment(&mut self, given: u64) {
         LoggingListener::set_moment(self, given);

@@ -201,7 +201,8 @@ fn its_cut_fails(rt: HostRuntime) {
 #[test]
 fn watch_clock_back(rt: HostRuntime) {
     let input = air_file_at(&rt, rt.alloc(), MOMENT_OF_EA01, b"T 5\nT 6\n");
-    let told = "navtex: line 5 had no effect\nnavtex: 2 lines had no effect\n\
+    let told = "navtex: line 5 had no effect: its moment is before the last one\n\
+        navtex: 2 lines had no effect\n\
         navtex: line 6: moment 6 is before 1735692000\n";
     expect_kept(
         &rt,

@@ -232,7 +232,8 @@ fn lines_without_effect_are_told(rt: HostRuntime) {
             &garbage,
             Ok(report(9, 5, Some(1), 1)),
             KEPT,
-            b"navtex: line 1 had no effect\nnavtex: 5 lines had no effect\n",
+            b"navtex: line 1 had no effect: it is no line of an air file\n\
+                navtex: 5 lines had no effect\n",
         ),
         (
             "watch-clock-behind",
@@ -240,7 +241,8 @@ fn lines_without_effect_are_told(rt: HostRuntime) {
             &late,
             Ok(report(4, 1, Some(1), 1)),
             KEPT_EB02,
-            b"navtex: line 1 had no effect\nnavtex: 1 lines had no effect\n",
+            b"navtex: line 1 had no effect: its moment is before the last one\n\
+                navtex: 1 line had no effect\n",
         ),
         (
             "watch-clock-back",
@@ -248,7 +250,8 @@ fn lines_without_effect_are_told(rt: HostRuntime) {
             &back,
             Err(ends),
             KEPT,
-            b"navtex: line 5 had no effect\nnavtex: 2 lines had no effect\n",
+            b"navtex: line 5 had no effect: its moment is before the last one\n\
+                navtex: 2 lines had no effect\n",
         ),
         (
             "one digit",
@@ -256,7 +259,8 @@ fn lines_without_effect_are_told(rt: HostRuntime) {
             &once,
             Ok(report(6, 1, Some(5), 1)),
             KEPT,
-            b"navtex: line 5 had no effect\nnavtex: 1 lines had no effect\n",
+            b"navtex: line 5 had no effect: its moment is before the last one\n\
+                navtex: 1 line had no effect\n",
         ),
     ];
     for (row, file, input, answer, left, told) in cases {
@@ -266,6 +270,40 @@ fn lines_without_effect_are_told(rt: HostRuntime) {
             assert_eq!(&rt; seen.answer, answer, "{row}, in pieces of {length}");
             expect_text(&rt, row, seen.file.bytes(), left);
             expect_text(&rt, row, &seen.told, told);
+        }
+    }
+}
+
+/// Of a feed whose one line has no effect it is told why, and that it was one.
+#[test]
+fn it_is_told_why_a_line_has_no_effect(rt: HostRuntime) {
+    let alloc = rt.alloc();
+    let mut most = Vec::new(alloc);
+    most.resize(514, b'A').expect(&rt, "memory");
+    let mut long = Vec::new(alloc);
+    long.resize(515, b'A').expect(&rt, "memory");
+    let cases: [(&[u8], &[u8], &str); 9] = [
+        (b"X", b"\n", "it is no line of an air file"),
+        (b"", b"\n", "it is no line of an air file"),
+        (&most, b"\n", "it is no line of an air file"),
+        (&long, b"\n", "it has more than 514 bytes"),
+        (&long, b"", "it has more than 514 bytes"),
+        (&most, b"", "it has no end"),
+        (b"B 01", b"", "it has no end"),
+        (b"T 32503680000", b"\n", "its moment is past the year 2999"),
+        (b"RJ L", b"\n", "subjects A, B, D and L can't be refused"),
+    ];
+    for (text, end, why) in cases {
+        let mut input = text.to_vec(alloc).expect(&rt, "memory");
+        input.extend_from_slice(end).expect(&rt, "memory");
+        let told = format!(in alloc;
+            "navtex: line 1 had no effect: {why}\nnavtex: 1 line had no effect\n"
+        )
+        .expect(&rt, "memory");
+        for length in [1, 600] {
+            let seen = watch_pieces(alloc, file_of(&rt, alloc, b""), FIRST, &input, length);
+            assert_eq!(&rt; seen.answer, Ok(report(1, 1, Some(1), 0)), "{why}");
+            expect_text(&rt, why, &seen.told, told.as_bytes());
         }
     }
 }
@@ -297,6 +335,57 @@ fn expect_whole(rt: &impl Abort, alloc: Global, call: u64, tear: Tear, left: &[u
     );
 }
 
+/// What is told of a put that failed.
+const PUT_FAILED: &[u8] =
+    b"navtex: the log can't be written; entries go to standard output from here on\n";
+
+/// A put that fails is told where it fails: behind the line without effect or before it, or behind
+/// the number of these, where the end closed the copy.
+#[test]
+fn a_put_that_fails_is_told(rt: HostRuntime) {
+    let alloc = rt.alloc();
+    let first = sent(&rt, alloc, EA01, FIRST);
+    let open = &first[..first.len().saturating_sub(150)];
+    let cases: [(&str, &[u8], &[u8], &[u8], &[u8]); 3] = [
+        (
+            "behind the line",
+            b"X\n",
+            &first,
+            b"",
+            b"navtex: line 1 had no effect: it is no line of an air file\n\
+                navtex: the log can't be written; entries go to standard output from here on\n\
+                navtex: 1 line had no effect\n",
+        ),
+        (
+            "before the line",
+            b"",
+            &first,
+            b"X\n",
+            b"navtex: the log can't be written; entries go to standard output from here on\n\
+                navtex: line 5 had no effect: it is no line of an air file\n\
+                navtex: 1 line had no effect\n",
+        ),
+        (
+            "at the end",
+            b"X\n",
+            open,
+            b"\n",
+            b"navtex: line 1 had no effect: it is no line of an air file\n\
+                navtex: 1 line had no effect\n\
+                navtex: the log can't be written; entries go to standard output from here on\n",
+        ),
+    ];
+    for (row, before, heard, behind, told) in cases {
+        let mut input = before.to_vec(alloc).expect(&rt, "memory");
+        input.extend_from_slice(heard).expect(&rt, "memory");
+        input.extend_from_slice(behind).expect(&rt, "memory");
+        let file = file_of(&rt, alloc, b"").failing_in(7);
+        let seen = watch_pieces(alloc, file, FIRST, &input, 1);
+        assert_eq!(&rt; seen.answer, Err(WatchFault::Disk), "{row}");
+        expect_text(&rt, row, &seen.told, told);
+    }
+}
+
 /// Each call of the disk fails in turn. What isn't put is written, and a new watch finds a whole
 /// log.
 #[test]
@@ -313,8 +402,13 @@ fn what_the_disk_does_not_take_is_written(rt: HostRuntime) {
             WatchFault::Disk
         };
         assert_eq!(&rt; seen.answer, Err(fault), "call {call}");
-        let written: &[u8] = if call > 6 { LOG_OF_EA01 } else { b"" };
+        let (written, told): (&[u8], &[u8]) = if call > 6 {
+            (LOG_OF_EA01, PUT_FAILED)
+        } else {
+            (b"", b"")
+        };
         assert_eq!(&rt; shown(&seen.written), shown(written), "call {call}");
+        assert_eq!(&rt; shown(&seen.told), shown(told), "call {call}");
         // What a crash leaves of the opening is tried with the kept log.
         if call > 6 {
             for tear in tears_of(call) {

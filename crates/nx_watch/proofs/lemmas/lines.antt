@@ -7,3 +7,4 @@ pub mod Run
 pub mod Scanning
 pub mod Starting
 pub mod Telling
+pub mod Told

@@ -5,6 +5,7 @@ use Rattle.nx_envelope.specs.Moment.{last_moment}
 use Rattle.nx_fec.specs.air_files.AirFile.{Line, elements, moment}
 use Rattle.nx_watch.specs.Acting.{acts, count_without, ends_watch, first_without, given, in_force}
 use Rattle.nx_watch.specs.Acting.{moment_said, moments_behind, went_far_back}
+use Rattle.nx_watch.specs.LinesTold.{IsReason}
 use Rattle.nx_watch.specs.declared.lines.line_effects.StartMoments.{StartMoments}
 use Rattle.nx_watch.specs.declared.lines.line_effects.LineEffects.{LineEffects}
 use Rattle.nx_watch.specs.declared.lines.line_effects.Effect.{Effect}
@@ -44,8 +45,9 @@ IsEffect start moments line Acts =
     × (sets start moments line ≡ false)
 IsEffect start moments line (Sets first) =
     (sets start moments line ≡ true) × (first ≡ given start)
-IsEffect start moments line Nothing =
+IsEffect start moments line (Nothing why) =
     (acts start.newest moments line ≡ false) × (ends_watch start.newest moments line ≡ false)
+    × ((bytes : List ℕ) (before : List (Option Line)) → IsReason bytes before line why)
 IsEffect start moments line (Ends last back) =
     (acts start.newest moments line ≡ false) × (ends_watch start.newest moments line ≡ true)
     × (last ≡ in_force start.newest moments) × (line ≡ Some (moment back))
@@ -60,5 +62,5 @@ pub record SameCounts (old new : LineEffects) : Type 0 where
 abbrev pub is_acting : Effect → Bool
 is_acting Acts = true
 is_acting (Sets first) = true
-is_acting Nothing = false
+is_acting (Nothing why) = false
 is_acting (Ends last given) = false

@@ -1,9 +1,10 @@
 -- How a run over the lines of any bytes stands.
-use Rattle.std.specs.Prelude.{ℕ, List, ◌++◌, Option, Err}
+use Rattle.std.specs.Prelude.{◌≡◌, ◌⊎◌, ℕ, Bool, List, [], ◌++◌, Option, None, Err}
 use Rattle.nx_fec.specs.air_files.AirFile.{Line}
 use Rattle.nx_watch.specs.AnyLines.{AreLines, cut_line}
-use Rattle.nx_watch.specs.LineRun.{AnswersRun, AreCounted, HasTaken, HasTold, Standing, first_told}
-use Rattle.nx_watch.specs.LineRun.{told_of}
+use Rattle.nx_watch.specs.Acting.{count_without, first_without}
+use Rattle.nx_watch.specs.LineRun.{AnswersRun, AreCounted, HasTaken, HasTold, Standing}
+use Rattle.nx_watch.specs.LinesTold.{IsFirstTold, IsToldByRead, number_told, put_told}
 use Rattle.nx_watch.specs.declared.lines.line_effects.LineEffects.{LineEffects}
 use Rattle.nx_watch.specs.declared.lines.line_effects.StartMoments.{StartMoments}
 use Rattle.nx_watch.specs.declared.lines.line_run.LineRun.{LineRun}
@@ -17,38 +18,69 @@ pub record ToldBefore : Type 0 where
   pub old : Option (List ℕ)
   pub text : List ℕ
 
--- behind that, the first line without effect was told, if there is one
-abbrev pub HasToldFirst : ToldBefore → Option (List ℕ) → ℕ → Option ℕ → Type 0
-HasToldFirst before new failures first =
-    HasTold before.old new failures (before.text ++ first_told first)
+-- What stood on the notices before a watch, and what it told there before the first line without
+-- effect and behind it.
+pub record ToldBeside : Type 0 where
+  pub old : Option (List ℕ)
+  pub before : List ℕ
+  pub behind : List ℕ
 
--- behind that, all that is told of these lines was told
-abbrev pub HasToldLines : ToldBefore → Option (List ℕ) → ℕ → StartMoments → List (Option Line)
-    → Type 0
-HasToldLines before new failures first lines =
-    HasTold before.old new failures (before.text ++ told_of first lines)
+-- nothing but what was told before the first line
+abbrev pub beside : ToldBefore → ToldBeside
+beside told = record { old = told.old; before = told.text; behind = [] }
 
--- this is kept of these lines, and the first of them without effect was told
-pub record TellsFirst (first : StartMoments) (kept : LineEffects) (old : ToldBefore)
+-- a put that failed was told too, before the first line without effect or behind it
+pub record IsBeside (old : ToldBefore) (failed : Bool) (told : ToldBeside) : Type 0 where
+  pub same : told.old ≡ old.old
+  pub sides : ((told.before ≡ old.text ++ put_told failed) × (told.behind ≡ []))
+      ⊎ ((told.before ≡ old.text) × (told.behind ≡ put_told failed))
+
+-- This is kept of these lines of the bytes, and the first of them without effect was told, between
+-- what stands before it and behind it. While there is none, nothing stands behind it.
+pub record TellsFirst (first : StartMoments) (kept : LineEffects) (old : ToldBeside)
     (new : Option (List ℕ))
-    (failures : ℕ) (lines : List (Option Line))
+    (failures : ℕ) (bytes : List ℕ) (lines : List (Option Line))
     : Type 0 where
   pub kept_so : IsKept first lines kept
-  pub told : HasToldFirst old new failures kept.first_without
+  pub one : List ℕ
+  pub is : IsFirstTold bytes lines kept.first_without one
+  pub told : HasTold old.old new failures ((old.before ++ one) ++ old.behind)
+  pub none : kept.first_without ≡ None → old.behind ≡ []
 
--- the run stands so behind these bytes: all lines with their ends were read, and those that act
--- were taken
+-- and so was how many of these lines had no effect
+pub record HasToldLines (old : ToldBeside) (new : Option (List ℕ)) (failures : ℕ)
+    (first : StartMoments) (bytes : List ℕ) (lines : List (Option Line)) : Type 0 where
+  pub one : List ℕ
+  pub is : IsFirstTold bytes lines (first_without first lines) one
+  pub told : HasTold old.old new failures
+      (((old.before ++ one) ++ old.behind) ++ number_told (count_without first lines))
+
+-- The text was told when a run over lines was over: what was told by a read, and how many lines had
+-- no effect.
+abbrev pub IsToldByEnd : StartMoments → List ℕ → List (Option Line) → Bool → List ℕ → Type 0
+IsToldByEnd first bytes lines failed text =
+    (early : List ℕ) × IsToldByRead first bytes lines failed early
+    × (text ≡ early ++ number_told (count_without first lines))
+
+-- behind what was told before the first line this was told, of which this holds
+abbrev pub HasToldSo : ToldBefore → Option (List ℕ) → ℕ → (List ℕ → Type 0) → Type 0
+HasToldSo old new failures IsTold =
+    (text : List ℕ) × IsTold text × HasTold old.old new failures (old.text ++ text)
+
+-- The run stands so behind these bytes: all lines with their ends were read, and those that act
+-- were taken. What was told of the lines is so whatever bytes come behind these.
 pub record IsRunning {T : Type 0} (stands : Standing T) (start now : T) (first : StartMoments)
-    (run : LineRun) (old : ToldBefore) (new : Option (List ℕ)) (failures : ℕ) (bytes : List ℕ)
+    (run : LineRun) (old : ToldBeside) (new : Option (List ℕ)) (failures : ℕ) (bytes : List ℕ)
     : Type 0 where
   pub lines : List (Option Line)
   pub scans : IsScanning run.scanner bytes lines
   pub taken : HasTaken stands start now first lines
-  pub tells : TellsFirst first run.effects old new failures lines
+  pub tells : (more : List ℕ)
+      → TellsFirst first run.effects old new failures (bytes ++ more) lines
 
 -- the run is over with this end, in these bytes
 abbrev pub EndsRun : {T : Type 0} → Standing T → T → T → StartMoments → LineEffects
-    → ToldBefore → Option (List ℕ) → ℕ → WatchEnd → List ℕ → Type 0
+    → ToldBeside → Option (List ℕ) → ℕ → WatchEnd → List ℕ → Type 0
 EndsRun stands start now first kept old new failures end bytes =
     AnswersRun (record {
       stands = stands;
@@ -56,14 +88,14 @@ EndsRun stands start now first kept old new failures end bytes =
       now = now;
       first = first;
       AtEnd = ⊥;
-      tells = TellsFirst first kept old new failures;
+      tells = TellsFirst first kept old new failures bytes;
     }) (Err end) bytes
 
 -- the input ended: these are the counts of the lines, a cut one too, and all was told
 pub record EndsInput (first : StartMoments) (bytes : List ℕ) (lines : List (Option Line))
-    (old : ToldBefore) (new : Option (List ℕ)) (failures : ℕ) (counts : LinesWatched)
+    (old : ToldBeside) (new : Option (List ℕ)) (failures : ℕ) (counts : LinesWatched)
     : Type 0 where
   pub rest : List ℕ
   pub are : AreLines bytes lines rest
   pub counted : AreCounted first (lines ++ cut_line rest) counts
-  pub told : HasToldLines old new failures first (lines ++ cut_line rest)
+  pub told : HasToldLines old new failures first bytes (lines ++ cut_line rest)

@@ -4,15 +4,16 @@ use Rattle.std.specs.List.{All}
 use Rattle.nx_fec.specs.air_files.AirFile.{Line}
 use Rattle.nx_fec.specs.Transfers.{CountedDevice}
 use Rattle.nx_kept.specs.declared.disk.DiskFile.{Ghosts as TellsOfDisk}
-use Rattle.nx_watch.specs.Acting.{acting_lines, first_without, goes_on}
+use Rattle.nx_watch.specs.Acting.{acting_lines, goes_on}
 use Rattle.nx_watch.specs.AnyLines.{AreLines}
 use Rattle.nx_watch.specs.LineRun.{StandsWith, WithWriter, with_writer}
+use Rattle.nx_watch.specs.LinesTold.{IsToldByRead}
 use Rattle.nx_watch.specs.Stamp.{Stamp}
 use Rattle.nx_watch.specs.declared.lines.line_effects.StartMoments.{StartMoments}
 use Rattle.nx_watch.specs.declared.logging_listener.LoggingListener.{LoggingListener}
 use Rattle.nx_watch.specs.private.Keeping.{keeper_since}
 use Rattle.nx_watch.specs.private.LoggingListener.{KeepsLines}
-use Rattle.nx_watch.specs.private.Running.{HasToldFirst, ToldBefore}
+use Rattle.nx_watch.specs.private.Running.{HasToldSo, ToldBefore}
 
 -- one that began like this one, and to which the other's log, of so many texts, was given
 abbrev pub logging_since : {D : Type 0} → LoggingListener D → LoggingListener D → ℕ
@@ -38,8 +39,8 @@ telling disk contents told old =
 
 module _ {D W N : Type 0} (tells : Telling D W N) where
   -- What stood at a read of a run, of these bytes: the lines that were whole, of which this holds,
-  -- had been taken, and the first of them without effect had been told. Where no put had failed,
-  -- the run went on so from what was kept then.
+  -- had been taken; the first of them without effect had been told, and a put that had failed.
+  -- Where none had, the run went on so from what was kept then.
   pub record WasRunning (start : WithWriter (LoggingListener D) W) (first : StartMoments)
       (bytes : List ℕ) (Behind : List (Option Line) → Type 0)
       (WentOn : WithWriter (LoggingListener D) W → Type 0)
@@ -55,8 +56,8 @@ module _ {D W N : Type 0} (tells : Telling D W N) where
     pub on : goes_on first lines ≡ true
     pub stood : StandsWith (KeepsLines tells.disk) tells.contents start
         (with_writer past at.writer) (acting_lines first lines)
-    pub told_first : HasToldFirst tells.old (tells.told at.notices.inner) at.notices.failures
-        (first_without first lines)
+    pub told : HasToldSo tells.old (tells.told at.notices.inner) at.notices.failures
+        (IsToldByRead first (take at.read bytes) lines past.keeper.has_failed)
     pub well : at.writer.failures ≡ 0
     pub went_on : past.keeper.has_failed ≡ false
         → WentOn (with_writer (logging_since start.taker past (length stood.1.texts)) at.writer)

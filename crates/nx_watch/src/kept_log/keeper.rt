@@ -75,6 +75,7 @@ impl<D: DiskFile + Drop> Keeper<D> {
             → KeepsWith D.DiskFile W.contents start self.new first writer.new
             (texts ++ entry.now ∷ []) }
         ensures once { writer.new.failures ≤ 1 }
+        ensures failed { self.old.has_failed ≡ true → self.new.has_failed ≡ true }
     {
         if self.put(entry) {
             return;
@@ -84,7 +85,8 @@ impl<D: DiskFile + Drop> Keeper<D> {
 
     /// Puts an entry into the log, unless a put failed before. Says whether that was done.
     fn put(&mut self, entry: &[u8]) -> bool
-        ensures { (start : TheKeeper D) (texts : List (List ℕ)) (given : List ℕ)
+        ensures failed { self.old.has_failed ≡ true → self.new.has_failed ≡ true }
+        ensures kept { (start : TheKeeper D) (texts : List (List ℕ)) (given : List ℕ)
             → IsWholeEntry entry.now
             → HasKept D.DiskFile start self.old texts given
             → HasKept D.DiskFile start self.new (texts ++ entry.now ∷ [])

@@ -6,11 +6,12 @@ ghost use Rattle.nx_fec.specs.air_files.AirFile.{IsLine, Line};
 ghost use Rattle.nx_fec.specs.air_files.Lines.{Scans};
 ghost use Rattle.nx_watch.specs.AnyLines.{AreLines, HasNoEnd, cut_line};
 ghost use Rattle.nx_watch.specs.Acting.{most_bytes};
-ghost use Rattle.nx_watch.specs.private.Scanning.{CutsAs, IsPassedOver, IsScanning, OnLine, lines_ended};
+ghost use Rattle.nx_watch.specs.private.Scanning.{CutsAs, IsPassedOver, IsScanning, OnLine, OnUnknown, lines_ended, reason_of_fault};
 
+use crate::lines::no_effect::NoEffect;
 use memchr::memchr;
 use nx_code::NEWLINE;
-use nx_fec::{CHUNK, LineKind, PackedElements, Scanner};
+use nx_fec::{CHUNK, LineFault, LineKind, PackedElements, Scanner};
 
 /// The most bytes of the input of a watch: 2^63 - 1.
 pub(crate) const MOST_BYTES: u64 = 9_223_372_036_854_775_807;
@@ -31,8 +32,8 @@ pub(crate) enum Ended {
     Nothing,
     /// A line of an air file, which is the scanner's latest.
     Line,
-    /// A line that isn't understood.
-    Unknown,
+    /// A line that isn't understood, and why it has no effect.
+    Unknown(NoEffect),
 }
 
 impl AnyScanner {
@@ -62,39 +63,45 @@ impl AnyScanner {
             → IsScanning self.new (bytes ++ take result.0 piece.now)
             (lines ++ lines_ended result.1 self.new.scanner.latest) }
         ensures line { OnLine result.1 (IsSomeAnd self.new.scanner.latest IsLine) }
+        ensures reason { (bytes : List ℕ) (lines : List (Option Line))
+            → IsScanning self.old bytes lines
+            → OnUnknown result.1 (bytes ++ take result.0 piece.now) lines }
         ensures some { 0 < result.0 }
         ensures all { result.0 ≤ length piece.now }
         ensures room { self.old.scanner.room ≤ self.new.scanner.room + result.0 }
         ensures within { self.new.scanner.room ≤ most_bytes }
     {
         if self.is_passing {
-            return self.pass(piece);
+            return self.pass(piece, NoEffect::TooLong);
         }
         match self.scanner.push_line(piece) {
             Ok(count) if self.scanner.latest().is_some() => (count, Ended::Line),
             Ok(count) => (count, Ended::Nothing),
-            Err(_) => self.pass(piece),
+            Err(fault) => self.pass(piece, reason_of(fault)),
         }
     }
 
     /// Passes over the bytes of a piece up to and with its first line feed, or all where there is
-    /// none: they are of a line that isn't understood.
+    /// none: they are of a line that isn't understood, for this reason where it ends there.
     #[inline(never)]
-    fn pass(&mut self, piece: &[u8]) -> (usize, Ended)
+    fn pass(&mut self, piece: &[u8], why: NoEffect) -> (usize, Ended)
         requires some { 0 < length piece.now }
         requires short { length piece.now ≤ CHUNK }
         ensures scans { (before : List ℕ) (lines : List (Option Line)) (part : List ℕ)
-            → AreLines before lines [] → HasNoEnd part → IsPassedOver part piece.now
+            → AreLines before lines [] → HasNoEnd part → IsPassedOver why part piece.now
             → IsScanning self.new ((before ++ part) ++ take result.0 piece.now)
             (lines ++ lines_ended result.1 self.new.scanner.latest) }
         ensures line { OnLine result.1 (IsSomeAnd self.new.scanner.latest IsLine) }
+        ensures reason { (before : List ℕ) (lines : List (Option Line)) (part : List ℕ)
+            → AreLines before lines [] → HasNoEnd part → IsPassedOver why part piece.now
+            → OnUnknown result.1 ((before ++ part) ++ take result.0 piece.now) lines }
         ensures some { 0 < result.0 }
         ensures all { result.0 ≤ length piece.now }
         ensures room { self.new.scanner.room ≡ most_bytes }
     {
         *self = AnyScanner::new();
         match memchr(NEWLINE, piece) {
-            Some(at) => (at + 1, Ended::Unknown),
+            Some(at) => (at + 1, Ended::Unknown(why)),
             None => {
                 self.is_passing = true;
                 (piece.len(), Ended::Nothing)
@@ -102,11 +109,28 @@ impl AnyScanner {
         }
     }
 
-    /// Whether a line is open, which the end of the bytes cuts.
-    pub(crate) fn is_open(&self) -> bool
+    /// Why the line has no effect that the end of the bytes cuts, where one is open.
+    pub(crate) fn cut(&self) -> Option<NoEffect>
         ensures { (bytes : List ℕ) (lines : List (Option Line)) → IsScanning self.now bytes lines
             → CutsAs result bytes lines }
     {
-        self.is_passing || self.scanner.end().is_err()
+        if self.is_passing {
+            return Some(NoEffect::TooLong);
+        }
+        if self.scanner.end().is_err() {
+            return Some(NoEffect::NoEnd);
+        }
+        None
+    }
+}
+
+/// Why a line has no effect at which a scanner stopped.
+fn reason_of(fault: LineFault) -> NoEffect
+    ensures { result ≡ reason_of_fault fault }
+{
+    match fault {
+        LineFault::BadLine { line: _ } => NoEffect::NoLine,
+        LineFault::LineCut { line: _ } => NoEffect::NoEnd,
+        LineFault::LineLong { line: _ } | LineFault::TooLong => NoEffect::TooLong,
     }
 }

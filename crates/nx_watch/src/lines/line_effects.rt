@@ -1,17 +1,19 @@
 //! Which lines act, and which one ends the watch.
 
-ghost use Rattle.std.specs.Prelude.{◌≡◌, ◌+◌, ◌^◌, ◌<◌, ◌≤◌, ℕ, Bool, List, [], ◌∷◌, ◌++◌, Option, Some, None, IsSome, true, if◌then◌else◌};
+ghost use Rattle.std.specs.Prelude.{◌≡◌, ◌+◌, ◌^◌, ◌<◌, ◌≤◌, ℕ, Bool, List, [], ◌∷◌, ◌++◌, Option, Some, None, IsSome, true, false, if◌then◌else◌};
 ghost use Rattle.nx_fec.specs.air_files.AirFile.{Line, elements, moment};
 ghost use Rattle.nx_fec.specs.air_files.Scanner.{kind_of};
 ghost use Rattle.nx_fec.specs.declared.air_files.channel.Channel.{Channel};
 ghost use Rattle.nx_memory.specs.Selection.{is_vital};
 ghost use Rattle.nx_watch.specs.declared.lines.line_effects.LineEffects.{LineEffects as TheEffects};
 ghost use Rattle.nx_watch.specs.declared.lines.line_effects.StartMoments.{StartMoments as TheStart};
+ghost use Rattle.nx_watch.specs.declared.lines.no_effect.NoEffect.TheVariants.{Vital};
 ghost use Rattle.nx_watch.specs.Acting.{acts, moment_said, moments_behind};
 ghost use Rattle.nx_watch.specs.LineRun.{AreCounted};
 ghost use Rattle.nx_watch.specs.private.Effects.{is_acting, IsEffect, IsKept, KeepsMoments, SameCounts, said_behind};
 
 use crate::lines::line_run::LinesWatched;
+use crate::lines::no_effect::NoEffect;
 use nx_envelope::{LAST_MOMENT, Letter};
 use nx_fec::LineKind;
 use nx_memory::{LIFETIME, Selection};
@@ -52,8 +54,8 @@ pub(crate) enum Effect {
     Acts,
     /// It acts, behind this moment, which it sets.
     Sets(u64),
-    /// It has no effect.
-    Nothing,
+    /// It has no effect, for this reason.
+    Nothing(NoEffect),
     /// It has no effect, and ends the watch: it goes back from the last moment to the given one.
     Ends { last: u64, given: u64 },
 }
@@ -120,6 +122,8 @@ impl LineEffects {
         ensures fewer { self.new.without_effect ≤ self.new.lines }
         ensures first { IsSome self.old.first_without
             → self.new.first_without ≡ self.old.first_without }
+        ensures none { is_acting result ≡ false → self.old.first_without ≡ None
+            → self.new.first_without ≡ Some self.new.lines }
         ensures acting { is_acting result ≡ true → self.new.first_without ≡ self.old.first_without }
     {
         let effect = self.effect_of(kind);
@@ -137,6 +141,8 @@ impl LineEffects {
         ensures fewer { self.new.without_effect ≤ self.new.lines }
         ensures first { IsSome self.old.first_without
             → self.new.first_without ≡ self.old.first_without }
+        ensures none { self.old.first_without ≡ None
+            → self.new.first_without ≡ Some self.new.lines }
     {
         self.count(false);
     }
@@ -153,7 +159,7 @@ impl LineEffects {
         match kind {
             LineKind::Elements(_) => self.effect_of_elements(),
             LineKind::Moment(given) => self.effect_of_moment(given),
-            LineKind::RefuseSubject(_, byte) => acting_if(!is_vital_subject(byte)),
+            LineKind::RefuseSubject(_, byte) => effect_of_refusal(byte),
             LineKind::RefuseStation(_, _)
             | LineKind::AcceptStation(_, _)
             | LineKind::AcceptSubject(_, _) => Effect::Acts,
@@ -188,7 +194,7 @@ impl LineEffects {
         ensures counts { SameCounts self.old self.new }
     {
         if given > LAST_MOMENT {
-            return Effect::Nothing;
+            return Effect::Nothing(NoEffect::PastLast);
         }
         let last = self.moment;
         let is_far_back = given + LIFETIME <= last;
@@ -202,7 +208,7 @@ impl LineEffects {
         if is_far_back && went_far_back {
             return Effect::Ends { last, given };
         }
-        Effect::Nothing
+        Effect::Nothing(NoEffect::GoesBack)
     }
 
     /// Counts a line.
@@ -221,6 +227,8 @@ impl LineEffects {
         ensures fewer { self.new.without_effect ≤ self.new.lines }
         ensures first { IsSome self.old.first_without
             → self.new.first_without ≡ self.old.first_without }
+        ensures none { acted ≡ false → self.old.first_without ≡ None
+            → self.new.first_without ≡ Some self.new.lines }
         ensures acting { acted ≡ true → self.new.first_without ≡ self.old.first_without }
     {
         self.lines += 1;
@@ -244,12 +252,16 @@ impl Effect {
     }
 }
 
-/// A line that acts, or has no effect.
+/// What the refusal of the subject of this byte does.
 #[inline(always)]
-fn acting_if(acts: bool) -> Effect
-    ensures { result ≡ (if acts then Effect.Acts else Effect.Nothing) }
+fn effect_of_refusal(byte: u8) -> Effect
+    ensures { result ≡ (if is_vital byte then Effect.Nothing Vital else Effect.Acts) }
 {
-    if acts { Effect::Acts } else { Effect::Nothing }
+    if is_vital_subject(byte) {
+        Effect::Nothing(NoEffect::Vital)
+    } else {
+        Effect::Acts
+    }
 }
 
 /// Whether the subject of this byte can't be refused (ITU-R M.540).

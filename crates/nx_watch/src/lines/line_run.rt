@@ -1,14 +1,15 @@
 //! A run over the lines of any bytes, which goes on behind those that aren't understood. What runs
 //! for each line is inlined always; what is done for one that isn't understood never is.
 
-ghost use Rattle.std.specs.Prelude.{◌≡◌, ◌+◌, ◌<◌, ◌≤◌, ◌↔◌, ◌⊎◌, ℕ, List, [], ◌∷◌, ◌++◌, Option, IsErrOf, IsSomeAnd, IfErr, IfOk, OnOk, MatchResult, None, Some, length, take, ◌^◌};
+ghost use Rattle.std.specs.Prelude.{◌≡◌, ◌+◌, ◌<◌, ◌≤◌, ◌↔◌, ◌⊎◌, ℕ, Bool, true, false, List, [], ◌∷◌, ◌++◌, Option, IsErrOf, IsSomeAnd, IfErr, IfOk, OnOk, MatchResult, None, Some, length, take, ◌^◌};
 ghost use Rattle.std.specs.Io.KnownBytes.{Consumes, IsAtEnd};
 ghost use Rattle.nx_fec.specs.air_files.AirFile.{IsLine, Line, moment};
 ghost use Rattle.nx_fec.specs.Transfers.{FailsOnce};
 ghost use Rattle.nx_watch.specs.Acting.{most_bytes};
 ghost use Rattle.nx_watch.specs.AnyLines.{AreLines};
 ghost use Rattle.nx_watch.specs.LineRun.{AnswersRun, AreCounted, HasTaken, HasTold, MayAct, StandsWith, WithWriter, with_writer};
-ghost use Rattle.nx_watch.specs.private.Running.{EndsInput, EndsRun, HasToldLines, IsRunning, TellsFirst, ToldBefore};
+ghost use Rattle.nx_watch.specs.LinesTold.{IsReason};
+ghost use Rattle.nx_watch.specs.private.Running.{EndsInput, EndsRun, HasToldLines, HasToldSo, IsBeside, IsRunning, IsToldByEnd, TellsFirst, ToldBefore, ToldBeside, beside};
 ghost use Rattle.nx_receiver.specs.Listener.{starts_of};
 ghost use Rattle.nx_watch.specs.Stamps.{IsFresh, counted_of, stamps_of};
 ghost use Rattle.nx_watch.specs.private.LoggingListener.{KeepsLines};
@@ -20,7 +21,8 @@ ghost use Rattle.nx_watch.specs.declared.lines.line_run.WatchEnd.TheVariants.{Re
 
 use crate::lines::any_scanner::{AnyScanner, Ended};
 use crate::lines::line_effects::{Effect, LineEffects, StartMoments};
-use crate::lines::telling::{tell_first, tell_number};
+use crate::lines::no_effect::NoEffect;
+use crate::lines::telling::{tell_failed_put, tell_first, tell_number};
 use crate::logging_listener::LoggingListener;
 use crate::stamped::StampedReader;
 use nx_fec::{CHUNK, Counting, Piece, Scanner};
@@ -42,13 +44,17 @@ pub trait ActingTaker: Drop {
     /// What stood so at first stands so now, after these lines, for which these bytes were given.
     ghost stands: { Self → Self → List Line → List ℕ → Type 0 };
 
+    /// Whether what it keeps can't be kept any more.
+    ghost has_failed: { Self → Bool };
+
     /// Sets the moment in force, as a line does that says it. It comes before the first elements,
     /// where no line said one.
     fn set_moment(&mut self, given: u64)
         ensures set { (start : Self) (lines : List Line) (bytes : List ℕ)
             → MayAct (first_moment start) lines (moment given)
             → stands start self.old lines bytes
-            → stands start self.new (lines ++ moment given ∷ []) bytes };
+            → stands start self.new (lines ++ moment given ∷ []) bytes }
+        ensures failed { has_failed self.old ≡ true → has_failed self.new ≡ true };
 
     /// Takes the line that the scanner's last byte ended, and gives the writer its bytes. It takes
     /// the whole line also where a write fails, after which it doesn't call the writer.
@@ -64,7 +70,8 @@ pub trait ActingTaker: Drop {
             → StandsWith stands W.contents start (with_writer self.old writer.old) lines
             → StandsWith stands W.contents start (with_writer self.new writer.new)
             (lines ++ line ∷ []) }
-        ensures counts { FailsOnce writer.new result };
+        ensures counts { FailsOnce writer.new result }
+        ensures failed { has_failed self.old ≡ true → has_failed self.new ≡ true };
 }
 
 /// What a run over lines read.
@@ -91,8 +98,9 @@ pub enum WatchEnd {
 
 /// Reads any bytes to their end, or up to `limit` of them, as lines, and gives each line that acts
 /// to the receivers, all that it holds before each further read. `first` is the moments with which
-/// it starts. Tells of the first line without effect before the next read, and of their number at
-/// the end. A failed write of what it tells is passed over. It takes no memory.
+/// it starts. Tells of the first line without effect, and of a put that failed, before the next
+/// read, and of the number of lines without effect at the end. A failed write of what it tells is
+/// passed over. It takes no memory.
 ///
 /// `Back` behind the line that ends the watch: its moment goes back by 66 hours or more, as the
 /// moment in range before it did. `Read` after a failed read. Every list of bytes has an answer.
@@ -109,6 +117,7 @@ pub(crate) fn watch_lines<R: Read, D: DiskFile + Drop, W: Write, F: Write>(
     requires limit { limit ≤ most_bytes }
     ensures watched { (start : TheLoggingListener D) (old : ToldBefore)
         → (starts_of start.listener).moment ≡ first.newest
+        → logging.old.keeper.has_failed ≡ false
         → KeepsLines D.DiskFile start logging.old [] []
         → HasTold old.old (F.contents notices.old.inner) notices.old.failures old.text
         → (bytes : List ℕ)
@@ -123,7 +132,8 @@ pub(crate) fn watch_lines<R: Read, D: DiskFile + Drop, W: Write, F: Write>(
           now = with_writer logging.new writer.new;
           first = first;
           AtEnd = IsAtEnd (R.remaining (counted_of reader.new).inner) ⊎ (length bytes ≡ limit);
-          tells = HasToldLines old (F.contents notices.new.inner) notices.new.failures first;
+          tells = λ lines. HasToldSo old (F.contents notices.new.inner) notices.new.failures
+              (IsToldByEnd first bytes lines logging.new.keeper.has_failed);
         }) result bytes }
     ensures unread { IsErrOf result ReadFailed ↔ ((counted_of reader.new).failures ≡ 1) }
     ensures once { (counted_of reader.new).failures ≤ 1 }
@@ -169,24 +179,26 @@ impl LineRun {
         ensures read { (start : WithWriter (TheLoggingListener D) W) (first : TheStart)
             (old : ToldBefore)
             → (starts_of start.taker.listener).moment ≡ first.newest
+            → logging.old.keeper.has_failed ≡ false
             → IsRunning (StandsWith (KeepsLines D.DiskFile) W.contents) start
-            (with_writer logging.old writer.old) first self.old old
+            (with_writer logging.old writer.old) first self.old (beside old)
             (F.contents notices.old.inner) notices.old.failures []
             → (bytes : List ℕ)
             × Consumes (R.remaining (counted_of reader.old).inner)
             (R.remaining (counted_of reader.new).inner) bytes
             × (length bytes ≤ limit)
+            × (told : ToldBeside) × IsBeside old logging.new.keeper.has_failed told
             × MatchResult result
             (λ _. (IsAtEnd (R.remaining (counted_of reader.new).inner) ⊎ (length bytes ≡ limit))
             × RunsStamped (telling D.DiskFile W.contents F.contents old) first bytes
             self.new.effects.lines start
             (λ since. IsRunning (StandsWith (KeepsLines D.DiskFile) W.contents) since
-            (with_writer logging.new writer.new) first self.new old
+            (with_writer logging.new writer.new) first self.new told
             (F.contents notices.new.inner) notices.new.failures bytes) (stamps_of reader.new))
             (λ end. RunsStamped (telling D.DiskFile W.contents F.contents old) first bytes
             self.new.effects.lines start
             (λ since. EndsRun (StandsWith (KeepsLines D.DiskFile) W.contents) since
-            (with_writer logging.new writer.new) first self.new.effects old
+            (with_writer logging.new writer.new) first self.new.effects told
             (F.contents notices.new.inner) notices.new.failures end bytes)
             (stamps_of reader.new)) }
         ensures few { OnOk result (self.new.effects.lines < 2 ^ 63) }
@@ -206,12 +218,60 @@ impl LineRun {
                 Piece::End => return Ok(()),
                 Piece::Failed => return Err(WatchEnd::Read),
             };
-            if let Err(end) = self.take_piece(&buffer[..count], writer, notices, logging) {
+            if let Err(end) = self.keep_piece(&buffer[..count], writer, notices, logging) {
                 return Err(end);
             }
             room -= count as u64;
         }
         Ok(())
+    }
+
+    /// Takes the lines that a piece ends, and tells of a put that failed at one of them.
+    fn keep_piece<D: DiskFile + Drop, W: Write, F: Write>(
+        &mut self,
+        piece: &[u8],
+        writer: &mut Counting<W>,
+        notices: &mut Counting<F>,
+        logging: &mut LoggingListener<D>,
+    ) -> Result<(), WatchEnd>
+        requires short { length piece.now ≤ CHUNK }
+        requires writer { writer.old.failures ≡ 0 }
+        requires room { length piece.now ≤ self.old.scanner.scanner.room }
+        requires within { self.old.scanner.scanner.room ≤ most_bytes }
+        requires few { self.old.effects.lines + length piece.now ≤ most_bytes }
+        requires fewer { self.old.effects.without_effect ≤ self.old.effects.lines }
+        ensures taken { (base : ToldBefore) (old : ToldBeside)
+            → IsBeside base logging.old.keeper.has_failed old
+            → (told : ToldBeside) × IsBeside base logging.new.keeper.has_failed told
+            × ((start : WithWriter (TheLoggingListener D) W) (first : TheStart) (bytes : List ℕ)
+            → (starts_of start.taker.listener).moment ≡ first.newest
+            → IsRunning (StandsWith (KeepsLines D.DiskFile) W.contents) start
+            (with_writer logging.old writer.old) first self.old old
+            (F.contents notices.old.inner) notices.old.failures bytes
+            → MatchResult result
+            (λ _. IsRunning (StandsWith (KeepsLines D.DiskFile) W.contents) start
+            (with_writer logging.new writer.new) first self.new told
+            (F.contents notices.new.inner) notices.new.failures (bytes ++ piece.now))
+            (λ end. (more : List ℕ) → EndsRun (StandsWith (KeepsLines D.DiskFile) W.contents) start
+            (with_writer logging.new writer.new) first
+            self.new.effects told (F.contents notices.new.inner) notices.new.failures end
+            ((bytes ++ piece.now) ++ more))) }
+        ensures room { OnOk result
+            (self.old.scanner.scanner.room ≤ self.new.scanner.scanner.room + length piece.now) }
+        ensures within { OnOk result (self.new.scanner.scanner.room ≤ most_bytes) }
+        ensures few { OnOk result
+            (self.new.effects.lines ≤ self.old.effects.lines + length piece.now) }
+        ensures fewer { OnOk result (self.new.effects.without_effect ≤ self.new.effects.lines) }
+        ensures grows { self.old.effects.lines ≤ self.new.effects.lines }
+        ensures unread { IsErrOf result ReadFailed → ⊥ }
+        ensures open { OnOk result (writer.new.failures ≡ 0) }
+        ensures unwritten { IsErrOf result WriteEnd ↔ (writer.new.failures ≡ 1) }
+        ensures written_once { writer.new.failures ≤ 1 }
+    {
+        let had_failed = logging.keeper.has_failed;
+        let taken = self.take_piece(piece, writer, notices, logging);
+        tell_failed_put(had_failed, logging.keeper.has_failed, notices);
+        taken
     }
 
     /// Takes the lines that a piece ends.
@@ -228,7 +288,7 @@ impl LineRun {
         requires within { self.old.scanner.scanner.room ≤ most_bytes }
         requires few { self.old.effects.lines + length piece.now ≤ most_bytes }
         requires fewer { self.old.effects.without_effect ≤ self.old.effects.lines }
-        ensures taken { (start : WithWriter T W) (first : TheStart) (old : ToldBefore)
+        ensures taken { (start : WithWriter T W) (first : TheStart) (old : ToldBeside)
             (bytes : List ℕ)
             → T.first_moment start.taker ≡ first.newest
             → IsRunning (StandsWith T.stands W.contents) start (with_writer taker.old writer.old)
@@ -253,6 +313,7 @@ impl LineRun {
         ensures open { OnOk result (writer.new.failures ≡ 0) }
         ensures unwritten { IsErrOf result WriteEnd ↔ (writer.new.failures ≡ 1) }
         ensures written_once { writer.new.failures ≤ 1 }
+        ensures failed { T.has_failed taker.old ≡ true → T.has_failed taker.new ≡ true }
     {
         let mut at = 0;
         while at < piece.len() {
@@ -280,7 +341,7 @@ impl LineRun {
         requires within { self.old.scanner.scanner.room ≤ most_bytes }
         requires few { self.old.effects.lines + length piece.now ≤ most_bytes }
         requires fewer { self.old.effects.without_effect ≤ self.old.effects.lines }
-        ensures taken { (start : WithWriter T W) (first : TheStart) (old : ToldBefore)
+        ensures taken { (start : WithWriter T W) (first : TheStart) (old : ToldBeside)
             (bytes : List ℕ)
             → T.first_moment start.taker ≡ first.newest
             → IsRunning (StandsWith T.stands W.contents) start (with_writer taker.old writer.old)
@@ -307,12 +368,13 @@ impl LineRun {
         ensures open { OnOk result (writer.new.failures ≡ 0) }
         ensures unwritten { IsErrOf result WriteEnd ↔ (writer.new.failures ≡ 1) }
         ensures written_once { writer.new.failures ≤ 1 }
+        ensures failed { T.has_failed taker.old ≡ true → T.has_failed taker.new ≡ true }
     {
         let (count, ended) = self.scanner.take(piece);
         match ended {
             Ended::Nothing => Ok(count),
-            Ended::Unknown => {
-                self.pass_line(notices);
+            Ended::Unknown(why) => {
+                self.pass_line(why, notices);
                 Ok(count)
             }
             Ended::Line => match self.take_known(writer, notices, taker) {
@@ -327,52 +389,59 @@ impl LineRun {
     fn end<F: Write>(&mut self, notices: &mut Counting<F>) -> LinesWatched
         requires few { self.old.effects.lines < 2 ^ 63 }
         requires fewer { self.old.effects.without_effect ≤ self.old.effects.lines }
-        ensures { (first : TheStart) (old : ToldBefore) (bytes : List ℕ)
+        ensures { (first : TheStart) (old : ToldBeside) (bytes : List ℕ)
             (lines : List (Option Line)) → IsScanning self.old.scanner bytes lines
             → TellsFirst first self.old.effects old (F.contents notices.old.inner)
-            notices.old.failures lines
+            notices.old.failures bytes lines
             → EndsInput first bytes lines old (F.contents notices.new.inner) notices.new.failures
             result }
     {
-        if self.scanner.is_open() {
-            self.pass_line(notices);
-            return self.count(notices);
+        match self.scanner.cut() {
+            Some(why) => {
+                self.pass_line(why, notices);
+                self.count(notices)
+            }
+            None => self.count(notices),
         }
-        self.count(notices)
     }
 
     /// Tells how many lines had no effect, and answers the counts.
     fn count<F: Write>(&self, notices: &mut Counting<F>) -> LinesWatched
-        ensures counted { (first : TheStart) (old : ToldBefore) (lines : List (Option Line))
+        ensures counted { (first : TheStart) (old : ToldBeside) (bytes : List ℕ)
+            (lines : List (Option Line))
             → TellsFirst first self.now.effects old (F.contents notices.old.inner)
-            notices.old.failures lines
+            notices.old.failures bytes lines
             → AreCounted first lines result }
-        ensures told { (first : TheStart) (old : ToldBefore) (lines : List (Option Line))
+        ensures told { (first : TheStart) (old : ToldBeside) (bytes : List ℕ)
+            (lines : List (Option Line))
             → TellsFirst first self.now.effects old (F.contents notices.old.inner)
-            notices.old.failures lines
-            → HasToldLines old (F.contents notices.new.inner) notices.new.failures first lines }
+            notices.old.failures bytes lines
+            → HasToldLines old (F.contents notices.new.inner) notices.new.failures first bytes
+            lines }
     {
         tell_number(self.effects.without_effect(), notices);
         self.effects.counts()
     }
 
-    /// Keeps that a line isn't understood, and tells of it where it is the first without effect.
+    /// Keeps that a line isn't understood, for this reason, and tells of it where it is the first
+    /// without effect.
     #[inline(never)]
-    fn pass_line<F: Write>(&mut self, notices: &mut Counting<F>)
+    fn pass_line<F: Write>(&mut self, why: NoEffect, notices: &mut Counting<F>)
         requires few { self.old.effects.lines < 2 ^ 63 }
         requires fewer { self.old.effects.without_effect ≤ self.old.effects.lines }
-        ensures tells { (first : TheStart) (old : ToldBefore) (lines : List (Option Line))
+        ensures tells { (first : TheStart) (old : ToldBeside) (bytes : List ℕ)
+            (lines : List (Option Line)) → IsReason bytes lines None why
             → TellsFirst first self.old.effects old (F.contents notices.old.inner)
-            notices.old.failures lines
+            notices.old.failures bytes lines
             → TellsFirst first self.new.effects old (F.contents notices.new.inner)
-            notices.new.failures (lines ++ None ∷ []) }
+            notices.new.failures bytes (lines ++ None ∷ []) }
         ensures scanner { self.new.scanner ≡ self.old.scanner }
         ensures lines { self.new.effects.lines ≡ self.old.effects.lines + 1 }
         ensures fewer { self.new.effects.without_effect ≤ self.new.effects.lines }
     {
         let before = self.effects.first_without();
         self.effects.not_understood();
-        tell_first(before, self.effects.first_without(), notices);
+        tell_first(before, self.effects.lines(), why, notices);
     }
 
     /// Gives the taker the line that the last byte ended, which acts.
@@ -395,6 +464,7 @@ impl LineRun {
         ensures open { OnOk result (writer.new.failures ≡ 0) }
         ensures unwritten { IsErrOf result WriteEnd ↔ (writer.new.failures ≡ 1) }
         ensures written_once { writer.new.failures ≤ 1 }
+        ensures failed { T.has_failed taker.old ≡ true → T.has_failed taker.new ≡ true }
     {
         match taker.take(&self.scanner.scanner, writer) {
             Ok(()) => Ok(()),
@@ -414,20 +484,20 @@ impl LineRun {
         requires writer { writer.old.failures ≡ 0 }
         requires few { self.old.effects.lines < 2 ^ 63 }
         requires fewer { self.old.effects.without_effect ≤ self.old.effects.lines }
-        ensures taken { (start : WithWriter T W) (first : TheStart) (old : ToldBefore)
-            (lines : List (Option Line)) (line : Line)
+        ensures taken { (start : WithWriter T W) (first : TheStart) (old : ToldBeside)
+            (bytes : List ℕ) (lines : List (Option Line)) (line : Line)
             → T.first_moment start.taker ≡ first.newest
             → self.old.scanner.scanner.latest ≡ Some line
             → HasTaken (StandsWith T.stands W.contents) start (with_writer taker.old writer.old)
             first lines
             → TellsFirst first self.old.effects old (F.contents notices.old.inner)
-            notices.old.failures lines
+            notices.old.failures bytes lines
             → MatchResult result
             (λ _. HasTaken (StandsWith T.stands W.contents) start (with_writer taker.new writer.new)
             first (lines ++ Some line ∷ [])
             × TellsFirst first self.new.effects old (F.contents notices.new.inner)
-            notices.new.failures (lines ++ Some line ∷ []))
-            (λ end. (front bytes : List ℕ) → AreLines front (lines ++ Some line ∷ []) []
+            notices.new.failures bytes (lines ++ Some line ∷ []))
+            (λ end. (front : List ℕ) → AreLines front (lines ++ Some line ∷ []) []
             → (more : List ℕ) → bytes ≡ front ++ more
             → EndsRun (StandsWith T.stands W.contents) start (with_writer taker.new writer.new)
             first self.new.effects old
@@ -439,6 +509,7 @@ impl LineRun {
         ensures open { OnOk result (writer.new.failures ≡ 0) }
         ensures unwritten { IsErrOf result WriteEnd ↔ (writer.new.failures ≡ 1) }
         ensures written_once { writer.new.failures ≤ 1 }
+        ensures failed { T.has_failed taker.old ≡ true → T.has_failed taker.new ≡ true }
     {
         let Some(kind) = self.scanner.scanner.latest() else {
             unreachable!()
@@ -450,12 +521,12 @@ impl LineRun {
                 taker.set_moment(given);
                 self.take_acting(writer, taker)
             }
-            Effect::Nothing => {
-                tell_first(before, self.effects.first_without(), notices);
+            Effect::Nothing(why) => {
+                tell_first(before, self.effects.lines(), why, notices);
                 Ok(())
             }
             Effect::Ends { last, given } => {
-                tell_first(before, self.effects.first_without(), notices);
+                tell_first(before, self.effects.lines(), NoEffect::GoesBack, notices);
                 Err(WatchEnd::Back {
                     line: self.effects.lines(),
                     last,

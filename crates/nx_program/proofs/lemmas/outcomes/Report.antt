@@ -1,5 +1,6 @@
 -- What the program's answer says of its outcome and of standard error.
-use Rattle.std.proofs.Common.{◌≡◌, ◌≢◌, ◌≤◌, ◌<◌, ◌+◌, ◌-◌, ◌^◌, ◌==◌, ◌++◌, ◌∷◌, ◌∙◌, ℕ, true, false, List, []}
+use Rattle.std.proofs.Common.{◌≡◌, ◌≢◌, ◌≤◌, ◌<◌, ◌+◌, ◌-◌, ◌^◌, ◌==◌, ◌++◌, ◌∷◌, ◌∙◌, ℕ, Bool, true, false}
+use Rattle.std.proofs.Common.{List, []}
 use Rattle.std.proofs.Common.{Result, Ok, Err, Option, Some, None, length, take, min, refl, sym, subst, ap, inl, inr}
 use Rattle.std.proofs.Common.{arith, append_assoc, length-append, if◌then◌else◌}
 use Rattle.std.specs.Prelude.{codes, decimal, string_bytes}
@@ -10,6 +11,7 @@ use Rattle.std.proofs.Math.Seq.{take-append-add}
 use Rattle.std.proofs.lemmas.List.{take-append-le}
 use Rattle.clap.specs.Words.{Text}
 use Rattle.nx_code.specs.Reading.{newline}
+use Rattle.nx_fec.specs.air_files.AirFile.{Line}
 use Rattle.nx_fec.specs.Transfers.{CountedDevice, Devices}
 use Rattle.nx_disk.specs.declared.file.FileFault.TheVariants as file
 use Rattle.nx_watch.specs.declared.watch_fault.WatchFault.TheVariants as watch
@@ -17,7 +19,10 @@ use Rattle.nx_program.specs.declared.watch_command.WatchFailure.{WatchFailure}
 use Rattle.nx_program.specs.declared.watch_command.WatchFailure.TheVariants.{Ended, Unopened}
 use Rattle.nx_watch.specs.Acting.{count_without, first_without}
 use Rattle.nx_watch.specs.CutTold.{TellsOfSomeCut, cut_told, head_told}
-use Rattle.nx_watch.specs.LineRun.{HasTold, TellsOfLines, first_told, number_told, told_of}
+use Rattle.nx_watch.specs.LineRun.{HasTold, TellsOfLines}
+use Rattle.nx_watch.specs.LinesTold.{IsFirstTold, IsToldAtEnd, IsToldByRead, number_told, put_told}
+use Rattle.nx_watch.specs.LinesTold.{reason_words}
+use Rattle.nx_watch.specs.declared.lines.line_effects.StartMoments.{StartMoments}
 use Rattle.nx_program.specs.declared.fault.Fault.{Fault}
 use Rattle.nx_program.specs.declared.fault.Fault.TheVariants as fault
 use Rattle.nx_program.specs.FaultText.{call_fault_line, call_text}
@@ -143,27 +148,59 @@ behind-another more text line = record {
       ∙ sym (append_assoc more (codes "navtex: " ++ line.shown) (newline ∷ [])));
 }
 
-behind-first : (first : Option ℕ) (text : List ℕ) → IsFaultLine text
-    → IsFaultLine (first_told first ++ text)
-behind-first None text line = line
-behind-first (Some n) text line =
-    behind-another (codes "line " ++ (decimal n ++ codes " had no effect\n")) text line
+-- a text leads where a line of a fault behind it is still one text that begins and ends so
+abbrev Leads : List ℕ → Type 0
+Leads told = (text : List ℕ) → IsFaultLine text → IsFaultLine (told ++ text)
 
-behind-number : (count : ℕ) (text : List ℕ) → IsFaultLine text
-    → IsFaultLine (number_told count ++ text)
-behind-number count text line =
-    elim (count == 0) as (λ b. IsFaultLine ((if b then [] else codes "navtex: "
-    ++ (decimal count ++ codes " lines had no effect\n")) ++ text)) [
+leads-none : Leads []
+leads-none text line = line
+
+leads-both : (one other : List ℕ) → Leads one → Leads other → Leads (one ++ other)
+leads-both one other first second text line =
+    subst IsFaultLine (sym (append_assoc one other text)) (first (other ++ text) (second text line))
+
+leads-first : (bytes : List ℕ) (lines : List (Option Line)) (first : Option ℕ) (one : List ℕ)
+    → IsFirstTold bytes lines first one → Leads one
+leads-first bytes lines None one is = subst Leads (sym is) leads-none
+leads-first bytes lines (Some number) one (why, lacks, is) = subst Leads (sym is)
+    (behind-another (codes "line " ++ (decimal number
+    ++ (codes " had no effect: " ++ (reason_words why ++ codes "\n")))))
+
+leads-put : (failed : Bool) → Leads (put_told failed)
+leads-put false = leads-none
+leads-put true = behind-another
+    (codes "the log can't be written; entries go to standard output from here on\n")
+
+leads-number : (count : ℕ) → Leads (number_told count)
+leads-number count text line =
+    let words = decimal count
+    ++ (if count == 1 then codes " line had no effect\n" else codes " lines had no effect\n") in
+    elim (count == 0) as (λ b. IsFaultLine ((if b then [] else codes "navtex: " ++ words) ++ text)) [
       | true ↦ line
-      | false ↦ behind-another (decimal count ++ codes " lines had no effect\n") text line
+      | false ↦ behind-another words text line
     ]
 
-behind-told : (told text : List ℕ) (first : Option ℕ) (count : ℕ)
-    → told ≡ first_told first ++ number_told count → IsFaultLine text → IsFaultLine (told ++ text)
-behind-told told text first count is line =
-    subst IsFaultLine (sym (ap (λ (l : List ℕ). l ++ text) is
-    ∙ append_assoc (first_told first) (number_told count) text))
-    (behind-first first (number_told count ++ text) (behind-number count text line))
+leads-early : (first : StartMoments) (bytes : List ℕ) (lines : List (Option Line)) (failed : Bool)
+    (told : List ℕ) → IsToldByRead first bytes lines failed told → Leads told
+leads-early first bytes lines failed told (one, is, both) =
+    let line = leads-first bytes lines (first_without first lines) one is in
+    elim both [
+      | inl e ↦ subst Leads (sym e) (leads-both one (put_told failed) line (leads-put failed))
+      | inr e ↦ subst Leads (sym e) (leads-both (put_told failed) one (leads-put failed) line)
+    ]
+
+leads-told : (first : StartMoments) (bytes : List ℕ) (lines : List (Option Line)) (failed : Bool)
+    (told : List ℕ) → IsToldAtEnd first bytes lines failed told → Leads told
+leads-told first bytes lines failed told (inl (early, is, e)) =
+    let number = number_told (count_without first lines) in
+    subst Leads (sym e) (leads-both early number (leads-early first bytes lines failed early is)
+    (leads-number (count_without first lines)))
+leads-told first bytes lines failed told (inr (early, is, closed, e)) =
+    let number = number_told (count_without first lines) in
+    subst Leads (sym e) (leads-both early (number ++ put_told true)
+    (leads-early first bytes lines false early is)
+    (leads-both number (put_told true) (leads-number (count_without first lines))
+    (leads-put true)))
 
 behind-cut : (cut text : List ℕ) → TellsOfSomeCut cut → IsFaultLine text → IsFaultLine (cut ++ text)
 behind-cut cut text (line, bytes, heads, are, is) end =
@@ -257,16 +294,13 @@ nothing-told {F} {D} {W} {E} b none unused =
 -- what is told of a cut and of lines leads
 lines-told : {E : Type 0} (contents : E → Option (List ℕ)) (old mid : CountedDevice E)
     → TellsOfLines (contents old.inner) (contents mid.inner) mid.failures → HasLed contents old mid
-lines-told contents old mid told =
-    let lines = told_of told.2 told.3 in
-    record {
-      told = told.0 ++ lines;
-      leads = λ text line. subst IsFaultLine (sym (append_assoc told.0 lines text))
-          (behind-cut told.0 (lines ++ text) told.1
-          (behind-told lines text (first_without told.2 told.3) (count_without told.2 told.3) refl
-          line));
-      written = told.4;
-    }
+lines-told contents old mid (cut, some, first, bytes, lines, failed, text, is, written) = record {
+  told = cut ++ text;
+  leads = λ behind line. subst IsFaultLine (sym (append_assoc cut text behind))
+      (behind-cut cut (text ++ behind) some
+      (leads-told first bytes lines failed text is behind line));
+  written = written;
+}
 
 watch-told : {R W F D E : Type 0} (d : Devices R W) (b : Beside F D W E) (name : Text) (moment : ℕ)
     (outcome : Result (Unit {0}) Fault) → b.faults.failures ≡ 0

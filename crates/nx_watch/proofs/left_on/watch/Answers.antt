@@ -1,4 +1,4 @@
-use Rattle.std.proofs.Common.{◌≡◌, ◌≤◌, ◌∙◌, [], ℕ, List, Option, Result, Err, ap, append-nil, arith, inl, refl, subst, sym}
+use Rattle.std.proofs.Common.{◌≡◌, false, ◌≤◌, ◌∙◌, [], ℕ, List, Option, Result, Err, ap, append-nil, arith, inl, refl, subst, sym}
 use Rattle.std.specs.Prelude.{unwrap_or}
 use Rattle.std.specs.List.{AllZip}
 use Rattle.nx_kept.specs.Log.{Keeps}
@@ -332,8 +332,17 @@ no-start = record { newest = 0; started = 0 }
 -- nothing of lines
 no-lines : (old new : Option (List ℕ)) (failures : ℕ) (cut : List ℕ) → TellsOfSomeCut cut
     → HasTold old new failures cut → TellsOfLines old new failures
-no-lines old new failures cut some told =
-    (cut, some, no-start, [], subst (HasTold old new failures) (sym (append-nil cut)) told)
+no-lines old new failures cut some told = (
+  cut,
+  some,
+  no-start,
+  [],
+  [],
+  false,
+  [],
+  inl ([], ([], refl, inl refl), refl),
+  subst (HasTold old new failures) (sym (append-nil cut)) told,
+)
 
 pub returns-in-Err-clause-told : goal.returns-in-Err-clause-told
 returns-in-Err-clause-told g c =

@@ -134,7 +134,7 @@ pub acting-is : (first : StartMoments) (moments : List ℕ) (line : Option Line)
 acting-is first moments line Acts h = sym h.0
 acting-is first moments line (Sets n) h =
     ap (acts first.newest moments) (sym (is-setting first moments line h.0).is)
-acting-is first moments line Nothing h = sym h.0
+acting-is first moments line (Nothing why) h = sym h.0
 acting-is first moments line (Ends last given) h = sym h.0
 
 -- a line that says a moment is one

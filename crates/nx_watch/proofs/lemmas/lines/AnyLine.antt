@@ -6,7 +6,8 @@ use Rattle.std.proofs.Common.{inr}
 use Rattle.std.specs.List.{AllByRecursion, AllZip, flat_map}
 use Rattle.std.proofs.lemmas.Bool.{cases_lt}
 use Rattle.std.proofs.lemmas.List.{append_cancel_left, get_or-take, length-take-le}
-use Rattle.std.proofs.lemmas.List.{drop_more}
+use Rattle.std.proofs.lemmas.List.{drop_more, take_more}
+use Rattle.std.proofs.ByRecursion.{All-append}
 use Rattle.std.proofs.lemmas.List.Concat.{flat_map-append}
 use Rattle.nx_fec.specs.air_files.AirFile.{IsLine, IsNoLine, Line, spelling}
 use Rattle.nx_fec.specs.air_files.Lines.{IsCause, Scanning, Scans, StopsIn, file_of}
@@ -14,7 +15,12 @@ use Rattle.nx_fec.specs.declared.fault.LineFault.{LineFault}
 use Rattle.nx_fec.specs.declared.fault.LineFault.TheVariants.{TooLong, LineLong, LineCut, BadLine}
 use Rattle.nx_fec.proofs.lemmas.lines.LineLaws.{spelling-IsBeginning}
 use Rattle.nx_watch.specs.AnyLines.{AreLines, HasNoEnd, Says, ended}
-use Rattle.nx_watch.specs.private.Scanning.{IsPassedOver}
+use Rattle.nx_watch.specs.LinesTold.{IsReason, StandsBehind}
+use Rattle.nx_watch.specs.private.Scanning.{IsForText, IsPassedOver, reason_of_fault}
+use Rattle.nx_watch.specs.declared.lines.no_effect.NoEffect.{NoEffect}
+use Rattle.nx_watch.specs.declared.lines.no_effect.NoEffect.TheVariants as reason
+use Rattle.nx_watch.specs.declared.lines.no_effect.NoEffect.TheVariants.{NoLine, NoEnd, PastLast}
+use Rattle.nx_watch.specs.declared.lines.no_effect.NoEffect.TheVariants.{GoesBack, Vital}
 
 -- ---- lines one after another
 
@@ -116,17 +122,27 @@ stops-part limit s t since piece lines count h k =
     (sym k.splits.whole ∙ ap (λ l. l ++ take count piece) h.splits.whole
     ∙ append_assoc (file_of lines) s.part (take count piece))
 
+-- up to and with the end of the line
+pub with-end : (before part piece : List ℕ) (at : ℕ) → at < length piece → get_or piece at 0 ≡ 10
+    → before ++ ((part ++ take at piece) ++ 10 ∷ []) ≡ (before ++ part) ++ take (at + 1) piece
+with-end before part piece at within feed =
+    ap (λ l. before ++ l) (append_assoc part (take at piece) (10 ∷ []))
+    ∙ sym (append_assoc before part (take at piece ++ 10 ∷ []))
+    ∙ ap (λ b. (before ++ part) ++ (take at piece ++ b ∷ [])) (sym feed)
+    ∙ ap (λ l. (before ++ part) ++ l) (sym (take_more piece at 0 within))
+
 -- by the cause of its fault
 passed-cause : (limit front : ℕ) (lines : List Line) (part piece rest : List ℕ) (count : ℕ)
     (byte : ℕ) (why : LineFault)
     → count < length piece → get_or piece count 0 ≡ byte → front < limit
-    → HasNoEnd (take count piece)
+    → HasNoEnd (take count piece) → length (part ++ take count piece) ≤ 514
     → IsCause limit front lines (part ++ take count piece) (byte ∷ rest) why
-    → IsPassedOver part piece
-passed-cause limit front lines part piece rest count byte TooLong within here room none cause =
+    → IsPassedOver (reason_of_fault why) part piece
+passed-cause limit front lines part piece rest count byte TooLong within here room none short
+    cause =
     absurd (omega (arith, room, cause))
 passed-cause limit front lines part piece rest count byte (LineLong line) within here room none
-    cause =
+    short cause =
     let full : length part + count ≡ 514 = omega (
       arith,
       cause.2,
@@ -138,34 +154,36 @@ passed-cause limit front lines part piece rest count byte (LineLong line) within
           let behind : count ≤ at = end-behind piece count at none (omega arith) below feed in
           let other : count ≢ at = λ same. cause.1
           (sym here ∙ ap (λ k. get_or piece k 0) same ∙ feed) in
-          long-none (part ++ take at piece) (omega (
+          let long : 514 < length (part ++ take at piece) = omega (
             arith,
             full,
             behind,
             other,
             length-append part (take at piece),
             length-take-le at piece (omega (arith, below)),
-          ));
+          ) in
+          (long-none (part ++ take at piece) long, long);
       long = λ unended. omega (arith, full, within, length-append part piece);
     }
 passed-cause limit front lines part piece rest count byte (LineCut line) within here room none
-    cause = absurd cause
+    short cause = absurd cause
 passed-cause limit front lines part piece rest count byte (BadLine line) within here room none
-    cause =
+    short cause =
     let feed' : get_or piece count 0 ≡ 10 = here ∙ cause.1 in
     record {
       line = λ at below feed unended.
           let behind : count ≤ at = end-behind piece count at none (omega arith) below feed in
           let before : at ≤ count = end-behind piece at count unended (omega arith) within feed' in
           let same : count ≡ at = omega arith in
-          subst (λ k. IsNoLine (part ++ take k piece)) same cause.2;
+          subst (λ k. IsNoLine (part ++ take k piece) × (length (part ++ take k piece) ≤ 514))
+          same (cause.2, short);
       long = λ unended. absurd (no_end-at piece count unended within feed');
     }
 
 pub passed-stop : (limit : ℕ) (s t : Scanning) (since piece : List ℕ) (lines : List Line)
     (why : LineFault)
     → length piece ≤ s.room → Scans limit s since lines → StopsIn limit t since piece lines why
-    → IsPassedOver s.part piece
+    → IsPassedOver (reason_of_fault why) s.part piece
 passed-stop limit s t since piece lines why room h stop =
     let count = stop.count in
     let part = stops-part limit s t since piece lines count h stop.scans in
@@ -183,15 +201,54 @@ passed-stop limit s t since piece lines why room h stop =
       length-take-le count piece (omega (arith, stop.within)),
     ))
     none
+    (subst (λ l. length l ≤ 514) part stop.scans.splits.part.short)
     (subst (λ l. IsCause limit (length (since ++ take count piece)) lines l
     (get_or piece count 0 ∷ (rest ++ [])) why) part
     (subst (λ l. IsCause limit (length (since ++ take count piece)) lines t.part (l ++ []) why)
     (drop_more piece count 0 stop.within) (stop.cause [])))
 
 -- a line that is too long already
-pub passed-long : (part piece : List ℕ) → 514 < length part → IsPassedOver part piece
+pub passed-long : (part piece : List ℕ) → 514 < length part → IsPassedOver reason.TooLong part piece
 passed-long part piece h = record {
-  line = λ at below feed unended. long-none (part ++ take at piece)
-      (omega (arith, h, length-append part (take at piece)));
+  line = λ at below feed unended.
+      let long : 514 < length (part ++ take at piece) =
+      omega (arith, h, length-append part (take at piece)) in
+      (long-none (part ++ take at piece) long, long);
   long = λ unended. omega (arith, h, length-append part piece);
 }
+
+-- ---- why a line has no effect that is passed over
+
+-- the line ends in the piece
+pub reason-ended : (why : NoEffect) (before part : List ℕ) (lines : List (Option Line))
+    (piece : List ℕ) (at : ℕ)
+    → at < length piece → get_or piece at 0 ≡ 10 → HasNoEnd (take at piece)
+    → AreLines before lines [] → HasNoEnd part → IsPassedOver why part piece
+    → (more : List ℕ)
+    → IsReason (((before ++ part) ++ take (at + 1) piece) ++ more) lines None why
+reason-ended why before part lines piece at within feed none are open' over more =
+    so why (over.line at within feed none).1
+  where
+    text : List ℕ
+    text = part ++ take at piece
+
+    bytes : List ℕ
+    bytes = ((before ++ part) ++ take (at + 1) piece) ++ more
+
+    stands : StandsBehind bytes lines text (10 ∷ more)
+    stands = record {
+      front = before;
+      are = are;
+      unended = All-append (λ byte. byte ≢ 10) part (take at piece) open' none;
+      whole = ap (λ l. l ++ more) (sym (with-end before part piece at within feed))
+          ∙ append_assoc before (text ++ 10 ∷ []) more
+          ∙ ap (λ l. before ++ l) (append_assoc text (10 ∷ []) more);
+    }
+
+    so : (why : NoEffect) → IsForText why text → IsReason bytes lines None why
+    so NoLine h = (text, more, stands, h)
+    so reason.TooLong h = (text, 10 ∷ more, stands, h)
+    so NoEnd h = absurd h
+    so PastLast h = absurd h
+    so GoesBack h = absurd h
+    so Vital h = absurd h

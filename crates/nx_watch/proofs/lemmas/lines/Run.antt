@@ -25,6 +25,8 @@ use Rattle.nx_watch.specs.LineRun.{AnswersRun, AreCounted, HasTaken, HasTold, Ma
 use Rattle.nx_watch.specs.LineRun.{Giving, Standing, StandsWith}
 use Rattle.nx_watch.specs.LineRun.{with_writer}
 use Rattle.nx_fec.specs.Transfers.{CountedDevice}
+use Rattle.nx_watch.specs.LinesTold.{IsFirstTold, IsReason}
+use Rattle.nx_watch.specs.declared.lines.no_effect.NoEffect.TheVariants.{GoesBack}
 use Rattle.nx_watch.specs.declared.lines.line_run.LinesWatched.{LinesWatched}
 use Rattle.nx_watch.specs.declared.lines.line_run.WatchEnd.{WatchEnd}
 use Rattle.nx_watch.specs.declared.lines.line_run.WatchEnd.TheVariants.{Read, Back, Write}
@@ -32,7 +34,7 @@ use Rattle.nx_watch.specs.private.Effects.{IsKept, sets}
 use Rattle.nx_watch.specs.declared.lines.any_scanner.Ended.{Ended}
 use Rattle.nx_watch.specs.declared.lines.line_effects.LineEffects.{LineEffects}
 use Rattle.nx_watch.specs.declared.lines.line_run.LineRun.{LineRun}
-use Rattle.nx_watch.specs.private.Running.{EndsInput, EndsRun, HasToldFirst, HasToldLines, IsRunning, TellsFirst, ToldBefore}
+use Rattle.nx_watch.specs.private.Running.{EndsInput, EndsRun, HasToldLines, IsRunning, TellsFirst, ToldBefore, ToldBeside, beside}
 use Rattle.nx_watch.specs.private.Scanning.{IsScanning, lines_ended}
 use Rattle.nx_watch.proofs.lemmas.lines.Acting.{both, idle-unset, not_second}
 use Rattle.nx_watch.proofs.lemmas.lines.Starting.{is-setting, set-before, set_line, unset-behind}
@@ -297,20 +299,20 @@ may-set first lines line h =
 
 -- a line that acts was taken, and the run goes on or is over
 pub known-ends : {T : Type 0} (stands : Standing T) (start now : T) (first : StartMoments)
-    (lines : List (Option Line)) (line : Line) (kept : LineEffects) (old : ToldBefore)
-    (new : Option (List ℕ)) (failures : ℕ) (result : Result (Unit {0}) WatchEnd)
+    (lines : List (Option Line)) (line : Line) (kept : LineEffects) (old : ToldBeside)
+    (new : Option (List ℕ)) (failures : ℕ) (bytes : List ℕ) (result : Result (Unit {0}) WatchEnd)
     → IfErr result (λ end. end ≡ Write) → goes_on first lines ≡ true
     → HasTaken stands start now first (lines ++ Some line ∷ [])
-    → TellsFirst first kept old new failures (lines ++ Some line ∷ [])
+    → TellsFirst first kept old new failures bytes (lines ++ Some line ∷ [])
     → MatchResult result (λ _. HasTaken stands start now first (lines ++ Some line ∷ [])
-    × TellsFirst first kept old new failures (lines ++ Some line ∷ []))
-    (λ end. (front bytes : List ℕ) → AreLines front (lines ++ Some line ∷ []) []
+    × TellsFirst first kept old new failures bytes (lines ++ Some line ∷ []))
+    (λ end. (front : List ℕ) → AreLines front (lines ++ Some line ∷ []) []
     → (more : List ℕ) → bytes ≡ front ++ more
     → EndsRun stands start now first kept old new failures end bytes)
-known-ends stands start now first lines line kept old new failures (Ok done) is on taken tells =
-    (taken, tells)
-known-ends stands start now first lines line kept old new failures (Err end) is on taken tells =
-    λ front bytes are more whole.
+known-ends stands start now first lines line kept old new failures bytes (Ok done) is on taken
+    tells = (taken, tells)
+known-ends stands start now first lines line kept old new failures bytes (Err end) is on taken
+    tells = λ front are more whole.
     subst (λ e. EndsRun stands start now first kept old new failures e bytes) (sym is) (
       lines,
       line,
@@ -319,13 +321,16 @@ known-ends stands start now first lines line kept old new failures (Err end) is 
       tells,
     )
 
--- ---- what is told of one more line
-
-pub tell-step : (P Q : Option ℕ → Type 0) (before now old new : Option ℕ) → before ≡ old
-    → now ≡ new → (IsSome old → new ≡ old) → ((IsSome before → now ≡ before) → P before → Q now)
-    → P old → Q new
-tell-step P Q before now old new was is same step h =
-    subst Q is (step (λ some. is ∙ same (subst IsSome was some) ∙ sym was) (subst P (sym was) h))
+-- the moment of the line that ends the watch is in range, so that it goes back
+pub ends-reason : (first : ℕ) (moments : List ℕ) (line : Option Line) (n : ℕ)
+    → line ≡ Some (moment n) → ends_watch first moments line ≡ true
+    → (bytes : List ℕ) (before : List (Option Line)) → IsReason bytes before line GoesBack
+ends-reason first moments line n is ends bytes before =
+    let said = subst (λ l. ends_watch first moments l ≡ true) is ends in
+    let range = (and_parts (nat_le n last_moment) (is_far_back first moments n)
+    (and_parts (nat_le n last_moment && is_far_back first moments n) (went_far_back first moments)
+    said).0).0 in
+    subst (λ l. IsReason bytes before l GoesBack) (sym is) (leb-true n last_moment range)
 
 -- ---- what a scanner's latest line is
 
@@ -342,13 +347,14 @@ some-line (Some line) h = (line, refl)
 -- ---- a run behind more bytes
 
 pub run-of : {T : Type 0} (stands : Standing T) (start now : T) (first : StartMoments)
-    (run : LineRun) (old : ToldBefore) (new : Option (List ℕ)) (failures : ℕ) (bytes : List ℕ)
+    (run : LineRun) (old : ToldBeside) (new : Option (List ℕ)) (failures : ℕ) (bytes : List ℕ)
     (lines more : List (Option Line))
     (ended : Ended) (latest : Option Line)
     → lines_ended ended latest ≡ more
     → IsScanning run.scanner bytes (lines ++ lines_ended ended latest)
     → HasTaken stands start now first (lines ++ more)
-    → TellsFirst first run.effects old new failures (lines ++ more)
+    → ((behind : List ℕ)
+    → TellsFirst first run.effects old new failures (bytes ++ behind) (lines ++ more))
     → IsRunning stands start now first run old new failures bytes
 run-of stands start now first run old new failures bytes lines more ended latest is scans taken
     tells = record {
@@ -370,16 +376,16 @@ whole-behind bytes piece more front tail count h =
 
 -- the input ended, with or without a line that it cuts
 pub ends-input : (first : StartMoments) (bytes : List ℕ) (lines more : List (Option Line))
-    (old : ToldBefore) (new : Option (List ℕ)) (failures : ℕ) (counts : LinesWatched)
+    (old : ToldBeside) (new : Option (List ℕ)) (failures : ℕ) (counts : LinesWatched)
     (rest : List ℕ)
     → AreLines bytes lines rest → cut_line rest ≡ more → AreCounted first (lines ++ more) counts
-    → HasToldLines old new failures first (lines ++ more)
+    → HasToldLines old new failures first bytes (lines ++ more)
     → EndsInput first bytes lines old new failures counts
 ends-input first bytes lines more old new failures counts rest are cut counted told = record {
   rest = rest;
   are = are;
   counted = subst (λ l. AreCounted first (lines ++ l) counts) (sym cut) counted;
-  told = subst (λ l. HasToldLines old new failures first (lines ++ l)) (sym cut) told;
+  told = subst (λ l. HasToldLines old new failures first bytes (lines ++ l)) (sym cut) told;
 }
 
 -- what is told at an end before that of the input
@@ -393,6 +399,29 @@ answers-told before AtEnd after (Back line last given) bytes step h =
     (h.0, h.1, h.2, h.3, h.4, h.5, step (h.0 ++ Some (moment given) ∷ []) h.6)
 answers-told before AtEnd after Write bytes step h =
     (h.0, h.1, h.2, h.3, step (h.0 ++ Some h.1 ∷ []) h.4)
+
+-- what holds of both kinds of a result
+pub on-both : {V E : Type 0} {P P' : V → Type 0} {Q Q' : E → Type 0} (r : Result V E)
+    → ((v : V) → P v → P' v) → ((e : E) → Q e → Q' e) → MatchResult r P Q → MatchResult r P' Q'
+on-both (Ok v) well ill h = well v h
+on-both (Err e) well ill h = ill e h
+
+-- a run of which more was told
+pub running-told : {T : Type 0} (stands : Standing T) (start now : T) (first : StartMoments)
+    (run : LineRun) (old told : ToldBeside) (new : Option (List ℕ)) (failures : ℕ)
+    (after : Option (List ℕ)) (failures_after : ℕ) (bytes : List ℕ)
+    → ((bytes : List ℕ) (lines : List (Option Line))
+    → TellsFirst first run.effects old new failures bytes lines
+    → TellsFirst first run.effects told after failures_after bytes lines)
+    → Unit {0} → IsRunning stands start now first run old new failures bytes
+    → IsRunning stands start now first run told after failures_after bytes
+running-told stands start now first run old told new failures after failures_after bytes step v h =
+    record {
+      lines = h.lines;
+      scans = h.scans;
+      taken = h.taken;
+      tells = λ more. step (bytes ++ more) h.lines (h.tells more);
+    }
 
 -- whatever a run answers, some lines were told of
 pub tells-some : {T : Type 0} (r : RunOverLines T) (answer : Result LinesWatched WatchEnd)
@@ -425,15 +454,18 @@ pub run-starts : {T : Type 0} (stands : Standing T) (start now : T) (first : Sta
     (run : LineRun) (old : ToldBefore) (new : Option (List ℕ)) (failures : ℕ)
     → IsScanning run.scanner [] [] → IsKept first [] run.effects → stands start now []
     → HasTold old.old new failures old.text
-    → IsRunning stands start now first run old new failures []
+    → IsRunning stands start now first run (beside old) new failures []
 run-starts stands start now first run old new failures scans kept stood told = record {
   lines = [];
   scans = scans;
   taken = record { on = refl; stood = stood };
-  tells = record {
+  tells = λ more. record {
     kept_so = kept;
-    told = subst (HasToldFirst old new failures) (sym kept.first_one)
-        (subst (HasTold old.old new failures) (sym (append-nil old.text)) told);
+    one = [];
+    is = subst (λ o. IsFirstTold more [] o []) (sym kept.first_one) refl;
+    told = subst (HasTold old.old new failures) (sym (append-nil (old.text ++ [])
+        ∙ append-nil old.text)) told;
+    none = λ none. refl;
   };
 }
 

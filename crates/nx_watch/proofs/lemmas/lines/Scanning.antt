@@ -16,10 +16,15 @@ use Rattle.nx_fec.specs.declared.fault.LineFault.{LineFault}
 use Rattle.nx_fec.specs.declared.fault.LineFault.TheVariants.{TooLong, LineLong, LineCut, BadLine}
 use Rattle.nx_watch.specs.Acting.{most_bytes}
 use Rattle.nx_watch.specs.AnyLines.{AreLines, HasNoEnd, cut_line}
+use Rattle.nx_watch.specs.LinesTold.{StandsBehind}
 use Rattle.nx_watch.specs.private.Scanning.{ArePassed, CutsAs, IsPassedOver, IsScanning}
+use Rattle.nx_watch.specs.private.Scanning.{reason_of_fault}
+use Rattle.nx_watch.specs.declared.lines.no_effect.NoEffect.{NoEffect}
+use Rattle.nx_watch.specs.declared.lines.no_effect.NoEffect.TheVariants as reason
+use Rattle.nx_watch.specs.declared.lines.no_effect.NoEffect.TheVariants.{NoEnd}
 use Rattle.nx_watch.specs.declared.lines.any_scanner.AnyScanner.{AnyScanner}
 use Rattle.nx_watch.proofs.lemmas.lines.AnyLine.{AreLines-append, AreLines-bad, AreLines-ended}
-use Rattle.nx_watch.proofs.lemmas.lines.AnyLine.{AreLines-part, passed-long, passed-stop}
+use Rattle.nx_watch.proofs.lemmas.lines.AnyLine.{AreLines-part, passed-long, passed-stop, with-end}
 
 -- ---- a scanner before the first byte
 
@@ -83,37 +88,66 @@ cut-some : (rest : List ℕ) → 0 < length rest → cut_line rest ≡ None ∷ 
 cut-some [] h = absurd (omega arith)
 cut-some (b ∷ rest) h = refl
 
+-- the line that is open
+open-line : (now : AnyScanner) (bytes : List ℕ) (lines : List (Option Line)) (passed : List ℕ)
+    → Parts now bytes lines passed → StandsBehind bytes lines (now.scanner.part ++ passed) []
+open-line now bytes lines passed p = record {
+  front = p.front;
+  are = p.are;
+  unended = p.none;
+  whole = p.whole ∙ ap (λ l. p.front ++ l) (sym (append-nil (now.scanner.part ++ passed)));
+}
+
 pub cuts-passing : (now : AnyScanner) (bytes : List ℕ) (lines : List (Option Line))
-    → now.is_passing ≡ true → IsScanning now bytes lines → CutsAs true bytes lines
+    → now.is_passing ≡ true → IsScanning now bytes lines → CutsAs (Some reason.TooLong) bytes lines
 cuts-passing now bytes lines passing h =
     let over = subst (λ b. ArePassed b h.since h.passed) passing h.over in
+    let p = parts now bytes lines h in
+    let rest = now.scanner.part ++ h.passed in
     record {
-      rest = now.scanner.part ++ h.passed;
-      are = Parts-lines now bytes lines h.passed (parts now bytes lines h);
-      cut = cut-some (now.scanner.part ++ h.passed)
-          (omega (arith, over.2, length-append now.scanner.part h.passed));
+      rest = rest;
+      are = Parts-lines now bytes lines h.passed p;
+      cut = cut-some rest (omega (arith, over.2, length-append now.scanner.part h.passed));
+      reason = (
+        rest,
+        [],
+        open-line now bytes lines h.passed p,
+        omega (arith, over.2, length-append now.scanner.part h.passed),
+      );
     }
 
 not-passing : (now : AnyScanner) (bytes : List ℕ) (lines : List (Option Line))
     → now.is_passing ≡ false → (h : IsScanning now bytes lines) → h.passed ≡ []
 not-passing now bytes lines idle h = subst (λ b. ArePassed b h.since h.passed) idle h.over
 
-pub cuts-open : (now : AnyScanner) (bytes : List ℕ) (lines : List (Option Line)) (why : LineFault)
-    → IsScanning now bytes lines
+cuts-open : (now : AnyScanner) (bytes : List ℕ) (lines : List (Option Line)) (why : LineFault)
+    → now.is_passing ≡ false → IsScanning now bytes lines
     → ((limit : ℕ) (since : List ℕ) (found : List Line) → Scans limit now.scanner since found
     → IsCause limit (length since) found now.scanner.part [] why)
-    → CutsAs true bytes lines
-cuts-open now bytes lines why h end = record {
-  rest = now.scanner.part ++ h.passed;
-  are = Parts-lines now bytes lines h.passed (parts now bytes lines h);
-  cut = cut-some (now.scanner.part ++ h.passed)
-      (omega (
+    → CutsAs (Some NoEnd) bytes lines
+cuts-open now bytes lines why idle h end =
+    let p = parts now bytes lines h in
+    let rest = now.scanner.part ++ h.passed in
+    record {
+      rest = rest;
+      are = Parts-lines now bytes lines h.passed p;
+      cut = cut-some rest (omega (
         arith,
         cut-cause (length h.since) h.found now.scanner.part why
             (end most_bytes h.since h.found h.scans),
         length-append now.scanner.part h.passed,
       ));
-}
+      reason = (
+        rest,
+        open-line now bytes lines h.passed p,
+        omega (
+          arith,
+          h.scans.splits.part.short,
+          ap length (not-passing now bytes lines idle h),
+          length-append now.scanner.part h.passed,
+        ),
+      );
+    }
   where
     cut-cause : (front : ℕ) (found : List Line) (part : List ℕ) (why : LineFault)
         → IsCause most_bytes front found part [] why → 0 < length part
@@ -122,11 +156,11 @@ cuts-open now bytes lines why h end = record {
     cut-cause front found part (LineCut line) c = c.1
     cut-cause front found part (BadLine line) c = absurd c
 
-pub cuts-none : (now : AnyScanner) (bytes : List ℕ) (lines : List (Option Line))
+cuts-none : (now : AnyScanner) (bytes : List ℕ) (lines : List (Option Line))
     → now.is_passing ≡ false → IsScanning now bytes lines
     → ((limit : ℕ) (since : List ℕ) (found : List Line) → Scans limit now.scanner since found
     → IsAirFile limit since found)
-    → CutsAs false bytes lines
+    → CutsAs None bytes lines
 cuts-none now bytes lines idle h end =
     let none : now.scanner.part ≡ [] = append_cancel_left (file_of h.found) now.scanner.part []
     (sym h.scans.splits.whole ∙ (end most_bytes h.since h.found h.scans).whole
@@ -138,6 +172,7 @@ cuts-none now bytes lines idle h end =
       are = subst (λ l. AreLines bytes lines l) empty
           (Parts-lines now bytes lines h.passed (parts now bytes lines h));
       cut = refl;
+      reason = tt;
     }
 
 -- ---- more bytes
@@ -170,40 +205,44 @@ on-scanned old new bytes more lines latest idle still h taken =
     }
 
 -- the open line is passed over: it is too long already
-pub on-passing : (old new : AnyScanner) (bytes more piece : List ℕ) (lines now : List (Option Line))
+pub on-passing : (old : AnyScanner) (bytes more piece : List ℕ) (lines : List (Option Line))
+    (Holds : List ℕ → List (Option Line) → Type 0)
     → old.is_passing ≡ true → IsScanning old bytes lines
     → ((before : List ℕ) (lines : List (Option Line)) (part : List ℕ)
-    → AreLines before lines [] → HasNoEnd part → IsPassedOver part piece
-    → IsScanning new ((before ++ part) ++ more) (lines ++ now))
-    → IsScanning new (bytes ++ more) (lines ++ now)
-on-passing old new bytes more piece lines now passing h pass =
+    → AreLines before lines [] → HasNoEnd part → IsPassedOver reason.TooLong part piece
+    → Holds ((before ++ part) ++ more) lines)
+    → Holds (bytes ++ more) lines
+on-passing old bytes more piece lines Holds passing h pass =
     let p = parts old bytes lines h in
     let over = subst (λ b. ArePassed b h.since h.passed) passing h.over in
     let part = old.scanner.part ++ h.passed in
-    subst (λ l. IsScanning new (l ++ more) (lines ++ now)) (sym p.whole)
+    subst (λ l. Holds (l ++ more) lines) (sym p.whole)
     (pass p.front lines part p.are p.none (passed-long part piece
     (omega (arith, over.2, length-append old.scanner.part h.passed))))
 
 -- or the inner scanner stopped in the piece
-pub on-stopped : (old new : AnyScanner) (t : Scanning) (bytes more piece : List ℕ)
-    (lines now : List (Option Line)) (why : LineFault)
+pub on-stopped : (old : AnyScanner) (t : Scanning) (bytes more piece : List ℕ)
+    (lines : List (Option Line)) (fault : LineFault) (why : NoEffect)
+    (Holds : List ℕ → List (Option Line) → Type 0)
+    → why ≡ reason_of_fault fault
     → old.is_passing ≡ false → length piece ≤ old.scanner.room → IsScanning old bytes lines
     → ((limit : ℕ) (since : List ℕ) (found : List Line) → Scans limit old.scanner since found
-    → StopsIn limit t since piece found why)
+    → StopsIn limit t since piece found fault)
     → ((before : List ℕ) (lines : List (Option Line)) (part : List ℕ)
-    → AreLines before lines [] → HasNoEnd part → IsPassedOver part piece
-    → IsScanning new ((before ++ part) ++ more) (lines ++ now))
-    → IsScanning new (bytes ++ more) (lines ++ now)
-on-stopped old new t bytes more piece lines now why idle room h stop pass =
+    → AreLines before lines [] → HasNoEnd part → IsPassedOver why part piece
+    → Holds ((before ++ part) ++ more) lines)
+    → Holds (bytes ++ more) lines
+on-stopped old t bytes more piece lines fault why Holds is idle room h stop pass =
     let p = parts old bytes lines h in
     let only : old.scanner.part ++ h.passed ≡ old.scanner.part =
     ap (λ l. old.scanner.part ++ l) (not-passing old bytes lines idle h)
     ∙ append-nil old.scanner.part in
-    subst (λ l. IsScanning new (l ++ more) (lines ++ now))
+    subst (λ l. Holds (l ++ more) lines)
     (sym (p.whole ∙ ap (λ l. p.front ++ l) only))
     (pass p.front lines old.scanner.part p.are h.scans.splits.part.none
-    (passed-stop most_bytes old.scanner t h.since piece h.found why room h.scans
-    (stop most_bytes h.since h.found h.scans)))
+    (subst (λ r. IsPassedOver r old.scanner.part piece) (sym is)
+    (passed-stop most_bytes old.scanner t h.since piece h.found fault room h.scans
+    (stop most_bytes h.since h.found h.scans))))
 
 -- ---- bytes that are passed over
 
@@ -212,29 +251,24 @@ pub over-ended : (now : AnyScanner) (piece : List ℕ) (at : ℕ) (before : List
     (lines : List (Option Line)) (part : List ℕ)
     → Scans most_bytes now.scanner [] [] → now.is_passing ≡ false
     → at < length piece → get_or piece at 0 ≡ 10 → HasNoEnd (take at piece)
-    → AreLines before lines [] → HasNoEnd part → IsPassedOver part piece
+    → AreLines before lines [] → HasNoEnd part → (why : NoEffect) → IsPassedOver why part piece
     → IsScanning now ((before ++ part) ++ take (at + 1) piece) (lines ++ None ∷ [])
-over-ended now piece at before lines part scans idle within feed none are open' over =
+over-ended now piece at before lines part scans idle within feed none are open' why over =
     let text = part ++ take at piece in
-    let whole : before ++ (text ++ 10 ∷ []) ≡ (before ++ part) ++ take (at + 1) piece =
-    ap (λ l. before ++ l) (append_assoc part (take at piece) (10 ∷ []))
-    ∙ sym (append_assoc before part (take at piece ++ 10 ∷ []))
-    ∙ ap (λ b. (before ++ part) ++ (take at piece ++ b ∷ [])) (sym feed)
-    ∙ ap (λ l. (before ++ part) ++ l) (sym (take_more piece at 0 within)) in
     fresh-stands now scans idle _ _
-    (subst (λ l. AreLines l (lines ++ None ∷ []) []) whole
+    (subst (λ l. AreLines l (lines ++ None ∷ []) []) (with-end before part piece at within feed)
     (AreLines-append before (text ++ 10 ∷ []) lines (None ∷ []) [] are
     (AreLines-bad text (All-append (λ byte. byte ≢ 10) part (take at piece) open' none)
-    (over.line at within feed none))))
+    (over.line at within feed none).0)))
 
 -- all of them
 pub over-all : (now : AnyScanner) (piece : List ℕ) (before : List ℕ) (lines : List (Option Line))
     (part : List ℕ)
     → Scans most_bytes now.scanner [] [] → now.is_passing ≡ true
     → HasNoEnd (take (length piece) piece)
-    → AreLines before lines [] → HasNoEnd part → IsPassedOver part piece
+    → AreLines before lines [] → HasNoEnd part → (why : NoEffect) → IsPassedOver why part piece
     → IsScanning now ((before ++ part) ++ take (length piece) piece) (lines ++ [])
-over-all now piece before lines part scans passing none are open' over =
+over-all now piece before lines part scans passing none are open' why over =
     let all : take (length piece) piece ≡ piece = take_all (length piece) piece (omega arith) in
     let none' = subst HasNoEnd all none in
     record {
@@ -267,14 +301,24 @@ pub ended-none : (now : AnyScanner) (bytes : List ℕ) (lines : List (Option Lin
 ended-none now bytes lines latest none h =
     subst (λ l. IsScanning now bytes (lines ++ map Some (option_to_list l))) none h
 
-pub cuts-end : {N : Type 0} (now : AnyScanner) (bytes : List ℕ) (lines : List (Option Line))
-    (end : Result N LineFault) (r : Bool) → r ≡ is_err end
+-- the inner scanner has a line open
+pub cuts-err : {N : Type 0} (now : AnyScanner) (bytes : List ℕ) (lines : List (Option Line))
+    (end : Result N LineFault) → is_err end ≡ true
     → now.is_passing ≡ false → IsScanning now bytes lines
     → ((limit : ℕ) (since : List ℕ) (found : List Line) → Scans limit now.scanner since found
     → MatchResult end (λ _. IsAirFile limit since found)
     (λ why. IsCause limit (length since) found now.scanner.part [] why))
-    → CutsAs r bytes lines
-cuts-end now bytes lines (Ok v) r is idle h end =
-    subst (λ b. CutsAs b bytes lines) (sym is) (cuts-none now bytes lines idle h end)
-cuts-end now bytes lines (Err why) r is idle h end =
-    subst (λ b. CutsAs b bytes lines) (sym is) (cuts-open now bytes lines why h end)
+    → CutsAs (Some NoEnd) bytes lines
+cuts-err now bytes lines (Ok v) is idle h end = let both : false ≡ true = is in cc
+cuts-err now bytes lines (Err why) is idle h end = cuts-open now bytes lines why idle h end
+
+-- or none
+pub cuts-ok : {N : Type 0} (now : AnyScanner) (bytes : List ℕ) (lines : List (Option Line))
+    (end : Result N LineFault) → is_err end ≡ false
+    → now.is_passing ≡ false → IsScanning now bytes lines
+    → ((limit : ℕ) (since : List ℕ) (found : List Line) → Scans limit now.scanner since found
+    → MatchResult end (λ _. IsAirFile limit since found)
+    (λ why. IsCause limit (length since) found now.scanner.part [] why))
+    → CutsAs None bytes lines
+cuts-ok now bytes lines (Ok v) is idle h end = cuts-none now bytes lines idle h end
+cuts-ok now bytes lines (Err why) is idle h end = let both : true ≡ false = is in cc

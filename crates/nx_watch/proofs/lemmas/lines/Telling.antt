@@ -1,6 +1,6 @@
 -- What is told of lines without effect.
-use Rattle.std.proofs.Common.{◌≡◌, ℕ, ◌+◌, ◌≤◌, ◌<◌, ◌==◌, false, List, [], ◌++◌, length}
-use Rattle.std.proofs.Common.{Bool, cond, take, Option, Result, Ok, Err, inl, inr, refl, sym, ap}
+use Rattle.std.proofs.Common.{◌≡◌, ℕ, ◌+◌, ◌≤◌, ◌<◌, ◌==◌, true, false, List, [], ◌++◌, length}
+use Rattle.std.proofs.Common.{Bool, cond, take, Option, Result, Ok, Err, inl, inr, refl, sym, ap, ap₂}
 use Rattle.std.proofs.Common.{◌∙◌, subst, arith, append_assoc, length-append}
 use Rattle.std.specs.Prelude.{IfErr, OnOk, decimal, codes}
 use Rattle.std.specs.Io.KnownBytes.{Appends}
@@ -10,7 +10,8 @@ use Rattle.std.proofs.lemmas.List.{take-append-le}
 use Rattle.std.proofs.lemmas.Bool.Decides.{nat_tests}
 use Rattle.nx_fec.specs.Transfers.{CountedDevice, FailsOnce, WroteSome}
 use Rattle.nx_fec.specs.declared.fault.WriteFault.{WriteFault}
-use Rattle.nx_watch.specs.LineRun.{HasTold, number_told}
+use Rattle.nx_watch.specs.LineRun.{HasTold}
+use Rattle.nx_watch.specs.LinesTold.{number_told}
 
 -- nothing more is told once a write failed
 pub told-stopped : (old new : Option (List ℕ)) (failures : ℕ) (text more : List ℕ)
@@ -49,13 +50,26 @@ three a b c d x y z none one two all =
     all ∙ ap (λ l. l ++ z) (two ∙ ap (λ l. l ++ y) (one ∙ ap (λ l. l ++ x) none))
     ∙ append_assoc x y z
 
-pub number-some : (count : ℕ) → 0 < count
+-- ---- the number of lines without effect
+
+number-by : (count : ℕ) (none one : Bool) → (count == 0) ≡ none → (count == 1) ≡ one
+    → number_told count ≡ cond none [] (codes "navtex: " ++ (decimal count
+    ++ cond one (codes " line had no effect\n") (codes " lines had no effect\n")))
+number-by count none one is_none is_one =
+    ap₂ (λ (a b : Bool). cond a [] (codes "navtex: " ++ (decimal count
+    ++ cond b (codes " line had no effect\n") (codes " lines had no effect\n")))) is_none is_one
+
+pub number-one : (count : ℕ) → count ≡ 1
+    → number_told count ≡ codes "navtex: " ++ (decimal count ++ codes " line had no effect\n")
+number-one count is =
+    number-by count false true (ap (λ (n : ℕ). n == 0) is) (ap (λ (n : ℕ). n == 1) is)
+
+pub number-many : (count : ℕ) → 1 < count
     → number_told count ≡ codes "navtex: " ++ (decimal count ++ codes " lines had no effect\n")
-number-some count h = ap (λ (b : Bool). cond b [] (codes "navtex: "
-    ++ (decimal count ++ codes " lines had no effect\n"))) (not-zero count h)
+number-many count many = number-by count false false (not-so 0 (omega arith)) (not-so 1 many)
   where
-    not-zero : (count : ℕ) → 0 < count → (count == 0) ≡ false
-    not-zero count h = grind (arith, nat_tests)
+    not-so : (n : ℕ) → n < count → (count == n) ≡ false
+    not-so n h = grind (arith, nat_tests)
 
 pub number-none : (count : ℕ) → count ≤ 0 → [] ≡ number_told count
 number-none count h = let zero : count ≡ 0 = omega arith in ap number_told (sym zero)

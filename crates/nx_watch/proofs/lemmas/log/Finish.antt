@@ -23,9 +23,9 @@ use Rattle.nx_receiver.proofs.lemmas.channels.Some.{later-some}
 use Rattle.nx_receiver.specs.Listener.{HearsGiven, starts_of}
 use Rattle.nx_receiver.specs.copies.Log.{IsLog}
 use Rattle.nx_receiver.specs.copies.Shares.{MarkedCopy, Starts, marked}
-use Rattle.nx_watch.specs.Acting.{acting_lines, first_without, goes_on, most_bytes}
+use Rattle.nx_watch.specs.Acting.{acting_lines, goes_on, most_bytes}
 use Rattle.nx_watch.specs.declared.lines.line_effects.StartMoments.{StartMoments}
-use Rattle.nx_watch.specs.Watch.{AnswersOver, AnswersStop, FailsWithin, FailsWrites, HadKept, HadWritten, HasCause, HasRead, HasWatchedOver, KeepsAll, KeepsSome, LeavesAtAnyMoment, StoodOver, TellsOfCut}
+use Rattle.nx_watch.specs.Watch.{AnswersOver, AnswersStop, FailsWithin, FailsWrites, HadFailed, HadKept, HadWritten, HasCause, HasRead, HasWatchedOver, KeepsAll, KeepsSome, LeavesAtAnyMoment, StoodOver, TellsOfCut}
 use Rattle.nx_watch.specs.Watch.{PrintsUntil, StandsForEntries, Stop, WatchDevices, at_end, back, moments_at, unread, unwritten}
 use Rattle.nx_watch.specs.LineRun.{HasTold, StandsWith, WereGiven, WithWriter, with_writer}
 use Rattle.nx_watch.specs.Stamp.{Stamp}
@@ -34,7 +34,8 @@ use Rattle.nx_watch.specs.declared.watch_report.WatchReport.{WatchReport}
 use Rattle.nx_watch.specs.declared.watch_fault.WatchFault.{WatchFault}
 use Rattle.nx_watch.specs.declared.watch_fault.WatchFault.TheVariants as fault
 use Rattle.nx_watch.specs.private.Keeping.{AllKept, HasKept, HasKeptSo, KeepsTexts, SomeKept, StandsForFirst, StandsForTexts, keeper_since}
-use Rattle.nx_watch.specs.private.Running.{HasToldFirst, HasToldLines, ToldBefore}
+use Rattle.nx_watch.specs.LinesTold.{IsToldAtEnd, IsToldByRead}
+use Rattle.nx_watch.specs.private.Running.{HasToldSo, ToldBefore}
 use Rattle.nx_watch.specs.private.Stamping.{StandsStamped, WasRunning, telling}
 use Rattle.nx_watch.specs.private.LoggingListener.{HasClosed, HasRun, IsLineInRange, KeepsLines}
 use Rattle.nx_watch.specs.declared.logging_listener.LoggingListener.{LoggingListener}
@@ -401,6 +402,16 @@ moments-since disk content start now before texts given h keeps = so now.has_fai
     so false k = k.any_moment content before keeps
     so true k = k.any_moment content before keeps
 
+-- whether the disk of a keeper had failed is whether a put had
+had-failed : {D R W E : Type 0} (d : WatchDevices D R W E) (start now : Keeper D) (at : D)
+    (texts : List (List ℕ)) (given : List ℕ)
+    → d.disk ≡ start.log.device → at ≡ now.log.device
+    → (failed : Bool) → HasKeptSo d.tells failed start now texts given → HadFailed d failed at
+had-failed {D = D} d start now at texts given was is false k =
+    ap d.tells.faults is ∙ k.well ∙ ap d.tells.faults (sym was)
+had-failed {D = D} d start now at texts given was is true k =
+    ap d.tells.faults is ∙ k.failed.once ∙ ap (λ (x : D). suc (d.tells.faults x)) (sym was)
+
 -- what is printed of a beginning of some lines begins what is printed of all
 pub printed-first : (starts : Starts) (stop : Stop) (all whole later : List Line)
     (printed copies : List MarkedCopy) → all ≡ whole ++ later
@@ -469,7 +480,8 @@ module _ {D R W E : Type 0} (disk : TellsOfDisk D) (logging : LoggingListener D)
           (λ whole. (later : List Line)
           × (acting_lines first lines ≡ acting_lines first whole ++ later))
           (KeepsOn disk now copies)) stamps
-      pub said : HasToldLines before (told notices_after.inner) notices_after.failures first lines
+      pub said : HasToldSo before (told notices_after.inner) notices_after.failures
+          (IsToldAtEnd first bytes lines now.has_failed)
 
     abbrev at-hand-with : D → List ℕ → WatchDevices D R W E
     at-hand-with device content =
@@ -511,10 +523,15 @@ module _ {D R W E : Type 0} (disk : TellsOfDisk D) (logging : LoggingListener D)
       kept = kept-at w.past.keeper.has_failed refl
           (all-new disk logging.keeper w.past.keeper w.stood.1.texts w.stood.0 none w.stood.1.kept);
       told = (
-        cut,
-        is_cut,
-        subst (λ f. HasToldFirst before (told at.notices.inner) at.notices.failures
-            (first_without f w.lines)) is w.told_first,
+        w.past.keeper.has_failed,
+        had-failed (at-hand-with now.log.device content) logging.keeper w.past.keeper at.disk
+            w.stood.1.texts w.stood.0 refl w.device w.past.keeper.has_failed
+            (all-new disk logging.keeper w.past.keeper w.stood.1.texts w.stood.0 none
+            w.stood.1.kept),
+        w.told.0,
+        subst (λ f. IsToldByRead f (take at.read h.bytes) w.lines w.past.keeper.has_failed w.told.0)
+            is w.told.1,
+        (cut, is_cut, w.told.2),
       );
     }
       where
@@ -628,10 +645,12 @@ module _ {D R W E : Type 0} (disk : TellsOfDisk D) (logging : LoggingListener D)
           failed_read = h.failed_read;
           failed_write = h.failed_write;
           notices_told = (
-            cut,
-            is_cut,
-            subst (λ f. HasToldLines before (told notices_after.inner) notices_after.failures f
-                h.lines) is h.said,
+            now.has_failed,
+            had-failed (at-hand-with now.log.device content) logging.keeper now now.log.device
+                h.texts h.given refl refl now.has_failed so,
+            h.said.0,
+            subst (λ f. IsToldAtEnd f h.bytes h.lines now.has_failed h.said.0) is h.said.1,
+            (cut, is_cut, h.said.2),
           );
         }) failed
         (λ w all. subst (λ f. AnswersStop f stop h.lines h.copies outcome) is (well w all))
@@ -661,6 +680,16 @@ module _ {D R W E : Type 0} (disk : TellsOfDisk D) (logging : LoggingListener D)
           within = within-of disk logging.keeper now h.texts h.given so;
           explained = explained-of disk logging.keeper now h.texts h.given so;
         })
+
+-- one that kept nothing yet had no put that failed
+pub none-yet-failed : {D : Type 0} (disk : TellsOfDisk D) (keeper : Keeper D)
+    → HasKept disk keeper keeper [] [] → keeper.has_failed ≡ false
+none-yet-failed disk keeper h = so keeper.has_failed refl h.since
+  where
+    so : (b : Bool) → keeper.has_failed ≡ b
+        → HasKeptSo disk b keeper keeper (drop keeper.put []) [] → keeper.has_failed ≡ false
+    so false is k = is
+    so true is k = absurd (omega (arith, k.fewer, length-drop {A = List ℕ} keeper.put []))
 
 -- a writer whose write failed was given bytes, so not all was kept
 pub wrote-some : {D W : Type 0} {disk : TellsOfDisk D} {contents : W → Option (List ℕ)}

@@ -1,5 +1,5 @@
 -- What a watch answers that opens its log and starts.
-use Rattle.std.proofs.Common.{◌≡◌, ◌⊎◌, inl, inr, ⊎_elim, ℕ, suc, ◌≤◌, List, []}
+use Rattle.std.proofs.Common.{◌≡◌, ◌⊎◌, inl, inr, ⊎_elim, ℕ, suc, ◌≤◌, Bool, true, false, List, []}
 use Rattle.std.proofs.Common.{◌∷◌, ◌++◌, length, take, Option, Result, Ok, Err, refl, sym, ◌∙◌, ap, subst}
 use Rattle.std.proofs.Common.{append-nil, arith}
 use Rattle.std.specs.List.{AllZip}
@@ -18,9 +18,10 @@ use Rattle.nx_log.specs.Entries.{IsWholeEntry}
 use Rattle.nx_log.specs.Logged.{IsLoggedAs}
 use Rattle.nx_receiver.specs.copies.Shares.{MarkedCopy, Starts}
 use Rattle.nx_watch.specs.LineRun.{HasTold}
+use Rattle.nx_watch.specs.LinesTold.{IsToldAtEnd, IsToldByRead}
 use Rattle.nx_watch.specs.Stamp.{Stamp}
 use Rattle.nx_watch.specs.declared.lines.line_effects.StartMoments.{StartMoments}
-use Rattle.nx_watch.specs.Watch.{AnswersOver, AnswersStarted, AnswersStop, AnswersWatch, HasCause, HasOpened, RefusesLog, StandsForEntries, StoodOver, Stop, TellsOfCut}
+use Rattle.nx_watch.specs.Watch.{AnswersOver, AnswersStarted, AnswersStop, AnswersWatch, HadFailed, HasCause, HasOpened, HasToldOf, RefusesLog, StandsForEntries, StoodOver, Stop, TellsOfCut}
 use Rattle.nx_watch.specs.Watch.{WatchDevices, at_end, back, longest_entry, moments_at, starts_at, unread, unwritten}
 use Rattle.nx_watch.specs.declared.watch_report.WatchReport.{WatchReport}
 use Rattle.nx_watch.specs.declared.watch_fault.WatchFault.{WatchFault}
@@ -221,6 +222,19 @@ module _ {D R W E : Type 0} (disk : TellsOfDisk D) (content : List ℕ) (old mid
       stamps = stamps;
     }
 
+    -- what was told, and whether a call had failed
+    failed-before : disk.faults mid ≡ disk.faults old → (failed : Bool) (at : D)
+        → HadFailed (devices-from mid) failed at → HadFailed (devices-from old) failed at
+    failed-before same false at h = h ∙ same
+    failed-before same true at h = h ∙ ap suc same
+
+    told-before : disk.faults mid ≡ disk.faults old → (file : List ℕ) (at : D)
+        (notices : CountedDevice E) (IsTold : Bool → List ℕ → Type 0)
+        → HasToldOf (devices-from mid) file at notices IsTold
+        → HasToldOf (devices-from old) file at notices IsTold
+    told-before same file at notices IsTold h =
+        (h.0, failed-before same h.0 at h.1, h.2, h.3, h.4)
+
     -- what stood at a read
     stood-before : (file : List ℕ) (now : ℕ) (starts : Starts) (entries copies : List MarkedCopy)
         (bytes : List ℕ)
@@ -250,7 +264,8 @@ module _ {D R W E : Type 0} (disk : TellsOfDisk D) (content : List ℕ) (old mid
             written = k.written;
             well = k.well;
           })) h.kept;
-      told = h.told;
+      told = told-before same file at.disk at.notices
+          (IsToldByRead (moments_at now starts) (take at.read bytes) h.lines) h.told;
     }
 
     pub started-before : {now : ℕ} (file : List ℕ) (starts : Starts) (entries : List MarkedCopy)
@@ -285,7 +300,8 @@ module _ {D R W E : Type 0} (disk : TellsOfDisk D) (content : List ℕ) (old mid
                 (λ c o. ⊎_elim (λ left. inr (none c (rests c left))) (λ h. inr h) o);
             failed_read = w.failed_read;
             failed_write = w.failed_write;
-            notices_told = w.notices_told;
+            notices_told = told-before same file new notices_after
+                (IsToldAtEnd (moments_at now starts) w.bytes h.1) w.notices_told;
           },
           ⊎_elim (λ k. inl (
             record {

@@ -23,11 +23,14 @@ use Rattle.nx_watch.specs.declared.lines.line_run.WatchEnd.{WatchEnd}
 use Rattle.nx_watch.specs.declared.lines.line_run.WatchEnd.TheVariants.{Read, Back, Write}
 use Rattle.nx_watch.specs.declared.logging_listener.LoggingListener.{LoggingListener}
 use Rattle.nx_watch.specs.private.LoggingListener.{KeepsLines}
-use Rattle.nx_watch.specs.private.Running.{EndsRun, HasToldFirst, IsRunning, ToldBefore}
+use Rattle.nx_watch.specs.LinesTold.{IsToldByRead}
+use Rattle.nx_watch.specs.private.Running.{EndsRun, HasToldSo, IsBeside, IsRunning, ToldBefore}
+use Rattle.nx_watch.specs.private.Running.{ToldBeside}
 use Rattle.nx_watch.specs.private.Stamping.{RunsStamped, StandsStamped, WasRunning, logging_since, telling}
 use Rattle.nx_watch.proofs.lemmas.lines.Law.{regroup, says-no_end, says-one}
 use Rattle.nx_watch.proofs.lemmas.lines.Run.{acting-idle, ends-idle, nothing}
 use Rattle.nx_watch.proofs.lemmas.lines.Scanning.{Parts-lines, parts}
+use Rattle.nx_watch.proofs.lemmas.lines.Told.{by-read}
 use Rattle.nx_watch.proofs.lemmas.log.Keeping.{kept-since}
 
 -- ---- the lines of a beginning of bytes
@@ -189,18 +192,19 @@ module _ {D W N : Type 0} (disk : TellsOfDisk D) (contents : W → Option (List 
 
     -- the run, as it stands where it asks for more
     pub stamp-now : (now : LoggingListener D) (writer : CountedDevice W)
-        (notices : CountedDevice N) (run : LineRun) (bytes : List ℕ) (read : ℕ)
-        → read ≡ length bytes → writer.failures ≡ 0
+        (notices : CountedDevice N) (run : LineRun) (beside : ToldBeside) (bytes : List ℕ)
+        (read : ℕ)
+        → IsBeside old now.keeper.has_failed beside → read ≡ length bytes → writer.failures ≡ 0
         → ((content file : List ℕ)
         → disk.left_since content now.keeper.log.device (disk.moment now.keeper.log.device) file
         → disk.may_leave content now.keeper.log.device file)
-        → IsRunning Stands start (with_writer now writer) first run old (told notices.inner)
+        → IsRunning Stands start (with_writer now writer) first run beside (told notices.inner)
         notices.failures bytes
         → Was bytes (λ lines. length lines ≤ run.effects.lines)
-        (λ since. IsRunning Stands since (with_writer now writer) first run old
+        (λ since. IsRunning Stands since (with_writer now writer) first run beside
         (told notices.inner) notices.failures bytes)
         (stamp read now.keeper.log.device writer notices)
-    stamp-now now writer notices run bytes read is none only_now h = record {
+    stamp-now now writer notices run beside bytes read sides is none only_now h = record {
       within = omega (arith, is);
       lines = h.lines;
       rest = run.scanner.scanner.part ++ h.scans.passed;
@@ -208,13 +212,16 @@ module _ {D W N : Type 0} (disk : TellsOfDisk D) (contents : W → Option (List 
           (sym (take_all read bytes (omega (arith, is))))
           (Parts-lines run.scanner bytes h.lines h.scans.passed
           (parts run.scanner bytes h.lines h.scans));
-      behind = omega (arith, h.tells.kept_so.counted);
+      behind = omega (arith, (h.tells []).kept_so.counted);
       past = now;
       device = refl;
       on = h.taken.on;
       stood = h.taken.stood;
-      told_first = subst (HasToldFirst old (told notices.inner) notices.failures)
-          h.tells.kept_so.first_one h.tells.told;
+      told = subst (λ b. HasToldSo old (told notices.inner) notices.failures
+          (IsToldByRead first b h.lines now.keeper.has_failed))
+          (append-nil bytes ∙ sym (take_all read bytes (omega (arith, is))))
+          (by-read first run.effects old beside now.keeper.has_failed (told notices.inner)
+          notices.failures (bytes ++ []) h.lines sides (h.tells []));
       well = none;
       went_on = λ well. record {
         lines = h.lines;
@@ -249,7 +256,9 @@ module _ {D W N : Type 0} (disk : TellsOfDisk D) (contents : W → Option (List 
           device = h.device;
           on = h.on;
           stood = h.stood;
-          told_first = h.told_first;
+          told = subst (λ b. HasToldSo old (told at.notices.inner) at.notices.failures
+              (IsToldByRead first b h.lines h.past.keeper.has_failed))
+              (sym (take-append-le at.read bytes piece h.within)) h.told;
           well = h.well;
           went_on = λ well. step _ refl (h.went_on well);
         }
@@ -275,7 +284,7 @@ module _ {D W N : Type 0} (disk : TellsOfDisk D) (contents : W → Option (List 
           device = h.device;
           on = h.on;
           stood = h.stood;
-          told_first = h.told_first;
+          told = h.told;
           well = h.well;
           went_on = λ well. step _ refl (h.went_on well);
         }
@@ -310,12 +319,13 @@ module _ {D W N : Type 0} (disk : TellsOfDisk D) (contents : W → Option (List 
 
     -- the input ended, or the limit was reached
     pub running-stamped : (now : WithWriter (LoggingListener D) W) (run : LineRun)
-        (new : Option (List ℕ)) (failures : ℕ) (bytes : List ℕ) (stamps : List AStamp)
+        (beside : ToldBeside) (new : Option (List ℕ)) (failures : ℕ) (bytes : List ℕ)
+        (stamps : List AStamp)
         → (h : RunsStamped (telling disk contents told old) first bytes run.effects.lines start
-        (λ since. IsRunning Stands since now first run old new failures bytes) stamps)
+        (λ since. IsRunning Stands since now first run beside new failures bytes) stamps)
         → HasTaken (StandsStamped (telling disk contents told old) first bytes stamps) start now
         first h.from_start.lines
-    running-stamped now run new failures bytes stamps h =
+    running-stamped now run beside new failures bytes stamps h =
         let s = h.from_start in
         let are = lines-of start s in record {
           on = s.taken.on;
@@ -323,36 +333,36 @@ module _ {D W N : Type 0} (disk : TellsOfDisk D) (contents : W → Option (List 
             stands = s.taken.stood;
             at_reads = says-too bytes (AtMost run.effects.lines)
                 (Begin (acting_lines first s.lines))
-                (λ since. IsRunning Stands since now first run old new failures bytes)
+                (λ since. IsRunning Stands since now first run beside new failures bytes)
                 (λ since. Stands since now (acting_lines first s.lines))
                 (begins bytes bytes [] s.lines (run.scanner.scanner.part ++ s.scans.passed)
                 run.effects.lines
-                (λ since. IsRunning Stands since now first run old new failures bytes) are
-                (sym (append-nil bytes)) s.tells.kept_so.counted)
+                (λ since. IsRunning Stands since now first run beside new failures bytes) are
+                (sym (append-nil bytes)) (s.tells []).kept_so.counted)
                 (λ since is k. subst (λ l. Stands since now (acting_lines first l))
                 (lines-same bytes bytes [] [] k.lines s.lines
                 (run.scanner.scanner.part ++ k.scans.passed)
                 (run.scanner.scanner.part ++ s.scans.passed) (lines-of since k) are refl
-                (sym k.tells.kept_so.counted ∙ s.tells.kept_so.counted)) k.taken.stood) stamps
-                h.from_reads;
+                (sym (k.tells []).kept_so.counted ∙ (s.tells []).kept_so.counted)) k.taken.stood)
+                stamps h.from_reads;
           };
         }
       where
         lines-of : (s : WithWriter (LoggingListener D) W)
-            → (k : IsRunning Stands s now first run old new failures bytes)
+            → (k : IsRunning Stands s now first run beside new failures bytes)
             → AreLines bytes k.lines (run.scanner.scanner.part ++ k.scans.passed)
         lines-of s k = Parts-lines run.scanner bytes k.lines k.scans.passed
             (parts run.scanner bytes k.lines k.scans)
 
     -- the run was over before
     pub ends-stamped : (now : WithWriter (LoggingListener D) W) (kept : LineEffects)
-        (new : Option (List ℕ)) (failures : ℕ) (end : WatchEnd) (bytes : List ℕ)
-        (stamps : List AStamp)
+        (beside : ToldBeside) (new : Option (List ℕ)) (failures : ℕ) (end : WatchEnd)
+        (bytes : List ℕ) (stamps : List AStamp)
         → RunsStamped (telling disk contents told old) first bytes kept.lines start
-        (λ since. EndsRun Stands since now first kept old new failures end bytes) stamps
+        (λ since. EndsRun Stands since now first kept beside new failures end bytes) stamps
         → EndsRun (StandsStamped (telling disk contents told old) first bytes stamps) start now
-        first kept old new failures end bytes
-    ends-stamped now kept new failures Read bytes stamps all =
+        first kept beside new failures end bytes
+    ends-stamped now kept beside new failures Read bytes stamps all =
         let h = all.from_start in (
           h.0,
           h.1,
@@ -362,10 +372,10 @@ module _ {D W N : Type 0} (disk : TellsOfDisk D) (contents : W → Option (List 
             stood = record {
               stands = h.3.stood;
               at_reads = says-too bytes (AtMost kept.lines) (Begin (acting_lines first h.0))
-                  (λ since. EndsRun Stands since now first kept old new failures Read bytes)
+                  (λ since. EndsRun Stands since now first kept beside new failures Read bytes)
                   (λ since. Stands since now (acting_lines first h.0))
                   (begins bytes bytes [] h.0 h.1 kept.lines
-                  (λ since. EndsRun Stands since now first kept old new failures Read bytes) h.2
+                  (λ since. EndsRun Stands since now first kept beside new failures Read bytes) h.2
                   (sym (append-nil bytes)) h.4.kept_so.counted)
                   (λ since is k. subst (λ l. Stands since now (acting_lines first l))
                   (lines-same bytes bytes [] [] k.0 h.0 k.1 h.1 k.2 h.2 refl
@@ -375,7 +385,7 @@ module _ {D W N : Type 0} (disk : TellsOfDisk D) (contents : W → Option (List 
           },
           h.4,
         )
-    ends-stamped now kept new failures (Back line last given) bytes stamps all =
+    ends-stamped now kept beside new failures (Back line last given) bytes stamps all =
         let h = all.from_start in
         let own = Some (moment given) ∷ [] in
         let idle = acting-idle first h.0 (moment given)
@@ -388,12 +398,12 @@ module _ {D W N : Type 0} (disk : TellsOfDisk D) (contents : W → Option (List 
           record {
             stands = h.5;
             at_reads = says-too bytes (AtMost kept.lines) (Begin (acting_lines first h.0))
-                (λ since. EndsRun Stands since now first kept old new failures
+                (λ since. EndsRun Stands since now first kept beside new failures
                 (Back line last given) bytes)
                 (λ since. Stands since now (acting_lines first h.0))
                 (λ at w.
                 let rest = begins bytes h.1.front h.1.more (h.0 ++ own) [] kept.lines
-                (λ since. EndsRun Stands since now first kept old new failures
+                (λ since. EndsRun Stands since now first kept beside new failures
                 (Back line last given) bytes) h.1.are h.1.whole h.6.kept_so.counted at w in
                 (rest.0, sym idle ∙ rest.1))
                 (λ since is k. subst (λ l. Stands since now (acting_lines first l))
@@ -404,7 +414,7 @@ module _ {D W N : Type 0} (disk : TellsOfDisk D) (contents : W → Option (List 
           },
           h.6,
         )
-    ends-stamped now kept new failures Write bytes stamps all =
+    ends-stamped now kept beside new failures Write bytes stamps all =
         let h = all.from_start in
         let lines = h.0 ++ Some h.1 ∷ [] in (
           h.0,
@@ -415,10 +425,10 @@ module _ {D W N : Type 0} (disk : TellsOfDisk D) (contents : W → Option (List 
             stood = record {
               stands = h.3.stood;
               at_reads = says-too bytes (AtMost kept.lines) (Begin (acting_lines first lines))
-                  (λ since. EndsRun Stands since now first kept old new failures Write bytes)
+                  (λ since. EndsRun Stands since now first kept beside new failures Write bytes)
                   (λ since. Stands since now (acting_lines first lines))
                   (begins bytes h.2.front h.2.more lines [] kept.lines
-                  (λ since. EndsRun Stands since now first kept old new failures Write bytes)
+                  (λ since. EndsRun Stands since now first kept beside new failures Write bytes)
                   h.2.are h.2.whole h.4.kept_so.counted)
                   (λ since is k. subst (λ l. Stands since now (acting_lines first l))
                   (lines-same k.2.front h.2.front k.2.more h.2.more (k.0 ++ Some k.1 ∷ []) lines []

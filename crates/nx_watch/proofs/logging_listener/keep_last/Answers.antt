@@ -15,6 +15,7 @@ pub entries-init : goal.entries-init
 entries-init g c = record {
   once = c.requires.once;
   range = c.requires.range;
+  failed = λ h. h;
   kept = λ starts start first lines copies texts range within printed each kept.
       (copies, texts, printed, each, kept);
 }
@@ -32,6 +33,7 @@ entries-preserved g c =
     let next = c.in-Some.ensures.next in
     record {
       once = c.keep.ensures.once;
+      failed = λ h. c.keep.ensures.failed (c.entries.invariant.failed h);
       range = All-tail IsCopyInRange one rest
           (subst (All IsCopyInRange) next c.entries.invariant.range);
       kept = λ starts start first lines copies texts range within printed each kept.

@@ -1,4 +1,4 @@
-use Rattle.std.proofs.Common.{◌≤◌, ℕ, List, ◌++◌, length}
+use Rattle.std.proofs.Common.{◌≡◌, ◌≤◌, true, ℕ, List, ◌++◌, length}
 use Rattle.std.specs.List.{All, AllZip}
 use Rattle.nx_envelope.specs.Moment.{last_moment}
 use Rattle.nx_fec.specs.air_files.AirFile.{Line}
@@ -18,6 +18,7 @@ abbrev pub invariant-entries : goal.invariant-entries
 invariant-entries g l = record {
   once : l.writer.failures ≤ 1;
   range : All IsCopyInRange (last_copies l.last);
+  failed : l.fn.keeper.has_failed ≡ true → l.keeper.has_failed ≡ true;
   kept : (starts : Starts) (start : Keeper g.row.D.Denot) (first : CountedDevice g.row.W.Denot)
       (lines : List Line) (copies : List MarkedCopy) (texts : List (List ℕ))
       → starts.moment ≤ last_moment → All IsLineInRange lines

@@ -1,16 +1,11 @@
-use Rattle.std.proofs.Common.{append-nil, subst, sym}
+use Rattle.std.proofs.Common.{◌++◌, subst}
+use Rattle.std.specs.Prelude.{codes, decimal}
 use Rattle.nx_watch.specs.LineRun.{HasTold}
-use Rattle.nx_watch.specs.private.Running.{HasToldFirst}
-use Rattle.nx_watch.proofs.lemmas.lines.Acting.{none-is}
 use Rattle.nx_watch.proofs.lines.telling.tell_first.Goals as goal
 
-pub returns-in-Some : goal.returns-in-Some
-returns-in-Some g c = λ old same h.
-    subst (HasToldFirst old (g.F.Write.contents c.tell.new.notices.inner)
-    c.tell.new.notices.failures) (sym c.in-Some.is)
-    (c.tell.ensures old.old old.text
-    (subst (HasTold old.old (g.F.Write.contents c.args.notices.now.inner)
-    c.args.notices.now.failures) (append-nil old.text)
-    (subst (HasToldFirst old (g.F.Write.contents c.args.notices.now.inner)
-    c.args.notices.now.failures)
-    (none-is c.args.before (sym c.if-is_some.ensures)) h)))
+pub returns-clause-none : goal.returns-clause-none
+returns-clause-none g c = λ none old text h.
+    subst (λ l. HasTold old (g.F.Write.contents c.tell.new.notices.inner)
+    c.tell.new.notices.failures
+    (text ++ (codes "navtex: line " ++ (decimal c.args.number ++ l))))
+    c.told.ensures (c.tell.ensures old text h)

@@ -13,6 +13,7 @@ loop-at-init g c =
     record {
       once = omega (arith, c.requires);
       within = omega arith;
+      failed = λ h. h;
       heard = λ start lines h.
           none-yet disk g.W.Write.contents start c.args.self.now c.args.writer.now lines
           c.of-channel.result h;
@@ -25,6 +26,7 @@ loop-at-preserved g c =
     record {
       once = c.hear_next-at.ensures.once;
       within = omega (arith, c.hear_next-at.ensures.within);
+      failed = λ h. c.hear_next-at.ensures.failed (c.loop-at.invariant.failed h);
       heard = λ start lines h.
           subst (λ bs. KeepsHeard disk g.W.Write.contents start.taker c.hear_next-at.new.self
           start.writer c.hear_next-at.new.writer

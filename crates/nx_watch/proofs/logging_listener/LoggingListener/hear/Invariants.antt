@@ -1,4 +1,4 @@
-use Rattle.std.proofs.Common.{◌-◌, ◌≤◌, List, length, take}
+use Rattle.std.proofs.Common.{◌≡◌, ◌-◌, ◌≤◌, true, List, length, take}
 use Rattle.nx_fec.specs.air_files.AirFile.{Line}
 use Rattle.nx_receiver.specs.air_file_runs.Listen.{given_by}
 use Rattle.nx_receiver.specs.Listener.{then_elements}
@@ -12,6 +12,7 @@ abbrev pub invariant-loop-at : goal.invariant-loop-at
 invariant-loop-at g l = record {
   once : l.writer.failures ≤ 1;
   within : l.at ≤ length l.packed;
+  failed : l.fn.self.keeper.has_failed ≡ true → l.self.keeper.has_failed ≡ true;
   heard : (start : WithWriter (LoggingListener g.row.D.Denot) g.row.W.Denot) (lines : List Line)
       → StandsWith (KeepsLines g.D.DiskFile) g.W.Write.contents start
       (with_writer l.fn.self l.fn.writer) lines

@@ -1,8 +1,8 @@
-use Rattle.std.proofs.Common.{◌≡◌, ◌≤◌, ◌⊎◌, ◌∙◌, ◌++◌, ◌∷◌, [], ℕ, List, Option, Result, Some, Ok, Err, refl, sym, subst, ap, arith, length, length-append}
+use Rattle.std.proofs.Common.{◌≡◌, ◌≤◌, ◌⊎◌, ◌∙◌, ◌++◌, ◌∷◌, [], ℕ, Bool, List, Option, Result, Some, Ok, Err, refl, sym, subst, ap, arith, length, length-append}
 use Rattle.std.specs.Io.KnownBytes.{IsAtEnd}
 use Rattle.nx_fec.specs.Transfers.{CountedDevice, count_of}
 use Rattle.nx_envelope.specs.Moment.{last_moment}
-use Rattle.nx_fec.specs.air_files.AirFile.{moment}
+use Rattle.nx_fec.specs.air_files.AirFile.{Line, moment}
 use Rattle.nx_receiver.specs.copies.InTurn.{PrintAllToEnd}
 use Rattle.nx_receiver.specs.air_file_runs.Listen.{given_by}
 use Rattle.nx_receiver.specs.Listener.{HearsGiven, Listening, starts_of}
@@ -12,14 +12,17 @@ use Rattle.nx_watch.specs.Watch.{AnswersStop, at_end, back, unread, unwritten}
 use Rattle.nx_watch.specs.LineRun.{AnswersRun, HasTold, RunOverLines, TellsOfLines, with_writer}
 use Rattle.nx_watch.specs.Stamps.{counted_of, stamps_of}
 use Rattle.nx_watch.specs.CutTold.{TellsOfSomeCut}
-use Rattle.nx_watch.specs.private.Running.{HasToldLines, ToldBefore}
+use Rattle.nx_watch.specs.LinesTold.{IsToldAtEnd}
+use Rattle.nx_watch.specs.declared.lines.line_effects.StartMoments.{StartMoments}
+use Rattle.nx_watch.specs.private.Running.{HasToldSo, IsToldByEnd, ToldBefore}
 use Rattle.nx_watch.specs.private.Stamping.{StandsStamped, telling}
 use Rattle.nx_watch.specs.declared.lines.line_run.LinesWatched.{LinesWatched}
 use Rattle.nx_watch.specs.declared.lines.line_run.WatchEnd.{WatchEnd}
 use Rattle.nx_watch.specs.declared.lines.line_run.WatchEnd.TheVariants.{Read, Back, Write}
 use Rattle.nx_watch.specs.private.Keeping.{HasKept}
-use Rattle.nx_watch.proofs.lemmas.log.Finish.{back-apart, closed-on, end-apart, has-run, heard-on, none-failed, stamps-keep, stands-first, unwritten-apart, wrote-some, zip-length}
+use Rattle.nx_watch.proofs.lemmas.log.Finish.{back-apart, closed-on, end-apart, has-run, heard-on, none-failed, none-yet-failed, stamps-keep, stands-first, unwritten-apart, wrote-some, zip-length}
 use Rattle.nx_watch.proofs.lemmas.lines.Run.{acting-cut, acting-idle, ends-idle, tells-some}
+use Rattle.nx_watch.proofs.lemmas.lines.Told.{at-end, at-finish}
 use Rattle.nx_watch.proofs.logging_listener.LoggingListener.run.Goals as goal
 use Rattle.nx_watch.proofs.logging_listener.LoggingListener.run.Goals.{After-watch_lines}
 
@@ -53,13 +56,14 @@ returns-in-Ok-clause-runs g c = λ notices cut told is none range heard kept.
     let start = with_writer self c.args.writer.now in
     let before = behind g.F.Write.contents notices cut in
     let w = c.in-Ok.ensures.watched self before (sym is)
+    (none-yet-failed disk self.keeper kept)
     (stands-first disk self range heard kept) told in
     let acting = acting_lines c.args.first w.3.1 in
-    let closed = c.close.ensures.closed start acting w.3.4.stood.stands in
+    let closed = c.finish.ensures.closed start acting w.3.4.stood.stands in
     has-run disk self c.args.first g.R.Read.remaining (counted_of c.args.reader.now)
     (counted_of c.watch_lines.new.reader)
-    g.W.Write.contents c.args.writer.now c.close.new.writer g.F.Write.contents notices
-    c.watch_lines.new.notices cut (stamps_of c.watch_lines.new.reader) at_end c.close.result
+    g.W.Write.contents c.args.writer.now c.finish.new.writer g.F.Write.contents notices
+    c.finish.new.notices cut (stamps_of c.watch_lines.new.reader) at_end c.finish.result
     (record {
       lines = w.3.1 ++ cut_line w.3.2;
       copies = closed.copies;
@@ -78,16 +82,19 @@ returns-in-Ok-clause-runs g c = λ notices cut told is none range heard kept.
         λ e. absurd (end-apart e),
         λ f. absurd (apart-Ok c.in-Ok.counts (sym c.in-Ok.is ∙ c.watch_lines.ensures.unread.1 f)),
       );
-      failed_write = c.close.ensures.once;
+      failed_write = c.finish.ensures.once;
       stamped = stamps-keep disk g.W.Write.contents g.F.Write.contents before c.args.first start
-          (with_writer c.watch_lines.new.logging c.watch_lines.new.writer) w.0 c.close.result acting
-          (acting_lines c.args.first (w.3.1 ++ cut_line w.3.2)) closed.copies
+          (with_writer c.watch_lines.new.logging c.watch_lines.new.writer) w.0 c.finish.result
+          acting (acting_lines c.args.first (w.3.1 ++ cut_line w.3.2)) closed.copies
           (stamps_of c.watch_lines.new.reader) (acting-cut c.args.first w.3.1 w.3.2)
           (λ since same k. closed-on disk g.W.Write.contents (starts_of self.listener) since
-          c.close.result c.close.new.writer acting closed.copies
+          c.finish.result c.finish.new.writer acting closed.copies
           (ap (λ (l : Listening). starts_of l) same) closed.printed
-          (c.close.ensures.closed since acting k)) w.3.4.stood;
-      said = w.3.6;
+          (c.finish.ensures.closed since acting k)) w.3.4.stood;
+      said = at-finish g.F.Write.contents c.watch_lines.new.notices c.finish.new.notices
+          c.args.first before c.watch_lines.new.logging.keeper.has_failed
+          c.finish.result.has_failed w.0 (w.3.1 ++ cut_line w.3.2) c.finish.ensures.failed
+          c.finish.ensures.told w.3.6;
     }) c.answer.result.0 c.answer.result.1 is none c.answer.ensures.device c.answer.ensures.failed
     (λ well all. subst (AnswersStop c.args.first at_end (w.3.1 ++ cut_line w.3.2) closed.copies)
     (sym (c.answer.ensures.well well)) (
@@ -109,6 +116,7 @@ returns-in-Back-clause-runs g c = λ notices cut told is none range heard kept.
     let before = behind g.F.Write.contents notices cut in
     let lines-read = c.watch_lines.new in
     let w = c.in-Err.ensures.watched self before (sym is)
+    (none-yet-failed disk self.keeper kept)
     (stands-first disk self range heard kept) told in
     let r : RunOverLines _ = record {
       stands = StandsStamped (telling disk g.W.Write.contents g.F.Write.contents before)
@@ -118,18 +126,20 @@ returns-in-Back-clause-runs g c = λ notices cut told is none range heard kept.
       first = c.args.first;
       AtEnd = IsAtEnd (g.R.Read.remaining (counted_of lines-read.reader).inner) ⊎
           (length w.0 ≡ most_bytes);
-      tells = HasToldLines before (g.F.Write.contents lines-read.notices.inner)
-          lines-read.notices.failures c.args.first;
+      tells = λ lines. HasToldSo before (g.F.Write.contents lines-read.notices.inner)
+          lines-read.notices.failures
+          (IsToldByEnd c.args.first w.0 lines lines-read.logging.keeper.has_failed);
     } in
     let ended = subst (λ e. AnswersRun r (Err e) w.0) c.in-Back.is w.3 in
     let acting = acting_lines c.args.first ended.0 in
-    let closed = c.close-in-Back.ensures.closed start acting ended.5.stands in
+    let closed = c.finish-in-Back.ensures.closed start acting ended.5.stands in
     let stop = back c.in-Back.line c.in-Back.last c.in-Back.given in
     let lines = ended.0 ++ Some (moment c.in-Back.given) ∷ [] in
     has-run disk self c.args.first g.R.Read.remaining (counted_of c.args.reader.now)
     (counted_of lines-read.reader)
-    g.W.Write.contents c.args.writer.now c.close-in-Back.new.writer g.F.Write.contents
-    notices lines-read.notices cut (stamps_of lines-read.reader) stop c.close-in-Back.result
+    g.W.Write.contents c.args.writer.now c.finish-in-Back.new.writer g.F.Write.contents
+    notices c.finish-in-Back.new.notices cut (stamps_of lines-read.reader) stop
+    c.finish-in-Back.result
     (record {
       lines = lines;
       copies = closed.copies;
@@ -158,18 +168,21 @@ returns-in-Back-clause-runs g c = λ notices cut told is none range heard kept.
         λ f. absurd (apart-Back _ _ _ (sym (c.in-Err.is ∙ ap Err c.in-Back.is)
             ∙ c.watch_lines.ensures.unread.1 f)),
       );
-      failed_write = c.close-in-Back.ensures.once;
+      failed_write = c.finish-in-Back.ensures.once;
       stamped = stamps-keep disk g.W.Write.contents g.F.Write.contents before c.args.first start
-          (with_writer lines-read.logging lines-read.writer) w.0 c.close-in-Back.result acting
+          (with_writer lines-read.logging lines-read.writer) w.0 c.finish-in-Back.result acting
           (acting_lines c.args.first lines) closed.copies
           (stamps_of lines-read.reader) (acting-idle c.args.first ended.0 (moment c.in-Back.given)
           (ends-idle c.args.first.newest (moments_behind c.args.first ended.0) c.in-Back.given
           ended.2))
           (λ since same k. closed-on disk g.W.Write.contents (starts_of self.listener) since
-          c.close-in-Back.result c.close-in-Back.new.writer acting closed.copies
+          c.finish-in-Back.result c.finish-in-Back.new.writer acting closed.copies
           (ap (λ (l : Listening). starts_of l) same) closed.printed
-          (c.close-in-Back.ensures.closed since acting k)) ended.5;
-      said = ended.6;
+          (c.finish-in-Back.ensures.closed since acting k)) ended.5;
+      said = at-finish g.F.Write.contents lines-read.notices c.finish-in-Back.new.notices
+          c.args.first before lines-read.logging.keeper.has_failed
+          c.finish-in-Back.result.has_failed w.0 lines c.finish-in-Back.ensures.failed
+          c.finish-in-Back.ensures.told ended.6;
     }) c.answer-in-Back.result.0 c.answer-in-Back.result.1 is none c.answer-in-Back.ensures.device
     c.answer-in-Back.ensures.failed
     (λ well all. subst (AnswersStop c.args.first stop lines closed.copies)
@@ -183,6 +196,7 @@ returns-in-Read-clause-runs g c = λ notices cut told is none range heard kept.
     let before = behind g.F.Write.contents notices cut in
     let lines-read = c.watch_lines.new in
     let w = c.in-Err.ensures.watched self before (sym is)
+    (none-yet-failed disk self.keeper kept)
     (stands-first disk self range heard kept) told in
     let r : RunOverLines _ = record {
       stands = StandsStamped (telling disk g.W.Write.contents g.F.Write.contents before)
@@ -192,8 +206,9 @@ returns-in-Read-clause-runs g c = λ notices cut told is none range heard kept.
       first = c.args.first;
       AtEnd = IsAtEnd (g.R.Read.remaining (counted_of lines-read.reader).inner) ⊎
           (length w.0 ≡ most_bytes);
-      tells = HasToldLines before (g.F.Write.contents lines-read.notices.inner)
-          lines-read.notices.failures c.args.first;
+      tells = λ lines. HasToldSo before (g.F.Write.contents lines-read.notices.inner)
+          lines-read.notices.failures
+          (IsToldByEnd c.args.first w.0 lines lines-read.logging.keeper.has_failed);
     } in
     let ended = subst (λ e. AnswersRun r (Err e) w.0) c.in-Read.is w.3 in
     let stood = ended.3.stood.stands in
@@ -228,7 +243,11 @@ returns-in-Read-clause-runs g c = λ notices cut told is none range heard kept.
           (acting_lines c.args.first ended.0) stood.1.copies
           (ap (λ (l : Listening). starts_of l) same) stood.1.heard.in_turn c.into_keeper.ensures k)
           ended.3.stood;
-      said = ended.4;
+      said = subst (λ k. HasToldSo before (g.F.Write.contents lines-read.notices.inner)
+          lines-read.notices.failures (IsToldAtEnd c.args.first w.0 ended.0 k.has_failed))
+          (sym c.into_keeper.ensures) (at-end c.args.first before
+          lines-read.logging.keeper.has_failed (g.F.Write.contents lines-read.notices.inner)
+          lines-read.notices.failures w.0 ended.0 ended.4);
     }) c.answer-in-Read.result.0 c.answer-in-Read.result.1 is none c.answer-in-Read.ensures.device
     c.answer-in-Read.ensures.failed
     (λ well all. subst (AnswersStop c.args.first unread ended.0 stood.1.copies)
@@ -242,6 +261,7 @@ returns-in-Write-clause-runs g c = λ notices cut told is none range heard kept.
     let before = behind g.F.Write.contents notices cut in
     let lines-read = c.watch_lines.new in
     let w = c.in-Err.ensures.watched self before (sym is)
+    (none-yet-failed disk self.keeper kept)
     (stands-first disk self range heard kept) told in
     let r : RunOverLines _ = record {
       stands = StandsStamped (telling disk g.W.Write.contents g.F.Write.contents before)
@@ -251,8 +271,9 @@ returns-in-Write-clause-runs g c = λ notices cut told is none range heard kept.
       first = c.args.first;
       AtEnd = IsAtEnd (g.R.Read.remaining (counted_of lines-read.reader).inner) ⊎
           (length w.0 ≡ most_bytes);
-      tells = HasToldLines before (g.F.Write.contents lines-read.notices.inner)
-          lines-read.notices.failures c.args.first;
+      tells = λ lines. HasToldSo before (g.F.Write.contents lines-read.notices.inner)
+          lines-read.notices.failures
+          (IsToldByEnd c.args.first w.0 lines lines-read.logging.keeper.has_failed);
     } in
     let ended = subst (λ e. AnswersRun r (Err e) w.0) c.in-Write.is w.3 in
     let stood = ended.3.stood.stands in
@@ -291,28 +312,35 @@ returns-in-Write-clause-runs g c = λ notices cut told is none range heard kept.
           (acting_lines c.args.first (ended.0 ++ Some ended.1 ∷ [])) stood.1.copies
           (ap (λ (l : Listening). starts_of l) same) stood.1.heard.in_turn
           c.into_keeper-in-Write.ensures k) ended.3.stood;
-      said = ended.4;
+      said = subst (λ k. HasToldSo before (g.F.Write.contents lines-read.notices.inner)
+          lines-read.notices.failures
+          (IsToldAtEnd c.args.first w.0 (ended.0 ++ Some ended.1 ∷ []) k.has_failed))
+          (sym c.into_keeper-in-Write.ensures) (at-end c.args.first before
+          lines-read.logging.keeper.has_failed (g.F.Write.contents lines-read.notices.inner)
+          lines-read.notices.failures w.0 (ended.0 ++ Some ended.1 ∷ []) ended.4);
     }) c.answer-in-Write.result.0 c.answer-in-Write.result.1 is none
     c.answer-in-Write.ensures.device
     c.answer-in-Write.ensures.failed
     (λ well all. absurd (wrote-some self.keeper keeper _ _ _ _ c.requires.writer unwritten_one
     stood.2 all))
 
--- what was told, however the run ended
-tells : (g : _) → (c : After-watch_lines g) → (old : Option (List ℕ)) (cut : List ℕ)
-    → TellsOfSomeCut cut
-    → HasTold old (g.F.Write.contents c.args.notices.now.inner) c.args.notices.now.failures cut
+-- what was told when the lines were over, however they ended
+told-lines : (g : _) → (c : After-watch_lines g) → (before : ToldBefore)
+    → HasTold before.old (g.F.Write.contents c.args.notices.now.inner) c.args.notices.now.failures
+    before.text
     → c.args.first.newest ≡ (starts_of c.args.self.listener).moment
     → (starts_of c.args.self.listener).moment ≤ last_moment
     → HearsGiven (starts_of c.args.self.listener) c.args.self.listener [] []
     → HasKept g.D.DiskFile c.args.self.keeper c.args.self.keeper [] []
-    → TellsOfLines old (g.F.Write.contents c.watch_lines.new.notices.inner)
+    → (bytes : List ℕ) × (lines : List (Option Line))
+    × HasToldSo before (g.F.Write.contents c.watch_lines.new.notices.inner)
     c.watch_lines.new.notices.failures
-tells g c old cut some said is range heard kept =
+    (IsToldByEnd c.args.first bytes lines c.watch_lines.new.logging.keeper.has_failed)
+told-lines g c before said is range heard kept =
     let disk = g.D.DiskFile in
     let lines-read = c.watch_lines.new in
-    let before : ToldBefore = record { old = old; text = cut } in
     let w = c.watch_lines.ensures.watched c.args.self before (sym is)
+    (none-yet-failed disk c.args.self.keeper kept)
     (stands-first disk c.args.self range heard kept) said in
     let r : RunOverLines _ = record {
       stands = StandsStamped (telling disk g.W.Write.contents g.F.Write.contents before)
@@ -322,23 +350,72 @@ tells g c old cut some said is range heard kept =
       first = c.args.first;
       AtEnd = IsAtEnd (g.R.Read.remaining (counted_of lines-read.reader).inner) ⊎
           (length w.0 ≡ most_bytes);
-      tells = HasToldLines before (g.F.Write.contents lines-read.notices.inner)
-          lines-read.notices.failures c.args.first;
+      tells = λ lines. HasToldSo before (g.F.Write.contents lines-read.notices.inner)
+          lines-read.notices.failures
+          (IsToldByEnd c.args.first w.0 lines lines-read.logging.keeper.has_failed);
     } in
     let told = tells-some r c.watch_lines.result w.0 w.3 in
-    (cut, some, c.args.first, told.0, told.1)
+    (w.0, told.0, told.1)
+
+-- behind what is cut
+told-behind : (first : StartMoments) (old new : Option (List ℕ)) (failures : ℕ) (cut : List ℕ)
+    (bytes : List ℕ) (lines : List (Option Line)) (failed : Bool) → TellsOfSomeCut cut
+    → HasToldSo (record { old = old; text = cut }) new failures
+    (IsToldAtEnd first bytes lines failed)
+    → TellsOfLines old new failures
+told-behind first old new failures cut bytes lines failed some h =
+    (cut, some, first, bytes, lines, failed, h.0, h.1, h.2)
 
 pub returns-in-Ok-clause-told : goal.returns-in-Ok-clause-told
-returns-in-Ok-clause-told g c = tells g (goal.at.returns-in-Ok-clause-told g c).After-watch_lines
+returns-in-Ok-clause-told g c = λ old cut some said is range heard kept.
+    let before : ToldBefore = record { old = old; text = cut } in
+    let mid = c.watch_lines.new in
+    let after = c.finish.new.notices in
+    let t = told-lines g (goal.at.returns-in-Ok-clause-told g c).After-watch_lines before said is
+    range heard kept in
+    told-behind c.args.first old (g.F.Write.contents after.inner) after.failures cut t.0 t.1
+    c.finish.result.has_failed some
+    (at-finish g.F.Write.contents mid.notices after c.args.first before
+    mid.logging.keeper.has_failed c.finish.result.has_failed t.0 t.1 c.finish.ensures.failed
+    c.finish.ensures.told t.2)
 
 pub returns-in-Back-clause-told : goal.returns-in-Back-clause-told
-returns-in-Back-clause-told g c =
-    tells g (goal.at.returns-in-Back-clause-told g c).After-watch_lines
+returns-in-Back-clause-told g c = λ old cut some said is range heard kept.
+    let before : ToldBefore = record { old = old; text = cut } in
+    let mid = c.watch_lines.new in
+    let after = c.finish-in-Back.new.notices in
+    let t = told-lines g (goal.at.returns-in-Back-clause-told g c).After-watch_lines before said is
+    range heard kept in
+    told-behind c.args.first old (g.F.Write.contents after.inner) after.failures cut t.0 t.1
+    c.finish-in-Back.result.has_failed some
+    (at-finish g.F.Write.contents mid.notices after c.args.first before
+    mid.logging.keeper.has_failed c.finish-in-Back.result.has_failed t.0 t.1
+    c.finish-in-Back.ensures.failed c.finish-in-Back.ensures.told t.2)
+
+-- where nothing was closed
+told-open : (g : _) → (c : After-watch_lines g) → (old : Option (List ℕ)) (cut : List ℕ)
+    → TellsOfSomeCut cut
+    → HasTold old (g.F.Write.contents c.args.notices.now.inner) c.args.notices.now.failures cut
+    → c.args.first.newest ≡ (starts_of c.args.self.listener).moment
+    → (starts_of c.args.self.listener).moment ≤ last_moment
+    → HearsGiven (starts_of c.args.self.listener) c.args.self.listener [] []
+    → HasKept g.D.DiskFile c.args.self.keeper c.args.self.keeper [] []
+    → TellsOfLines old (g.F.Write.contents c.watch_lines.new.notices.inner)
+    c.watch_lines.new.notices.failures
+told-open g c old cut some said is range heard kept =
+    let before : ToldBefore = record { old = old; text = cut } in
+    let mid = c.watch_lines.new in
+    let new = g.F.Write.contents mid.notices.inner in
+    let failures = mid.notices.failures in
+    let failed = mid.logging.keeper.has_failed in
+    let t = told-lines g c before said is range heard kept in
+    told-behind c.args.first old new failures cut t.0 t.1 failed some
+    (at-end c.args.first before failed new failures t.0 t.1 t.2)
 
 pub returns-in-Read-clause-told : goal.returns-in-Read-clause-told
 returns-in-Read-clause-told g c =
-    tells g (goal.at.returns-in-Read-clause-told g c).After-watch_lines
+    told-open g (goal.at.returns-in-Read-clause-told g c).After-watch_lines
 
 pub returns-in-Write-clause-told : goal.returns-in-Write-clause-told
 returns-in-Write-clause-told g c =
-    tells g (goal.at.returns-in-Write-clause-told g c).After-watch_lines
+    told-open g (goal.at.returns-in-Write-clause-told g c).After-watch_lines

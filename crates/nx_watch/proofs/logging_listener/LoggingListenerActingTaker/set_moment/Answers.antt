@@ -1,4 +1,4 @@
-use Rattle.std.proofs.Common.{arith}
+use Rattle.std.proofs.Common.{ap, ◌∙◌, arith}
 use Rattle.nx_fec.specs.air_files.AirFile.{moment}
 use Rattle.nx_receiver.specs.air_file_runs.Listen.{given_by}
 use Rattle.nx_receiver.specs.Listener.{starts_of}
@@ -16,4 +16,5 @@ returns g c = record {
       c.set_moment.ensures.keeper may.1
       (λ copies heard. c.set_moment.ensures.heard starts (given_by lines) copies
       (omega (arith, force, may.0)) may.1 heard) h;
+  failed = λ failed. ap (λ k. k.has_failed) c.set_moment.ensures.keeper ∙ failed;
 }

@@ -6,7 +6,7 @@ use Rattle.nx_watch.proofs.kept_log.keeper.Keeper.keep.Goals as goal
 pub returns-then-put-clause-kept : goal.returns-then-put-clause-kept
 returns-then-put-clause-kept g c = λ start first texts is h.
     let disk = g.D.DiskFile in
-    let kept = c.put.ensures start texts h.0 is h.1 in
+    let kept = c.put.ensures.kept start texts h.0 is h.1 in
     let same = subst (λ b. HasKept disk start c.put.new.self (texts ++ c.args.entry.now ∷ [])
     (h.0 ++ cond b [] c.args.entry.now)) c.if-put.true kept in (
       h.0,
@@ -18,7 +18,7 @@ returns-then-put-clause-kept g c = λ start first texts is h.
 pub returns-clause-kept : goal.returns-clause-kept
 returns-clause-kept g c = λ start first texts is h.
     let disk = g.D.DiskFile in
-    let kept = c.put.ensures start texts h.0 is h.1 in
+    let kept = c.put.ensures.kept start texts h.0 is h.1 in
     let more = subst (λ b. HasKept disk start c.put.new.self (texts ++ c.args.entry.now ∷ [])
     (h.0 ++ cond b [] c.args.entry.now)) c.if-put.false kept in (
       h.0 ++ c.args.entry.now,

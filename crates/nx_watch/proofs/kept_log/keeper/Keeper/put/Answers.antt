@@ -3,8 +3,8 @@ use Rattle.nx_watch.specs.private.Keeping.{HasKeptSo}
 use Rattle.nx_watch.proofs.lemmas.log.Keeping.{kept-behind, kept-more, put-failed, put-kept}
 use Rattle.nx_watch.proofs.kept_log.keeper.Keeper.put.Goals as goal
 
-pub returns-then-self : goal.returns-then-self
-returns-then-self g c = λ start texts given is h.
+pub returns-then-self-clause-kept : goal.returns-then-self-clause-kept
+returns-then-self-clause-kept g c = λ start texts given is h.
     let disk = g.D.DiskFile in
     let old = c.args.self.now in
     let since = drop start.put texts in
@@ -15,8 +15,8 @@ returns-then-self g c = λ start texts given is h.
     (kept-more disk start old since c.args.entry.now given
     (subst (λ b. HasKeptSo disk b start old since given) c.if-self.true h.since)))
 
-pub returns-in-Ok : goal.returns-in-Ok
-returns-in-Ok g c = λ start texts given is h.
+pub returns-in-Ok-clause-kept : goal.returns-in-Ok-clause-kept
+returns-in-Ok-clause-kept g c = λ start texts given is h.
     let disk = g.D.DiskFile in
     let old = c.args.self.now in
     let since = drop start.put texts in
@@ -27,8 +27,8 @@ returns-in-Ok g c = λ start texts given is h.
     (λ content records k. c.put.ensures.any_moment content records is k)
     (subst (λ b. HasKeptSo disk b start old since given) c.if-self.false h.since))
 
-pub returns-in-Err : goal.returns-in-Err
-returns-in-Err g c = λ start texts given is h.
+pub returns-in-Err-clause-kept : goal.returns-in-Err-clause-kept
+returns-in-Err-clause-kept g c = λ start texts given is h.
     let disk = g.D.DiskFile in
     let old = c.args.self.now in
     let since = drop start.put texts in

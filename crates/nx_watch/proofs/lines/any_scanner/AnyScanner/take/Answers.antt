@@ -1,14 +1,21 @@
-use Rattle.std.proofs.Common.{sym, take}
+use Rattle.std.proofs.Common.{sym, take, ◌++◌}
 use Rattle.nx_watch.specs.Acting.{most_bytes}
-use Rattle.nx_watch.specs.private.Scanning.{lines_ended}
+use Rattle.nx_watch.specs.private.Scanning.{IsScanning, OnUnknown, lines_ended}
 use Rattle.nx_watch.proofs.lemmas.lines.Scanning.{ended-none, no-latest, on-passing, on-scanned, on-stopped}
 use Rattle.nx_watch.proofs.lines.any_scanner.AnyScanner.take.Goals as goal
 
 pub returns-then-self-clause-scans : goal.returns-then-self-clause-scans
 returns-then-self-clause-scans c = λ bytes lines h.
-    on-passing c.args.self.now c.pass.new.self bytes (take c.pass.result.0 c.args.piece.now)
-    c.args.piece.now lines (lines_ended c.pass.result.1 c.pass.new.self.scanner.latest)
+    on-passing c.args.self.now bytes (take c.pass.result.0 c.args.piece.now)
+    c.args.piece.now lines (λ b l. IsScanning c.pass.new.self b
+    (l ++ lines_ended c.pass.result.1 c.pass.new.self.scanner.latest))
     c.if-self.true h c.pass.ensures.scans
+
+pub returns-then-self-clause-reason : goal.returns-then-self-clause-reason
+returns-then-self-clause-reason c = λ bytes lines h.
+    on-passing c.args.self.now bytes (take c.pass.result.0 c.args.piece.now)
+    c.args.piece.now lines (λ b l. OnUnknown c.pass.result.1 b l)
+    c.if-self.true h c.pass.ensures.reason
 
 pub returns-in-Ok-clause-scans : goal.returns-in-Ok-clause-scans
 returns-in-Ok-clause-scans c = λ bytes lines h.
@@ -27,9 +34,19 @@ returns-in-Ok-2-clause-scans c = λ bytes lines h.
 
 pub returns-in-Err-clause-scans : goal.returns-in-Err-clause-scans
 returns-in-Err-clause-scans c = λ bytes lines h.
-    on-stopped c.args.self.now c.pass-in-Err.new.self c.push_line.new.self bytes
-    (take c.pass-in-Err.result.0 c.args.piece.now) c.args.piece.now lines
-    (lines_ended c.pass-in-Err.result.1 c.pass-in-Err.new.self.scanner.latest) c.in-Err.field-0
-    c.if-self.false
-    c.requires.room h (λ limit since found scans. c.in-Err.ensures.bytes limit since found scans)
+    on-stopped c.args.self.now c.push_line.new.self bytes
+    (take c.pass-in-Err.result.0 c.args.piece.now) c.args.piece.now lines c.in-Err.fault
+    c.reason_of.result (λ b l. IsScanning c.pass-in-Err.new.self b
+    (l ++ lines_ended c.pass-in-Err.result.1 c.pass-in-Err.new.self.scanner.latest))
+    c.reason_of.ensures c.if-self.false c.requires.room h
+    (λ limit since found scans. c.in-Err.ensures.bytes limit since found scans)
     c.pass-in-Err.ensures.scans
+
+pub returns-in-Err-clause-reason : goal.returns-in-Err-clause-reason
+returns-in-Err-clause-reason c = λ bytes lines h.
+    on-stopped c.args.self.now c.push_line.new.self bytes
+    (take c.pass-in-Err.result.0 c.args.piece.now) c.args.piece.now lines c.in-Err.fault
+    c.reason_of.result (λ b l. OnUnknown c.pass-in-Err.result.1 b l)
+    c.reason_of.ensures c.if-self.false c.requires.room h
+    (λ limit since found scans. c.in-Err.ensures.bytes limit since found scans)
+    c.pass-in-Err.ensures.reason

@@ -54,5 +54,5 @@ returns-clause-kept c = λ first moments k.
     ]) in (
       next-moment first moments c.args.self.now _ n c.if-given-gt-LAST_MOMENT.false k
           (omega (arith, c.if-given-last.false)) refl refl refl,
-      does,
+      (does.0, does.1, λ bytes before. c.if-given-gt-LAST_MOMENT.false),
     )

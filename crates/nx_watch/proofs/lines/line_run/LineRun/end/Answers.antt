@@ -5,22 +5,20 @@ use Rattle.nx_watch.specs.private.Scanning.{CutsAs}
 use Rattle.nx_watch.proofs.lemmas.lines.Run.{ends-input}
 use Rattle.nx_watch.proofs.lines.line_run.LineRun.end.Goals as goal
 
-pub returns-then-is_open : goal.returns-then-is_open
-returns-then-is_open g c = λ first old bytes lines scans tells.
-    let cuts = subst (λ b. CutsAs b bytes lines) c.if-is_open.true
-    (c.is_open.ensures bytes lines scans) in
-    let more = c.pass_line.ensures.tells first old lines tells in
+pub returns-in-Some : goal.returns-in-Some
+returns-in-Some g c = λ first old bytes lines scans tells.
+    let cuts = subst (λ o. CutsAs o bytes lines) c.in-Some.is (c.cut.ensures bytes lines scans) in
+    let more = c.pass_line.ensures.tells first old bytes lines cuts.reason tells in
     ends-input first bytes lines (None ∷ []) old _ _ _ cuts.rest cuts.are cuts.cut
-    (c.count.ensures.counted first old (lines ++ None ∷ []) more)
-    (c.count.ensures.told first old (lines ++ None ∷ []) more)
+    (c.count.ensures.counted first old bytes (lines ++ None ∷ []) more)
+    (c.count.ensures.told first old bytes (lines ++ None ∷ []) more)
 
-pub returns : goal.returns
-returns g c = λ first old bytes lines scans tells.
-    let cuts = subst (λ b. CutsAs b bytes lines) c.if-is_open.false
-    (c.is_open.ensures bytes lines scans) in
+pub returns-in-None : goal.returns-in-None
+returns-in-None g c = λ first old bytes lines scans tells.
+    let cuts = subst (λ o. CutsAs o bytes lines) c.in-None.is (c.cut.ensures bytes lines scans) in
     ends-input first bytes lines [] old _ _ _ cuts.rest cuts.are cuts.cut
-    (subst (λ l. AreCounted first l c.count-2.result) (sym (append-nil lines))
-    (c.count-2.ensures.counted first old lines tells))
-    (subst (HasToldLines old (g.F.Write.contents c.count-2.new.notices.inner)
-    c.count-2.new.notices.failures first) (sym (append-nil lines))
-    (c.count-2.ensures.told first old lines tells))
+    (subst (λ l. AreCounted first l c.count-in-None.result) (sym (append-nil lines))
+    (c.count-in-None.ensures.counted first old bytes lines tells))
+    (subst (HasToldLines old (g.F.Write.contents c.count-in-None.new.notices.inner)
+    c.count-in-None.new.notices.failures first bytes) (sym (append-nil lines))
+    (c.count-in-None.ensures.told first old bytes lines tells))

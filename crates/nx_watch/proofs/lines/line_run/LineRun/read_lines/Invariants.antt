@@ -1,4 +1,4 @@
-use Rattle.std.proofs.Common.{◌≡◌, ◌+◌, ◌≤◌, ℕ, List, [], length}
+use Rattle.std.proofs.Common.{◌≡◌, false, ◌+◌, ◌≤◌, ℕ, List, [], length}
 use Rattle.std.specs.Io.KnownBytes.{Consumes}
 use Rattle.nx_receiver.specs.Listener.{starts_of}
 use Rattle.nx_watch.specs.Acting.{most_bytes}
@@ -6,7 +6,7 @@ use Rattle.nx_watch.specs.LineRun.{StandsWith, WithWriter, with_writer}
 use Rattle.nx_watch.specs.Stamps.{bytes_given, counted_of, stamps_of}
 use Rattle.nx_watch.specs.private.LoggingListener.{KeepsLines}
 use Rattle.nx_watch.specs.declared.lines.line_effects.StartMoments.{StartMoments}
-use Rattle.nx_watch.specs.private.Running.{IsRunning, ToldBefore}
+use Rattle.nx_watch.specs.private.Running.{IsBeside, IsRunning, ToldBefore, ToldBeside, beside}
 use Rattle.nx_watch.specs.private.Stamping.{RunsStamped, telling}
 use Rattle.nx_watch.specs.declared.logging_listener.LoggingListener.{LoggingListener}
 use Rattle.nx_watch.proofs.lines.line_run.LineRun.read_lines.Given as goal
@@ -26,17 +26,19 @@ invariant-loop-room g l = record {
   read : (start : WithWriter (LoggingListener g.row.D.Denot) g.row.W.Denot) (first : StartMoments)
       (old : ToldBefore)
       → (starts_of start.taker.listener).moment ≡ first.newest
+      → l.fn.logging.keeper.has_failed ≡ false
       → IsRunning (StandsWith (KeepsLines g.D.DiskFile) g.W.Write.contents) start
-      (with_writer l.fn.logging l.fn.writer) first l.fn.self old
+      (with_writer l.fn.logging l.fn.writer) first l.fn.self (beside old)
       (g.F.Write.contents l.fn.notices.inner) l.fn.notices.failures []
       → (bytes : List ℕ)
       × Consumes (g.R.Read.remaining (counted_of l.fn.reader).inner)
       (g.R.Read.remaining (counted_of l.reader).inner) bytes
       × (length bytes + l.room ≡ l.limit)
+      × (told : ToldBeside) × IsBeside old l.logging.keeper.has_failed told
       × RunsStamped (telling g.D.DiskFile g.W.Write.contents g.F.Write.contents old) first bytes
       l.self.effects.lines start
       (λ since. IsRunning (StandsWith (KeepsLines g.D.DiskFile) g.W.Write.contents) since
-      (with_writer l.logging l.writer) first l.self old
+      (with_writer l.logging l.writer) first l.self told
       (g.F.Write.contents l.notices.inner) l.notices.failures bytes) (stamps_of l.reader);
 }
 

@@ -1,12 +1,27 @@
-use Rattle.std.proofs.Common.{◌∙◌, ◌++◌, ◌∷◌, [], Some, None, ap, map, option_to_list, refl, sym}
+use Rattle.std.proofs.Common.{◌∙◌, ◌++◌, ◌∷◌, [], ℕ, List, Some, None, ap, append-nil, map, option_to_list, refl, sym}
 use Rattle.std.proofs.Common.{subst, take}
 use Rattle.std.specs.Prelude.{IsSomeAnd}
 use Rattle.nx_fec.specs.air_files.AirFile.{IsLine}
 use Rattle.nx_watch.specs.LineRun.{StandsWith, with_writer}
-use Rattle.nx_watch.specs.private.Scanning.{IsScanning, OnLine, lines_ended}
+use Rattle.nx_watch.specs.private.Scanning.{IsScanning, OnLine, OnUnknown, lines_ended}
 use Rattle.nx_watch.proofs.lemmas.lines.Run.{run-of, some-line, taken-idle, whole-behind}
+use Rattle.nx_watch.proofs.lemmas.lines.Told.{tells-on}
 use Rattle.nx_watch.proofs.lemmas.lines.Scanning.{parts}
 use Rattle.nx_watch.proofs.lines.line_run.LineRun.take_line.Goals as goal
+
+pub returns-in-Nothing-clause-taken : goal.returns-in-Nothing-clause-taken
+returns-in-Nothing-clause-taken g c = λ start first old bytes force r.
+    let latest = c.take-count.new.self.scanner.latest in
+    let front = bytes ++ take c.take-count.result.0 c.args.piece.now in record {
+      lines = r.lines;
+      scans = subst (IsScanning c.take-count.new.self front) (append-nil r.lines)
+          (subst (λ e. IsScanning c.take-count.new.self front (r.lines ++ lines_ended e latest))
+          c.in-Nothing.is (c.take-count.ensures.scans bytes r.lines r.scans));
+      taken = r.taken;
+      tells = λ behind. tells-on first c.args.self.now.effects old
+          (g.F.Write.contents c.args.notices.now.inner) c.args.notices.now.failures bytes
+          (take c.take-count.result.0 c.args.piece.now) behind r.lines r.tells;
+    }
 
 pub returns-in-Unknown-clause-taken : goal.returns-in-Unknown-clause-taken
 returns-in-Unknown-clause-taken g c = λ start first old bytes force r.
@@ -21,7 +36,13 @@ returns-in-Unknown-clause-taken g c = λ start first old bytes force r.
     (r.lines ++ lines_ended c.take-count.result.1 latest)) (sym c.pass_line.ensures.scanner) scans)
     (taken-idle stands start (with_writer c.args.taker.now c.args.writer.now) first r.lines None
     r.taken refl refl)
-    (c.pass_line.ensures.tells first old r.lines r.tells)
+    (λ behind. c.pass_line.ensures.tells first old
+    ((bytes ++ take c.take-count.result.0 c.args.piece.now) ++ behind) r.lines
+    (subst (λ e. OnUnknown e (bytes ++ take c.take-count.result.0 c.args.piece.now) r.lines)
+    c.in-Unknown.is (c.take-count.ensures.reason bytes r.lines r.scans) behind)
+    (tells-on first c.args.self.now.effects old (g.F.Write.contents c.args.notices.now.inner)
+    c.args.notices.now.failures bytes (take c.take-count.result.0 c.args.piece.now) behind r.lines
+    r.tells))
 
 pub returns-in-Ok-clause-taken : goal.returns-in-Ok-clause-taken
 returns-in-Ok-clause-taken g c = λ start first old bytes force r.
@@ -30,7 +51,11 @@ returns-in-Ok-clause-taken g c = λ start first old bytes force r.
     let scans = c.take-count.ensures.scans bytes r.lines r.scans in
     let one = some-line latest
     (subst (λ e. OnLine e (IsSomeAnd latest IsLine)) c.in-Line.is c.take-count.ensures.line) in
-    let k = c.in-Ok.ensures.taken start first old r.lines one.0 force one.1 r.taken r.tells in
+    let front = bytes ++ take c.take-count.result.0 c.args.piece.now in
+    let k = λ (behind : List ℕ). c.in-Ok.ensures.taken start first old (front ++ behind) r.lines
+    one.0 force one.1 r.taken (tells-on first c.args.self.now.effects old
+    (g.F.Write.contents c.args.notices.now.inner) c.args.notices.now.failures bytes
+    (take c.take-count.result.0 c.args.piece.now) behind r.lines r.tells) in
     run-of stands start (with_writer c.take_known.new.taker c.take_known.new.writer) first
     c.take_known.new.self old
     (g.F.Write.contents c.take_known.new.notices.inner) c.take_known.new.notices.failures _ r.lines
@@ -38,7 +63,7 @@ returns-in-Ok-clause-taken g c = λ start first old bytes force r.
     (ap (λ e. lines_ended e latest) c.in-Line.is ∙ ap (λ o. map Some (option_to_list o)) one.1)
     (subst (λ s. IsScanning s (bytes ++ take c.take-count.result.0 c.args.piece.now)
     (r.lines ++ lines_ended c.take-count.result.1 latest)) (sym c.take_known.ensures.scanner)
-    scans) k.0 k.1
+    scans) (k []).0 (λ behind. (k behind).1)
 
 pub returns-in-Err-clause-taken : goal.returns-in-Err-clause-taken
 returns-in-Err-clause-taken g c = λ start first old bytes force r more.
@@ -50,6 +75,8 @@ returns-in-Err-clause-taken g c = λ start first old bytes force r more.
     (ap (λ e. lines_ended e latest) c.in-Line.is ∙ ap (λ o. map Some (option_to_list o)) one.1)
     (c.take-count.ensures.scans bytes r.lines r.scans) in
     let p = parts c.take-count.new.self _ _ scans in
-    c.in-Err.ensures.taken start first old r.lines one.0 force one.1 r.taken r.tells p.front
-    ((bytes ++ c.args.piece.now) ++ more) p.are _
+    c.in-Err.ensures.taken start first old ((bytes ++ c.args.piece.now) ++ more) r.lines one.0 force
+    one.1 r.taken (tells-on first c.args.self.now.effects old
+    (g.F.Write.contents c.args.notices.now.inner) c.args.notices.now.failures bytes c.args.piece.now
+    more r.lines r.tells) p.front p.are _
     (whole-behind bytes c.args.piece.now more p.front _ c.take-count.result.0 p.whole)

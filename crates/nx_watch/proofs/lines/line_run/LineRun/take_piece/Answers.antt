@@ -23,6 +23,7 @@ loop-at-preserved g c = record {
   grows = omega (arith, c.loop-at.invariant.grows, c.take_line.ensures.grows);
   few = omega (arith, c.in-Ok.ensures.few, c.loop-at.invariant.few);
   fewer = c.in-Ok.ensures.fewer;
+  failed = λ h. c.take_line.ensures.failed (c.loop-at.invariant.failed h);
   taken = λ start first old bytes force h.
       subst (IsRunning (StandsWith g.T.ActingTaker.stands g.W.Write.contents) start
       (with_writer c.take_line.new.taker c.take_line.new.writer) first

@@ -1,8 +1,8 @@
-use Rattle.std.proofs.Common.{◌≡◌, ◌+◌, ◌-◌, ◌≤◌, ℕ, List, ◌++◌, length, take}
+use Rattle.std.proofs.Common.{true, ◌≡◌, ◌+◌, ◌-◌, ◌≤◌, ℕ, List, ◌++◌, length, take}
 use Rattle.nx_watch.specs.Acting.{most_bytes}
 use Rattle.nx_watch.specs.LineRun.{StandsWith, WithWriter, with_writer}
 use Rattle.nx_watch.specs.declared.lines.line_effects.StartMoments.{StartMoments}
-use Rattle.nx_watch.specs.private.Running.{IsRunning, ToldBefore}
+use Rattle.nx_watch.specs.private.Running.{IsRunning, ToldBeside}
 use Rattle.nx_watch.proofs.lines.line_run.LineRun.take_piece.Given as goal
 
 -- the lines that the bytes so far ended were taken
@@ -15,8 +15,10 @@ invariant-loop-at g l = record {
   grows : l.fn.self.effects.lines ≤ l.self.effects.lines;
   few : l.self.effects.lines ≤ l.fn.self.effects.lines + l.at;
   fewer : l.self.effects.without_effect ≤ l.self.effects.lines;
+  failed : g.T.ActingTaker.has_failed l.fn.taker ≡ true
+      → g.T.ActingTaker.has_failed l.taker ≡ true;
   taken : (start : WithWriter g.row.T.Denot g.row.W.Denot) (first : StartMoments)
-      (old : ToldBefore) (bytes : List ℕ)
+      (old : ToldBeside) (bytes : List ℕ)
       → g.T.ActingTaker.first_moment start.taker ≡ first.newest
       → IsRunning (StandsWith g.T.ActingTaker.stands g.W.Write.contents) start
       (with_writer l.fn.taker l.fn.writer) first l.fn.self old
