@@ -1,0 +1,4 @@
+-- Lemmas of the laws of reading a kept log.
+pub mod Among
+pub mod Reaches
+pub mod Rests
