@@ -1,5 +1,7 @@
 -- What a reader of logs finds in the file of a watch (this profile).
 use Rattle.std.specs.Prelude.{◌≡◌, ◌⊎◌, ℕ, List, [], ◌∷◌, ◌++◌}
+use Rattle.std.specs.List.{AllZip, flat_map}
+use Rattle.nx_kept.specs.Kept.{closed_gate, open_gate}
 use Rattle.nx_log.specs.Logged.{IsLoggedAs}
 use Rattle.nx_receiver.specs.copies.Shares.{MarkedCopy}
 use Rattle.nx_watch.specs.CutTold.{BeginsWithEntry}
@@ -28,3 +30,10 @@ pub record AreThenThoseOfTail (entries : List MarkedCopy) (tail : List ℕ) (all
 abbrev pub all_of : List (List MarkedCopy) → List MarkedCopy
 all_of [] = []
 all_of (log ∷ logs) = log ++ all_of logs
+
+-- The file is as `put` leaves it where no write was torn: the bytes of these entries, each behind a
+-- newline, and a space behind the last.
+pub record IsAsPut (entries : List MarkedCopy) (file : List ℕ) : Type 0 where
+  pub texts : List (List ℕ)
+  pub each : AllZip IsLoggedAs entries texts
+  pub whole : file ≡ flat_map (λ text. open_gate ∷ text) texts ++ closed_gate ∷ []

@@ -1,14 +1,14 @@
 //! Laws of reading kept logs: what a reader of logs gives of the file of a watch. Each function
 //! does nothing; its contract is the law.
 
-ghost use Rattle.std.specs.Prelude.{◌≡◌, ℕ, List, ◌++◌};
+ghost use Rattle.std.specs.Prelude.{◌≡◌, ℕ, List, [], ◌++◌};
 ghost use Rattle.std.specs.List.{AllZip, concat};
 ghost use Rattle.nx_log.specs.LogReader.{IsAt};
 ghost use Rattle.nx_log.specs.LogReading.{LogReading};
 ghost use Rattle.nx_log.specs.Reading.{HoldEntries, HoldEntriesToEnd, StopAtLine};
 ghost use Rattle.nx_receiver.specs.copies.Shares.{MarkedCopy};
 ghost use Rattle.nx_watch.specs.Watch.{RestsWithEntries, StandsForEntries};
-ghost use Rattle.nx_left_on.specs.ReadBack.{AreEntriesAmong, AreThenThoseOfTail, all_of};
+ghost use Rattle.nx_left_on.specs.ReadBack.{AreEntriesAmong, AreThenThoseOfTail, IsAsPut, all_of};
 
 /// A reader of logs gives the whole entries among the bytes of a log: one at each place where one
 /// begins, in order, and no other.
@@ -38,11 +38,14 @@ pub fn a_log_reader_reads_what_a_watch_keeps()
 {}
 
 /// Kept logs at rest, one behind the other, are a log. A reader gives the entries of all, in order,
-/// and no others; no first part of them stops being a log.
+/// and no others; no first part of them stops being a log. Where each is as `put` leaves it, no
+/// torn entry is told.
 pub fn a_log_reader_reads_logs_at_rest()
     ensures given { (logs : List (List MarkedCopy)) (files : List (List ℕ))
         → AllZip RestsWithEntries logs files
         → (torn : List ℕ) × HoldEntriesToEnd (concat files) (all_of logs) torn }
+    ensures quiet { (logs : List (List MarkedCopy)) (files : List (List ℕ))
+        → AllZip IsAsPut logs files → HoldEntriesToEnd (concat files) (all_of logs) [] }
     ensures never_stops { (logs : List (List MarkedCopy)) (files : List (List ℕ))
         (entries : List MarkedCopy) (front more torn : List ℕ) (line : ℕ)
         → AllZip RestsWithEntries logs files → concat files ≡ front ++ more

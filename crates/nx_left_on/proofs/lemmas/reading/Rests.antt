@@ -102,7 +102,7 @@ pub record Rests (bytes : List ℕ) (entries : List MarkedCopy) : Type 0 where
   pub spaces : All IsSpace tail
   pub are_entries : entries ≡ before.entries ++ entries_of head
 
-pub rests_first : Rests [] []
+unfoldable pub rests_first : Rests [] []
 rests_first = record {
   earlier = [];
   before = nothing_read;
