@@ -135,7 +135,7 @@ fn lines_of_json(rt: HostRuntime) {
     ];
     for (entry, wanted) in cases {
         let view = entry_at(entry).expect(&rt, "an entry");
-        let line = json_line(rt.alloc(), &view).expect(&rt, "memory");
+        let line = json_line(&view);
         expect_text(&rt, shown(entry), &line, wanted);
     }
 }
