@@ -4,3 +4,4 @@ pub mod Bounds
 pub mod Example
 pub mod chains
 pub mod entries
+pub mod reading

@@ -4,3 +4,4 @@
 
 pub mod bounds;
 pub mod laws;
+pub mod reading;

@@ -19,6 +19,10 @@ pub record Notices : Type 0 where
   pub after : Option (List ℕ)
   pub failures : ℕ
 
+-- those of a writer that held and holds these bytes, of which so many writes failed
+abbrev pub notices_of : Option (List ℕ) → Option (List ℕ) → ℕ → Notices
+notices_of old new failures = record { before = old; after = new; failures = failures }
+
 -- This text was told: it was written, or a first part of it, but not all, where a write failed,
 -- after which none was tried.
 abbrev pub HaveTold : Notices → List ℕ → Type 0

@@ -21,4 +21,4 @@ pub use queries::letters::Letters;
 pub use queries::query::Query;
 pub use queries::time::{since_of, until_of};
 pub use writing::form::Form;
-pub use writing::json_value::json_line;
+pub use writing::json_text::json_line;

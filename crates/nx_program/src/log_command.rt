@@ -35,8 +35,11 @@ entry. LETTERS are one letter A to Z or more, in any order. An entry is good
 where it is full, with less than 4 per cent of errors. A TIME is one of these:
   2025-01-01            a date in UTC: its first second for --since, its last
                         one for --until
-  2025-01-01T00:40:00   a second of a date, in UTC; a Z may stand behind it
-  1735692000            seconds since 1970-01-01 00:00:00 UTC
+  2025-01-01T00:40      a minute of a date, in UTC: its first or its last second
+  2025-01-01T00:40:00   a second of a date, in UTC
+  1735692000            seconds since 1970-01-01 00:00:00 UTC; four or eight
+                        digits alone are refused, as they could be a date
+A space may stand for the T, and a Z behind the time of day.
 With --json each entry is one line, an object with the keys channel, characters,
 end (full, cut or long), errors, moment, number, station, subject, text and
 time.

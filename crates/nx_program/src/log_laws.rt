@@ -23,6 +23,12 @@ pub fn log_in_examples()
     ensures until { (program : Text)
         → Names (program ∷ codes "log" ∷ codes "--until" ∷ codes "2025-01-01" ∷ [])
         (Log (record all_entries { until = Some 1735775999 }) form.Log) }
+    ensures minute { (program : Text)
+        → Names (program ∷ codes "log" ∷ codes "--until" ∷ codes "2025-01-01 00:40" ∷ [])
+        (Log (record all_entries { until = Some 1735692059 }) form.Log) }
+    ensures no_year { (program : Text)
+        → LacksValue (program ∷ codes "log" ∷ codes "--since" ∷ codes "2025" ∷ [])
+        (value_report Since (codes "2025")) }
     ensures no_time { (program : Text)
         → LacksValue (program ∷ codes "log" ∷ codes "--since" ∷ codes "now" ∷ [])
         (value_report Since (codes "now")) }

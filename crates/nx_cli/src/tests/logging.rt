@@ -13,7 +13,7 @@ const BOTH: &[u8] =
 
 #[test]
 fn selects_entries(rt: HostRuntime) {
-    static ROWS: [(&[&str], &[u8]); 11] = [
+    static ROWS: [(&[&str], &[u8]); 13] = [
         (&["navtex", "log"], BOTH),
         (&["navtex", "log", "--station", "ZEE"], FIRST),
         (&["navtex", "log", "--subject=B"], SECOND),
@@ -25,6 +25,8 @@ fn selects_entries(rt: HostRuntime) {
             SECOND,
         ),
         (&["navtex", "log", "--until", "2025-01-01T00:40:00"], FIRST),
+        (&["navtex", "log", "--until", "2025-01-01 00:40"], FIRST),
+        (&["navtex", "log", "--since", "2025-01-01T00:41Z"], SECOND),
         (
             &[
                 "navtex",
@@ -56,11 +58,21 @@ fn selects_entries(rt: HostRuntime) {
 
 #[test]
 fn refuses_values_and_bytes(rt: HostRuntime) {
-    static ROWS: [(&[&str], u8, &str); 5] = [
+    static ROWS: [(&[&str], u8, &str); 7] = [
         (
             &["navtex", "log", "--since", "now"],
             64,
             "error: invalid value 'now' for '--since <TIME>'\n\nFor more information, try '--help'.\n",
+        ),
+        (
+            &["navtex", "log", "--since", "2025"],
+            64,
+            "error: invalid value '2025' for '--since <TIME>'\n\nFor more information, try '--help'.\n",
+        ),
+        (
+            &["navtex", "log", "--until=20250101"],
+            64,
+            "error: invalid value '20250101' for '--until <TIME>'\n\nFor more information, try '--help'.\n",
         ),
         (
             &["navtex", "log", "--channel", "3"],

@@ -20,10 +20,6 @@ abbrev pub IsReading : LogReading → Type 0
 IsReading log = (bytes : List ℕ) × (entries : List MarkedCopy) × (torn : List ℕ)
     × IsAt log bytes entries torn
 
--- what a writer of notices held and holds, and how many writes failed
-abbrev pub notices_of : Option (List ℕ) → Option (List ℕ) → ℕ → Notices
-notices_of old new failures = record { before = old; after = new; failures = failures }
-
 -- The output of these entries was given: the first of it is written, and the rest waits. The
 -- entries that the query admits are counted.
 pub record HasGivenOutput (query : Query) (form : Form) (old new : Option (List ℕ))

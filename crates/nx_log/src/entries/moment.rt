@@ -4,7 +4,7 @@ ghost use Rattle.std.specs.Prelude.{◌≡◌, ℕ, pos, ◌+◌, ◌*◌, ◌/�
 ghost use Rattle.jiff_core.specs.Calendar.{IsCivilDate, days_from_civil};
 ghost use Rattle.nx_envelope.specs.Moment.{IsShownAs, last_moment};
 
-use jiff_core::civil::Date;
+use jiff::civil::Date;
 use nx_envelope::{CIVIL_LEN, civil};
 
 /// The seconds of a day, of an hour and of a minute.
@@ -63,7 +63,7 @@ fn day_number(century: u8, year: u8, month: u8, day: u8) -> Option<u64>
     let Ok(date) = Date::new(year as i16, month as i8, day as i8) else {
         return None;
     };
-    u64::try_from(date.to_unix_epoch_day()).ok()
+    u64::try_from(date.to_plain().to_unix_epoch_day()).ok()
 }
 
 /// The seconds of the time of day in a civil time.

@@ -1,8 +1,7 @@
 //! What is told of torn entries.
 
 ghost use Rattle.std.specs.Prelude.{◌≡◌, ◌≤◌, ℕ, List, [], ◌∷◌, ◌++◌, Option};
-ghost use Rattle.nx_log.specs.Notices.{HaveTold, HaveToldTorn, torn_notice};
-ghost use Rattle.nx_log.specs.private.LogRunning.{notices_of};
+ghost use Rattle.nx_log.specs.Notices.{HaveTold, HaveToldTorn, notices_of, torn_notice};
 
 use arrayvec::ArrayVec;
 use itoa::Buffer;

@@ -14,7 +14,7 @@ ghost use Rattle.nx_receiver.specs.copies.Shares.{MarkedCopy};
 use crate::entries::entry::whole_entry;
 use crate::queries::query::Query;
 use crate::writing::form::Form;
-use crate::writing::json_out::give_json;
+use crate::writing::json_text::json_line;
 use nx_fec::{Batch, Counting, WriteFault};
 use std::io::Write;
 
@@ -73,7 +73,7 @@ impl Output {
         self.admitted = self.admitted.saturating_add(1);
         match form {
             Form::Log => self.batch.give(writer, bytes),
-            Form::Json => give_json(&view, writer, &mut self.batch),
+            Form::Json => self.batch.give(writer, json_line(&view).as_slice()),
         }
     }
 

@@ -14,12 +14,12 @@ const LOG_OF_EB00: &[u8] = b"[EB00/2 2025-01-02 00:00:00 full 0/0]\n\n";
 
 const NEXT_DAY: u64 = 1_735_776_000;
 
-/// Digits are a moment; a date is its first second, or the last one until which is asked; and a
-/// date with a time of day is itself.
+/// Digits are a moment, but for four and eight; a date or a minute is its first second, or the last
+/// one until which is asked; and a date with a time of day is itself.
 #[test]
 fn times(rt: HostRuntime) {
     let last = 32_503_679_999;
-    let cases: [(&str, Option<u64>, Option<u64>); 16] = [
+    let cases: [(&str, Option<u64>, Option<u64>); 28] = [
         ("1735692000", Some(FIRST), Some(FIRST)),
         ("0001735692000", Some(FIRST), Some(FIRST)),
         ("32503679999", Some(last), Some(last)),
@@ -29,7 +29,19 @@ fn times(rt: HostRuntime) {
         ("2025-01-01", Some(1_735_689_600), Some(1_735_775_999)),
         ("2025-01-01T00:40:00", Some(FIRST), Some(FIRST)),
         ("2025-01-01T00:40:00Z", Some(FIRST), Some(FIRST)),
-        ("2025-01-01 00:40:00", None, None),
+        ("2025-01-01 00:40:00", Some(FIRST), Some(FIRST)),
+        ("2025-01-01 00:40:00Z", Some(FIRST), Some(FIRST)),
+        ("2025-01-01T00:40", Some(FIRST), Some(FIRST + 59)),
+        ("2025-01-01 00:40", Some(FIRST), Some(FIRST + 59)),
+        ("2025-01-01 00:40Z", Some(FIRST), Some(FIRST + 59)),
+        ("2025-01-01T00:40Z", Some(FIRST), Some(FIRST + 59)),
+        ("2025-01-01_00:40", None, None),
+        ("2025-01-01T00:60", None, None),
+        ("2025-01-01T00:40ZZ", None, None),
+        ("2025", None, None),
+        ("0005", None, None),
+        ("20250101", None, None),
+        ("02025", Some(2025), Some(2025)),
         ("2025-01-01Z", None, None),
         ("2025-02-29", None, None),
         ("2025-01-01T24:00:00", None, None),
@@ -135,7 +147,7 @@ fn lines_of_json(rt: HostRuntime) {
     ];
     for (entry, wanted) in cases {
         let view = entry_at(entry).expect(&rt, "an entry");
-        let line = json_line(rt.alloc(), &view).expect(&rt, "memory");
+        let line = json_line(&view);
         expect_text(&rt, shown(entry), &line, wanted);
     }
 }

@@ -19,7 +19,7 @@ use Rattle.nx_log.specs.LogReader.{IsAt, StopAt, Takes, most_lines}
 use Rattle.nx_log.specs.LogRun.{AnswersLogRun, AreAll, BeginWithEntries, IsInForm, IsOutput, WroteOutput, WrotePart, most_read}
 use Rattle.nx_log.specs.Logged.{IsLoggedAs}
 use Rattle.nx_log.specs.Query.{admits, admitted}
-use Rattle.nx_log.specs.Notices.{HaveToldTorn, Notices}
+use Rattle.nx_log.specs.Notices.{HaveToldTorn, Notices, notices_of}
 use Rattle.nx_log.specs.Reading.{AreRead, Head, HoldEntriesToEnd, IsHead, IsTail, LogRead, StopAtLine, begun, entries_of, is_begun, is_first, line_behind, nothing, torn_line, whole}
 use Rattle.nx_log.specs.View.{IsViewOf, copy_said}
 use Rattle.nx_log.specs.declared.entries.entry.EntryView.{EntryView}
@@ -30,7 +30,7 @@ use Rattle.nx_log.specs.declared.writing.output.Output.{Output}
 use Rattle.nx_log.specs.declared.queries.query.Query.{Query}
 use Rattle.nx_log.specs.declared.entries.reader.Pushed.TheVariants.{Entry, Torn}
 use Rattle.nx_log.specs.declared.entries.reader.TornLine.{TornLine}
-use Rattle.nx_log.specs.private.LogRunning.{EndsRun, HasGivenOutput, HasRunOver, notices_of}
+use Rattle.nx_log.specs.private.LogRunning.{EndsRun, HasGivenOutput, HasRunOver}
 use Rattle.nx_log.proofs.lemmas.reader.Steps.{holds_at}
 use Rattle.nx_log.proofs.lemmas.reader.Tails.{all_front, all_last}
 use Rattle.nx_log.proofs.lemmas.reading.Reads.{same_held}

@@ -9,8 +9,7 @@ use Rattle.std.proofs.Math.Seq.{take-append-add}
 use Rattle.std.proofs.lemmas.List.{take-append-le}
 use Rattle.nx_fec.specs.Transfers.{CountedDevice, FailsOnce, WroteSome}
 use Rattle.nx_fec.specs.declared.fault.WriteFault.{WriteFault}
-use Rattle.nx_log.specs.Notices.{HaveTold, torn_notice, torn_notices}
-use Rattle.nx_log.specs.private.LogRunning.{notices_of}
+use Rattle.nx_log.specs.Notices.{HaveTold, notices_of, torn_notice, torn_notices}
 
 pub notices_more : (lines : List ℕ) (line : ℕ)
     → torn_notices (lines ++ line ∷ []) ≡ torn_notices lines ++ torn_notice line

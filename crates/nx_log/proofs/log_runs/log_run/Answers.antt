@@ -3,7 +3,7 @@ use Rattle.std.proofs.lemmas.Result.{err_from_is_err_and}
 use Rattle.nx_fec.specs.Transfers.{devices}
 use Rattle.nx_fec.proofs.lemmas.lines.ReadingLaws.{Err-same}
 use Rattle.nx_fec.proofs.lemmas.devices.TransferLaws.{Ok-not_err, Writes-fault, Writes-sound}
-use Rattle.nx_log.specs.private.LogRunning.{notices_of}
+use Rattle.nx_log.specs.Notices.{notices_of}
 use Rattle.nx_log.proofs.lemmas.runs.LogRuns.{ends-answer, finished-answer, none-told}
 use Rattle.nx_log.proofs.log_runs.log_run.Goals as goal
 

@@ -142,8 +142,10 @@ query_once rows a b one other =
     (asks-once NamesLetters letters_once _ _ _ one.stations other.stations)
     (asks-once NamesLetters letters_once _ _ _ one.subjects other.subjects)
     (asks-once NamesChannel channel_once _ _ _ one.channel other.channel)
-    (asks-once IsSince (λ t. time_once (codes " 00:00:00") t refl) _ _ _ one.since other.since)
-    (asks-once IsUntil (λ t. time_once (codes " 23:59:59") t refl) _ _ _ one.until other.until)
+    (asks-once IsSince (λ t. time_once (codes " 00:00:00") (codes ":00") t refl refl) _ _ _
+    one.since other.since)
+    (asks-once IsUntil (λ t. time_once (codes " 23:59:59") (codes ":59") t refl refl) _ _ _
+    one.until other.until)
     (one.good ∙ sym other.good)
 
 -- some option was given a text that names nothing
@@ -159,10 +161,12 @@ query_or_unfit rows = elim (asked NamesLetters letters_known (given_to option.St
     | inl subjects ↦ elim (asked NamesChannel channel_known (given_to option.Channel rows)) [
       | inr n ↦ inr (option.Channel, n.0, record { given = n.1; nothing = n.2 })
       | inl channel ↦ elim
-          (asked IsSince (time_known (codes " 00:00:00")) (given_to option.Since rows)) [
+          (asked IsSince (time_known (codes " 00:00:00") (codes ":00") refl)
+          (given_to option.Since rows)) [
             | inr n ↦ inr (option.Since, n.0, record { given = n.1; nothing = n.2 })
             | inl since ↦ elim
-                (asked IsUntil (time_known (codes " 23:59:59")) (given_to option.Until rows)) [
+                (asked IsUntil (time_known (codes " 23:59:59") (codes ":59") refl)
+                (given_to option.Until rows)) [
                   | inr n ↦ inr (option.Until, n.0, record { given = n.1; nothing = n.2 })
                   | inl until ↦ inl (
                     make_query stations.0 subjects.0 channel.0 since.0 until.0

@@ -1,5 +1,5 @@
 -- Whether a text names a moment is known, and it names at most one.
-use Rattle.std.proofs.Common.{◌≡◌, ◌∙◌, ◌⊎◌, ◌≤◌, ◌/◌, ◌%◌, ℕ, pos, List, [], ◌∷◌, ◌++◌, ap, arith}
+use Rattle.std.proofs.Common.{◌≡◌, ◌∙◌, ◌⊎◌, ◌+◌, ◌≤◌, ◌/◌, ◌%◌, ℕ, pos, List, [], ◌∷◌, ◌++◌, ap, arith}
 use Rattle.std.proofs.Common.{codes, inl, inr, length, refl, subst, suc, sym, take}
 use Rattle.std.proofs.Math.ListN.{set}
 use Rattle.std.proofs.lemmas.List.{length-append, take-append-le, take_all}
@@ -10,9 +10,10 @@ use Rattle.jiff_core.specs.Calendar.{IsCivilDate, IsYear, days_from_civil, days_
 use Rattle.nx_envelope.specs.Identity.{two_digits}
 use Rattle.nx_envelope.specs.Moment.{IsShownAs, last_moment}
 use Rattle.nx_log.proofs.lemmas.texts.Moments.{months_small, same_time, year_small}
-use Rattle.nx_log.proofs.lemmas.texts.TimeTexts.{digits_show_none, digits_write_no_second, second-long}
-use Rattle.nx_log.proofs.lemmas.texts.TimeTexts.{joined-back, joined-length, shown-length}
-use Rattle.nx_log.specs.Times.{NamesMoment, WritesMoment, WritesSecond, joined}
+use Rattle.nx_log.proofs.lemmas.texts.TimeTexts.{digits_show_none, digits_write_no_time, first_bytes}
+use Rattle.nx_log.proofs.lemmas.texts.TimeTexts.{joined-back, shown-length, time-length, time-long}
+use Rattle.nx_log.specs.Times.{CouldBeDate, IsBetween, NamesMoment, WritesMoment, WritesTime}
+use Rattle.nx_log.specs.Times.{joined_by}
 use Rattle.nx_program.proofs.lemmas.Known.{IsKnown, UpTo, at_most, both, either, same_integer, same_text}
 use Rattle.nx_program.proofs.lemmas.Known.{up_to}
 
@@ -27,11 +28,21 @@ number_known m n = elim (both _ _ (at_most m n) (at_most n m)) [
   | inr fails ↦ inr (λ e. fails (omega (arith, e), omega (arith, e)))
 ]
 
+not_known : (A : Type 0) → IsKnown A → IsKnown (¬ A)
+not_known A (inl is) = inr (λ fails. fails is)
+not_known A (inr fails) = inl fails
+
+date_digits_known : (text : List ℕ) → IsKnown (¬ CouldBeDate text)
+date_digits_known text =
+    not_known (CouldBeDate text)
+    (either _ _ (number_known (length text) 4) (number_known (length text) 8))
+
 moment_known : (text : List ℕ) (m : ℕ) → IsKnown (WritesMoment text m)
-moment_known text m = elim (both _ _ (both _ _ (at_most 1 (length text)) (digits_known text))
+moment_known text m = elim (both _ _
+    (both _ _ (both _ _ (at_most 1 (length text)) (digits_known text)) (date_digits_known text))
     (number_known m (digits_value 10 text))) [
-      | inl is ↦ inl (record { digits = is.0; value = is.1 })
-      | inr fails ↦ inr (λ w. fails (w.digits, w.value))
+      | inl is ↦ inl (record { digits = is.0.0; no_date = is.0.1; value = is.1 })
+      | inr fails ↦ inr (λ w. fails ((w.digits, w.no_date), w.value))
     ]
 
 -- civil times
@@ -100,34 +111,80 @@ shows_known m Q known = elim (up_to 9999 (λ y. UpTo 12 (λ month. UpTo 31 (IsDa
           ))
     ]
 
-second_known : (text : List ℕ) (m : ℕ) → IsKnown (WritesSecond text m)
-second_known text m = elim (shows_known m
-    (λ c. (text ≡ joined c ++ []) ⊎ (text ≡ joined c ++ codes "Z"))
-    (λ c. either _ _ (same_text text (joined c ++ [])) (same_text text (joined c ++ codes "Z")))) [
-      | inl found ↦ inl (elim found.2 [
-        | inl bare ↦ record {
-          civil = found.0;
-          shown = found.1;
-          zone = [];
-          utc = inl refl;
-          spelled = bare;
-        }
-        | inr zoned ↦ record {
-          civil = found.0;
-          shown = found.1;
-          zone = codes "Z";
-          utc = inr refl;
-          spelled = zoned;
-        }
-      ])
-      | inr none ↦ inr (λ w. none (
-        w.civil,
-        w.shown,
-        elim w.utc [
-          | inl bare ↦ inl (w.spelled ∙ ap (λ (zone : List ℕ). joined w.civil ++ zone) bare)
-          | inr zoned ↦ inr (w.spelled ∙ ap (λ (zone : List ℕ). joined w.civil ++ zone) zoned)
-        ],
-      ))
+-- the text is these first bytes of a civil time, and with the rest it shows it
+abbrev IsSpelled : List ℕ → List ℕ → ℕ → List ℕ → Type 0
+IsSpelled rest text between front =
+    (text ≡ joined_by between front ++ []) ⊎ (text ≡ joined_by between front ++ codes "Z")
+
+abbrev IsTimeAt : List ℕ → List ℕ → ℕ → List ℕ → Type 0
+IsTimeAt rest text n civil = (take n civil ++ rest ≡ civil)
+    × (IsSpelled rest text 84 (take n civil) ⊎ IsSpelled rest text 32 (take n civil))
+
+spelled_known : (rest text front : List ℕ) (between : ℕ)
+    → IsKnown (IsSpelled rest text between front)
+spelled_known rest text front between =
+    either _ _ (same_text text (joined_by between front ++ []))
+    (same_text text (joined_by between front ++ codes "Z"))
+
+spelled_so : (rest text civil : List ℕ) (m between : ℕ) → IsShownAs m (civil ++ rest)
+    → IsBetween between → IsSpelled rest text between civil → WritesTime rest text m
+spelled_so rest text civil m between s is (inl bare) = record {
+  civil = civil;
+  shown = s;
+  between = between;
+  is_between = is;
+  zone = [];
+  utc = inl refl;
+  spelled = bare;
+}
+spelled_so rest text civil m between s is (inr zoned) = record {
+  civil = civil;
+  shown = s;
+  between = between;
+  is_between = is;
+  zone = codes "Z";
+  utc = inr refl;
+  spelled = zoned;
+}
+
+is_spelled : (rest text civil zone : List ℕ) (between : ℕ) → (zone ≡ []) ⊎ (zone ≡ codes "Z")
+    → text ≡ joined_by between civil ++ zone → IsSpelled rest text between civil
+is_spelled rest text civil zone between (inl bare) e =
+    inl (e ∙ ap (λ (zone : List ℕ). joined_by between civil ++ zone) bare)
+is_spelled rest text civil zone between (inr zoned) e =
+    inr (e ∙ ap (λ (zone : List ℕ). joined_by between civil ++ zone) zoned)
+
+-- so many bytes of the civil time stand in the text
+time_in : (rest text : List ℕ) (m n : ℕ) → n + length rest ≡ 19 → (w : WritesTime rest text m)
+    → IsTimeAt rest text n (w.civil ++ rest)
+time_in rest text m n all w =
+    let long = time-length rest text m w in
+    let same : take n (w.civil ++ rest) ≡ w.civil =
+    take-append-le n w.civil rest (omega (arith, all, long))
+    ∙ take_all n w.civil (omega (arith, all, long)) in
+    let spelled = is_spelled rest text w.civil w.zone w.between w.utc w.spelled in (
+      ap (λ l. l ++ rest) same,
+      subst (λ l. IsSpelled rest text 84 l ⊎ IsSpelled rest text 32 l) (sym same)
+          (elim w.is_between [
+            | inl t ↦ inl (subst (λ b. IsSpelled rest text b w.civil) t spelled)
+            | inr space ↦ inr (subst (λ b. IsSpelled rest text b w.civil) space spelled)
+          ]),
+    )
+
+second_known : (rest text : List ℕ) (m n : ℕ) → n + length rest ≡ 19
+    → IsKnown (WritesTime rest text m)
+second_known rest text m n all = elim (shows_known m (IsTimeAt rest text n)
+    (λ c. both _ _ (same_text (take n c ++ rest) c)
+    (either _ _ (spelled_known rest text (take n c) 84)
+    (spelled_known rest text (take n c) 32)))) [
+      | inl found ↦
+          let front = take n found.0 in
+          let shown = subst (IsShownAs m) (sym found.2.0) found.1 in
+          inl (elim found.2.1 [
+            | inl t ↦ spelled_so rest text front m 84 shown (inl refl) t
+            | inr space ↦ spelled_so rest text front m 32 shown (inr refl) space
+          ])
+      | inr none ↦ inr (λ w. none (w.civil ++ rest, w.shown, time_in rest text m n all w))
     ]
 
 day_known : (text : List ℕ) (m : ℕ) → IsKnown (IsShownAs m text)
@@ -137,59 +194,88 @@ day_known text m = elim (shows_known m (λ c. c ≡ text) (λ c. same_text c tex
 ]
 
 -- whether a text names a moment, and which
-pub time_known : (second text : List ℕ)
-    → ((m : ℕ) × NamesMoment second text m) ⊎ ((m : ℕ) → NamesMoment second text m → ⊥)
-time_known second text = elim (up_to last_moment
-    (λ m. WritesMoment text m ⊎ (WritesSecond text m ⊎ IsShownAs m (text ++ second)))
+pub time_known : (of_day of_minute : List ℕ) → length of_minute ≡ 3 → (text : List ℕ)
+    → ((m : ℕ) × NamesMoment of_day of_minute text m)
+    ⊎ ((m : ℕ) → NamesMoment of_day of_minute text m → ⊥)
+time_known of_day of_minute three text = elim (up_to last_moment
+    (λ m. WritesMoment text m ⊎ (WritesTime [] text m ⊎ (WritesTime of_minute text m
+    ⊎ IsShownAs m (text ++ of_day))))
     (λ m. either _ _ (moment_known text m)
-    (either _ _ (second_known text m) (day_known (text ++ second) m)))) [
+    (either _ _ (second_known [] text m 19 (omega arith))
+    (either _ _ (second_known of_minute text m 16 (omega (arith, three)))
+    (day_known (text ++ of_day) m))))) [
       | inl found ↦ inl (found.0, (found.1, found.2))
       | inr none ↦ inr (λ m named. none (m, named.0, named.1))
     ]
 
--- the nineteen bytes of a date and a time of day
-first_bytes : (text : List ℕ) (m : ℕ) → (w : WritesSecond text m) → take 19 text ≡ joined w.civil
-first_bytes text m w =
-    let long : length (joined w.civil) ≡ 19 =
-    joined-length w.civil ∙ shown-length m w.civil w.shown in
-    ap (take 19) w.spelled ∙ take-append-le 19 (joined w.civil) w.zone (omega (arith, long))
-    ∙ take_all 19 (joined w.civil) (omega (arith, long))
+same_civil : (rest text : List ℕ) (a b : ℕ) → length rest ≤ 3 → (w : WritesTime rest text a)
+    → (v : WritesTime rest text b) → w.civil ≡ v.civil
+same_civil rest text a b short w v =
+    let one = time-length rest text a w in
+    let other = time-length rest text b v in
+    sym (joined-back a w.between w.civil rest w.shown (omega (arith, one, short)))
+    ∙ ap (λ t. set t 10 32)
+    (sym (first_bytes rest text a (length w.civil) w refl)
+    ∙ first_bytes rest text b (length w.civil) v (omega (arith, one, other)))
+    ∙ joined-back b v.between v.civil rest v.shown (omega (arith, other, short))
 
-same_civil : (text : List ℕ) (a b : ℕ) → (w : WritesSecond text a) → (v : WritesSecond text b)
-    → w.civil ≡ v.civil
-same_civil text a b w v =
-    sym (joined-back a w.civil w.shown)
-    ∙ ap (λ t. set t 10 32) (sym (first_bytes text a w) ∙ first_bytes text b v)
-    ∙ joined-back b v.civil v.shown
+same_moment : (rest text : List ℕ) (a b : ℕ) → length rest ≤ 3 → WritesTime rest text a
+    → WritesTime rest text b → a ≡ b
+same_moment rest text a b short w v =
+    (same_time a b (w.civil ++ rest) (v.civil ++ rest) [] [] w.shown v.shown
+    (ap (λ c. (c ++ rest) ++ []) (same_civil rest text a b short w v))).moment
 
 -- it names at most one
-module _ (second text : List ℕ) (nine : length second ≡ 9) where
-  writes_alone : (a b : ℕ) → WritesMoment text a → NamesMoment second text b → a ≡ b
-  writes_alone a b one named = elim named.1 [
-    | inl other ↦ one.value ∙ sym other.value
-    | inr (inl other) ↦ absurd (digits_write_no_second text b one.digits.1 other)
-    | inr (inr other) ↦ absurd (digits_show_none text second b one.digits.1 nine other)
-  ]
-
-  no_date_and_time : (a b : ℕ) → WritesSecond text a → IsShownAs b (text ++ second) → ⊥
-  no_date_and_time a b one other =
-      let long = second-long text a one in
-      let size = shown-length b (text ++ second) other in
-      let parts = length-append text second in
-      absurd (omega arith)
-
-  pub time_once : (a b : ℕ) → NamesMoment second text a → NamesMoment second text b → a ≡ b
-  time_once a b one other = elim one.1 [
-    | inl written ↦ writes_alone a b written other
-    | inr (inl w) ↦ elim other.1 [
-      | inl written ↦ sym (writes_alone b a written one)
-      | inr (inl v) ↦ (same_time a b w.civil v.civil [] [] w.shown v.shown
-          (ap (λ c. c ++ []) (same_civil text a b w v))).moment
-      | inr (inr s) ↦ absurd (no_date_and_time a b w s)
+module _ (day minute text : List ℕ) (nine : length day ≡ 9) (three : length minute ≡ 3)
+  where
+    -- the forms of a text, of which it has one
+    writes_alone : (a b : ℕ) → WritesMoment text a → NamesMoment day minute text b → a ≡ b
+    writes_alone a b one named = elim named.1 [
+      | inl other ↦ one.value ∙ sym other.value
+      | inr (inl other) ↦
+          absurd (digits_write_no_time [] text b (omega arith) one.digits.1 other)
+      | inr (inr (inl other)) ↦
+          absurd (digits_write_no_time minute text b (omega (arith, three)) one.digits.1 other)
+      | inr (inr (inr other)) ↦ absurd (digits_show_none text day b one.digits.1 nine other)
     ]
-    | inr (inr s) ↦ elim other.1 [
-      | inl written ↦ sym (writes_alone b a written one)
-      | inr (inl v) ↦ absurd (no_date_and_time b a v s)
-      | inr (inr t) ↦ (same_time a b (text ++ second) (text ++ second) [] [] s t refl).moment
+
+    no_second_and_minute : (a b : ℕ) → WritesTime [] text a → WritesTime minute text b → ⊥
+    no_second_and_minute a b one other =
+        omega (arith, (time-long [] text a one).least, (time-long minute text b other).most, three)
+
+    no_date_and_time : (rest : List ℕ) (a b : ℕ) → length rest ≤ 3 → WritesTime rest text a
+        → IsShownAs b (text ++ day) → ⊥
+    no_date_and_time rest a b short one other =
+        omega (
+          arith,
+          short,
+          nine,
+          (time-long rest text a one).least,
+          shown-length b (text ++ day) other,
+          length-append text day,
+        )
+
+    pub time_once : (a b : ℕ) → NamesMoment day minute text a
+        → NamesMoment day minute text b → a ≡ b
+    time_once a b one other = elim one.1 [
+      | inl written ↦ writes_alone a b written other
+      | inr (inl w) ↦ elim other.1 [
+        | inl written ↦ sym (writes_alone b a written one)
+        | inr (inl v) ↦ same_moment [] text a b (omega arith) w v
+        | inr (inr (inl v)) ↦ absurd (no_second_and_minute a b w v)
+        | inr (inr (inr s)) ↦ absurd (no_date_and_time [] a b (omega arith) w s)
+      ]
+      | inr (inr (inl w)) ↦ elim other.1 [
+        | inl written ↦ sym (writes_alone b a written one)
+        | inr (inl v) ↦ absurd (no_second_and_minute b a v w)
+        | inr (inr (inl v)) ↦ same_moment minute text a b (omega (arith, three)) w v
+        | inr (inr (inr s)) ↦ absurd (no_date_and_time minute a b (omega (arith, three)) w s)
+      ]
+      | inr (inr (inr s)) ↦ elim other.1 [
+        | inl written ↦ sym (writes_alone b a written one)
+        | inr (inl v) ↦ absurd (no_date_and_time [] b a (omega arith) v s)
+        | inr (inr (inl v)) ↦ absurd (no_date_and_time minute b a (omega (arith, three)) v s)
+        | inr (inr (inr t)) ↦
+            (same_time a b (text ++ day) (text ++ day) [] [] s t refl).moment
+      ]
     ]
-  ]

@@ -1,5 +1,5 @@
-use Rattle.std.proofs.Common.{◌≡◌, ◌≤◌, ◌<◌, ℕ, pos, List, [], ◌∷◌, Some, None, codes, refl, inl, inr}
-use Rattle.std.proofs.Common.{arith, rules}
+use Rattle.std.proofs.Common.{◌≤◌, ◌<◌, ◌⊎◌, ℕ, pos, List, [], ◌∷◌, ◌++◌, Some, None, codes, length, refl, inl, inr}
+use Rattle.std.proofs.Common.{arith, length-append, rules}
 use Rattle.std.proofs.lemmas.List.Elements.{All-head}
 use Rattle.std.specs.FinSet as set
 use Rattle.std.specs.Ordering.{nat_cmp}
@@ -13,8 +13,8 @@ use Rattle.jiff_core.proofs.MarchLemmas.{day_count-early}
 use Rattle.jiff_core.proofs.SignedLemmas.{signed_arith}
 use Rattle.nx_code.specs.Reading.{IsCapital}
 use Rattle.nx_envelope.specs.Moment.{IsShownAs}
-use Rattle.nx_log.proofs.lemmas.texts.TimeTexts.{second-long, shown-length}
-use Rattle.nx_log.specs.Times.{IsSince}
+use Rattle.nx_log.proofs.lemmas.texts.TimeTexts.{shown-length, time-long}
+use Rattle.nx_log.specs.Times.{IsSince, WritesTime}
 use Rattle.nx_program.specs.LogArguments.{NamesLetters}
 use Rattle.nx_program.specs.declared.log_arguments.LogOption.TheVariants.{Since, Station}
 use Rattle.nx_program.proofs.lemmas.arguments.GivenValues.{given}
@@ -64,12 +64,58 @@ last_second = record {
   is_text = refl;
 }
 
+last_of_minute : IsShownAs 1735692059 (codes "2025-01-01 00:40" ++ codes ":59")
+last_of_minute = record {
+  year = 2025;
+  month = 1;
+  day = 1;
+  date = (search rules, search rules, search rules);
+  is_day = omega (
+    arith,
+    signed_arith,
+    days_from_civil-day_count (pos 2025) 1 1,
+    day_count-early (pos 2025) 12024 1 1 refl (search rules) (search rules) (search rules),
+  );
+  is_text = refl;
+}
+
+the_minute : WritesTime (codes ":59") (codes "2025-01-01 00:40") 1735692059
+the_minute = record {
+  civil = codes "2025-01-01 00:40";
+  shown = last_of_minute;
+  between = 32;
+  is_between = inr refl;
+  zone = [];
+  utc = inl refl;
+  spelled = refl;
+}
+
+-- texts of a few bytes name no time of day and no date
+short_is_none : (text : List ℕ) (moment : ℕ) → length text ≤ 4
+    → WritesTime [] text moment ⊎ WritesTime (codes ":00") text moment
+    ⊎ IsShownAs moment (text ++ codes " 00:00:00") → ⊥
+short_is_none text moment short (inl w) =
+    omega (arith, short, (time-long [] text moment w).least)
+short_is_none text moment short (inr (inl w)) =
+    omega (arith, short, (time-long (codes ":00") text moment w).least)
+short_is_none text moment short (inr (inr s)) =
+    omega (
+      arith,
+      short,
+      shown-length moment (text ++ codes " 00:00:00") s,
+      length-append text (codes " 00:00:00"),
+    )
+
 now_is_none : (moment : ℕ) → IsSince (codes "now") moment → ⊥
 now_is_none moment named = elim named.1 [
   | inl written ↦ let digit : 23 < 10 = written.digits.1.0 in absurd (omega (arith, digit))
-  | inr (inl w) ↦ let long : 19 ≤ 3 = second-long (codes "now") moment w in
-      absurd (omega (arith, long))
-  | inr (inr s) ↦ let long : 12 ≡ 19 = shown-length moment _ s in absurd (omega (arith, long))
+  | inr other ↦ short_is_none (codes "now") moment (omega arith) other
+]
+
+year_is_none : (moment : ℕ) → IsSince (codes "2025") moment → ⊥
+year_is_none moment named = elim named.1 [
+  | inl written ↦ written.no_date (inl refl)
+  | inr other ↦ short_is_none (codes "2025") moment (omega arith) other
 ]
 
 small_e_is_none : (letters : set.FinSet nat_cmp) → NamesLetters (codes "e") letters → ⊥
@@ -117,7 +163,7 @@ returns c = record {
         stations = tt;
         subjects = tt;
         channel = tt;
-        since = (search rules, inr (inr first_second));
+        since = (search rules, inr (inr (inr first_second)));
         until = tt;
         good = refl;
       },
@@ -134,11 +180,38 @@ returns c = record {
         subjects = tt;
         channel = tt;
         since = tt;
-        until = (search rules, inr (inr last_second));
+        until = (search rules, inr (inr (inr last_second)));
         good = refl;
       },
       refl,
     );
+  };
+  minute = λ program. record {
+    taken = refl;
+    values = given (codes "until") (codes "2025-01-01 00:40") ∷ both_off;
+    command = refl;
+    given = (
+      record {
+        stations = tt;
+        subjects = tt;
+        channel = tt;
+        since = tt;
+        until = (search rules, inr (inr (inl the_minute)));
+        good = refl;
+      },
+      refl,
+    );
+  };
+  no_year = λ program. record {
+    taken = refl;
+    values = given (codes "since") (codes "2025") ∷ both_off;
+    entered = refl;
+    reported = record {
+      option = Since;
+      text = codes "2025";
+      unfit = record { given = refl; nothing = year_is_none };
+      told = refl;
+    };
   };
   no_time = λ program. record {
     taken = refl;

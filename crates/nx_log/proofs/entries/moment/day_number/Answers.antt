@@ -38,7 +38,7 @@ returns-clause-found c = λ n date is.
     let month : c.in-Ok.date.month ≡ c.args.month = omega (arith, signed_arith, pos_month) in
     let day : c.in-Ok.date.day ≡ c.args.day = omega (arith, signed_arith, pos_day) in
     let number : c.to_unix_epoch_day.result ≡ pos n =
-    c.to_unix_epoch_day.ensures.value ∙ rw (year, month, day) is in
+    c.to_unix_epoch_day.ensures.value ∙ rw (c.to_plain.ensures, year, month, day) is in
     let small : n < 2 ^ 31 = rw number at c.to_unix_epoch_day.type_inv in
     let back : to_z w32 (of_z w32 c.to_unix_epoch_day.result) ≡ pos n =
     ap (λ z. to_z w32 (of_z w32 z)) number ∙ back_small w32 (pos n) small in

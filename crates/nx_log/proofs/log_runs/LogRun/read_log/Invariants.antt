@@ -1,7 +1,8 @@
 use Rattle.std.proofs.Common.{◌≡◌, ◌+◌, ◌≤◌, ℕ, Option, List, [], length}
 use Rattle.std.specs.Io.KnownBytes.{Consumes}
 use Rattle.nx_log.specs.LogRun.{most_read}
-use Rattle.nx_log.specs.private.LogRunning.{IsReading, IsRunning, notices_of}
+use Rattle.nx_log.specs.private.LogRunning.{IsReading, IsRunning}
+use Rattle.nx_log.specs.Notices.{notices_of}
 use Rattle.nx_log.proofs.log_runs.LogRun.read_log.Given as goal
 
 -- the entries of all bytes so far were given

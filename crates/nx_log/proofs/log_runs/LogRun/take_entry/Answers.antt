@@ -2,8 +2,7 @@ use Rattle.std.proofs.Common.{◌≤◌, ◌++◌, ◌∷◌, [], ℕ, List, len
 use Rattle.std.proofs.lemmas.List.{take-append-drop}
 use Rattle.std.proofs.lemmas.Result.{err_from_is_err_and}
 use Rattle.nx_log.specs.LogRun.{most_read}
-use Rattle.nx_log.specs.Notices.{HaveToldTorn}
-use Rattle.nx_log.specs.private.LogRunning.{notices_of}
+use Rattle.nx_log.specs.Notices.{HaveToldTorn, notices_of}
 use Rattle.nx_log.proofs.lemmas.runs.LogRuns.{begin-at, begin-in, taken-some, told-line, torn-some}
 use Rattle.nx_log.proofs.log_runs.LogRun.take_entry.Goals as goal
 

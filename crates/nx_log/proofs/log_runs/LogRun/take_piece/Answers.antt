@@ -3,7 +3,8 @@ use Rattle.std.proofs.lemmas.Result.{err_from_is_err_and}
 use Rattle.nx_fec.proofs.lemmas.devices.Piece.{piece-next, piece-whole}
 use Rattle.nx_fec.proofs.lemmas.devices.TransferLaws.{Ok-not_err, Writes-sound}
 use Rattle.nx_log.specs.LogRun.{most_read}
-use Rattle.nx_log.specs.private.LogRunning.{EndsRun, IsRunning, notices_of}
+use Rattle.nx_log.specs.private.LogRunning.{EndsRun, IsRunning}
+use Rattle.nx_log.specs.Notices.{notices_of}
 use Rattle.nx_log.proofs.log_runs.LogRun.take_piece.Goals as goal
 
 still_within : (bytes piece : List ℕ) (at : ℕ) → length (bytes ++ piece) ≤ most_read

@@ -1,6 +1,7 @@
 use Rattle.std.proofs.Common.{◌≡◌, ◌-◌, ◌≤◌, ℕ, Option, List, ◌++◌, length, take}
 use Rattle.nx_log.specs.LogRun.{most_read}
-use Rattle.nx_log.specs.private.LogRunning.{IsReading, IsRunning, notices_of}
+use Rattle.nx_log.specs.private.LogRunning.{IsReading, IsRunning}
+use Rattle.nx_log.specs.Notices.{notices_of}
 use Rattle.nx_log.proofs.log_runs.LogRun.take_piece.Given as goal
 
 -- the entries that ended so far were given

@@ -1,6 +1,5 @@
 use Rattle.std.proofs.Common.{◌++◌, ◌∷◌, [], subst}
-use Rattle.nx_log.specs.Notices.{HaveToldTorn}
-use Rattle.nx_log.specs.private.LogRunning.{notices_of}
+use Rattle.nx_log.specs.Notices.{HaveToldTorn, notices_of}
 use Rattle.nx_log.proofs.lemmas.runs.LogRuns.{told-last}
 use Rattle.nx_log.proofs.log_runs.LogRun.tell_last.Goals as goal
 

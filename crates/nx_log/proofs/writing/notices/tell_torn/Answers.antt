@@ -1,7 +1,6 @@
 use Rattle.std.proofs.Common.{◌≡◌, ◌++◌, ◌∙◌, ap, subst, sym}
 use Rattle.std.specs.Prelude.{codes, decimal}
-use Rattle.nx_log.specs.Notices.{HaveTold, torn_notices}
-use Rattle.nx_log.specs.private.LogRunning.{notices_of}
+use Rattle.nx_log.specs.Notices.{HaveTold, notices_of, torn_notices}
 use Rattle.nx_log.proofs.lemmas.runs.Telling.{notices_more, three}
 use Rattle.nx_log.proofs.writing.notices.tell_torn.Goals as goal
 

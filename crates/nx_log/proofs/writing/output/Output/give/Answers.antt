@@ -37,15 +37,18 @@ returns-in-Json-clause-given g c = λ one old entries is h.
     let view = c.whole_entry-view.result in
     let v = c.whole_entry-view.ensures in
     let same = view-is one c.args.bytes.now view is v in
-    let line = c.give_json.ensures.given in
-    given-more c.give_json.result c.args.query.now c.args.form old
-    (g.W.Write.contents c.args.writer.now.inner) (g.W.Write.contents c.give_json.new.writer.inner)
+    let line = c.as_slice.result.now in
+    let spelled = subst (IsJsonLine one) (sym c.as_slice.ensures.value)
+    (subst (λ o. IsJsonLine o c.json_line.result.items) same c.json_line.ensures) in
+    given-more c.give-in-Json.result c.args.query.now c.args.form old
+    (g.W.Write.contents c.args.writer.now.inner)
+    (g.W.Write.contents c.give-in-Json.new.writer.inner)
     c.args.self.now
-    (record { batch = c.give_json.new.batch; admitted = c.saturating_add-self.result })
-    entries one line.0 h
+    (record { batch = c.give-in-Json.new.self; admitted = c.saturating_add-self.result })
+    entries one line h
     (ap (admits c.args.query.now) (sym same)
     ∙ sym (c.admits.ensures view.text.now v.errors v.characters)
     ∙ c.if-not-admits.false)
-    (subst (λ f. IsInForm f one line.0) (sym c.in-Json.is)
-    (subst (λ o. IsJsonLine o line.0) same line.1)) c.saturating_add-self.ensures
-    (line.2 old h.bytes h.given)
+    (subst (λ f. IsInForm f one line) (sym c.in-Json.is) spelled)
+    c.saturating_add-self.ensures
+    (c.give-in-Json.ensures.bytes old h.bytes h.given)

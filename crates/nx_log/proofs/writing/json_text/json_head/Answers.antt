@@ -2,7 +2,7 @@ use Rattle.std.proofs.Common.{◌≡◌, ◌++◌, ◌∷◌, [], ℕ, List, cod
 use Rattle.std.specs.Fmt.{decimal}
 use Rattle.nx_fec.specs.air_files.Channels.{channel_number}
 use Rattle.nx_receiver.specs.copies.Log.{how_name}
-use Rattle.nx_log.proofs.writing.json_out.json_head.Goals as goal
+use Rattle.nx_log.proofs.writing.json_text.json_head.Goals as goal
 
 -- the pieces, in order
 pieces : (k1 k2 k3 k4 k5 k6 k7 k8 k9 channel characters end errors moment number : List ℕ)

@@ -1,0 +1,5 @@
+-- Lemmas of the laws of reading a kept log.
+pub mod Among
+pub mod Quiet
+pub mod Reaches
+pub mod Rests
