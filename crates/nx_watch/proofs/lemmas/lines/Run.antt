@@ -3,7 +3,7 @@ use Rattle.std.proofs.Common.{◌≡◌, ◌+◌, ℕ, ◌≤◌, ◌<◌, Bool,
 use Rattle.std.proofs.Common.{[], ◌∷◌, ◌++◌, map, take, drop, Option, Some, None, max}
 use Rattle.std.proofs.Common.{option_to_list, nat_le, refl, sym, ap, ◌∙◌, subst, append_assoc}
 use Rattle.std.proofs.Common.{append-nil, arith, Err, inl}
-use Rattle.std.specs.Prelude.{IfErr, IsSome, IsSomeAnd, MatchResult}
+use Rattle.std.specs.Prelude.{IfErr, IsSomeAnd, MatchResult}
 use Rattle.std.specs.Io.KnownBytes.{Appends}
 use Rattle.std.proofs.lemmas.Bool.{and_parts, le-leb, leb-false, leb-true}
 use Rattle.std.proofs.lemmas.List.{map-append, take-append-drop}

@@ -9,7 +9,7 @@ use Rattle.nx_fec.specs.air_files.Scanner.{kind_kept}
 use Rattle.nx_fec.specs.declared.air_files.lines.LineKind.{LineKind}
 use Rattle.std.specs.Result.{is_err}
 use Rattle.std.proofs.ByRecursion.{All-append}
-use Rattle.std.proofs.lemmas.List.{append_cancel_left, map-append, take_all, take_more}
+use Rattle.std.proofs.lemmas.List.{append_cancel_left, map-append, take_all}
 use Rattle.nx_fec.specs.air_files.AirFile.{Line}
 use Rattle.nx_fec.specs.air_files.Lines.{IsAirFile, IsCause, Scanning, Scans, StopsIn, file_of}
 use Rattle.nx_fec.specs.declared.fault.LineFault.{LineFault}

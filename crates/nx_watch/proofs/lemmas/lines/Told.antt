@@ -1,11 +1,11 @@
 -- What was told of lines without effect, and of a put that failed.
-use Rattle.std.proofs.Common.{◌≡◌, ◌+◌, ℕ, ◌≤◌, Bool, true, false, not, ◌&&◌, List, [], ◌∷◌, ◌++◌, length}
+use Rattle.std.proofs.Common.{◌≡◌, ◌+◌, ℕ, Bool, true, false, not, ◌&&◌, List, [], ◌∷◌, ◌++◌, length}
 use Rattle.std.proofs.Common.{Option, Some, None, refl, sym, ap, ◌∙◌, subst, append_assoc}
-use Rattle.std.proofs.Common.{append-nil, arith, inl, inr}
+use Rattle.std.proofs.Common.{append-nil, inl, inr}
 use Rattle.std.specs.Prelude.{◌⊎◌, IsSome}
 use Rattle.nx_fec.specs.air_files.AirFile.{Line}
 use Rattle.nx_fec.specs.Transfers.{CountedDevice}
-use Rattle.nx_watch.specs.Acting.{count_without, first_without}
+use Rattle.nx_watch.specs.Acting.{count_without}
 use Rattle.nx_watch.specs.LineRun.{HasTold}
 use Rattle.nx_watch.specs.LinesTold.{IsFirstTold, IsReason, IsToldAtEnd, IsToldByRead, line_told}
 use Rattle.nx_watch.specs.LinesTold.{number_told, put_told}
