@@ -11,11 +11,18 @@ _navtex_values() {
     esac
 }
 
+# The commands, of which the program's help has a line each.
+_navtex_commands() {
+    "$1" --help 2>/dev/null | sed -n 's/^  \([a-z][a-z]*\)   *[A-Z].*/\1/p'
+}
+
 _navtex() {
     local word=${COMP_WORDS[COMP_CWORD]} before=${COMP_WORDS[COMP_CWORD - 1]} program=${COMP_WORDS[0]}
     local choices='' help='' value='' name
     if ((COMP_CWORD == 1)); then
-        choices="$("$program" --help 2>/dev/null | sed -n 's/^  \([a-z][a-z]*\)   *[A-Z].*/\1/p') --help --version"
+        choices="$(_navtex_commands "$program") help --help --version"
+    elif [ "${COMP_WORDS[1]}" = help ]; then
+        ((COMP_CWORD > 2)) || choices=$(_navtex_commands "$program")
     else
         help=$("$program" "${COMP_WORDS[1]}" -h 2>/dev/null)
         # `--channel <N>  Entries ..` is the line of an option with a value

@@ -53,5 +53,7 @@ complete -c navtex -f
 complete -c navtex -l help -d 'Say what the commands are, or what a command reads and writes'
 complete -c navtex -n __fish_use_subcommand -l version -d 'Write the version, and with which logic it was proved'
 complete -c navtex -n __fish_use_subcommand -a '(__navtex_commands)'
+complete -c navtex -n __fish_use_subcommand -a help -d 'Say what a command reads and writes'
+complete -c navtex -n '__fish_seen_subcommand_from help' -a '(__navtex_commands)'
 complete -c navtex -n 'not __fish_use_subcommand; and string match --quiet -- "-*" (commandline --current-token)' -a '(__navtex_options)'
 complete -c navtex -n 'not __fish_use_subcommand' -a '(__navtex_values)'

@@ -1,3 +1,4 @@
 pub mod Events
 pub mod Fresh
+pub mod Reasons
 pub mod private

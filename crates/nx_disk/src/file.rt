@@ -1,22 +1,62 @@
 //! Why the file of a log can't be had.
 
+ghost use Rattle.std.specs.Prelude.{◌≡◌};
+ghost use Rattle.std.specs.IoError.{error_kind};
+ghost use Rattle.nx_disk.specs.Reasons.{fault_of_kind};
+
 use std::alloc::AllocError;
 use std::fs::TryLockError;
 use std::io;
+use std::io::ErrorKind;
 use thiserror::Error;
 
 /// Why the file of a log can't be had.
 #[derive(Clone, Copy, Debug, Drop, PartialEq, Eq, Error)]
 pub enum FileFault {
-    /// It can't be opened, locked or made, or it is no regular file.
-    #[error("the file can't be opened")]
-    Open,
+    /// It can't be opened, locked or made, for this reason.
+    #[error(transparent)]
+    Open(OpenFault),
     /// Another open file has the lock.
     #[error("the file is in use")]
     Busy,
-    /// Memory for its name ran out.
+    /// Memory ran out.
     #[error("out of memory")]
     Memory,
+}
+
+/// Why a file can't be opened.
+#[derive(Clone, Copy, Debug, Drop, PartialEq, Eq, Error)]
+pub enum OpenFault {
+    /// A folder that its name leads through isn't there.
+    #[error("the folder of the file isn't there")]
+    NoFolder,
+    /// The system gives no leave to read it, to write it or to make it.
+    #[error("there is no leave to read and write the file")]
+    NoLeave,
+    /// It is a link that leads to no file.
+    #[error("the file is a link that leads nowhere")]
+    DeadLink,
+    /// The disk is full, or what its owner may have of it.
+    #[error("there is no room on the disk")]
+    NoRoom,
+    /// The disk can't be written to.
+    #[error("the disk can only be read")]
+    OnlyRead,
+    /// It is a folder, a pipe, a device, or another thing that is no regular file.
+    #[error("the file is no regular file")]
+    NotRegular,
+    /// The disk gives no lock.
+    #[error("the file can't be locked")]
+    NoLock,
+    /// Its name led to another file, or to none, as soon as it was locked.
+    #[error("the file was moved while it was opened")]
+    Moved,
+    /// Its folder can't be brought to the disk, so a crash might lose the file.
+    #[error("the folder of the file can't be brought to the disk")]
+    FolderUnsynced,
+    /// None of these.
+    #[error("the file can't be opened")]
+    Other,
 }
 
 impl From<AllocError> for FileFault {
@@ -26,8 +66,10 @@ impl From<AllocError> for FileFault {
 }
 
 impl From<io::Error> for FileFault {
-    fn from(_: io::Error) -> FileFault {
-        FileFault::Open
+    ghost from_gives = { λ error fault. fault ≡ fault_of_kind (error_kind error) };
+
+    fn from(error: io::Error) -> FileFault {
+        FileFault::of_kind(error.kind())
     }
 }
 
@@ -35,7 +77,24 @@ impl From<TryLockError> for FileFault {
     fn from(error: TryLockError) -> FileFault {
         match error {
             TryLockError::WouldBlock => FileFault::Busy,
-            TryLockError::Error(_) => FileFault::Open,
+            TryLockError::Error(_) => FileFault::Open(OpenFault::NoLock),
+        }
+    }
+}
+
+impl FileFault {
+    /// The fault that an error of this kind is, where a file is opened or made.
+    pub fn of_kind(kind: ErrorKind) -> FileFault
+        ensures { result ≡ fault_of_kind kind }
+    {
+        match kind {
+            ErrorKind::NotFound | ErrorKind::NotADirectory => FileFault::Open(OpenFault::NoFolder),
+            ErrorKind::PermissionDenied => FileFault::Open(OpenFault::NoLeave),
+            ErrorKind::FilesystemLoop => FileFault::Open(OpenFault::DeadLink),
+            ErrorKind::StorageFull | ErrorKind::QuotaExceeded => FileFault::Open(OpenFault::NoRoom),
+            ErrorKind::ReadOnlyFilesystem => FileFault::Open(OpenFault::OnlyRead),
+            ErrorKind::OutOfMemory => FileFault::Memory,
+            _ => FileFault::Open(OpenFault::Other),
         }
     }
 }

@@ -1,6 +1,8 @@
 -- What the arguments of the command line name, by clap's own reading of them (this profile).
-use Rattle.std.specs.Prelude.{◌≡◌, ◌≢◌, ◌⊎◌, ◌<◌, ◌∷◌, ◌^◌, ⊤, ℕ, List, [], Some, codes, fold}
+use Rattle.std.specs.Prelude.{◌≡◌, ◌≢◌, ◌⊎◌, ◌<◌, ◌≤◌, ◌∷◌, ◌++◌, ◌^◌, ⊤, ℕ, List, [], Some, codes}
+use Rattle.std.specs.Prelude.{fold, if◌then◌else◌}
 use Rattle.std.specs.Prelude.{true}
+use Rattle.std.specs.Str.{bytes_eq}
 use Rattle.std.specs.Str.Parse.{IsNumeral, digits_value, without_leading_plus}
 use Rattle.clap.specs.Words.{App, IsAmong, Row, Rule, Text, fault_of, first_of, new_app}
 use Rattle.clap.specs.Words.{new_rule, one_of, subcommand_of, with_rule, with_subcommand}
@@ -8,6 +10,7 @@ use Rattle.clap.specs.Simple.{on_top}
 use Rattle.clap.specs.declared.builder.value_parser.ValueParser.TheVariants as parser
 use Rattle.clap.specs.declared.error.kind.ErrorKind.{ErrorKind}
 use Rattle.clap.specs.declared.error.kind.ErrorKind.TheVariants.{DisplayHelp, DisplayVersion}
+use Rattle.nx_code.specs.Reading.{newline}
 use Rattle.nx_envelope.specs.Moment.{last_moment}
 use Rattle.nx_envelope.specs.declared.letter.Letter.{Letter}
 use Rattle.nx_log.specs.declared.writing.form.Form.{Form}
@@ -20,6 +23,18 @@ use Rattle.nx_program.specs.declared.arguments.Call.TheVariants.{Damage, Locks, 
 use Rattle.nx_program.specs.declared.arguments.Call.TheVariants.{Slots, Watch}
 use Rattle.nx_station.specs.declared.damaging.DamageKind.{DamageKind}
 use Rattle.nx_station.specs.declared.damaging.DamageKind.TheVariants.{Dx, Rx, All}
+
+-- what asks for the help of a command whose name may stand first here, or else of the program
+abbrev pub help_words : List Text → List Text
+help_words [] = codes "--help" ∷ []
+help_words (command ∷ rest) = command ∷ codes "--help" ∷ []
+
+-- The arguments as they are read, of which the first is the program's name: `help` and a command's
+-- name is that name and `--help`, whatever stands behind, and `help` alone is `--help`.
+abbrev pub as_read : List Text → List Text
+as_read (program ∷ word ∷ rest) =
+    if bytes_eq word (codes "help") then program ∷ help_words rest else program ∷ word ∷ rest
+as_read arguments = arguments
 
 -- the name of the command of a call
 abbrev pub command_name : Call → Text
@@ -57,17 +72,17 @@ abbrev pub number_rule : Text → ℕ → Rule
 number_rule name most =
     record (new_rule name) { required = true; parser = Some (parser.Unsigned 0 most) }
 
--- a command that takes a station and a moment, which is at most the last moment
+-- a command that takes a station and a moment, each of which is any text to clap
 abbrev pub slot_tree : Text → App
 slot_tree name =
     let with_station = with_rule (new_app name) (text_rule (codes "STATION")) in
-    with_rule with_station (number_rule (codes "MOMENT") last_moment)
+    with_rule with_station (text_rule (codes "MOMENT"))
 
--- a command that takes a file and a moment, which is at most the last moment
+-- a command that takes a file and a moment, each of which is any text to clap
 abbrev pub file_tree : Text → App
 file_tree name =
     let with_file = with_rule (new_app name) (text_rule (codes "FILE")) in
-    with_rule with_file (number_rule (codes "MOMENT") last_moment)
+    with_rule with_file (text_rule (codes "MOMENT"))
 
 -- the greatest number of 32 bits
 abbrev pub greatest_of_32_bits : ℕ
@@ -81,7 +96,7 @@ damage_tree name =
     with_rule with_first (number_rule (codes "COUNT") greatest_of_32_bits)
 
 -- the program without its commands: one of them must be given, unless the version is asked for, and
--- there is no command `help`
+-- clap's own command `help` is none
 abbrev pub bare_tree : App
 bare_tree = on_top (λ s. record s {
   disable_help_subcommand = true;
@@ -149,17 +164,28 @@ pub record IsNumber (name : Text) (values : List Row) (number : ℕ) : Type 0 wh
   pub value : number ≡ digits_value 10 (without_leading_plus text)
   pub fits : number < 2 ^ 64
 
+-- the text says this moment in whole seconds since 1970, up to the last one: one decimal digit or
+-- more, before which a plus may stand
+pub record SaysMoment (text : Text) (moment : ℕ) : Type 0 where
+  pub numeral : IsNumeral 10 (without_leading_plus text)
+  pub value : moment ≡ digits_value 10 (without_leading_plus text)
+  pub in_range : moment ≤ last_moment
+
+-- the value of MOMENT says this moment
+pub record IsMoment (values : List Row) (moment : ℕ) : Type 0 where
+  pub text : Text
+  pub given : first_of (codes "MOMENT") values ≡ Some text
+  pub said : SaysMoment text moment
+
 -- the values are this station and this moment
 abbrev pub HasStationAndMoment : List Row → Letter → ℕ → Type 0
-HasStationAndMoment values station moment =
-    IsStation values station × IsNumber (codes "MOMENT") values moment
+HasStationAndMoment values station moment = IsStation values station × IsMoment values moment
 
 -- the values are those that the call has; of a call that has none, nothing is said
 abbrev pub HasValues : Call → List Row → Type 0
 HasValues (Send station moment) values = HasStationAndMoment values station moment
 HasValues (Slots station moment) values = HasStationAndMoment values station moment
-HasValues (Watch name moment) values =
-    IsFile values name × IsNumber (codes "MOMENT") values moment
+HasValues (Watch name moment) values = IsFile values name × IsMoment values moment
 HasValues (Damage kind from count) values =
     IsKind values kind × IsNumber (codes "FROM") values from
     × IsNumber (codes "COUNT") values count
@@ -215,10 +241,44 @@ pub record LacksValue (arguments : List Text) (report : Text) : Type 0 where
   pub entered : subcommand_of navtex arguments ≡ Some (codes "log", values)
   pub reported : IsReported values report
 
+-- the name of a command that takes a moment
+abbrev pub TakesMoment : Text → Type 0
+TakesMoment name = (name ≡ codes "send") ⊎ ((name ≡ codes "slots") ⊎ (name ≡ codes "watch"))
+
+-- the text that reports a MOMENT that says none, as clap reports a wrong value: what is wanted, and
+-- what gives the moment now
+abbrev pub moment_report : Text → Text
+moment_report text =
+    codes "error: invalid value '" ++ text ++ codes "' for '<MOMENT>'" ++ newline ∷ newline
+    ∷ codes "  tip: MOMENT is whole seconds since 1970-01-01 00:00:00 UTC, 0 to 32503679999;"
+    ++ codes " $(date +%s) gives now" ++ newline ∷ newline
+    ∷ codes "For more information, try '--help'." ++ newline ∷ []
+
+-- MOMENT was given a text that says no moment, and this is its report
+pub record IsReportedMoment (values : List Row) (report : Text) : Type 0 where
+  pub text : Text
+  pub given : first_of (codes "MOMENT") values ≡ Some text
+  pub no_moment : (moment : ℕ) → ¬ SaysMoment text moment
+  pub told : report ≡ moment_report text
+
+-- clap takes the arguments, which enter a command that takes a moment, and MOMENT says none, as
+-- this report says
+pub record LacksMoment (arguments : List Text) (report : Text) : Type 0 where
+  pub taken : fault_of navtex arguments ≡ []
+  pub name : Text
+  pub values : List Row
+  pub entered : subcommand_of navtex arguments ≡ Some (name, values)
+  pub takes : TakesMoment name
+  pub reported : IsReportedMoment values report
+
+-- a text that was given as a value says nothing, as this report says: an option's, or MOMENT
+abbrev pub HasUnfitValue : List Text → Text → Type 0
+HasUnfitValue arguments report = LacksValue arguments report ⊎ LacksMoment arguments report
+
 -- the arguments are refused, by clap, for their station, for their kind of damage, or for the value
--- of an option
+-- of an option or of MOMENT
 abbrev pub IsRefused : List Text → Type 0
 IsRefused arguments =
     IsRefusedByClap arguments
     ⊎ (LacksStation arguments
-    ⊎ (LacksKind arguments ⊎ ((report : Text) × LacksValue arguments report)))
+    ⊎ (LacksKind arguments ⊎ ((report : Text) × HasUnfitValue arguments report)))

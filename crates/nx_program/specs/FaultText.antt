@@ -26,6 +26,8 @@ use Rattle.nx_station.specs.declared.fault.SendFault.{SendFault}
 use Rattle.nx_station.specs.declared.fault.SendFault.TheVariants as sending
 use Rattle.nx_station.specs.declared.fault.SendRunFault.{SendRunFault}
 use Rattle.nx_station.specs.declared.fault.SendRunFault.TheVariants as send
+use Rattle.nx_disk.specs.declared.file.OpenFault.{OpenFault}
+use Rattle.nx_disk.specs.declared.file.OpenFault.TheVariants as file
 use Rattle.nx_program.specs.declared.fault.CallFault.{CallFault}
 use Rattle.nx_program.specs.declared.fault.CallFault.TheVariants as call
 
@@ -183,3 +185,17 @@ call_text call.NoSlot = no_slot
 -- the line that reports the fault of a call
 abbrev pub call_fault_line : CallFault → List ℕ
 call_fault_line why = codes "navtex: " ++ call_text why ++ newline ∷ []
+
+-- why the file of a log can't be opened, as it stands behind that it can't; nothing where the
+-- reason is none of these
+abbrev pub open_reason : OpenFault → List ℕ
+open_reason file.NoFolder = codes ": its folder isn't there"
+open_reason file.NoLeave = codes ": there is no leave to read and write it"
+open_reason file.DeadLink = codes ": it is a link that leads nowhere"
+open_reason file.NoRoom = codes ": there is no room on the disk"
+open_reason file.OnlyRead = codes ": its disk can only be read"
+open_reason file.NotRegular = codes ": it is no regular file"
+open_reason file.NoLock = codes ": it can't be locked"
+open_reason file.Moved = codes ": it was moved while it was opened"
+open_reason file.FolderUnsynced = codes ": its folder can't be brought to the disk"
+open_reason file.Other = []

@@ -44,8 +44,8 @@ use Rattle.nx_program.specs.declared.fault.Fault.TheVariants as fault
 use Rattle.nx_program.specs.Status.{status_of}
 use Rattle.nx_program.specs.WatchCommand.{Beside, IsUnused, OpensNoFile, WatchesLog}
 use Rattle.nx_program.specs.WatchCommand.{notices_between}
-use Rattle.nx_program.specs.Arguments.{AsksForHelp, AsksForVersion, IsRefusedByClap, LacksKind}
-use Rattle.nx_program.specs.Arguments.{LacksStation, LacksValue, Names}
+use Rattle.nx_program.specs.Arguments.{AsksForHelp, AsksForVersion, HasUnfitValue, IsRefusedByClap}
+use Rattle.nx_program.specs.Arguments.{LacksKind, LacksStation, Names}
 
 -- a device on which no call has failed
 abbrev pub fresh_device : {T : Type 0} → T → CountedDevice T
@@ -196,7 +196,7 @@ EndsOnStreams arguments d (Err fault.NoText) = ⊥
 EndsOnStreams arguments d (Err fault.Station) = LacksStation arguments × IsUntouched d
 EndsOnStreams arguments d (Err fault.Kind) = LacksKind arguments × IsUntouched d
 EndsOnStreams arguments d (Err (fault.Value report)) =
-    LacksValue arguments (string_bytes report) × IsUntouched d
+    HasUnfitValue arguments (string_bytes report) × IsUntouched d
 EndsOnStreams arguments d (Err (fault.Watch name why)) = ⊥
 EndsOnStreams arguments d (Err (fault.Call why)) =
     RunsCall arguments d (Err why)

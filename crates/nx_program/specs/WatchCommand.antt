@@ -18,6 +18,7 @@ use Rattle.nx_watch.specs.Stamp.{Stamp}
 use Rattle.nx_watch.specs.declared.watch_fault.WatchFault.{WatchFault}
 use Rattle.nx_watch.specs.declared.watch_fault.WatchFault.TheVariants as watch
 use Rattle.nx_watch.specs.declared.watch_report.WatchReport.{WatchReport}
+use Rattle.nx_program.specs.FaultText.{open_reason}
 use Rattle.nx_program.specs.declared.fault.Fault.{Fault}
 use Rattle.nx_program.specs.declared.fault.Fault.TheVariants as fault
 use Rattle.nx_program.specs.declared.watch_command.WatchFailure.{WatchFailure}
@@ -77,8 +78,9 @@ pub record IsUnused {F D W E : Type 0} (b : Beside F D W E) : Type 0 where
 
 -- the line that reports a failed watch of the log of this name
 abbrev pub watch_fault_line : Text → WatchFailure → List ℕ
-watch_fault_line name (Unopened file.Open) =
-    codes "navtex: the log " ++ (name ++ codes " can't be opened\n")
+watch_fault_line name (Unopened (file.Open why)) =
+    codes "navtex: the log " ++ (name ++ (codes " can't be opened"
+    ++ (open_reason why ++ codes "\n")))
 watch_fault_line name (Unopened file.Busy) =
     codes "navtex: another watch has the log " ++ (name ++ codes "\n")
 watch_fault_line name (Unopened file.Memory) = codes "navtex: out of memory\n"

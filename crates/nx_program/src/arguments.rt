@@ -3,14 +3,17 @@
 ghost use Rattle.std.specs.Prelude.{◌≡◌, ◌≢◌, ℕ, List, [], ◌∷◌, IfErr, IfNone, IfOk, IfSome};
 ghost use Rattle.std.specs.Prelude.{codes, map};
 ghost use Rattle.clap.specs.Words.{Row, Text, found_of, rows_of};
-ghost use Rattle.nx_program.specs.Arguments.{HasValues, IsFile, IsKind, IsNumber, IsStation, Names, command_name};
-ghost use Rattle.nx_program.specs.Arguments.{kind_name};
+ghost use Rattle.std.specs.Prelude.{string_bytes};
+ghost use Rattle.nx_program.specs.Arguments.{HasValues, IsFile, IsKind, IsMoment, IsNumber, IsStation, Names};
+ghost use Rattle.nx_program.specs.Arguments.{SaysMoment, command_name, kind_name};
+ghost use Rattle.nx_program.specs.Arguments.{moment_report as the_report};
+ghost use Rattle.nx_program.specs.private.Reading.{ExplainsMoment, HasFitMoment, HasUnfitMoment};
 ghost use Rattle.nx_program.specs.private.Reading.{ExplainsArguments, IsSortedAs, LacksRange, LacksSlot};
 ghost use Rattle.nx_program.specs.private.LogReading.{ExplainsOptions};
 ghost use Rattle.nx_program.specs.private.Reading.{LacksWatch, WantsValues};
 ghost use Rattle.nx_program.specs.declared.arguments.Call.{Call};
 ghost use Rattle.nx_station.specs.declared.damaging.DamageKind.{DamageKind};
-ghost use Rattle.nx_program.specs.declared.arguments.ArgumentsFault.TheVariants.{Kind, Memory, Station};
+ghost use Rattle.nx_program.specs.declared.arguments.ArgumentsFault.TheVariants.{Kind, Memory};
 ghost use Rattle.nx_envelope.specs.declared.letter.Letter.{Letter};
 
 use crate::commands::navtex_command;
@@ -18,7 +21,7 @@ use crate::file_name::FileName;
 use crate::log_arguments::{form_in, query_in, unfit_report};
 use clap::ArgMatches;
 use clap::error::ErrorKind;
-use nx_envelope::Letter;
+use nx_envelope::{LAST_MOMENT, Letter};
 use nx_log::{Form, Query};
 use nx_station::DamageKind;
 use std::alloc::{AllocError, Global};
@@ -97,16 +100,20 @@ pub enum ArgumentsFault {
     Station,
     /// The kind of damage is none of those that there are.
     Kind,
-    /// The value of an option names nothing, as this text says.
+    /// The value of an option, or MOMENT, says nothing, as this text says.
     Value(String),
     /// Memory ran out while the arguments were read.
     Memory(AllocError),
 }
 
+/// What is wanted, behind that a MOMENT is wrong.
+const MOMENT_TIP: &str =
+    "\n\n  tip: MOMENT is whole seconds since 1970-01-01 00:00:00 UTC, 0 to 32503679999;";
+
 /// The call that the arguments name, of which the first is the program's name. `Help` and `Version`
 /// where they ask for these, `Refused` where clap doesn't understand them, `Station` and `Kind`
-/// where that value is none, `Value` where an option's value names nothing, and `Memory` where it
-/// ran out.
+/// where that value is none, `Value` where an option's value or MOMENT says nothing, and `Memory`
+/// where it ran out.
 pub fn call_of<'a, S: AsStr>(alloc: Global, arguments: &'a [S]) -> Result<Call<'a>, ArgumentsFault>
     ensures named { IfOk result (Names (map S.text arguments.now)) }
     ensures refused { IfErr result (ExplainsArguments (map S.text arguments.now)) }
@@ -117,19 +124,50 @@ pub fn call_of<'a, S: AsStr>(alloc: Global, arguments: &'a [S]) -> Result<Call<'
     if name == "log" {
         return log_call(alloc, values);
     }
-    Call::of_command(name, values).ok_or(unfit_value(name))
+    match Call::of_command(name, values) {
+        Some(call) => Ok(call),
+        None => Err(unfit_value(alloc, name, values)),
+    }
 }
 
-/// Why a command that clap takes names no call: of its values, one at most is any text to clap, and
-/// the program itself checks that one.
-fn unfit_value(name: &str) -> ArgumentsFault
+/// Why a command that clap takes names no call, of those but `log`: some of its values are any text
+/// to clap, and the program itself checks these.
+fn unfit_value(alloc: Global, name: &str, values: &ArgMatches) -> ArgumentsFault
     ensures kind { name.now ≡ codes "damage" → result ≡ Kind }
-    ensures station { name.now ≢ codes "damage" → result ≡ Station }
+    ensures others { name.now ≢ codes "damage"
+        → ExplainsMoment (rows_of (found_of values.now)) result }
 {
     match name {
         "damage" => ArgumentsFault::Kind,
-        _ => ArgumentsFault::Station,
+        _ => unfit_moment(alloc, values),
     }
+}
+
+/// Why the values of a command that takes a moment name no call.
+fn unfit_moment(alloc: Global, values: &ArgMatches) -> ArgumentsFault
+    ensures { ExplainsMoment (rows_of (found_of values.now)) result }
+{
+    let Some(text) = unfit_moment_in(values) else {
+        return ArgumentsFault::Station;
+    };
+    match moment_report(alloc, text) {
+        Ok(report) => ArgumentsFault::Value(report),
+        Err(want) => ArgumentsFault::Memory(want),
+    }
+}
+
+/// The text that reports a MOMENT that says none.
+fn moment_report(alloc: Global, text: &str) -> Result<String, AllocError>
+    ensures { IfOk result (λ report. string_bytes report ≡ the_report text.now) }
+{
+    let mut report = String::new(alloc);
+    report.push_str("error: invalid value '")?;
+    report.push_str(text)?;
+    report.push_str("' for '<MOMENT>'")?;
+    report.push_str(MOMENT_TIP)?;
+    report.push_str(" $(date +%s) gives now")?;
+    report.push_str("\n\nFor more information, try '--help'.\n")?;
+    Ok(report)
 }
 
 /// The call of the options of `log`. `Value` where the value of one of them names nothing.
@@ -250,6 +288,38 @@ fn number_in(values: &ArgMatches, name: &str) -> Option<u64>
     values.get_one(name)
 }
 
+/// The moment that the text says.
+fn moment_by_digits(text: &str) -> Option<u64>
+    ensures some { IfSome result (SaysMoment text.now) }
+    ensures none { IfNone result ((moment : ℕ) → ¬ SaysMoment text.now moment) }
+{
+    match text.parse::<u64>() {
+        Ok(moment) if moment <= LAST_MOMENT => Some(moment),
+        _ => None,
+    }
+}
+
+/// The value of MOMENT, where it says a moment.
+fn moment_in(values: &ArgMatches) -> Option<u64>
+    ensures some { IfSome result (IsMoment (rows_of (found_of values.now))) }
+    ensures none { IfNone result ((moment : ℕ)
+        → ¬ IsMoment (rows_of (found_of values.now)) moment) }
+{
+    moment_by_digits(values.get_str("MOMENT")?)
+}
+
+/// The text of MOMENT, where it says none.
+fn unfit_moment_in<'a>(values: &ArgMatches<'a>) -> Option<&'a str>
+    ensures some { IfSome result (λ text. HasUnfitMoment (rows_of (found_of values.now)) text.now) }
+    ensures none { IfNone result (HasFitMoment (rows_of (found_of values.now))) }
+{
+    let text = values.get_str("MOMENT")?;
+    match moment_by_digits(text) {
+        Some(_) => None,
+        None => Some(text),
+    }
+}
+
 /// The value of FILE.
 fn file_in<'a>(values: &ArgMatches<'a>) -> Option<FileName<'a>>
     ensures some { IfSome result (IsFile (rows_of (found_of values.now))) }
@@ -262,19 +332,19 @@ fn file_in<'a>(values: &ArgMatches<'a>) -> Option<FileName<'a>>
 /// The values of a command that takes a file and a moment.
 fn watch_in<'a>(values: &ArgMatches<'a>) -> Option<(FileName<'a>, u64)>
     ensures some { IfSome result (λ watch. IsFile (rows_of (found_of values.now)) watch.0
-        × IsNumber (codes "MOMENT") (rows_of (found_of values.now)) watch.1) }
+        × IsMoment (rows_of (found_of values.now)) watch.1) }
     ensures none { IfNone result (LacksWatch (rows_of (found_of values.now))) }
 {
-    Some((file_in(values)?, number_in(values, "MOMENT")?))
+    Some((file_in(values)?, moment_in(values)?))
 }
 
 /// The values of a command that takes a station and a moment.
 fn slot_in(values: &ArgMatches) -> Option<(Letter, u64)>
     ensures some { IfSome result (λ slot. IsStation (rows_of (found_of values.now)) slot.0
-        × IsNumber (codes "MOMENT") (rows_of (found_of values.now)) slot.1) }
+        × IsMoment (rows_of (found_of values.now)) slot.1) }
     ensures none { IfNone result (LacksSlot (rows_of (found_of values.now))) }
 {
-    Some((station_in(values)?, number_in(values, "MOMENT")?))
+    Some((station_in(values)?, moment_in(values)?))
 }
 
 /// The values of a command that takes a kind of damage and a range of words.

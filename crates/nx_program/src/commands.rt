@@ -9,7 +9,6 @@ ghost use Rattle.nx_program.specs.private.Reading.{row_tree, with_rows};
 use crate::log_command::{LOG_ABOUT, LOG_EXAMPLE, LOG_HELP, LOG_SHORT, log_command};
 use clap::builder::ValueParser;
 use clap::{Arg, Command};
-use nx_envelope::LAST_MOMENT;
 use std::alloc::{AllocError, Global};
 
 /// The text of the version: the program's name, its version, and what `rt version` says of the kit
@@ -154,15 +153,20 @@ empty line stands before each entry and a space behind the last. What stands
 behind that space is cut at the start; how many bytes, and the head of each
 entry among them, is told on standard error first. Nothing is written to
 standard output, but where an entry can't be put: then it and all later ones
-go there.
+go there. Where the input ends, a message that is being heard is put as cut, and
+its next sending as full beside it.
 
-FILE is a regular file on a local disk, which is made where it isn't there. A
-damaged one is refused at its line and stays as it is, and so is a log of
-listen. A second watch of the same file is refused. MOMENT is the time at which
-the watch starts; what is remembered of 66 hours later or more is left out.";
+FILE is a regular file on a local disk, which is made where it isn't there.
+Where it can't be opened, the reason is told. A damaged one is refused at its
+line and stays as it is, and so is a log of listen. A second watch of the same
+file is refused. MOMENT is the time at which the watch starts, in whole seconds
+since 1970: $(date +%s) gives now. What is remembered of 66 hours later or more
+is left out.";
 
-const WATCH_EXAMPLE: &str = "Example, live from a demodulator:
-  $ navtex-elements < samples | navtex watch watch.log \"$(date +%s)\"";
+const WATCH_EXAMPLE: &str = "Example, live from the sound of a radio (rec is a part of sox):
+  $ rec -q -t raw -r 8000 -c 1 -e signed -b 16 - |
+      navtex-elements | navtex watch watch.log \"$(date +%s)\"
+navtex-watch(8) is a script and a service that do this, and start it again.";
 
 const WATCH: Row = Row {
     name: "watch",
@@ -597,9 +601,15 @@ receiver prints of it: an entry for each message.";
 
 const STATUS_HELP: &str =
     "A command reads standard input and writes standard output; code and slots read
-nothing. --help after a command says what it reads and writes. A fault is one
-line on standard error; where words are not understood, it may be a text of
-several lines.
+nothing. navtex help COMMAND says what a command reads and writes, as --help
+after it does. A fault is one line on standard error; where words are not
+understood, it may be a text of several lines.
+
+navtex-elements makes an air file of sound, and navtex-tones sound of an air
+file. navtex-watch keeps a sound card and a watch going, as a script or as a
+service. Their man pages are navtex-elements(1), navtex-tones(1) and
+navtex-watch(8), beside navtex(1). Examples lie in share/doc/navtex/examples,
+below /usr or /usr/local.
 
 Example:
   $ printf '#A01\\nTEST\\n;\\n' | navtex send E 1735689600 | navtex listen
@@ -657,12 +667,11 @@ fn slot_command<'a>(alloc: Global, name: &'a str) -> Result<Command<'a>, AllocEr
         "STATION",
         "The station, one letter A to Z",
     )?;
-    with_number(
+    with_text(
         alloc,
         command,
         "MOMENT",
-        LAST_MOMENT,
-        "Seconds since 1970-01-01 00:00:00 UTC, 0 to 32503679999",
+        "Whole seconds since 1970, 0 to 32503679999: $(date +%s) gives now",
     )
 }
 
@@ -676,12 +685,11 @@ fn file_command<'a>(alloc: Global, name: &'a str) -> Result<Command<'a>, AllocEr
         "FILE",
         "The log: a regular file, which is made where it isn't there",
     )?;
-    with_number(
+    with_text(
         alloc,
         command,
         "MOMENT",
-        LAST_MOMENT,
-        "Its start: seconds since 1970-01-01 00:00:00 UTC, 0 to 32503679999",
+        "Its start: seconds since 1970, 0 to 32503679999: $(date +%s) is now",
     )
 }
 

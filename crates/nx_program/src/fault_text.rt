@@ -1,4 +1,4 @@
-//! What the fault lines of the program say of a call that failed.
+//! What the fault lines of the program say of a call that failed, and of a log.
 
 ghost use Rattle.std.specs.Prelude.{◌≡◌, ◌+◌, ◌≤◌, ◌++◌, codes, decimal, length};
 ghost use Rattle.nx_program.specs.FaultText as spec;
@@ -6,6 +6,7 @@ ghost use Rattle.nx_program.specs.FaultText as spec;
 use crate::fault::CallFault;
 use arrayvec::ArrayVec;
 use itoa::Buffer;
+use nx_disk::OpenFault;
 use nx_envelope::{Letter, MessageFault};
 use nx_fec::{RunFault, append};
 use nx_log::LogFault;
@@ -385,4 +386,22 @@ pub(crate) fn call_fault_line(why: &CallFault) -> FaultText
     append(&mut line, &call_text(why));
     append(&mut line, b"\n");
     line
+}
+
+/// Why the file of a log can't be opened, behind that it can't.
+pub(crate) fn open_reason(why: OpenFault) -> &'static [u8]
+    ensures { result.now ≡ spec.open_reason why }
+{
+    match why {
+        OpenFault::NoFolder => b": its folder isn't there",
+        OpenFault::NoLeave => b": there is no leave to read and write it",
+        OpenFault::DeadLink => b": it is a link that leads nowhere",
+        OpenFault::NoRoom => b": there is no room on the disk",
+        OpenFault::OnlyRead => b": its disk can only be read",
+        OpenFault::NotRegular => b": it is no regular file",
+        OpenFault::NoLock => b": it can't be locked",
+        OpenFault::Moved => b": it was moved while it was opened",
+        OpenFault::FolderUnsynced => b": its folder can't be brought to the disk",
+        OpenFault::Other => b"",
+    }
 }

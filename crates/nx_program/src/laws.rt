@@ -4,7 +4,7 @@ ghost use Rattle.std.specs.Prelude.{◌≡◌, ◌⊎◌, ◌≤◌, ℕ, List, 
 ghost use Rattle.clap.specs.Words.{Text};
 ghost use Rattle.nx_envelope.specs.declared.letter.Letter.{Letter};
 ghost use Rattle.nx_program.specs.Arguments.{AsksForHelp, AsksForVersion, IsRefused, IsRefusedByClap};
-ghost use Rattle.nx_program.specs.Arguments.{LacksKind, LacksStation, Names};
+ghost use Rattle.nx_program.specs.Arguments.{LacksKind, LacksMoment, LacksStation, Names, as_read, moment_report};
 ghost use Rattle.nx_program.specs.declared.arguments.Call.{Call};
 ghost use Rattle.nx_program.specs.declared.arguments.Call.TheVariants.{Check, Code, Decode, Encode, Listen, Show};
 ghost use Rattle.nx_program.specs.declared.arguments.Call.TheVariants.{Damage, Locks, Resume, Save, Send, Slots, Watch};
@@ -58,7 +58,12 @@ pub fn arguments_in_examples()
     ensures surplus { (program : Text) → IsRefused (program ∷ codes "decode" ∷ codes "frob" ∷ []) }
     ensures twice { (program : Text) → IsRefused (program ∷ codes "decode" ∷ codes "decode" ∷ []) }
     ensures option { (program : Text) → IsRefused (program ∷ codes "decode" ∷ codes "--frob" ∷ []) }
-    ensures help_command { (program : Text) → IsRefused (program ∷ codes "help" ∷ []) }
+    ensures help_command { (program : Text) → AsksForHelp (as_read (program ∷ codes "help" ∷ [])) }
+    ensures help_of_command { (program : Text) (rest : List Text)
+        → as_read (program ∷ codes "help" ∷ codes "listen" ∷ rest)
+        ≡ program ∷ codes "listen" ∷ codes "--help" ∷ [] }
+    ensures read_as_they_stand { (program : Text) (rest : List Text)
+        → as_read (program ∷ codes "listen" ∷ rest) ≡ program ∷ codes "listen" ∷ rest }
 {}
 
 /// The numbers that arguments name are in their ranges.
@@ -87,10 +92,12 @@ pub fn slots_in_examples()
     ensures two_letters { (program : Text)
         → LacksStation (program ∷ codes "slots" ∷ codes "EA" ∷ codes "0" ∷ []) }
     ensures too_late { (program : Text)
-        → IsRefused (program ∷ codes "send" ∷ codes "E" ∷ codes "32503680000" ∷ []) }
+        → LacksMoment (program ∷ codes "send" ∷ codes "E" ∷ codes "32503680000" ∷ [])
+        (moment_report (codes "32503680000")) }
     ensures no_moment { (program : Text) → IsRefused (program ∷ codes "send" ∷ codes "E" ∷ []) }
     ensures no_number { (program : Text)
-        → IsRefused (program ∷ codes "slots" ∷ codes "E" ∷ codes "now" ∷ []) }
+        → LacksMoment (program ∷ codes "slots" ∷ codes "E" ∷ codes "now" ∷ [])
+        (moment_report (codes "now")) }
 {}
 
 /// What arguments with a file and a moment are read as, whatever the program's name.
@@ -98,8 +105,9 @@ pub fn watch_in_examples()
     ensures some { (program : Text)
         → Names (program ∷ codes "watch" ∷ codes "x.log" ∷ codes "1735692000" ∷ [])
         (Watch (codes "x.log") 1735692000) }
-    ensures too_late { (program : Text) → IsRefusedByClap
-        (program ∷ codes "watch" ∷ codes "x.log" ∷ codes "32503680000" ∷ []) }
+    ensures too_late { (program : Text)
+        → LacksMoment (program ∷ codes "watch" ∷ codes "x.log" ∷ codes "32503680000" ∷ [])
+        (moment_report (codes "32503680000")) }
     ensures no_moment { (program : Text)
         → IsRefused (program ∷ codes "watch" ∷ codes "x.log" ∷ []) }
     ensures option_alone { (program : Text)

@@ -1,13 +1,14 @@
 //! The program without its process.
 
-ghost use Rattle.std.specs.Prelude.{◌≡◌, ◌≢◌, ◌⊎◌, [], IfErr, IfOk, IfSome, List, MatchResult, None, Option, map, string_bytes, ℕ};
+ghost use Rattle.std.specs.Prelude.{◌≡◌, ◌≢◌, ◌⊎◌, ◌∷◌, [], IfErr, IfNone, IfOk, IfSome, List, MatchResult, None, Option, map, string_bytes, ℕ};
 ghost use Rattle.nx_program.specs.Program.{EndsLog, EndsOnStreams, EndsRun, Exits, NamesTelling, Performs, PerformsOnStreams};
 ghost use Rattle.nx_program.specs.Program.{Succeeds, WritesText, fresh_device, version_text};
 ghost use Rattle.nx_program.specs.Report.{Answers, IsFaultLine, IsWantOfArguments, LacksArguments, WritesOne};
 ghost use Rattle.nx_program.specs.Status.{IsStatus};
 ghost use Rattle.nx_program.specs.WatchCommand.{WatchesLog, beside, notices_between};
 ghost use Rattle.nx_watch.specs.Stamps.{IsFresh, counted_of, stamps_of};
-ghost use Rattle.nx_program.specs.Arguments.{IsRefused, Names};
+ghost use Rattle.nx_program.specs.Arguments.{IsRefused, Names, as_read};
+ghost use Rattle.nx_program.specs.Arguments.{help_words as the_words};
 ghost use Rattle.nx_program.specs.private.Reading.{ExplainsArguments, IsOnStreams};
 ghost use Rattle.clap.specs.Words.{Text};
 ghost use Rattle.nx_fec.specs.Transfers.{CountedDevice, devices};
@@ -20,6 +21,7 @@ use crate::fault::{CallFault, Fault};
 use crate::file_name::FileName;
 use crate::slots::print_slot;
 use crate::watch_command::{LogFiles, NoFile, NoFiles, watch_log};
+use arrayvec::ArrayVec;
 use nx_disk::Noted;
 use nx_fec::{Counting, RunFault, decode_run, encode_run, show_run, write_out, write_table};
 use nx_kept::DiskFile;
@@ -323,9 +325,9 @@ pub struct Answered<I, D> {
     pub file: Option<D>,
 }
 
-/// Does what the arguments ask for, reports a fault, and answers the exit status. After the answer
+/// Does what these words ask for, reports a fault, and answers the exit status. After the answer
 /// nothing more is read or written.
-fn exit_status<S: AsStr, R: Read, W: Write, E: Write, F: LogFiles + Drop>(
+fn status_by_words<S: AsStr, R: Read, W: Write, E: Write, F: LogFiles + Drop>(
     alloc: Global,
     arguments: &[S],
     input: Input<R, F::Disk, W, E>,
@@ -362,6 +364,65 @@ fn exit_status<S: AsStr, R: Read, W: Write, E: Write, F: LogFiles + Drop>(
     }
 }
 
+/// The most words that arguments with `help` are read as.
+const HELP_WORDS: usize = 3;
+
+/// What asks for the help of the program, or of the command whose name stands first in the rest.
+fn help_words<'a, S: AsStr>(program: &'a str, rest: &'a [S]) -> ArrayVec<&'a str, HELP_WORDS>
+    ensures { map (λ word. word.now) result.items ≡ program.now ∷ the_words (map S.text rest.now) }
+{
+    let mut words = ArrayVec::new();
+    words.push(program);
+    match rest {
+        [] => words.push("--help"),
+        [command, ..] => {
+            words.push(command.as_str());
+            words.push("--help");
+        }
+    }
+    words
+}
+
+/// The words that the arguments are read as where `help` is the first behind the program's name.
+fn words_of_help<'a, S: AsStr>(arguments: &'a [S]) -> Option<ArrayVec<&'a str, HELP_WORDS>>
+    ensures some { IfSome result (λ words.
+        map (λ word. word.now) words.items ≡ as_read (map S.text arguments.now)) }
+    ensures none { IfNone result
+        (as_read (map S.text arguments.now) ≡ map S.text arguments.now) }
+{
+    match arguments {
+        [program, word, rest @ ..] if word.as_str() == "help" => {
+            Some(help_words(program.as_str(), rest))
+        }
+        _ => None,
+    }
+}
+
+/// Does what the arguments ask for as they are read, reports a fault, and answers the exit status.
+fn exit_status<S: AsStr, R: Read, W: Write, E: Write, F: LogFiles + Drop>(
+    alloc: Global,
+    arguments: &[S],
+    input: Input<R, F::Disk, W, E>,
+    writer: &mut Counting<W>,
+    faults: &mut Counting<E>,
+    files: F,
+) -> Answered<Input<R, F::Disk, W, E>, F::Disk>
+    requires input { IsFresh input }
+    requires writer { writer.old.failures ≡ 0 }
+    requires faults { faults.old.failures ≡ 0 }
+    ensures { Answers (as_read (map S.text arguments.now))
+        (devices R.remaining W.contents (counted_of input) (counted_of result.input) writer.old
+        writer.new)
+        (beside files F.gives result.file F.Disk.DiskFile E.contents faults.old faults.new
+        (stamps_of result.input))
+        result.status }
+{
+    match words_of_help(arguments) {
+        Some(words) => status_by_words(alloc, words.as_slice(), input, writer, faults, files),
+        None => status_by_words(alloc, arguments, input, writer, faults, files),
+    }
+}
+
 /// The fault of arguments that can't be had, for this reason: one of them is no text, or memory
 /// ran out.
 fn want_of_arguments(reason: &io::Error) -> Fault<'static>
@@ -393,7 +454,7 @@ pub fn answer<R: Read, W: Write, E: Write, F: LogFiles + Drop>(
     // What was done with input, output and the log, and what was left on standard error, by the
     // arguments; or why there were none.
     ensures exits { MatchResult arguments
-        (λ given. Answers (map string_bytes given.items)
+        (λ given. Answers (as_read (map string_bytes given.items))
         (devices R.remaining W.contents (counted_of input) (counted_of result.input) output.old
         output.new)
         (beside files F.gives result.file F.Disk.DiskFile E.contents faults.old faults.new
@@ -409,7 +470,7 @@ pub fn answer<R: Read, W: Write, E: Write, F: LogFiles + Drop>(
 
     // A success of arguments that name a call is the success of that call.
     ensures called { IfOk arguments
-        (λ given. (call : Call) → Names (map string_bytes given.items) call
+        (λ given. (call : Call) → Names (as_read (map string_bytes given.items)) call
         → result.status ≡ 0 → Performs call
         (devices R.remaining W.contents (counted_of input) (counted_of result.input) output.old
         output.new)
@@ -420,7 +481,8 @@ pub fn answer<R: Read, W: Write, E: Write, F: LogFiles + Drop>(
     // A success leaves nothing on standard error, but for a watch and a run over a log. A fault
     // leaves one text, behind what these told there: `navtex: `, the fault, and a newline, but for
     // a text of clap on the arguments.
-    ensures silent { IfOk arguments (λ given. (NamesTelling (map string_bytes given.items) → ⊥)
+    ensures silent { IfOk arguments
+        (λ given. (NamesTelling (as_read (map string_bytes given.items)) → ⊥)
         → result.status ≡ 0 → faults.new ≡ faults.old) }
     ensures reported { result.status ≢ 0
         → WritesOne (λ text. result.status ≢ 64 → IsFaultLine text)
@@ -448,7 +510,7 @@ pub fn run<S: AsStr, R: Read + Drop, W: Write + Drop, E: Write + Drop>(
     // How the program ended, by what its call ensures of the devices.
     ensures exits { (reader : CountedDevice R) × (writer : CountedDevice W)
         × (told : CountedDevice E)
-        × Exits (map S.text arguments.now)
+        × Exits (as_read (map S.text arguments.now))
         (devices R.remaining W.contents (fresh_device input) reader (fresh_device output) writer)
         (beside (record {}) ⟦<NoFiles as LogFiles>⟧.gives None
         ⟦<Noted<NoFile> as DiskFile>⟧ E.contents (fresh_device faults) told [])
@@ -458,21 +520,22 @@ pub fn run<S: AsStr, R: Read + Drop, W: Write + Drop, E: Write + Drop>(
     // Success comes only from a call that succeeded, or from help or the version that was written.
     ensures success { result ≡ 0 → (reader : CountedDevice R) × (writer : CountedDevice W)
         × (told : CountedDevice E)
-        × Succeeds (map S.text arguments.now)
+        × Succeeds (as_read (map S.text arguments.now))
         (devices R.remaining W.contents (fresh_device input) reader (fresh_device output) writer)
         (beside (record {}) ⟦<NoFiles as LogFiles>⟧.gives None
         ⟦<Noted<NoFile> as DiskFile>⟧ E.contents (fresh_device faults) told []) }
 
     // A success of arguments that name a call is the success of that call.
-    ensures called { (call : Call) → Names (map S.text arguments.now) call → result ≡ 0
+    ensures called { (call : Call) → Names (as_read (map S.text arguments.now)) call
+        → result ≡ 0
         → (reader : CountedDevice R) × (writer : CountedDevice W) × (told : CountedDevice E)
         × Performs call
         (devices R.remaining W.contents (fresh_device input) reader (fresh_device output) writer)
         (beside (record {}) ⟦<NoFiles as LogFiles>⟧.gives None
         ⟦<Noted<NoFile> as DiskFile>⟧ E.contents (fresh_device faults) told [])
         (Ok tt) }
-    ensures arguments { result ≡ 64 → IsRefused (map S.text arguments.now) }
-    ensures refused { IsRefused (map S.text arguments.now)
+    ensures arguments { result ≡ 64 → IsRefused (as_read (map S.text arguments.now)) }
+    ensures refused { IsRefused (as_read (map S.text arguments.now))
         → (result ≡ 64) ⊎ (result ≡ 1) }
 {
     let reader = StampedReader::new(Counting::new(input));

@@ -2,6 +2,7 @@
 
 ghost use Rattle.std.specs.Prelude.{◌≡◌, List, ℕ, Option, Result, Err, ◌++◌};
 ghost use Rattle.nx_fec.specs.Transfers.{devices};
+ghost use Rattle.nx_disk.specs.declared.file.FileFault.TheVariants.{Open};
 ghost use Rattle.nx_program.specs.Status.{watch_failure_status};
 ghost use Rattle.nx_program.specs.declared.watch_command.WatchFailure.TheVariants.{Unopened, Ended};
 ghost use Rattle.nx_program.specs.WatchCommand.{WatchesLog, beside, watch_fault_line};
@@ -9,8 +10,9 @@ ghost use Rattle.nx_watch.specs.LineRun.{HasTold};
 ghost use Rattle.nx_watch.specs.Stamps.{IsFresh, counted_of, stamps_of};
 
 use crate::fault::Fault;
+use crate::fault_text::open_reason;
 use crate::file_name::FileName;
-use nx_disk::{FileFault, LeftBefore, LogFile, Noted, RawFile};
+use nx_disk::{FileFault, LeftBefore, LogFile, Noted, OpenFault, RawFile};
 use nx_fec::Counting;
 use nx_kept::{DiskFailed, DiskFile};
 use nx_watch::{StampedReader, WatchFault, tell, watch, write_more};
@@ -105,13 +107,14 @@ impl RawFile for NoFile {
 impl LogFiles for NoFiles {
     ghost use Rattle.std.specs.Prelude.{◌≡◌, Err};
     ghost use Rattle.nx_disk.specs.declared.file.FileFault.TheVariants.{Open};
+    ghost use Rattle.nx_disk.specs.declared.file.OpenFault.TheVariants.{Other};
 
     type Disk = Noted<NoFile>;
 
-    ghost gives = { λ files name opened. opened ≡ Err Open };
+    ghost gives = { λ files name opened. opened ≡ Err (Open Other) };
 
     fn open(self, _name: &str) -> Result<Noted<NoFile>, FileFault> {
-        Err(FileFault::Open)
+        Err(FileFault::Open(OpenFault::Other))
     }
 }
 
@@ -159,10 +162,22 @@ fn tell_of_file<E: Write>(why: FileFault, log: &FileName, faults: &mut Counting<
         (text ++ watch_fault_line log.now (Unopened why)) }
 {
     match why {
-        FileFault::Open => tell_of_log(b"navtex: the log ", log, b" can't be opened\n", faults),
+        FileFault::Open(why) => tell_unopened(why, log, faults),
         FileFault::Busy => tell_of_log(b"navtex: another watch has the log ", log, b"\n", faults),
         FileFault::Memory => write_more(b"navtex: out of memory\n", faults),
     }
+}
+
+/// Tells that the file of the log can't be opened, and why.
+fn tell_unopened<E: Write>(why: OpenFault, log: &FileName, faults: &mut Counting<E>)
+    ensures { (old : Option (List ℕ)) (text : List ℕ)
+        → HasTold old (E.contents faults.old.inner) faults.old.failures text
+        → HasTold old (E.contents faults.new.inner) faults.new.failures
+        (text ++ watch_fault_line log.now (Unopened (Open why))) }
+{
+    tell_of_log(b"navtex: the log ", log, b" can't be opened", faults);
+    write_more(open_reason(why), faults);
+    write_more(b"\n", faults);
 }
 
 /// Tells why the watch of the log ended before its input.

@@ -1,7 +1,7 @@
 //! What the arguments of the command line are answered with.
 
 use super::devices::{Sink, Source};
-use super::{AIR_FILE_OF_A, expect_text, run_on, shown};
+use super::{AIR_FILE_OF_A, expect_output, expect_text, output_of, run_on, shown};
 use nx_fec::Counting;
 use nx_program::laws::{
     arguments_in_examples, arguments_read_as_one, damage_in_examples, numbers_are_in_range,
@@ -40,7 +40,7 @@ const MISSING: &str = "error: 'navtex' requires a subcommand but one was not pro
 
 #[test]
 fn reads_its_arguments(rt: HostRuntime) {
-    static ROWS: [(&[&str], u8, &str); 15] = [
+    static ROWS: [(&[&str], u8, &str); 16] = [
         (
             &["navtex", "frob"],
             64,
@@ -55,8 +55,13 @@ fn reads_its_arguments(rt: HostRuntime) {
         ),
         (
             &["navtex", "help"],
+            0,
+            "A NAVTEX broadcast station and receiver, for the elements of a signal",
+        ),
+        (
+            &["navtex", "help", "frob"],
             64,
-            "error: unrecognized subcommand 'help'\n",
+            "error: unrecognized subcommand 'frob'\n",
         ),
         (
             &["navtex", "--help"],
@@ -111,6 +116,52 @@ fn reads_its_arguments(rt: HostRuntime) {
     ];
     for &(arguments, status, text) in &ROWS {
         expect_answer(&rt, rt.alloc(), arguments, status, text);
+    }
+}
+
+// `help` prints what `--help` prints, of the program and of each command.
+#[test]
+fn helps_by_a_command(rt: HostRuntime) {
+    let alloc = rt.alloc();
+    let whole = output_of(alloc, &["navtex", "--help"], b"");
+    expect_output(&rt, alloc, "help", &["navtex", "help"], b"", &whole);
+    for name in [
+        "listen", "watch", "log", "send", "resume", "save", "locks", "slots", "check", "damage",
+        "decode", "encode", "show", "code",
+    ] {
+        let long = output_of(alloc, &["navtex", name, "--help"], b"");
+        assert!(rt; long.len() > 100, "{name}");
+        expect_output(&rt, alloc, name, &["navtex", "help", name], b"", &long);
+        expect_output(&rt, alloc, name, &["navtex", "help", name, "0"], b"", &long);
+    }
+}
+
+// A MOMENT that is none is answered with what is wanted.
+#[test]
+fn tells_what_a_moment_is(rt: HostRuntime) {
+    let tip =
+        "'\n\n  tip: MOMENT is whole seconds since 1970-01-01 00:00:00 UTC, 0 to 32503679999; $(date +%s) gives now\n\nFor more information, try '--help'.\n";
+    for (moment, line) in [
+        ("now", "error: invalid value 'now' for '<MOMENT>"),
+        (
+            "2025-01-01",
+            "error: invalid value '2025-01-01' for '<MOMENT>",
+        ),
+        (
+            "32503680000",
+            "error: invalid value '32503680000' for '<MOMENT>",
+        ),
+        (
+            "18446744073709551616",
+            "error: invalid value '18446744073709551616' for '<MOMENT>",
+        ),
+    ] {
+        let mut text = line.as_bytes().to_vec(rt.alloc()).expect(&rt, "memory");
+        text.extend_from_slice(tip.as_bytes()).expect(&rt, "memory");
+        for command in ["send", "slots", "watch"] {
+            let arguments = ["navtex", command, "E", moment];
+            run_on(rt.alloc(), &arguments, b"").expect(&rt, moment, 64, b"", &text);
+        }
     }
 }
 

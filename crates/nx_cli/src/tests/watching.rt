@@ -5,7 +5,7 @@ use super::air::{MOMENT_OF_EA01, join};
 use super::devices::{Sink, Source};
 use super::expect_text;
 use super::station::AIR_FILE_OF_EA01;
-use nx_disk::{FileFault, LeftBefore, Noted, TornFile};
+use nx_disk::{FileFault, LeftBefore, Noted, OpenFault, TornFile};
 use nx_fec::Counting;
 use nx_program::{LogFiles, answer};
 use nx_watch::StampedReader;
@@ -219,7 +219,7 @@ fn watch_clock_back(rt: HostRuntime) {
 fn its_log_cannot_be_had(rt: HostRuntime) {
     for (fault, status, line) in [
         (
-            FileFault::Open,
+            FileFault::Open(OpenFault::Other),
             1,
             "navtex: the log x.log can't be opened\n",
         ),
@@ -230,19 +230,61 @@ fn its_log_cannot_be_had(rt: HostRuntime) {
         ),
         (FileFault::Memory, 1, "navtex: out of memory\n"),
     ] {
-        let files = Given { opened: Err(fault) };
-        let mut source = Source::of(AIR_FILE_OF_EA01);
-        let file = expect_watch(
-            &rt,
-            rt.alloc(),
-            line,
-            files,
-            &mut source,
-            (status, line, b""),
-        );
-        assert!(rt; file.is_none(), "{line}");
-        assert!(rt; source.calls == 0, "{line}");
+        expect_unopened(&rt, rt.alloc(), fault, status, line);
     }
+}
+
+#[test]
+fn its_log_cannot_be_opened(rt: HostRuntime) {
+    for (why, line) in [
+        (
+            OpenFault::NoFolder,
+            "navtex: the log x.log can't be opened: its folder isn't there\n",
+        ),
+        (
+            OpenFault::NoLeave,
+            "navtex: the log x.log can't be opened: there is no leave to read and write it\n",
+        ),
+        (
+            OpenFault::DeadLink,
+            "navtex: the log x.log can't be opened: it is a link that leads nowhere\n",
+        ),
+        (
+            OpenFault::NoRoom,
+            "navtex: the log x.log can't be opened: there is no room on the disk\n",
+        ),
+        (
+            OpenFault::OnlyRead,
+            "navtex: the log x.log can't be opened: its disk can only be read\n",
+        ),
+        (
+            OpenFault::NotRegular,
+            "navtex: the log x.log can't be opened: it is no regular file\n",
+        ),
+        (
+            OpenFault::NoLock,
+            "navtex: the log x.log can't be opened: it can't be locked\n",
+        ),
+        (
+            OpenFault::Moved,
+            "navtex: the log x.log can't be opened: it was moved while it was opened\n",
+        ),
+        (
+            OpenFault::FolderUnsynced,
+            "navtex: the log x.log can't be opened: its folder can't be brought to the disk\n",
+        ),
+    ] {
+        expect_unopened(&rt, rt.alloc(), FileFault::Open(why), 1, line);
+    }
+}
+
+// Expects that a watch whose log can't be had for this fault ends so, and reads nothing.
+fn expect_unopened(rt: &impl Abort, alloc: Global, fault: FileFault, status: u8, line: &str) {
+    let files = Given { opened: Err(fault) };
+    let mut source = Source::of(AIR_FILE_OF_EA01);
+    let file = expect_watch(rt, alloc, line, files, &mut source, (status, line, b""));
+    assert!(rt; file.is_none(), "{line}");
+    assert!(rt; source.calls == 0, "{line}");
 }
 
 // Its first call is a sync, and the second a read.

@@ -1,9 +1,10 @@
 //! A file of the system.
 
 use super::grammar::{Count, Trial};
-use crate::{FileFault, LeftBefore, open};
+use crate::{FileFault, LeftBefore, OpenFault, open};
 use nx_kept::{DiskFailed, KeptLog};
 use std::fs;
+use std::os::unix::fs::symlink;
 use std::test::Fail;
 
 const ENTRY: &[u8; 42] = b"[EA01 2025-01-01 00:40:00 full 0/5]\nTEST\n\n";
@@ -19,10 +20,6 @@ fn a_file_is_locked_and_found_by_its_name(rt: HostRuntime) -> Result<(), Fail> {
         open(rt.alloc(), &rt, path, LeftBefore::any()).err(),
         Some(FileFault::Busy)
     );
-    assert_eq!(rt;
-        open(rt.alloc(), &rt, ".", LeftBefore::any()).err(),
-        Some(FileFault::Open)
-    );
     match KeptLog::open(rt.alloc(), file, Trial, &mut count) {
         Ok(mut log) => {
             assert_eq!(rt; log.put(ENTRY), Ok(()));
@@ -37,6 +34,26 @@ fn a_file_is_locked_and_found_by_its_name(rt: HostRuntime) -> Result<(), Fail> {
     assert!(rt; KeptLog::open(rt.alloc(), again, Trial, &mut count).is_ok());
     assert!(rt; count.records >= 1, "no record is kept");
     fs::remove_file(&rt, "nx_disk_test.old")?;
+    Ok(())
+}
+
+// Why a file can't be opened is told.
+#[test]
+fn a_file_that_cannot_be_opened_is_told_why(rt: HostRuntime) -> Result<(), Fail> {
+    let link = "nx_disk_test_link";
+    let _ = fs::remove_file(&rt, link);
+    symlink(&rt, "nx_disk_test_of_none", link)?;
+    for (path, why) in [
+        (".", OpenFault::NotRegular),
+        ("nx_disk_test_of_none/x.log", OpenFault::NoFolder),
+        (link, OpenFault::DeadLink),
+    ] {
+        assert_eq!(rt;
+            open(rt.alloc(), &rt, path, LeftBefore::any()).err(),
+            Some(FileFault::Open(why))
+        );
+    }
+    fs::remove_file(&rt, link)?;
     Ok(())
 }
 

@@ -1,7 +1,8 @@
 -- How the program reads its arguments by clap: the command that it builds, and what it makes of
 -- clap's answer (this profile).
-use Rattle.std.specs.Prelude.{◌≡◌, ◌≢◌, ⊤, ℕ, List, false, fold, codes, string_bytes}
-use Rattle.clap.specs.Words.{App, Row, Rule, Text, app_of, kind_of, with_rule, with_subcommand}
+use Rattle.std.specs.Prelude.{◌≡◌, ◌≢◌, ⊤, ℕ, List, Some, false, fold, codes, string_bytes}
+use Rattle.clap.specs.Words.{App, Row, Rule, Text, app_of, first_of, kind_of, with_rule}
+use Rattle.clap.specs.Words.{with_subcommand}
 use Rattle.clap.specs.declared.builder.command.Command.{Command}
 use Rattle.clap.specs.declared.builder.command.Command.TheViews.{out-Command}
 use Rattle.clap.specs.declared.error.Error.{Error}
@@ -12,9 +13,10 @@ use Rattle.nx_envelope.specs.declared.letter.Letter.{Letter}
 use Rattle.nx_station.specs.declared.damaging.DamageKind.{DamageKind}
 use Rattle.nx_program.specs.declared.arguments.Call.{Call}
 use Rattle.nx_program.specs.declared.arguments.Call.TheVariants as call
-use Rattle.nx_program.specs.Arguments.{IsFile, IsKind, IsNumber, IsStation, LacksKind, LacksStation}
+use Rattle.nx_program.specs.Arguments.{HasUnfitValue, IsFile, IsKind, IsMoment, IsNumber}
+use Rattle.nx_program.specs.Arguments.{IsReportedMoment, IsStation, LacksKind, LacksStation}
 use Rattle.nx_program.specs.LogArguments.{log_tree}
-use Rattle.nx_program.specs.Arguments.{LacksValue, damage_tree, file_tree, plain_tree, slot_tree}
+use Rattle.nx_program.specs.Arguments.{SaysMoment, damage_tree, file_tree, plain_tree, slot_tree}
 use Rattle.nx_program.specs.declared.commands.Row.{Row as TableRow}
 use Rattle.nx_program.specs.declared.commands.Takes.{Takes}
 use Rattle.nx_program.specs.declared.commands.Takes.TheVariants.{File, Nothing, Query, Range, Slot}
@@ -65,7 +67,7 @@ ExplainsArguments arguments Version = AsksForVersion arguments
 ExplainsArguments arguments (Refused answer) = IsRefusedByClap arguments
 ExplainsArguments arguments Station = LacksStation arguments
 ExplainsArguments arguments Kind = LacksKind arguments
-ExplainsArguments arguments (Value report) = LacksValue arguments (string_bytes report)
+ExplainsArguments arguments (Value report) = HasUnfitValue arguments (string_bytes report)
 ExplainsArguments arguments (Memory want) = ⊤
 
 -- an answer of clap is help, the version, want of memory, or a refusal
@@ -81,11 +83,29 @@ IsSortedAs error (Memory want) = kind_of error ≡ OutOfMemory
 
 -- the values are not both a station and a moment
 abbrev pub LacksSlot : List Row → Type 0
-LacksSlot rows = (s : Letter) (m : ℕ) → IsStation rows s → IsNumber (codes "MOMENT") rows m → ⊥
+LacksSlot rows = (s : Letter) (m : ℕ) → IsStation rows s → IsMoment rows m → ⊥
 
 -- the values are not both a file and a moment
 abbrev pub LacksWatch : List Row → Type 0
-LacksWatch rows = (n : Text) (m : ℕ) → IsFile rows n → IsNumber (codes "MOMENT") rows m → ⊥
+LacksWatch rows = (n : Text) (m : ℕ) → IsFile rows n → IsMoment rows m → ⊥
+
+-- the text of MOMENT, if one was given, says a moment
+abbrev pub HasFitMoment : List Row → Type 0
+HasFitMoment rows = (text : Text) → first_of (codes "MOMENT") rows ≡ Some text
+    → (moment : ℕ) × SaysMoment text moment
+
+-- the text of MOMENT was given, and says none
+pub record HasUnfitMoment (rows : List Row) (text : Text) : Type 0 where
+  pub given : first_of (codes "MOMENT") rows ≡ Some text
+  pub no_moment : (moment : ℕ) → ¬ SaysMoment text moment
+
+-- why values make no call of a command that takes a moment: MOMENT says none, which the report
+-- tells; or it does, and STATION is no letter; or memory ran out
+abbrev pub ExplainsMoment : List Row → ArgumentsFault → Type 0
+ExplainsMoment rows (Value report) = IsReportedMoment rows (string_bytes report)
+ExplainsMoment rows Station = HasFitMoment rows
+ExplainsMoment rows (Memory want) = ⊤
+ExplainsMoment rows _ = ⊥
 
 -- the values are not all of a kind of damage, the first word and a count of words
 abbrev pub LacksRange : List Row → Type 0

@@ -7,7 +7,7 @@ use Rattle.clap.specs.Words.{is_simple_and_free, rows_of, subcommand_of}
 use Rattle.clap.specs.declared.parser.matches.ArgMatches.{ArgMatches}
 use Rattle.nx_program.proofs.lemmas.arguments.Arguments.{navtex-is_simple, navtex-is_simple_and_free, entered_pair}
 use Rattle.nx_program.proofs.lemmas.arguments.Arguments.{explained, options-named, options-refused}
-use Rattle.nx_program.proofs.lemmas.arguments.Arguments.{outcome-named, outcome-refused}
+use Rattle.nx_program.proofs.lemmas.arguments.Arguments.{call-named, call-refused}
 use Rattle.nx_program.proofs.arguments.call_of.Goals as goal
 
 pub returns-in_err-matches-clause-refused : goal.returns-in_err-matches-clause-refused
@@ -21,8 +21,8 @@ returns-in_err-matches-clause-refused g c =
     ∙ navtex-is_simple_and_free)) in
     rw p.1 (explained arguments c.in_err-matches.field-0.0 p.0 kinds p.2)
 
-pub returns-clause-named : goal.returns-clause-named
-returns-clause-named g c =
+pub returns-in-Some-clause-named : goal.returns-in-Some-clause-named
+returns-in-Some-clause-named g c =
     let arguments = map g.S.AsStr.text c.args.arguments.now in
     let tree = c.in_ok-command.ensures.tree in
     let rows = (c.in_ok-matches.ensures.matches (ap is_simple tree ∙ navtex-is_simple)).1
@@ -37,9 +37,8 @@ returns-clause-named g c =
     ∙ ap (λ (o : Option (Bor Text × Bor ArgMatches)). option_map values o) c.unwrap.ensures) in
     let taken = ap (λ (a : App). fault_of a arguments) (sym tree)
     ∙ c.in_ok-matches.ensures.kinds (ap is_simple_and_free tree ∙ navtex-is_simple_and_free) in
-    outcome-named arguments c.unwrap.result.0.now (rows_of
-    (found_of c.unwrap.result.1.now)) c.of_command.result c.unfit_value.result c.ok_or.result
-    taken entered c.of_command.ensures.some c.ok_or.ensures.value
+    call-named arguments c.unwrap.result.0.now (rows_of (found_of c.unwrap.result.1.now))
+    c.in-Some.call taken entered c.in-Some.ensures.some
 
 pub returns-clause-refused : goal.returns-clause-refused
 returns-clause-refused g c =
@@ -57,11 +56,11 @@ returns-clause-refused g c =
     ∙ ap (λ (o : Option (Bor Text × Bor ArgMatches)). option_map values o) c.unwrap.ensures) in
     let taken = ap (λ (a : App). fault_of a arguments) (sym tree)
     ∙ c.in_ok-matches.ensures.kinds (ap is_simple_and_free tree ∙ navtex-is_simple_and_free) in
-    outcome-refused arguments c.unwrap.result.0.now (rows_of
-    (found_of c.unwrap.result.1.now)) c.of_command.result c.unfit_value.result c.ok_or.result
-    taken entered (differ c.unwrap.result.0.now (codes "log") (sym c.eq.ensures ∙ c.if-eq.false))
-    c.of_command.ensures.none
-    c.unfit_value.ensures.kind c.unfit_value.ensures.station c.ok_or.ensures.value
+    let other = differ c.unwrap.result.0.now (codes "log") (sym c.eq.ensures ∙ c.if-eq.false) in
+    call-refused arguments c.unwrap.result.0.now (rows_of (found_of c.unwrap.result.1.now))
+    c.unfit_value.result taken entered other
+    (λ call. c.in-None.ensures.none call other)
+    c.unfit_value.ensures.kind c.unfit_value.ensures.others
 
 pub returns-then-eq-clause-named : goal.returns-then-eq-clause-named
 returns-then-eq-clause-named g c =

@@ -4,6 +4,6 @@ use Rattle.nx_program.proofs.commands.slot_command.Goals as goal
 
 pub returns : goal.returns
 returns c =
-    IfOk-weaker c.with_number.result _ _
+    IfOk-weaker c.with_text-2.result _ _
     (λ r adds. adds _ (c.in_ok-command.ensures (new_app c.args.name.now)
-    (record { tree = c.new.ensures.app; local = c.new.ensures.local }))) c.with_number.ensures
+    (record { tree = c.new.ensures.app; local = c.new.ensures.local }))) c.with_text-2.ensures

@@ -28,5 +28,7 @@ returns c = record {
   surplus = λ program. inl (kind.UnknownArgument, unknown_is_refusal, inl refl);
   twice = λ program. inl (kind.UnknownArgument, unknown_is_refusal, inl refl);
   option = λ program. inl (kind.UnknownArgument, unknown_is_refusal, inl refl);
-  help_command = λ program. inl (kind.UnknownArgument, unknown_is_refusal, inl refl);
+  help_command = λ program. inl refl;
+  help_of_command = λ program rest. refl;
+  read_as_they_stand = λ program rest. refl;
 }

@@ -2,8 +2,8 @@ use Rattle.std.proofs.Common.{◌≡◌, ℕ, List, [], ◌∷◌, Some, codes, 
 use Rattle.clap.proofs.OnLiterals.{clap_on_literals}
 use Rattle.clap.specs.Words.{Row, Text}
 use Rattle.clap.specs.declared.error.kind.ErrorKind.TheVariants as kind
-use Rattle.nx_program.proofs.lemmas.arguments.Arguments.{invalid_is_refusal, missing_argument_is_refusal}
-use Rattle.nx_program.proofs.lemmas.arguments.CallValues.{number-of}
+use Rattle.nx_program.proofs.lemmas.arguments.Arguments.{missing_argument_is_refusal}
+use Rattle.nx_program.proofs.lemmas.arguments.CallValues.{moment-given, moment-none, moment-of}
 use Rattle.nx_program.proofs.lemmas.arguments.GivenValues.{given}
 use Rattle.nx_envelope.specs.declared.letter.Letter.{Letter}
 use Rattle.nx_program.proofs.laws.slots_in_examples.Goals as goal
@@ -33,8 +33,7 @@ returns c = record {
     command = refl;
     given = (
       ap (λ (b : ℕ). Some (b ∷ [])) (sym is),
-      number-of (codes "MOMENT") (values (codes "E") (codes "1735689600")) (codes "1735689600")
-          refl refl,
+      moment-given _ (codes "1735689600") 1735689600 refl (moment-of (codes "1735689600") refl),
     );
   };
   slots = λ program station is. record {
@@ -43,7 +42,7 @@ returns c = record {
     command = refl;
     given = (
       ap (λ (b : ℕ). Some (b ∷ [])) (sym is),
-      number-of (codes "MOMENT") (values (codes "E") (codes "0")) (codes "0") refl refl,
+      moment-given _ (codes "0") 0 refl (moment-of (codes "0") refl),
     );
   };
   small_letter = λ program. record {
@@ -58,7 +57,31 @@ returns c = record {
     entered = inr refl;
     no_letter = no_two_letters;
   };
-  too_late = λ program. inl (kind.ValueValidation, invalid_is_refusal, inl refl);
+  too_late = λ program. record {
+    taken = refl;
+    name = codes "send";
+    values = values (codes "E") (codes "32503680000");
+    entered = refl;
+    takes = inl refl;
+    reported = record {
+      text = codes "32503680000";
+      given = refl;
+      no_moment = moment-none (codes "32503680000") refl;
+      told = refl;
+    };
+  };
   no_moment = λ program. inl (kind.MissingRequiredArgument, missing_argument_is_refusal, inl refl);
-  no_number = λ program. inl (kind.ValueValidation, invalid_is_refusal, inl refl);
+  no_number = λ program. record {
+    taken = refl;
+    name = codes "slots";
+    values = values (codes "E") (codes "now");
+    entered = refl;
+    takes = inr (inl refl);
+    reported = record {
+      text = codes "now";
+      given = refl;
+      no_moment = moment-none (codes "now") refl;
+      told = refl;
+    };
+  };
 }

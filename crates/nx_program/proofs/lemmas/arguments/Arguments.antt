@@ -2,9 +2,9 @@
 -- speak of exactly, and a command that it enters is the command of a call.
 use Rattle.std.proofs.Common.{ℕ, codes, ◌≤◌, ◌≡◌, ◌≢◌, ◌∙◌, true, false, List, [], ◌∷◌, Option}
 use Rattle.std.proofs.Common.{Some, None, is_some, ◌⊎◌, IfNone, IfSome, IfOk, IfErr, Result, Ok, Err}
-use Rattle.std.proofs.Common.{option_map, refl, ap, ap₂, inl, inr, sym, subst, Box, Global}
+use Rattle.std.proofs.Common.{option_map, refl, ap, ap₂, inl, inr, sym, subst, string_bytes, Box}
+use Rattle.std.proofs.Common.{Global}
 use Rattle.std.specs.Box.{box_value}
-use Rattle.std.specs.Option.{ok_or}
 use Rattle.clap.specs.Words.{HasKind, Kinds, IsAmong, Row, Text, built, fault_of, is_simple}
 use Rattle.clap.specs.Words.{is_simple_and_free, kind_of, subcommand_of, subcommand_name_of}
 use Rattle.clap.specs.Words.{subcommand_rows, subcommand_rows_of}
@@ -25,20 +25,24 @@ use Rattle.nx_program.specs.declared.arguments.ArgumentsFault.{ArgumentsFault}
 use Rattle.nx_program.specs.declared.arguments.ArgumentsFault.TheVariants.{Help, Refused, Station, Kind}
 use Rattle.nx_program.specs.declared.arguments.ArgumentsFault.TheVariants.{Memory, Value, Version}
 use Rattle.nx_station.specs.declared.damaging.DamageKind.{DamageKind}
-use Rattle.nx_program.specs.Arguments.{AsksForHelp, AsksForVersion, HasValues, IsKind, IsNumber}
-use Rattle.nx_program.specs.Arguments.{IsRefusal, IsRefused, IsStation, LacksKind, LacksStation, LacksValue}
+use Rattle.nx_program.specs.Arguments.{AsksForHelp, AsksForVersion, HasUnfitValue, HasValues, IsKind}
+use Rattle.nx_program.specs.Arguments.{IsMoment, IsNumber, IsRefusal, IsRefused, IsReportedMoment}
+use Rattle.nx_program.specs.Arguments.{IsStation, LacksKind, LacksMoment, LacksStation, LacksValue}
+use Rattle.nx_program.specs.Arguments.{TakesMoment, moment_report}
 use Rattle.nx_program.specs.Arguments.{Maker, Names, command_name, command_rows, navtex, on_file, options}
 use Rattle.nx_program.specs.Arguments.{plain, range, slot}
 use Rattle.nx_program.specs.LogArguments.{IsQuery, value_report}
 use Rattle.nx_program.proofs.lemmas.queries.QueryAsked.{query_not_unfit, query_or_unfit}
 use Rattle.nx_program.specs.private.LogReading.{ExplainsOptions}
-use Rattle.nx_program.specs.private.Reading.{ExplainsArguments, IsSortedAs}
+use Rattle.nx_program.specs.private.Reading.{ExplainsArguments, ExplainsMoment, HasFitMoment}
+use Rattle.nx_program.specs.private.Reading.{HasUnfitMoment, IsSortedAs}
 use Rattle.nx_program.proofs.lemmas.EachFound.{Each, each-map, found_is}
-use Rattle.nx_program.proofs.lemmas.arguments.CallValues.{differ, number_once}
+use Rattle.nx_program.proofs.lemmas.arguments.CallValues.{differ, moment-given, moment-said, moment_of_text}
+use Rattle.nx_program.proofs.lemmas.arguments.CallValues.{number_once}
 use Rattle.nx_program.proofs.lemmas.arguments.CommandTable.{HasCall, IsSlotName, IsSound, Makes, command_rows-sound}
 use Rattle.nx_program.proofs.lemmas.arguments.CommandsTaken.{Gives, leaf, taken-command}
 use Rattle.nx_program.proofs.lemmas.arguments.NumbersGiven.{number-given}
-use Rattle.nx_program.proofs.lemmas.arguments.OneCall.{IsNotCalled, call_or_none, has-kind, has-query, has-station}
+use Rattle.nx_program.proofs.lemmas.arguments.OneCall.{IsNotCalled, call_or_none, has-kind, has-moment, has-query, has-station}
 use Rattle.nx_program.proofs.lemmas.arguments.OneCall.{same_call}
 use Rattle.nx_envelope.specs.declared.letter.Letter.{Letter}
 use Rattle.nx_program.specs.declared.arguments.Call.TheVariants.{Damage, Send, Slots, Watch}
@@ -149,6 +153,11 @@ pub help_not_version : (arguments : List Text) → AsksForHelp arguments → Ask
 help_not_version arguments help version =
     help-no_version (fault_of navtex arguments) (faults_are_uniform arguments) help version
 
+unfit-taken : (arguments : List Text) (report : Text) → HasUnfitValue arguments report
+    → fault_of navtex arguments ≡ []
+unfit-taken arguments report (inl lacks) = lacks.taken
+unfit-taken arguments report (inr lacks) = lacks.taken
+
 pub help_not_refused : (arguments : List Text) → AsksForHelp arguments → IsRefused arguments → ⊥
 help_not_refused arguments help (inl refused) =
     help-alone (fault_of navtex arguments) refused.0 (faults_are_uniform arguments) help refused.2
@@ -158,7 +167,8 @@ help_not_refused arguments help (inr (inl lacks)) =
 help_not_refused arguments help (inr (inr (inl lacks))) =
     none_among (fault_of navtex arguments) DisplayHelp lacks.taken help
 help_not_refused arguments help (inr (inr (inr lacks))) =
-    none_among (fault_of navtex arguments) DisplayHelp lacks.1.taken help
+    none_among (fault_of navtex arguments) DisplayHelp
+    (unfit-taken arguments lacks.0 lacks.1) help
 
 pub version_not_refused : (arguments : List Text) → AsksForVersion arguments → IsRefused arguments
     → ⊥
@@ -171,7 +181,8 @@ version_not_refused arguments version (inr (inl lacks)) =
 version_not_refused arguments version (inr (inr (inl lacks))) =
     none_among (fault_of navtex arguments) DisplayVersion lacks.taken version
 version_not_refused arguments version (inr (inr (inr lacks))) =
-    none_among (fault_of navtex arguments) DisplayVersion lacks.1.taken version
+    none_among (fault_of navtex arguments) DisplayVersion
+    (unfit-taken arguments lacks.0 lacks.1) version
 
 pub named_not_help : (arguments : List Text) (call : Call) → Names arguments call
     → AsksForHelp arguments → ⊥
@@ -216,6 +227,17 @@ named-lacks_kind arguments call named lacks =
     let Q : List Row → Type 0 = λ rows. IsKind rows kind.0 in
     lacks.no_kind kind.0 (subst Q same.1 kind.1)
 
+named-lacks_moment : (arguments : List Text) (call : Call) (report : Text) → Names arguments call
+    → LacksMoment arguments report → ⊥
+named-lacks_moment arguments call report named lacks =
+    let same = entered_once arguments _ _ _ _ named.command lacks.entered in
+    let P : Text → Type 0 = λ n. TakesMoment n in
+    let moment = has-moment call named.values (subst P (sym same.0) lacks.takes) named.given in
+    let Q : List Row → Type 0 = λ rows. IsMoment rows moment.0 in
+    lacks.reported.no_moment moment.0
+    (moment-said lacks.values lacks.reported.text moment.0 lacks.reported.given
+    (subst Q same.1 moment.1))
+
 named-lacks_value : (arguments : List Text) (call : Call) (report : Text) → Names arguments call
     → LacksValue arguments report → ⊥
 named-lacks_value arguments call report named lacks =
@@ -234,16 +256,24 @@ named_not_refused arguments call named (inr (inl lacks)) =
     named-lacks_station arguments call named lacks
 named_not_refused arguments call named (inr (inr (inl lacks))) =
     named-lacks_kind arguments call named lacks
-named_not_refused arguments call named (inr (inr (inr lacks))) =
-    named-lacks_value arguments call lacks.0 named lacks.1
+named_not_refused arguments call named (inr (inr (inr (report, inl lacks)))) =
+    named-lacks_value arguments call report named lacks
+named_not_refused arguments call named (inr (inr (inr (report, inr lacks)))) =
+    named-lacks_moment arguments call report named lacks
 
--- what arguments with no call lack, which clap takes: a station, a kind of damage, or a value that
--- names something
+-- what arguments with no call lack, which clap takes: a station, a kind of damage, a moment, or an
+-- option's value that names something
 pub data Lacks (arguments : List Text) (name : Text) (values : List Row) : Type 0 where
   a_station : IsSlotName name → LacksStation arguments → Lacks arguments name values
   a_kind : name ≡ codes "damage" → LacksKind arguments → Lacks arguments name values
+  a_moment : TakesMoment name → (text : Text) → HasUnfitMoment values text
+      → Lacks arguments name values
   a_value : name ≡ codes "log" → (report : Text) → LacksValue arguments report
       → Lacks arguments name values
+
+slot-takes_moment : (name : Text) → IsSlotName name → TakesMoment name
+slot-takes_moment name (inl send) = inl send
+slot-takes_moment name (inr slots) = inr (inl slots)
 
 lacks_value : (arguments : List Text) (name : Text) (values : List Row)
     → fault_of navtex arguments ≡ []
@@ -257,23 +287,30 @@ lacks_value arguments name values taken entered none =
     go : (maker : Maker) → Makes name maker → Gives maker values
         → Lacks arguments name values
     go (plain call) makes gives = absurd (let has = makes values in none call has.0 has.1)
-    go (slot make) makes gives =
-        let moment = number-given _ _ values gives in
-        a_station makes.0 (record {
-          taken = taken;
-          values = values;
-          entered = elim makes.0 [
-            | inl send ↦ inl (entered ∙ ap (λ (t : Text). Some (t, values)) send)
-            | inr slots ↦ inr (entered ∙ ap (λ (t : Text). Some (t, values)) slots)
-          ];
-          no_letter = λ letter found.
-              let has = makes.1 values letter moment.0 found moment.1 in
-              none (make letter moment.0) has.0 has.1;
-        })
-    go (on_file make) makes gives =
-        let moment = number-given _ _ values gives.1 in
-        let has = makes.1 values gives.0.text moment.0 gives.0.given moment.1 in
-        absurd (none (make gives.0.text moment.0) has.0 has.1)
+    go (slot make) makes gives = elim (moment_of_text gives.text) [
+      | inr no_moment ↦ a_moment (slot-takes_moment name makes.0) gives.text
+          (record { given = gives.given; no_moment = no_moment })
+      | inl moment ↦ a_station makes.0 (record {
+        taken = taken;
+        values = values;
+        entered = elim makes.0 [
+          | inl send ↦ inl (entered ∙ ap (λ (t : Text). Some (t, values)) send)
+          | inr slots ↦ inr (entered ∙ ap (λ (t : Text). Some (t, values)) slots)
+        ];
+        no_letter = λ letter found.
+            let is = moment-given values gives.text moment.0 gives.given moment.1 in
+            let has = makes.1 values letter moment.0 found is in
+            none (make letter moment.0) has.0 has.1;
+      })
+    ]
+    go (on_file make) makes gives = elim (moment_of_text gives.1.text) [
+      | inr no_moment ↦ a_moment (inr (inr makes.0)) gives.1.text
+          (record { given = gives.1.given; no_moment = no_moment })
+      | inl moment ↦
+          let is = moment-given values gives.1.text moment.0 gives.1.given moment.1 in
+          let has = makes.1 values gives.0.text moment.0 gives.0.given is in
+          absurd (none (make gives.0.text moment.0) has.0 has.1)
+    ]
     go (range make) makes gives =
         let from = number-given _ _ values gives.0 in
         let count = number-given _ _ values gives.1 in
@@ -317,77 +354,26 @@ plain_no_number call other rows makes given name number gives =
     let P : Call → Type 0 = λ c. HasValues c [] in
     no_numbers name number (gives [] (subst P same (makes []).1))
 
-not_watch : (name : Text) → IsSlotName name → name ≡ codes "watch" → ⊥
-not_watch name (inl send) watch = differ _ _ refl (sym send ∙ watch)
-not_watch name (inr slots) watch = differ _ _ refl (sym slots ∙ watch)
-
 not_both : (name : Text) → IsSlotName name → name ≡ codes "damage" → ⊥
 not_both name (inl send) damage = differ _ _ refl (sym send ∙ damage)
 not_both name (inr slots) damage = differ _ _ refl (sym slots ∙ damage)
 
--- nor is it the name of a log
-not_log : (name : Text) → IsSlotName name → name ≡ codes "log" → ⊥
-not_log name (inl send) log = differ _ _ refl (sym send ∙ log)
-not_log name (inr slots) log = differ _ _ refl (sym slots ∙ log)
-
--- the moment of a call of a slot is in its range
-moment-bound : (arguments : List Text) (call : Call) (named : Names arguments call) (moment : ℕ)
-    → IsSlotName (command_name call)
-    → ((rows : List Row) → HasValues call rows → IsNumber (codes "MOMENT") rows moment)
-    → moment ≤ 32503679999
-moment-bound arguments call named moment wants gives =
-    let command = taken-command arguments (command_name call) named.values named.taken
-    named.command in
-    go command.maker command.makes command.gives
-  where
-    go : (maker : Maker) → Makes (command_name call) maker → Gives maker named.values
-        → moment ≤ 32503679999
-    go (plain other) makes given = absurd
-        (plain_no_number call other named.values makes named.given (codes "MOMENT") moment gives)
-    go (slot make) makes given =
-        let number = number-given _ _ named.values given in
-        let P : ℕ → Type 0 = λ n. n ≤ 32503679999 in
-        subst P (number_once (codes "MOMENT") named.values number.0 moment number.1
-        (gives named.values named.given)) number.2
-    go (on_file make) makes given = absurd (not_watch _ wants makes.0)
-    go (range make) makes given = absurd (not_both _ wants makes.0)
-    go (options make) makes given = absurd (not_log _ wants makes.0)
-
+-- the moment of a call that takes one is in its range
 pub send-bound : (arguments : List Text) (station : Letter) (moment : ℕ)
     → Names arguments (Send station moment)
     → moment ≤ 32503679999
-send-bound arguments station moment named =
-    moment-bound arguments (Send station moment) named moment (inl refl)
-    (λ rows given. given.1)
+send-bound arguments station moment named = named.given.1.said.in_range
 
 pub slots-bound : (arguments : List Text) (station : Letter) (moment : ℕ)
     → Names arguments (Slots station moment)
     → moment ≤ 32503679999
-slots-bound arguments station moment named =
-    moment-bound arguments (Slots station moment) named moment (inr refl)
-    (λ rows given. given.1)
+slots-bound arguments station moment named = named.given.1.said.in_range
 
 -- and that of a watch
 pub watch-bound : (arguments : List Text) (name : Text) (moment : ℕ)
     → Names arguments (Watch name moment)
     → moment ≤ 32503679999
-watch-bound arguments name moment named =
-    let command = taken-command arguments (codes "watch") named.values named.taken named.command in
-    go command.maker command.makes command.gives
-  where
-    go : (maker : Maker) → Makes (codes "watch") maker → Gives maker named.values
-        → moment ≤ 32503679999
-    go (plain other) makes given = absurd
-        (plain_no_number (Watch name moment) other named.values makes named.given
-        (codes "MOMENT") moment (λ rows has. has.1))
-    go (slot make) makes given = absurd (not_watch _ makes.0 refl)
-    go (on_file make) makes given =
-        let number = number-given _ _ named.values given.1 in
-        let P : ℕ → Type 0 = λ n. n ≤ 32503679999 in
-        subst P (number_once (codes "MOMENT") named.values number.0 moment number.1
-        named.given.1) number.2
-    go (range make) makes given = absurd (differ _ _ refl makes.0)
-    go (options make) makes given = absurd (differ _ _ refl makes.0)
+watch-bound arguments name moment named = named.given.1.said.in_range
 
 -- and so are the numbers of a call that damages
 pub damage-bounds : (arguments : List Text) (kind : DamageKind) (from count : ℕ)
@@ -423,11 +409,38 @@ taken_enters arguments taken =
     level-nil (built navtex).top (names_of (built navtex)) nothing_held
     (argument_words navtex arguments) _ _ refl taken
 
-refused_by : (arguments : List Text) (name : Text) (values : List Row) → Lacks arguments name values
+-- the report of a MOMENT that says none
+reported_moment : (arguments : List Text) (name : Text) (values : List Row) (report : Text)
+    → fault_of navtex arguments ≡ [] → subcommand_of navtex arguments ≡ Some (name, values)
+    → TakesMoment name → IsReportedMoment values report → LacksMoment arguments report
+reported_moment arguments name values report taken entered takes reported = record {
+  taken = taken;
+  name = name;
+  values = values;
+  entered = entered;
+  takes = takes;
+  reported = reported;
+}
+
+refused_by : (arguments : List Text) (name : Text) (values : List Row)
+    → fault_of navtex arguments ≡ [] → subcommand_of navtex arguments ≡ Some (name, values)
+    → Lacks arguments name values
     → IsRefused arguments
-refused_by arguments name values (a_station is lacks) = inr (inl lacks)
-refused_by arguments name values (a_kind is lacks) = inr (inr (inl lacks))
-refused_by arguments name values (a_value is report lacks) = inr (inr (inr (report, lacks)))
+refused_by arguments name values taken entered (a_station is lacks) = inr (inl lacks)
+refused_by arguments name values taken entered (a_kind is lacks) = inr (inr (inl lacks))
+refused_by arguments name values taken entered (a_moment is text unfit) =
+    inr (inr (inr (
+      moment_report text,
+      inr (reported_moment arguments name values
+          (moment_report text) taken entered is (record {
+            text = text;
+            given = unfit.given;
+            no_moment = unfit.no_moment;
+            told = refl;
+          })),
+    )))
+refused_by arguments name values taken entered (a_value is report lacks) =
+    inr (inr (inr (report, inl lacks)))
 
 named_by : (arguments : List Text) → fault_of navtex arguments ≡ [] → (e : Option (Text × List Row))
     → subcommand_of navtex arguments ≡ e → is_some e ≡ true
@@ -443,7 +456,8 @@ named_by arguments taken (Some p) entered some = elim (call_or_none p.0 p.1) [
       given = call.1.1;
     },
   )
-  | inr none ↦ inr (refused_by arguments p.0 p.1 (lacks_value arguments p.0 p.1 taken entered none))
+  | inr none ↦ inr (refused_by arguments p.0 p.1 taken entered
+      (lacks_value arguments p.0 p.1 taken entered none))
 ]
 
 -- each list of arguments names a call, asks for help, asks for the version or is refused
@@ -473,41 +487,60 @@ named_once arguments a b first second =
     same_call a b first.values (ap (λ (q : Text × List Row). q.0) is) first.given
     (subst P (sym (ap (λ (q : Text × List Row). q.1) is)) second.given)
 
--- the outcome of reading the arguments, by the call that their command and its values have
-pub outcome-named : (arguments : List Text) (name : Text) (values : List Row) (found : Option Call)
-    (unfit : ArgumentsFault) (outcome : Result Call ArgumentsFault)
+-- the arguments name the call that their command and its values have
+pub call-named : (arguments : List Text) (name : Text) (values : List Row) (call : Call)
     → fault_of navtex arguments ≡ [] → subcommand_of navtex arguments ≡ Some (name, values)
-    → IfSome found (λ call. (name ≡ command_name call) × HasValues call values)
-    → outcome ≡ ok_or found unfit
-    → IfOk outcome (Names arguments)
-outcome-named arguments name values None unfit outcome taken entered some is = rw is tt
-outcome-named arguments name values (Some call) unfit outcome taken entered some is =
-    rw is (record {
-      taken = taken;
-      values = values;
-      command = entered ∙ ap (λ (t : Text). Some (t, values)) some.0;
-      given = some.1;
-    })
+    → (name ≡ command_name call) × HasValues call values
+    → Names arguments call
+call-named arguments name values call taken entered is = record {
+  taken = taken;
+  values = values;
+  command = entered ∙ ap (λ (t : Text). Some (t, values)) is.0;
+  given = is.1;
+}
 
-pub outcome-refused : (arguments : List Text) (name : Text) (values : List Row)
-    (found : Option Call)
-    (unfit : ArgumentsFault) (outcome : Result Call ArgumentsFault)
+-- why they name none, where a moment may be what is wrong
+moment-refused : (arguments : List Text) (name : Text) (values : List Row) (why : ArgumentsFault)
     → fault_of navtex arguments ≡ [] → subcommand_of navtex arguments ≡ Some (name, values)
-    → name ≢ codes "log"
-    → IfNone found ((call : Call) → name ≢ codes "log" → name ≡ command_name call
-    → HasValues call values → ⊥)
-    → (name ≡ codes "damage" → unfit ≡ Kind) → (name ≢ codes "damage" → unfit ≡ Station)
-    → outcome ≡ ok_or found unfit → IfErr outcome (ExplainsArguments arguments)
-outcome-refused arguments name values
-    (Some call) unfit outcome taken entered other none kind station
-    is =
-    rw is tt
-outcome-refused arguments name values None unfit outcome taken entered other none kind station is =
-    go (lacks_value arguments name values taken entered (λ call. none call other))
+    → TakesMoment name → ExplainsMoment values why
+    → (HasFitMoment values → LacksStation arguments) → ExplainsArguments arguments why
+moment-refused arguments name values Station taken entered takes explains fit = fit explains
+moment-refused arguments name values (Value report) taken entered takes explains fit =
+    inr (reported_moment arguments name values (string_bytes report) taken entered takes explains)
+moment-refused arguments name values (Memory want) taken entered takes explains fit = tt
+moment-refused arguments name values (Help answer) taken entered takes explains fit =
+    absurd explains
+moment-refused arguments name values Version taken entered takes explains fit = absurd explains
+moment-refused arguments name values (Refused answer) taken entered takes explains fit =
+    absurd explains
+moment-refused arguments name values Kind taken entered takes explains fit = absurd explains
+
+takes_moment-not_damage : (name : Text) → TakesMoment name → name ≡ codes "damage" → ⊥
+takes_moment-not_damage name (inl send) damage = differ _ _ refl (sym send ∙ damage)
+takes_moment-not_damage name (inr (inl slots)) damage = differ _ _ refl (sym slots ∙ damage)
+takes_moment-not_damage name (inr (inr watch)) damage = differ _ _ refl (sym watch ∙ damage)
+
+pub call-refused : (arguments : List Text) (name : Text) (values : List Row)
+    (why : ArgumentsFault)
+    → fault_of navtex arguments ≡ [] → subcommand_of navtex arguments ≡ Some (name, values)
+    → name ≢ codes "log" → IsNotCalled name values
+    → (name ≡ codes "damage" → why ≡ Kind)
+    → (name ≢ codes "damage" → ExplainsMoment values why)
+    → ExplainsArguments arguments why
+call-refused arguments name values why taken entered other none kind others =
+    go (lacks_value arguments name values taken entered none)
   where
-    go : Lacks arguments name values → IfErr outcome (ExplainsArguments arguments)
-    go (a_station send lacks) = rw (is, station (not_both name send)) lacks
-    go (a_kind damage lacks) = rw (is, kind damage) lacks
+    go : Lacks arguments name values → ExplainsArguments arguments why
+    go (a_station is lacks) =
+        let takes = slot-takes_moment name is in
+        moment-refused arguments name values why taken entered takes
+        (others (takes_moment-not_damage name takes)) (λ fit. lacks)
+    go (a_kind damage lacks) = rw (kind damage) lacks
+    go (a_moment takes text unfit) =
+        moment-refused arguments name values why taken entered takes
+        (others (takes_moment-not_damage name takes))
+        (λ fit. let moment = fit text unfit.given in
+        absurd (unfit.no_moment moment.0 moment.1))
     go (a_value log report lacks) = absurd (other log)
 
 -- the same of the call of the options of `log`
@@ -529,12 +562,12 @@ pub options-refused : (arguments : List Text) (values : List Row)
     → fault_of navtex arguments ≡ [] → subcommand_of navtex arguments ≡ Some (codes "log", values)
     → IfErr outcome (ExplainsOptions values) → IfErr outcome (ExplainsArguments arguments)
 options-refused arguments values (Ok call) taken entered err = tt
-options-refused arguments values (Err (Value report)) taken entered err = record {
+options-refused arguments values (Err (Value report)) taken entered err = inl (record {
   taken = taken;
   values = values;
   entered = entered;
   reported = err;
-}
+})
 options-refused arguments values (Err (Memory want)) taken entered err = tt
 options-refused arguments values (Err (Help answer)) taken entered err = absurd err
 options-refused arguments values (Err Version) taken entered err = absurd err

@@ -3,7 +3,7 @@
 use Rattle.std.proofs.lemmas.Bool.{leb-false, leb-true}
 use Rattle.std.proofs.Common.{◌≡◌, ◌≢◌, ◌∙◌, ◌⊎◌, ℕ, Bool, true, false, nat_le, List, [], ◌∷◌}
 use Rattle.std.proofs.Common.{Option, Some, None, IfSome, option_map, option_and_then, codes, refl}
-use Rattle.std.proofs.Common.{ap, inl, inr, sym, arith}
+use Rattle.std.proofs.Common.{ap, inl, inr, subst, sym, arith}
 use Rattle.std.specs.Str.{bytes_eq}
 use Rattle.std.specs.Str.Parse.{digits_value, without_leading_plus}
 use Rattle.std.proofs.lemmas.Slice.Eq.{bytes_eq-Decides}
@@ -17,7 +17,9 @@ use Rattle.nx_envelope.proofs.lemmas.headers.LettersAndDigits.{same_letter}
 use Rattle.nx_program.specs.declared.arguments.Call.{Call}
 use Rattle.nx_station.specs.declared.damaging.DamageKind.{DamageKind}
 use Rattle.nx_station.specs.declared.damaging.DamageKind.TheVariants.{Dx, Rx, All}
-use Rattle.nx_program.specs.Arguments.{IsFile, IsKind, IsNumber, IsStation, kind_name}
+use Rattle.nx_envelope.specs.Moment.{last_moment}
+use Rattle.nx_program.specs.Arguments.{IsFile, IsKind, IsMoment, IsNumber, IsStation, SaysMoment}
+use Rattle.nx_program.specs.Arguments.{kind_name}
 use Rattle.nx_program.specs.private.Reading.{LacksRange, LacksSlot, LacksWatch}
 
 pub differ : (a b : Text) → bytes_eq a b ≡ false → a ≡ b → ⊥
@@ -183,28 +185,89 @@ number-reads name rows = reads-decided (IsNumber name rows) (number_once name ro
     (number_of_text name rows
     (one_of name rows) refl)
 
+-- the moment
+abbrev moments : ValueParser
+moments = parser.Unsigned 0 last_moment
+
+-- the moment that a text says
+pub moment-of : (t : Text) → accepts false moments t ≡ true
+    → SaysMoment t (digits_value 10 (without_leading_plus t))
+moment-of t passes =
+    let unsigned = accepts-Accepts false moments t passes in
+    record { numeral = unsigned.0; value = refl; in_range = unsigned.3 }
+
+-- a text that clap would refuse as a number up to the last moment says none
+pub moment-none : (t : Text) → accepts false moments t ≡ false → (m : ℕ) → SaysMoment t m → ⊥
+moment-none t fails m is =
+    let value = is.value in
+    let in_range = is.in_range in
+    let yes : accepts false moments t ≡ true =
+    Accepts-accepts false moments t (is.numeral, (omega arith), (omega arith), (omega arith)) in
+    absurd (cc)
+
+pub moment_of_text : (t : Text) → IsDecided (SaysMoment t)
+moment_of_text t = go (accepts false moments t) refl
+  where
+    go : (b : Bool) → accepts false moments t ≡ b → IsDecided (SaysMoment t)
+    go true passes = inl (digits_value 10 (without_leading_plus t), moment-of t passes)
+    go false fails = inr (moment-none t fails)
+
+-- what a text says is the value of MOMENT, where it is that text
+pub moment-given : (rows : List Row) (t : Text) (m : ℕ) → first_of (codes "MOMENT") rows ≡ Some t
+    → SaysMoment t m → IsMoment rows m
+moment-given rows t m e said = record { text = t; given = e; said = said }
+
+pub moment-said : (rows : List Row) (t : Text) (m : ℕ) → first_of (codes "MOMENT") rows ≡ Some t
+    → IsMoment rows m → SaysMoment t m
+moment-said rows t m e is =
+    let same : Some is.text ≡ Some t = sym is.given ∙ e in
+    let text_is : is.text ≡ t = cc in
+    subst (λ (u : Text). SaysMoment u m) text_is is.said
+
+moment_once : (rows : List Row) (a b : ℕ) → IsMoment rows a → IsMoment rows b → a ≡ b
+moment_once rows a b first second =
+    let other = moment-said rows first.text b first.given second in
+    first.said.value ∙ sym other.value
+
+pub moment_of_rows : (rows : List Row) (o : Option Text) → first_of (codes "MOMENT") rows ≡ o
+    → IsDecided (IsMoment rows)
+moment_of_rows rows None e =
+    inr (λ m is. let bad : Some is.text ≡ None = sym is.given ∙ e in absurd (cc))
+moment_of_rows rows (Some t) e = elim (moment_of_text t) [
+  | inl m ↦ inl (m.0, moment-given rows t m.0 e m.1)
+  | inr none ↦ inr (λ m is. none m (moment-said rows t m e is))
+]
+
+abbrev pub moment_in : List Row → Option ℕ
+moment_in rows = decided (IsMoment rows)
+    (moment_of_rows rows (first_of (codes "MOMENT") rows) refl)
+
+moment-reads : (rows : List Row) → Reads (IsMoment rows) (moment_in rows)
+moment-reads rows = reads-decided (IsMoment rows) (moment_once rows)
+    (moment_of_rows rows (first_of (codes "MOMENT") rows) refl)
+
 -- the call of a station and a moment
 abbrev pub slot_call : (Letter → ℕ → Call) → List Row → Option Call
 slot_call make rows = option_and_then
-    (λ s. option_map (λ m. make s m) (number_in (codes "MOMENT") rows))
+    (λ s. option_map (λ m. make s m) (moment_in rows))
     (station_in rows)
 
 pub slot_call-only : (make : Letter → ℕ → Call) (rows : List Row) (s : Letter) (m : ℕ)
     → IsStation rows s
-    → IsNumber (codes "MOMENT") rows m → slot_call make rows ≡ Some (make s m)
+    → IsMoment rows m → slot_call make rows ≡ Some (make s m)
 slot_call-only make rows s m is_s is_m =
-    rw ((station-reads rows).only s is_s, (number-reads (codes "MOMENT") rows).only m is_m) refl
+    rw ((station-reads rows).only s is_s, (moment-reads rows).only m is_m) refl
 
 pub slot_call-is : (make : Letter → ℕ → Call) (rows : List Row) (P : Call → Type 0)
     → ((s : Letter) (m : ℕ)
-    → IsStation rows s → IsNumber (codes "MOMENT") rows m → P (make s m))
+    → IsStation rows s → IsMoment rows m → P (make s m))
     → IfSome (slot_call make rows) P
 slot_call-is make rows P has =
-    go (station_in rows) (number_in (codes "MOMENT") rows) (station-reads rows).is
-    (number-reads (codes "MOMENT") rows).is
+    go (station_in rows) (moment_in rows) (station-reads rows).is
+    (moment-reads rows).is
   where
     go : (s : Option Letter) (m : Option ℕ) → IfSome s (IsStation rows)
-        → IfSome m (IsNumber (codes "MOMENT") rows)
+        → IfSome m (IsMoment rows)
         → IfSome (option_and_then (λ s. option_map (λ m. make s m) m) s) P
     go None m is_s is_m = tt
     go (Some s) None is_s is_m = tt
@@ -217,21 +280,34 @@ pub slot_call-station : (make : Letter → ℕ → Call) (rows : List Row) (call
 slot_call-station make rows call made = go (station_in rows) (station-reads rows).is made
   where
     go : (s : Option Letter) → IfSome s (IsStation rows)
-        → option_and_then (λ s. option_map (λ m. make s m) (number_in (codes "MOMENT") rows)) s
+        → option_and_then (λ s. option_map (λ m. make s m) (moment_in rows)) s
         ≡ Some call
         → (letter : Letter) × IsStation rows letter
     go None is e = absurd (cc)
     go (Some s) is e = (s, is)
 
+-- and a moment
+pub slot_call-moment : (make : Letter → ℕ → Call) (rows : List Row) (call : Call)
+    → slot_call make rows ≡ Some call → (moment : ℕ) × IsMoment rows moment
+slot_call-moment make rows call made =
+    go (station_in rows) (moment_in rows) (moment-reads rows).is made
+  where
+    go : (s : Option Letter) (m : Option ℕ) → IfSome m (IsMoment rows)
+        → option_and_then (λ s. option_map (λ m. make s m) m) s ≡ Some call
+        → (moment : ℕ) × IsMoment rows moment
+    go None m is e = absurd (cc)
+    go (Some s) None is e = absurd (cc)
+    go (Some s) (Some m) is e = (m, is)
+
 -- and where one of the two is absent, there is none
 pub slot_call-absent : (make : Letter → ℕ → Call) (rows : List Row) → LacksSlot rows
     → slot_call make rows ≡ None
 slot_call-absent make rows absent =
-    go (station_in rows) (number_in (codes "MOMENT") rows) (station-reads rows).is
-    (number-reads (codes "MOMENT") rows).is
+    go (station_in rows) (moment_in rows) (station-reads rows).is
+    (moment-reads rows).is
   where
     go : (s : Option Letter) (m : Option ℕ) → IfSome s (IsStation rows)
-        → IfSome m (IsNumber (codes "MOMENT") rows)
+        → IfSome m (IsMoment rows)
         → option_and_then (λ s. option_map (λ m. make s m) m) s ≡ None
     go None m is_s is_m = refl
     go (Some s) None is_s is_m = refl
@@ -240,14 +316,14 @@ slot_call-absent make rows absent =
 -- the call of a file and a moment
 abbrev pub file_call : (Text → ℕ → Call) → List Row → Option Call
 file_call make rows = option_and_then
-    (λ n. option_map (λ m. make n m) (number_in (codes "MOMENT") rows))
+    (λ n. option_map (λ m. make n m) (moment_in rows))
     (first_of (codes "FILE") rows)
 
 pub file_call-only : (make : Text → ℕ → Call) (rows : List Row) (n : Text) (m : ℕ)
     → IsFile rows n
-    → IsNumber (codes "MOMENT") rows m → file_call make rows ≡ Some (make n m)
+    → IsMoment rows m → file_call make rows ≡ Some (make n m)
 file_call-only make rows n m is_n is_m =
-    rw (is_n, (number-reads (codes "MOMENT") rows).only m is_m) refl
+    rw (is_n, (moment-reads rows).only m is_m) refl
 
 itself : (o : Option Text) → IfSome o (λ n. o ≡ Some n)
 itself None = tt
@@ -255,28 +331,41 @@ itself (Some n) = refl
 
 pub file_call-is : (make : Text → ℕ → Call) (rows : List Row) (P : Call → Type 0)
     → ((n : Text) (m : ℕ)
-    → IsFile rows n → IsNumber (codes "MOMENT") rows m → P (make n m))
+    → IsFile rows n → IsMoment rows m → P (make n m))
     → IfSome (file_call make rows) P
 file_call-is make rows P has =
-    go (first_of (codes "FILE") rows) (number_in (codes "MOMENT") rows)
-    (itself (first_of (codes "FILE") rows)) (number-reads (codes "MOMENT") rows).is
+    go (first_of (codes "FILE") rows) (moment_in rows)
+    (itself (first_of (codes "FILE") rows)) (moment-reads rows).is
   where
     go : (n : Option Text) (m : Option ℕ) → IfSome n (IsFile rows)
-        → IfSome m (IsNumber (codes "MOMENT") rows)
+        → IfSome m (IsMoment rows)
         → IfSome (option_and_then (λ n. option_map (λ m. make n m) m) n) P
     go None m is_n is_m = tt
     go (Some n) None is_n is_m = tt
     go (Some n) (Some m) is_n is_m = has n m is_n is_m
 
+-- where there is such a call, there is a moment
+pub file_call-moment : (make : Text → ℕ → Call) (rows : List Row) (call : Call)
+    → file_call make rows ≡ Some call → (moment : ℕ) × IsMoment rows moment
+file_call-moment make rows call made =
+    go (first_of (codes "FILE") rows) (moment_in rows) (moment-reads rows).is made
+  where
+    go : (n : Option Text) (m : Option ℕ) → IfSome m (IsMoment rows)
+        → option_and_then (λ n. option_map (λ m. make n m) m) n ≡ Some call
+        → (moment : ℕ) × IsMoment rows moment
+    go None m is e = absurd (cc)
+    go (Some n) None is e = absurd (cc)
+    go (Some n) (Some m) is e = (m, is)
+
 -- where one of the two is absent, there is none
 pub file_call-absent : (make : Text → ℕ → Call) (rows : List Row) → LacksWatch rows
     → file_call make rows ≡ None
 file_call-absent make rows absent =
-    go (first_of (codes "FILE") rows) (number_in (codes "MOMENT") rows)
-    (itself (first_of (codes "FILE") rows)) (number-reads (codes "MOMENT") rows).is
+    go (first_of (codes "FILE") rows) (moment_in rows)
+    (itself (first_of (codes "FILE") rows)) (moment-reads rows).is
   where
     go : (n : Option Text) (m : Option ℕ) → IfSome n (IsFile rows)
-        → IfSome m (IsNumber (codes "MOMENT") rows)
+        → IfSome m (IsMoment rows)
         → option_and_then (λ n. option_map (λ m. make n m) m) n ≡ None
     go None m is_n is_m = refl
     go (Some n) None is_n is_m = refl

@@ -11,7 +11,7 @@ use Rattle.nx_program.specs.LogArguments.{IsForm, IsQuery}
 use Rattle.nx_station.specs.declared.damaging.DamageKind.{DamageKind}
 use Rattle.nx_program.specs.declared.arguments.Call.{Call}
 use Rattle.nx_program.specs.declared.arguments.Call.TheVariants.{Damage, Log, Send, Slots, Watch}
-use Rattle.nx_program.specs.Arguments.{CommandRow, HasValues, IsFile, IsKind, IsNumber, IsStation, Maker}
+use Rattle.nx_program.specs.Arguments.{CommandRow, HasValues, IsFile, IsKind, IsMoment, IsNumber, IsStation, Maker}
 use Rattle.nx_program.specs.Arguments.{command_name, command_rows, on_file, options, plain, range, slot}
 use Rattle.nx_program.proofs.lemmas.arguments.CallValues.{file_call, file_call-only, range_call, range_call-only}
 use Rattle.nx_program.proofs.lemmas.arguments.CallValues.{slot_call, slot_call-only}
@@ -43,11 +43,11 @@ abbrev pub Makes : Text → Maker → Type 0
 Makes name (plain call) = (rows : List Row) → HasCall name rows call
 Makes name (slot make) =
     IsSlotName name × ((rows : List Row) (s : Letter) (m : ℕ) → IsStation rows s
-    → IsNumber (codes "MOMENT") rows m
+    → IsMoment rows m
     → HasCall name rows (make s m))
 Makes name (on_file make) =
     (name ≡ codes "watch") × ((rows : List Row) (n : Text) (m : ℕ) → IsFile rows n
-    → IsNumber (codes "MOMENT") rows m
+    → IsMoment rows m
     → HasCall name rows (make n m))
 Makes name (range make) =
     (name ≡ codes "damage") × ((rows : List Row) (k : DamageKind) (f c : ℕ) → IsKind rows k

@@ -15,7 +15,7 @@ use Rattle.nx_program.proofs.lemmas.EachFound.{Each, each-map, found_is}
 use Rattle.nx_program.proofs.lemmas.arguments.NumbersGiven.{GivesNumber, IsNumeric, gets, uses-other, uses-text}
 use Rattle.nx_program.proofs.lemmas.arguments.NumbersGiven.{uses-wanted}
 use Rattle.nx_program.proofs.lemmas.arguments.RowsKept.{UsesWell, or-first, or-second}
-use Rattle.nx_program.proofs.lemmas.arguments.TextsGiven.{GivesText, IsTexted, gets-text, uses-other_number}
+use Rattle.nx_program.proofs.lemmas.arguments.TextsGiven.{GivesText, IsTexted, gets-text, uses-other_text}
 use Rattle.nx_program.proofs.lemmas.arguments.TextsGiven.{uses-wanted_text}
 use Rattle.nx_program.specs.Arguments.{CommandRow, Maker, command_rows, navtex, number_rule, on_file, options}
 use Rattle.nx_program.specs.Arguments.{plain, range, slot, text_rule, tree_of}
@@ -24,33 +24,33 @@ use Rattle.nx_program.specs.Arguments.{plain, range, slot, text_rule, tree_of}
 -- and of one that wants a range of words, as they are built
 abbrev slot_rules : List Rule
 slot_rules = filled_from 1
-    (text_rule (codes "STATION") ∷ number_rule (codes "MOMENT") 32503679999 ∷ help_rule ∷ [])
+    (text_rule (codes "STATION") ∷ text_rule (codes "MOMENT") ∷ help_rule ∷ [])
 
 abbrev file_rules : List Rule
 file_rules = filled_from 1
-    (text_rule (codes "FILE") ∷ number_rule (codes "MOMENT") 32503679999 ∷ help_rule ∷ [])
+    (text_rule (codes "FILE") ∷ text_rule (codes "MOMENT") ∷ help_rule ∷ [])
 
 abbrev damage_rules : List Rule
 damage_rules = filled_from 1
     (text_rule (codes "KIND") ∷ number_rule (codes "FROM") 4294967295 ∷ number_rule
     (codes "COUNT") 4294967295 ∷ help_rule ∷ [])
 
-slot_rules-moment : Each (UsesWell (IsNumeric (codes "MOMENT") 32503679999)) slot_rules
+slot_rules-moment : Each (UsesWell (IsTexted (codes "MOMENT"))) slot_rules
 slot_rules-moment = (
-  uses-text _ _ 1 _ refl,
-  (uses-wanted _ _ 2, ((λ again vs rows e good. good), tt)),
+  uses-other_text _ 1 _ refl,
+  (uses-wanted_text _ 2, ((λ again vs rows e good. good), tt)),
 )
 
-file_rules-moment : Each (UsesWell (IsNumeric (codes "MOMENT") 32503679999)) file_rules
+file_rules-moment : Each (UsesWell (IsTexted (codes "MOMENT"))) file_rules
 file_rules-moment = (
-  uses-text _ _ 1 _ refl,
-  (uses-wanted _ _ 2, ((λ again vs rows e good. good), tt)),
+  uses-other_text _ 1 _ refl,
+  (uses-wanted_text _ 2, ((λ again vs rows e good. good), tt)),
 )
 
 file_rules-file : Each (UsesWell (IsTexted (codes "FILE"))) file_rules
 file_rules-file = (
   uses-wanted_text _ 1,
-  (uses-other_number _ 2 _ _ refl, ((λ again vs rows e good. good), tt)),
+  (uses-other_text _ 2 _ refl, ((λ again vs rows e good. good), tt)),
 )
 
 damage_rules-from : Each (UsesWell (IsNumeric (codes "FROM") 4294967295)) damage_rules
@@ -104,12 +104,12 @@ both_wanted false true false e = absurd (cc)
 both_wanted false false true e = absurd (cc)
 both_wanted false false false e = absurd (cc)
 
--- the text and the numbers that the command of a row is given
+-- the texts and the numbers that the command of a row is given
 abbrev pub Gives : Maker → List Row → Type 0
 Gives (plain call) rows = Unit {0}
-Gives (slot make) rows = GivesNumber (codes "MOMENT") 32503679999 rows
+Gives (slot make) rows = GivesText (codes "MOMENT") rows
 Gives (on_file make) rows =
-    GivesText (codes "FILE") rows × GivesNumber (codes "MOMENT") 32503679999 rows
+    GivesText (codes "FILE") rows × GivesText (codes "MOMENT") rows
 Gives (range make) rows =
     GivesNumber (codes "FROM") 4294967295 rows × GivesNumber (codes "COUNT") 4294967295 rows
 Gives (options make) rows = Unit {0}
@@ -138,7 +138,7 @@ leaf-is name (options make) makes arguments e = record {
 leaf-is name (slot make) makes arguments e = record {
   maker = slot make;
   makes = makes;
-  gives = gets _ _ _ slot_rules-moment (refl, (refl, (refl, tt)))
+  gives = gets-text _ _ slot_rules-moment (refl, (refl, (refl, tt)))
       (λ rows checked. second_wanted (is_given (codes "STATION") rows)
       (is_given (codes "MOMENT") rows) checked) arguments e;
 }
@@ -149,7 +149,7 @@ leaf-is name (on_file make) makes arguments e = record {
     gets-text _ _ file_rules-file (refl, (refl, (refl, tt)))
         (λ rows checked. first_wanted (is_given (codes "FILE") rows)
         (is_given (codes "MOMENT") rows) checked) arguments e,
-    gets _ _ _ file_rules-moment (refl, (refl, (refl, tt)))
+    gets-text _ _ file_rules-moment (refl, (refl, (refl, tt)))
         (λ rows checked. second_wanted (is_given (codes "FILE") rows)
         (is_given (codes "MOMENT") rows) checked) arguments e,
   );

@@ -8,10 +8,12 @@ use Rattle.nx_envelope.specs.declared.letter.Letter.{Letter}
 use Rattle.nx_station.specs.declared.damaging.DamageKind.{DamageKind}
 use Rattle.nx_program.specs.declared.arguments.Call.{Call}
 use Rattle.nx_program.specs.declared.arguments.Call.TheVariants.{Log}
-use Rattle.nx_program.specs.Arguments.{CommandRow, HasValues, IsKind, IsStation, Maker, command_name}
-use Rattle.nx_program.specs.Arguments.{command_rows, on_file, options, plain, range, slot}
+use Rattle.std.specs.Prelude.{ℕ}
+use Rattle.nx_program.specs.Arguments.{CommandRow, HasValues, IsKind, IsMoment, IsStation, Maker}
+use Rattle.nx_program.specs.Arguments.{TakesMoment, command_name, command_rows, on_file, options}
+use Rattle.nx_program.specs.Arguments.{plain, range, slot}
 use Rattle.nx_program.proofs.lemmas.arguments.CallValues.{file_call-is, range_call-is, range_call-kind, slot_call-is}
-use Rattle.nx_program.proofs.lemmas.arguments.CallValues.{slot_call-station}
+use Rattle.nx_program.proofs.lemmas.arguments.CallValues.{file_call-moment, slot_call-moment, slot_call-station}
 use Rattle.nx_log.specs.declared.queries.query.Query.{Query}
 use Rattle.nx_program.specs.LogArguments.{IsQuery}
 use Rattle.nx_program.proofs.lemmas.queries.QueryAsked.{query_call-is, query_call-query}
@@ -95,6 +97,17 @@ has-station call rows (inl send) given =
     slot_call-station _ rows call (made_at (codes "send") call rows send given)
 has-station call rows (inr slots) given =
     slot_call-station _ rows call (made_at (codes "slots") call rows slots given)
+
+-- a call of the name of a command that takes a moment has one
+pub has-moment : (call : Call) (rows : List Row) → TakesMoment (command_name call)
+    → HasValues call rows
+    → (moment : ℕ) × IsMoment rows moment
+has-moment call rows (inl send) given =
+    slot_call-moment _ rows call (made_at (codes "send") call rows send given)
+has-moment call rows (inr (inl slots)) given =
+    slot_call-moment _ rows call (made_at (codes "slots") call rows slots given)
+has-moment call rows (inr (inr watch)) given =
+    file_call-moment _ rows call (made_at (codes "watch") call rows watch given)
 
 pub has-kind : (call : Call) (rows : List Row) → command_name call ≡ codes "damage"
     → HasValues call rows

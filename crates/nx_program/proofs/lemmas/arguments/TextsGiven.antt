@@ -13,7 +13,7 @@ use Rattle.clap.specs.Faults.{check_fault, level_fault, use_fault}
 use Rattle.clap.specs.declared.builder.value_parser.Reading.{Reading}
 use Rattle.clap.specs.declared.parser.matches.ValueSource.{ValueSource}
 use Rattle.nx_program.proofs.lemmas.EachFound.{Each}
-use Rattle.nx_program.proofs.lemmas.arguments.NumbersGiven.{built_number, built_text, no_defaults}
+use Rattle.nx_program.proofs.lemmas.arguments.NumbersGiven.{built_text, no_defaults}
 use Rattle.nx_program.proofs.lemmas.arguments.RowsKept.{UsesWell, good-at_row, good-settled_end, good-without}
 use Rattle.nx_program.proofs.lemmas.arguments.RowsKept.{level-check}
 
@@ -57,9 +57,9 @@ module _ (id : Text) where
       texted-with_values _ _ _ _ _ (λ is. values-are i again vs rows e) (good-without
       (IsTexted id) _ _ good)
 
-  pub uses-other_number : (i : ℕ) (name : Text) (most : ℕ) → bytes_eq name id ≡ false
-      → UsesWell (IsTexted id) (built_number i name most)
-  uses-other_number i name most other again vs rows e good =
+  pub uses-other_text : (i : ℕ) (name : Text) → bytes_eq name id ≡ false
+      → UsesWell (IsTexted id) (built_text i name)
+  uses-other_text i name other again vs rows e good =
       texted-with_values _ _ _ _ _ (λ is. absurd (let no : false ≡ true = sym other
       ∙ is in cc)) (good-without (IsTexted id) _ _ good)
 

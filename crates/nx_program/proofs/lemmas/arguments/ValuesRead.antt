@@ -1,11 +1,13 @@
 -- What the values of a command are read as.
 use Rattle.std.proofs.Common.{◌≡◌, ◌≢◌, ◌∙◌, ◌<◌, ◌^◌, ℕ, List, Option, Some, None, IfSome, IfNone}
-use Rattle.std.proofs.Common.{Result, Ok, Err, ap, sym, subst}
+use Rattle.std.proofs.Common.{Result, Ok, Err, ap, codes, sym, subst}
 use Rattle.std.specs.Str.Parse.{IsNumeral, ParsesUnsigned, digits_value, without_leading_plus}
 use Rattle.clap.specs.Words.{ReadsOne, Text, first_of, first_value, one_text, rows_of}
 use Rattle.clap.specs.declared.parser.matches.Found.{Found}
 use Rattle.clap.proofs.WalkLemmas.{first_value-rows, one_text-rows}
-use Rattle.nx_program.specs.Arguments.{IsNumber}
+use Rattle.nx_program.specs.Arguments.{IsMoment, IsNumber, SaysMoment}
+use Rattle.nx_program.specs.private.Reading.{HasFitMoment, HasUnfitMoment}
+use Rattle.nx_program.proofs.lemmas.arguments.CallValues.{moment-given, moment-said}
 
 pub if_none : {X : Type 0} (o : Option X) (P : Type 0) → P → IfNone o P
 if_none None P p = p
@@ -37,6 +39,47 @@ module _ {T : Type 0} (text_of : T → Text) (name : Text) (f : Found) where
       → first_of name (rows_of f) ≡ Some (text_of x) → ⊥
   text-absent is x given =
       let bad : None ≡ Some (text_of x) = sym is ∙ (first_value-rows f name ∙ given) in
+      absurd (cc)
+
+-- a value of MOMENT, as the moment that its text says
+module _ (f : Found) where
+  moment_text : (text : Text) → first_value f (codes "MOMENT") ≡ Some text
+      → first_of (codes "MOMENT") (rows_of f) ≡ Some text
+  moment_text text is = sym (first_value-rows f (codes "MOMENT")) ∙ is
+
+  pub moment-read : (text : Text) → first_value f (codes "MOMENT") ≡ Some text → (found : Option ℕ)
+      → IfSome found (SaysMoment text) → IfSome found (IsMoment (rows_of f))
+  moment-read text is None some = tt
+  moment-read text is (Some m) some = moment-given _ text m (moment_text text is) some
+
+  pub moment-unread : (text : Text) → first_value f (codes "MOMENT") ≡ Some text
+      → (found : Option ℕ) → IfNone found ((m : ℕ) → SaysMoment text m → ⊥)
+      → IfNone found ((m : ℕ) → IsMoment (rows_of f) m → ⊥)
+  moment-unread text is None none =
+      λ m given. none m (moment-said _ text m (moment_text text is) given)
+  moment-unread text is (Some m) none = tt
+
+  pub moment-absent : first_value f (codes "MOMENT") ≡ None → (m : ℕ) → IsMoment (rows_of f) m → ⊥
+  moment-absent is m given =
+      let bad : None ≡ Some given.text =
+      sym is ∙ (first_value-rows f (codes "MOMENT") ∙ given.given) in
+      absurd (cc)
+
+  -- and as one that says none, or one
+  pub moment-unfit : (text : Text) → first_value f (codes "MOMENT") ≡ Some text
+      → ((m : ℕ) → SaysMoment text m → ⊥) → HasUnfitMoment (rows_of f) text
+  moment-unfit text is none = record { given = moment_text text is; no_moment = none }
+
+  pub moment-fit : (text : Text) (m : ℕ) → first_value f (codes "MOMENT") ≡ Some text
+      → SaysMoment text m → HasFitMoment (rows_of f)
+  moment-fit text m is said other given =
+      let same : Some text ≡ Some other = sym (moment_text text is) ∙ given in
+      let text_is : text ≡ other = cc in
+      (m, subst (λ (u : Text). SaysMoment u m) text_is said)
+
+  pub no_moment-fit : first_value f (codes "MOMENT") ≡ None → HasFitMoment (rows_of f)
+  no_moment-fit is other given =
+      let bad : None ≡ Some other = sym is ∙ (first_value-rows f (codes "MOMENT") ∙ given) in
       absurd (cc)
 
 -- a value that is a number, as the number that it is read as

@@ -162,7 +162,7 @@ call-status call.NoSlot = inr refl
 
 watch-status : (why : WatchFailure)
     → (watch_failure_status why ≡ 1) ⊎ (watch_failure_status why ≡ 2)
-watch-status (Unopened file.Open) = inl refl
+watch-status (Unopened (file.Open why)) = inl refl
 watch-status (Unopened file.Busy) = inr refl
 watch-status (Unopened file.Memory) = inl refl
 watch-status (Ended watch.Open) = inl refl

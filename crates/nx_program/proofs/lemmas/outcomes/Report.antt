@@ -25,7 +25,7 @@ use Rattle.nx_watch.specs.LinesTold.{reason_words}
 use Rattle.nx_watch.specs.declared.lines.line_effects.StartMoments.{StartMoments}
 use Rattle.nx_program.specs.declared.fault.Fault.{Fault}
 use Rattle.nx_program.specs.declared.fault.Fault.TheVariants as fault
-use Rattle.nx_program.specs.FaultText.{call_fault_line, call_text}
+use Rattle.nx_program.specs.FaultText.{call_fault_line, call_text, open_reason}
 use Rattle.nx_log.specs.LogRun.{AnswersLogRun}
 use Rattle.nx_log.specs.Notices.{HaveToldTorn, Notices, torn_notice, torn_notices}
 use Rattle.nx_log.specs.declared.log_fault.LogFault.{LogFault}
@@ -99,7 +99,10 @@ log-line name text ends = navtex-line (codes "the log " ++ (name ++ text))
     (ends-behind (codes "the log ") (name ++ text) (ends-behind name text ends))
 
 watch-line : (name : Text) (why : WatchFailure) → IsFaultLine (watch_fault_line name why)
-watch-line name (Unopened file.Open) = log-line name _ (line-of (codes " can't be opened"))
+watch-line name (Unopened (file.Open why)) =
+    log-line name (codes " can't be opened" ++ (open_reason why ++ codes "\n"))
+    (ends-behind (codes " can't be opened") (open_reason why ++ codes "\n")
+    (ends-behind (open_reason why) (codes "\n") (line-of [])))
 watch-line name (Unopened file.Busy) =
     navtex-line (codes "another watch has the log " ++ (name ++ codes "\n"))
     (ends-behind (codes "another watch has the log ") (name ++ codes "\n")

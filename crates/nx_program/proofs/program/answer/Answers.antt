@@ -1,5 +1,6 @@
 use Rattle.std.proofs.Common.{map, string_bytes}
 use Rattle.nx_program.proofs.lemmas.outcomes.Report.{answers-called, answers-reported, answers-silent}
+use Rattle.nx_program.specs.Arguments.{as_read}
 use Rattle.nx_program.specs.WatchCommand.{beside}
 use Rattle.nx_fec.specs.Transfers.{devices}
 use Rattle.nx_watch.specs.Stamps.{counted_of, stamps_of}
@@ -10,7 +11,7 @@ returns-in-Ok-clause-exits g c = rw (c.in-Ok.is, ← c.as_slice.ensures.value) c
 
 pub returns-in-Ok-clause-called : goal.returns-in-Ok-clause-called
 returns-in-Ok-clause-called g c =
-    let arguments = map string_bytes c.as_slice.result.now in
+    let arguments = as_read (map string_bytes c.as_slice.result.now) in
     let d = devices g.R.Read.remaining g.W.Write.contents (counted_of c.args.input)
     (counted_of c.exit_status.result.input) c.args.output.now c.exit_status.new.writer in
     let b = beside c.args.files g.F.LogFiles.gives c.exit_status.result.file g.F.Disk.DiskFile
@@ -23,7 +24,7 @@ returns-in-Ok-clause-called g c =
 
 pub returns-in-Ok-clause-silent : goal.returns-in-Ok-clause-silent
 returns-in-Ok-clause-silent g c =
-    let arguments = map string_bytes c.as_slice.result.now in
+    let arguments = as_read (map string_bytes c.as_slice.result.now) in
     let d = devices g.R.Read.remaining g.W.Write.contents (counted_of c.args.input)
     (counted_of c.exit_status.result.input) c.args.output.now c.exit_status.new.writer in
     let b = beside c.args.files g.F.LogFiles.gives c.exit_status.result.file g.F.Disk.DiskFile
@@ -35,7 +36,7 @@ returns-in-Ok-clause-silent g c =
 
 pub returns-in-Ok-clause-reported : goal.returns-in-Ok-clause-reported
 returns-in-Ok-clause-reported g c =
-    let arguments = map string_bytes c.as_slice.result.now in
+    let arguments = as_read (map string_bytes c.as_slice.result.now) in
     let d = devices g.R.Read.remaining g.W.Write.contents (counted_of c.args.input)
     (counted_of c.exit_status.result.input) c.args.output.now c.exit_status.new.writer in
     let b = beside c.args.files g.F.LogFiles.gives c.exit_status.result.file g.F.Disk.DiskFile

@@ -3,13 +3,14 @@ use Rattle.nx_program.proofs.lemmas.outcomes.Program.{exits-fresh, refused-exits
 use Rattle.nx_program.proofs.lemmas.outcomes.Program.{success-named, arguments-exit}
 use Rattle.nx_program.proofs.lemmas.outcomes.Report.{answers-exits, ends-none, ends-unstamped, failures-same, inner-same}
 use Rattle.nx_watch.specs.Stamps.{counted_of, stamps_of}
+use Rattle.nx_program.specs.Arguments.{as_read}
 use Rattle.nx_program.specs.Program.{fresh_device}
 use Rattle.nx_fec.specs.Transfers.{devices}
 use Rattle.nx_program.proofs.program.run.Goals as goal
 
 pub returns : goal.returns
 returns g c =
-    let arguments = map g.S.AsStr.text c.args.arguments.now in
+    let arguments = as_read (map g.S.AsStr.text c.args.arguments.now) in
     let answers = c.exit_status.ensures in
     let reader = counted_of c.exit_status.result.input in
     let left = devices g.R.Read.remaining g.W.Write.contents (counted_of c.new-reader.result) reader

@@ -1,7 +1,7 @@
 use Rattle.std.proofs.Common.{◌∙◌, ap, refl, subst, sym}
 use Rattle.nx_program.specs.Report.{Reports}
 use Rattle.nx_program.specs.Status.{status_of}
-use Rattle.nx_program.proofs.program.exit_status.Goals as goal
+use Rattle.nx_program.proofs.program.status_by_words.Goals as goal
 
 pub returns-in-Ok : goal.returns-in-Ok
 returns-in-Ok g c = record {
