@@ -3,7 +3,7 @@ PREFIX = /usr/local
 PROGRAM = crates/nx_cli/out/nx_cli
 CRATE =
 
-.PHONY: help check test ci bench install install-lib uninstall deb deb-lib clean
+.PHONY: help check test ci bench install install-lib uninstall deb deb-lib live clean
 
 help:
 	@echo 'make check CRATE=nx_sync  prove one crate, and those below it that have changed'
@@ -15,6 +15,7 @@ help:
 	@echo 'make uninstall            take them all away, but for the settings in /etc/default'
 	@echo 'make deb                  a Debian package of a static program, out/navtex_VERSION_amd64.deb; it installs nothing'
 	@echo 'make deb-lib              the same of the library for C, out/libnavtex-dev_VERSION_amd64.deb'
+	@echo 'make live                 the receiver without a heap for many machines, in out/live/; ci/live --check tries it'
 	@echo 'make clean                remove what rt keeps and makes in out/'
 	@echo "The program is built by (cd crates/nx_cli && rt run -- code), which proves it first."
 
@@ -59,6 +60,9 @@ deb:
 
 deb-lib:
 	package/deb-library
+
+live:
+	ci/live
 
 clean:
 	rm -rf out crates/*/out
