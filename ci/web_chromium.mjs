@@ -12,6 +12,7 @@ export class Chromium {
     #rest = "";
     #session;
     #errors = [];
+    #requests = [];
 
     /** Starts it with a folder for what it keeps, and opens one empty page. */
     static async start(program, folder, options = []) {
@@ -26,6 +27,7 @@ export class Chromium {
         browser.#session = sessionId;
         await browser.call("Page.enable");
         await browser.call("Runtime.enable");
+        await browser.call("Network.enable");
         return browser;
     }
 
@@ -86,6 +88,11 @@ export class Chromium {
         return this.#errors;
     }
 
+    /** What the page asked the network for. */
+    get requests() {
+        return this.#requests;
+    }
+
     async stop() {
         const ended = new Promise((resolve) => this.#process.once("exit", resolve));
         this.send("Browser.close").catch(() => {});
@@ -105,6 +112,9 @@ export class Chromium {
         if (method === "Runtime.exceptionThrown") {
             const { text, exception } = params.exceptionDetails;
             this.#errors.push(exception?.description ?? text);
+        }
+        if (method === "Network.requestWillBeSent" && !/^(data|blob|about):/.test(params.request.url)) {
+            this.#requests.push(params.request.url);
         }
         if (method === "Runtime.consoleAPICalled" && params.type === "error") {
             this.#errors.push(params.args.map((one) => one.description ?? one.value).join(" "));

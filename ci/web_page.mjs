@@ -2,6 +2,7 @@
 // usage: node ci/web_page.mjs CHROMIUM ROOM [PICTURES]    ROOM has navtex.html
 import assert from "node:assert/strict";
 import { existsSync, mkdirSync, readFileSync, writeFileSync } from "node:fs";
+import { createServer } from "node:http";
 import { setTimeout as pause } from "node:timers/promises";
 import { pathToFileURL } from "node:url";
 import { Chromium } from "./web_chromium.mjs";
@@ -155,6 +156,43 @@ async function triesLogs() {
     assert.equal((await titles()).length, count);
 }
 
+/** The two lines by the keys, and the number beside them. */
+async function triesTones() {
+    const key = (name) => browser.value("document.getElementById('waterfall')"
+        + `.dispatchEvent(new KeyboardEvent('keydown', { key: '${name}', cancelable: true }))`);
+    const middle = () => browser.value("Number(document.getElementById('middle').value)");
+    const before = await middle();
+    await key("ArrowRight");
+    await key("PageDown");
+    assert.equal(await middle(), before + 5 - 50);
+    assert.equal(await browser.value("document.getElementById('search').checked"), false);
+    await press("#search");
+}
+
+/** Each thing that can be used has a name that a screen reader says. */
+async function triesNames() {
+    const used = new Set(["button", "checkbox", "combobox", "slider", "spinbutton", "textbox", "link", "meter"]);
+    const { nodes } = await browser.call("Accessibility.getFullAXTree");
+    const found = nodes.filter(({ ignored, role }) => !ignored && used.has(role?.value));
+    assert.ok(found.length > 10);
+    for (const { role, name } of found) assert.ok(name?.value, `a ${role.value} has no name`);
+}
+
+/** From a web server it is the same page. */
+async function triesServer() {
+    const server = createServer((_, answer) => {
+        answer.setHeader("Content-Type", "text/html");
+        answer.end(readFileSync(`${room}/navtex.html`));
+    });
+    await new Promise((resolve) => server.listen(0, "127.0.0.1", resolve));
+    await browser.open(`http://127.0.0.1:${server.address().port}/navtex.html`);
+    await ready();
+    await hear(path("ea01.air"));
+    assert.equal((await titles()).length, 1);
+    server.close();
+    server.closeAllConnections();
+}
+
 async function triesMicrophone() {
     const count = (await titles()).length;
     await press("#microphone");
@@ -193,11 +231,15 @@ try {
     await triesRefusal();
     await triesFaults();
     await triesLogs();
+    await triesTones();
+    await triesNames();
     await triesMicrophone();
     if (pictures) await keepPictures();
     await press("#stop");
     await browser.until("document.getElementById('source').textContent === 'The microphone was stopped.'");
     await triesNoLeave();
+    assert.deepEqual(browser.requests.filter((address) => address !== PAGE), []);
+    await triesServer();
     assert.deepEqual(browser.errors, []);
 } finally {
     await browser.stop();

@@ -24,7 +24,8 @@ export function titleOf(message) {
 }
 
 function countOf(message) {
-    if (message.errors === 0) return `no letter of ${message.characters} lost`;
+    if (message.characters === 0) return "without a text";
+    if (message.errors === 0) return `none of ${message.characters} letters lost`;
     return `${message.errors} of ${message.characters} letters lost`;
 }
 
@@ -44,8 +45,7 @@ function itemOf(message, onRead) {
     time.dateTime = message.time.replace(" ", "T") + "Z";
     const facts = made("p", "facts", time,
         `, ${FREQUENCIES[message.channel]}, ${ENDS[message.how]}, ${countOf(message)}`);
-    const text = message.text === "" ? made("p", "facts", "It has no text.")
-        : made("pre", "", ...textWithMarks(message.text.replace(/\n$/, "")));
+    const text = made("pre", "", ...textWithMarks(message.text.replace(/\n$/, "")));
     const item = made("li", `message ${message.how}`, made("article", "", title, facts, text));
     if (!message.isRead) addUnread(item, title, message, onRead);
     return item;

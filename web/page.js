@@ -138,6 +138,9 @@ class Page {
         document.addEventListener("dragleave", () => find("drop").classList.remove("over"));
         document.addEventListener("drop", (event) => this.#drop(event));
         find("channel").addEventListener("change", () => this.#showChoices());
+        window.addEventListener("beforeunload", (event) => {
+            if (this.#listening !== null) event.preventDefault(); // what is being heard would be lost
+        });
     }
 
     #drop(event) {
@@ -173,10 +176,10 @@ class Page {
     async #hearFile(kind, bytes, name) {
         const began = momentIn(find("began"));
         const sound = kind === "sound" ? await samplesOf(bytes) : null;
-        this.#begin(`Hearing ${name}.`);
+        const listening = this.#begin(`Hearing ${name}.`);
         try {
-            this.#running = sound === null ? this.#listening.hearAir(asText(bytes), this.#channel)
-                : this.#listening.hearRecording(sound, began, this.#channel, this.#tuning);
+            this.#running = sound === null ? listening.hearAir(asText(bytes), this.#channel)
+                : listening.hearRecording(sound, began, this.#channel, this.#tuning);
             const said = await this.#running;
             this.#end(said.isStopped ? `${name} was stopped.` : `Heard ${name}.`, said);
         } catch (fault) {
@@ -187,14 +190,14 @@ class Page {
 
     async #hearMicrophone() {
         await this.#stop();
-        this.#begin("Asking for the microphone.");
+        const listening = this.#begin("Asking for the microphone.");
         try {
-            await this.#listening.hearMicrophone(this.#channel, this.#tuning, () => this.#try(() => this.#lose()));
+            await listening.hearMicrophone(this.#channel, this.#tuning, () => this.#try(() => this.#lose()));
         } catch (fault) {
-            this.#end(IDLE, null);
+            if (this.#listening === listening) this.#end(IDLE, null);
             throw fault;
         }
-        if (this.#listening === null) return;
+        if (this.#listening !== listening) return; // it was stopped while the browser asked
         find("source").textContent = `Hearing the microphone, on ${FREQUENCIES[this.#channel]}.`;
         this.#wake = await navigator.wakeLock?.request("screen").catch(() => null);
     }
@@ -228,6 +231,7 @@ class Page {
         find("source").textContent = text;
         find("stop").disabled = false;
         find("microphone").disabled = true;
+        return this.#listening;
     }
 
     /** Shows that a sound or a file is over, and which of its lines had no effect. */
