@@ -1,33 +1,33 @@
 // Tries what the scripts of web/ make of the module of the receiver.
 // usage: node ci/web_module.mjs MODULE [PROGRAM]
-import assert from "node:assert/strict";
-import { spawnSync } from "node:child_process";
-import { readFileSync, readdirSync } from "node:fs";
-import { AirRun, LineSplitter, readLine } from "../web/air.js";
-import { entryAt, isGood, jsonOf, momentOf, readLog } from "../web/entries.js";
-import { KeptReceiver } from "../web/kept.js";
-import { Look } from "../web/look.js";
-import { Receiver, ReceiverFault, Status } from "../web/receiver.js";
-import { EMPTY_STATE, readState, stateAt, stateWith, writeState } from "../web/state.js";
-import { Store } from "../web/store.js";
+import assert from 'node:assert/strict';
+import { spawnSync } from 'node:child_process';
+import { readFileSync, readdirSync } from 'node:fs';
+import { AirRun, LineSplitter, readLine } from '../web/air.js';
+import { entryAt, isGood, jsonOf, momentOf, readLog } from '../web/entries.js';
+import { KeptReceiver } from '../web/kept.js';
+import { Look } from '../web/look.js';
+import { Receiver, ReceiverFault, Status } from '../web/receiver.js';
+import { EMPTY_STATE, readState, stateAt, stateWith, writeState } from '../web/state.js';
+import { Store } from '../web/store.js';
 
-const EXAMPLES = new URL("../examples/", import.meta.url);
+const EXAMPLES = new URL('../examples/', import.meta.url);
 const PIECES = [Infinity, 1, 7, 4096];
 const FAR = 32503680000; // later than every moment
 
 const [, , modulePath, program] = process.argv;
 const module = readFileSync(modulePath);
-const example = (name) => readFileSync(new URL(name, EXAMPLES), "latin1");
-const names = readdirSync(EXAMPLES).filter((name) => name.endsWith(".log")).map((name) => name.slice(0, -4));
+const example = (name) => readFileSync(new URL(name, EXAMPLES), 'latin1');
+const names = readdirSync(EXAMPLES).filter((name) => name.endsWith('.log')).map((name) => name.slice(0, -4));
 
 /** The lines of an air file, those of elements that follow each other on a channel joined to one. */
 function joinedLines(air) {
-    const said = air.split("\n").slice(0, -1).map(readLine);
+    const said = air.split('\n').slice(0, -1).map(readLine);
     assert.ok(said.every((line) => line !== null));
     const joined = [];
     for (const line of said) {
         const last = joined.at(-1);
-        if (line.kind === "elements" && last?.kind === "elements" && last.channel === line.channel) {
+        if (line.kind === 'elements' && last?.kind === 'elements' && last.channel === line.channel) {
             last.elements = Uint8Array.from([...last.elements, ...line.elements]);
         } else {
             joined.push(line);
@@ -40,8 +40,8 @@ function joinedLines(air) {
 function logInPieces(receiver, air, piece) {
     const entries = [];
     for (const line of joinedLines(air)) {
-        if (line.kind === "moment") receiver.setMoment(line.moment);
-        else if (line.kind === "choice") receiver[line.call](line.channel, line.letter);
+        if (line.kind === 'moment') receiver.setMoment(line.moment);
+        else if (line.kind === 'choice') receiver[line.call](line.channel, line.letter);
         else {
             const size = Math.min(piece, line.elements.length);
             for (let at = 0; at < line.elements.length; at += size) {
@@ -57,7 +57,7 @@ async function triesExamples() {
     for (const name of names) {
         for (const piece of PIECES) {
             receiver.open(0);
-            const log = [...logInPieces(receiver, example(`${name}.air`), piece), ...receiver.close()].join("");
+            const log = [...logInPieces(receiver, example(`${name}.air`), piece), ...receiver.close()].join('');
             assert.equal(log, example(`${name}.log`), `${name}, in pieces of ${piece}`);
         }
     }
@@ -76,7 +76,7 @@ async function triesTextInPieces() {
                 for (const line of splitter.push(air.slice(at, at + piece))) entries.push(...run.take(line));
             }
             assert.equal(run.withoutEffect, 0);
-            const log = [...entries, ...receiver.close()].join("");
+            const log = [...entries, ...receiver.close()].join('');
             assert.equal(log, example(`${name}.log`), `${name}, its text in pieces of ${piece}`);
         }
     }
@@ -85,12 +85,12 @@ async function triesTextInPieces() {
 async function triesWeek() {
     const receiver = await Receiver.load(module);
     for (const piece of PIECES) {
-        let state = example("week/0.state");
+        let state = example('week/0.state');
         for (let day = 1; day <= 7; day++) {
             receiver.openFrom(state);
             const entries = logInPieces(receiver, example(`week/${day}.air`), piece);
             state = receiver.save();
-            const log = [...entries, ...receiver.close()].join("");
+            const log = [...entries, ...receiver.close()].join('');
             assert.equal(log, example(`week/${day}.log`), `week/${day}, in pieces of ${piece}`);
             assert.equal(state, example(`week/${day}.state`), `week/${day}, in pieces of ${piece}`);
         }
@@ -99,7 +99,7 @@ async function triesWeek() {
 
 /** What the page reads and writes itself: states, and what a log remembers. */
 function triesStates() {
-    assert.equal(writeState(readState(example("week/0.state"))), EMPTY_STATE);
+    assert.equal(writeState(readState(example('week/0.state'))), EMPTY_STATE);
     for (let day = 1; day <= 7; day++) {
         const state = example(`week/${day}.state`);
         assert.equal(writeState(readState(state)), state);
@@ -108,8 +108,8 @@ function triesStates() {
         const remembered = readState(stateWith(example(`week/${day - 1}.state`), entries));
         assert.deepEqual(remembered.map((one) => one.remembered), readState(state).map((one) => one.remembered));
     }
-    const ahead = "STATE 2\nC0\nEA01 1735929600\nEA02 1735929601\nC1\nC2\nEND\n";
-    assert.equal(stateAt(ahead, 1735692001), ahead.replace("EA02 1735929601\n", ""));
+    const ahead = 'STATE 2\nC0\nEA01 1735929600\nEA02 1735929601\nC1\nC2\nEND\n';
+    assert.equal(stateAt(ahead, 1735692001), ahead.replace('EA02 1735929601\n', ''));
 }
 
 async function triesFaults() {
@@ -124,14 +124,14 @@ async function triesFaults() {
         return Status.DONE;
     };
     assert.equal(faultOf(() => receiver.setMoment(1)), Status.CLOSED);
-    assert.equal(faultOf(() => receiver.openFrom("STATE 2\n")), Status.STATE_CUT);
-    assert.equal(faultOf(() => receiver.openFrom("Buoy\n")), Status.STATE_LINE);
+    assert.equal(faultOf(() => receiver.openFrom('STATE 2\n')), Status.STATE_CUT);
+    assert.equal(faultOf(() => receiver.openFrom('Buoy\n')), Status.STATE_LINE);
     receiver.open(1735692000);
     assert.equal(faultOf(() => receiver.open(1735692000)), Status.ALREADY_OPEN);
     assert.equal(faultOf(() => receiver.setMoment(1735691999)), Status.MOMENT_BACK);
     assert.equal(faultOf(() => receiver.setMoment(FAR)), Status.MOMENT_RANGE);
-    assert.equal(faultOf(() => receiver.refuseSubject(0, "L")), Status.VITAL);
-    assert.equal(faultOf(() => receiver.refuseStation(0, "a")), Status.NO_STATION);
+    assert.equal(faultOf(() => receiver.refuseSubject(0, 'L')), Status.VITAL);
+    assert.equal(faultOf(() => receiver.refuseStation(0, 'a')), Status.NO_STATION);
     assert.equal(faultOf(() => receiver.hear(3, new Uint8Array(1))), Status.NO_CHANNEL);
     assert.equal(faultOf(() => receiver.hear(0, Uint8Array.of(2))), Status.NO_ELEMENT);
     receiver.abandon();
@@ -148,53 +148,53 @@ async function triesKeeping() {
     const now = 1735700000;
     const hear = (kept, air) => {
         const run = kept.run(now);
-        const found = air.split("\n").slice(0, -1).flatMap((line) => kept.keep(run.take(line)));
-        return [...found, ...kept.endOfSound(now)].map(({ log }) => log).join("");
+        const found = air.split('\n').slice(0, -1).flatMap((line) => kept.keep(run.take(line)));
+        return [...found, ...kept.endOfSound(now)].map(({ log }) => log).join('');
     };
     const faults = [];
     const opened = async (store) =>
         new KeptReceiver(await Receiver.load(module), new Store(store), now, (fault) => faults.push(fault));
     const store = storage();
     const kept = await opened(store);
-    kept.choose("Station", 1, "B", true);
-    assert.equal(hear(kept, example("ea01.air")), example("ea01.log"));
+    kept.choose('Station', 1, 'B', true);
+    assert.equal(hear(kept, example('ea01.air')), example('ea01.log'));
     const later = await opened(store);
     assert.equal(later.messages.length, 1);
-    assert.deepEqual(later.refused[1].stations, ["B"]);
-    assert.equal(hear(later, example("ea01.air")), "");
+    assert.deepEqual(later.refused[1].stations, ['B']);
+    assert.equal(hear(later, example('ea01.air')), '');
     const other = await opened(storage());
     assert.deepEqual(other.load(` \n${example("ea01.log")} `, now), { found: 1, added: 1, stray: null });
-    assert.equal(hear(other, example("ea01.air")), "");
+    assert.equal(hear(other, example('ea01.air')), '');
     other.beginAnew(now);
-    assert.equal(hear(other, example("cut.air")), example("cut.log"));
+    assert.equal(hear(other, example('cut.air')), example('cut.log'));
     assert.deepEqual(faults, []);
-    const full = await opened({ getItem: () => null, setItem: () => { throw new Error("full"); } });
-    assert.equal(hear(full, example("ea01.air")), example("ea01.log"));
+    const full = await opened({ getItem: () => null, setItem: () => { throw new Error('full'); } });
+    assert.equal(hear(full, example('ea01.air')), example('ea01.log'));
     assert.equal(faults.length, 1);
     assert.equal(full.messages.length, 1);
 }
 
 function triesLogs() {
-    const all = names.map((name) => example(`${name}.log`)).join("");
+    const all = names.map((name) => example(`${name}.log`)).join('');
     const { entries, stray } = readLog(all);
     assert.equal(stray, null);
-    assert.equal(entries.map(({ log }) => log).join(""), all);
+    assert.equal(entries.map(({ log }) => log).join(''), all);
     assert.equal(readLog(`x\n${all}[EA01 2025-\n${all}`).entries.length, 2 * entries.length);
     assert.equal(readLog(`\n\n[EA01 2025-\n${all}`).stray, 3);
-    assert.equal(momentOf("2025-02-30 00:00:00"), null);
-    assert.equal(entryAt(example("heard-badly.log")).errors, 1);
-    assert.ok(!isGood(entryAt(example("heard-badly.log"))));
-    assert.equal(jsonOf(entryAt(example("ea01.log"))), '{"channel":0,"characters":5,"end":"full","errors":0,'
+    assert.equal(momentOf('2025-02-30 00:00:00'), null);
+    assert.equal(entryAt(example('heard-badly.log')).errors, 1);
+    assert.ok(!isGood(entryAt(example('heard-badly.log'))));
+    assert.equal(jsonOf(entryAt(example('ea01.log'))), '{"channel":0,"characters":5,"end":"full","errors":0,'
         + '"moment":1735692000,"number":1,"station":"E","subject":"A","text":"TEST\\n","time":"2025-01-01T00:40:00Z"}');
     if (!program) return;
-    const { stdout, status } = spawnSync(program, ["log", "--json"], { input: all, encoding: "latin1" });
+    const { stdout, status } = spawnSync(program, ['log', '--json'], { input: all, encoding: 'latin1' });
     assert.equal(status, 0);
-    assert.equal(entries.map((entry) => `${jsonOf(entry)}\n`).join(""), stdout);
+    assert.equal(entries.map((entry) => `${jsonOf(entry)}\n`).join(''), stdout);
 }
 
 function triesLook() {
-    const digits = [...example("half-damaged.air").matchAll(/^B ([01]+)$/gm)].map(([, bits]) => bits).join("");
-    assert.equal(new Look().push(digits), "\nZCZC EA01\nTEST\nNNNN\n\n");
+    const digits = [...example('half-damaged.air').matchAll(/^B ([01]+)$/gm)].map(([, bits]) => bits).join('');
+    assert.equal(new Look().push(digits), '\nZCZC EA01\nTEST\nNNNN\n\n');
 }
 
 triesStates();

@@ -1,29 +1,29 @@
 // Tries the page as somebody uses it, in a Chromium without a window.
 // usage: node ci/web_page.mjs CHROMIUM ROOM [PICTURES]    ROOM has navtex.html
-import assert from "node:assert/strict";
-import { existsSync, mkdirSync, readFileSync, writeFileSync } from "node:fs";
-import { createServer } from "node:http";
-import { setTimeout as pause } from "node:timers/promises";
-import { pathToFileURL } from "node:url";
-import { Chromium } from "./web_chromium.mjs";
+import assert from 'node:assert/strict';
+import { existsSync, mkdirSync, readFileSync, writeFileSync } from 'node:fs';
+import { createServer } from 'node:http';
+import { setTimeout as pause } from 'node:timers/promises';
+import { pathToFileURL } from 'node:url';
+import { Chromium } from './web_chromium.mjs';
 
 const [, , program, room, pictures] = process.argv;
 const PAGE = pathToFileURL(`${room}/navtex.html`).href;
-const EXAMPLES = new URL("../examples/", import.meta.url);
+const EXAMPLES = new URL('../examples/', import.meta.url);
 const RATE = 48000;
 const SILENCE = 1; // seconds before and behind an emission
 const HEARD = 60000; // milliseconds in which an emission is heard by the microphone
 
 const path = (name) => new URL(name, EXAMPLES).pathname;
-const example = (name) => readFileSync(new URL(name, EXAMPLES), "latin1");
+const example = (name) => readFileSync(new URL(name, EXAMPLES), 'latin1');
 
 /** A WAV file of two tones, as a radio gives them: the upper one is 1. */
 function waveOf(air, centre) {
-    const bits = [...air.matchAll(/^B ([01]+)$/gm)].map(([, digits]) => digits).join("");
+    const bits = [...air.matchAll(/^B ([01]+)$/gm)].map(([, digits]) => digits).join('');
     const samples = new Int16Array((bits.length / 100 + 2 * SILENCE) * RATE);
     let turn = 0;
     for (let at = 0; at < bits.length * (RATE / 100); at++) {
-        turn += (centre + (bits[Math.floor((at * 100) / RATE)] === "1" ? 85 : -85)) / RATE;
+        turn += (centre + (bits[Math.floor((at * 100) / RATE)] === '1' ? 85 : -85)) / RATE;
         samples[at + SILENCE * RATE] = 6000 * Math.sin(2 * Math.PI * turn);
     }
     return Buffer.concat([waveHead(samples.byteLength), Buffer.from(samples.buffer)]);
@@ -31,9 +31,9 @@ function waveOf(air, centre) {
 
 function waveHead(length) {
     const head = Buffer.alloc(44);
-    head.write("RIFF", 0);
+    head.write('RIFF', 0);
     head.writeUInt32LE(36 + length, 4);
-    head.write("WAVEfmt ", 8);
+    head.write('WAVEfmt ', 8);
     head.writeUInt32LE(16, 16);
     head.writeUInt16LE(1, 20);
     head.writeUInt16LE(1, 22);
@@ -41,7 +41,7 @@ function waveHead(length) {
     head.writeUInt32LE(2 * RATE, 28);
     head.writeUInt16LE(2, 32);
     head.writeUInt16LE(16, 34);
-    head.write("data", 36);
+    head.write('data', 36);
     head.writeUInt32LE(length, 40);
     return head;
 }
@@ -57,7 +57,7 @@ const forgetFaults = () => browser.value("document.querySelectorAll('.fault butt
 /** Opens a file by the page's dialog, and waits until it was heard. */
 async function hear(file) {
     await browser.value("document.getElementById('source').textContent = ''");
-    await browser.giveFiles("#file", file);
+    await browser.giveFiles('#file', file);
     await browser.until("document.getElementById('source').textContent.startsWith('Heard')");
 }
 
@@ -70,20 +70,20 @@ async function expectFault(words, action) {
 }
 
 async function load() {
-    await browser.open("about:blank");
+    await browser.open('about:blank');
     await browser.open(PAGE);
     await ready();
 }
 
 async function triesAirFile() {
-    await hear(path("heard-badly.air"));
+    await hear(path('heard-badly.air'));
     const shown = await titles();
     assert.equal(shown.length, 2);
     assert.match(shown[0], /^New EA01: station E, A navigational warning, number 01$/);
     assert.equal(await browser.value("document.querySelectorAll('mark.lost').length"), 1);
     assert.match(await browser.value("document.getElementById('look').textContent"), /ZCZC EA01/);
     assert.match(await browser.value("document.getElementById('counts').textContent"), /^2 messages, 2 not read yet$/);
-    await press(".unread button");
+    await press('.unread button');
     assert.match(await browser.value("document.getElementById('counts').textContent"), /^2 messages, 1 not read yet$/);
 }
 
@@ -91,16 +91,16 @@ async function triesReload() {
     await load();
     assert.equal((await titles()).length, 2);
     assert.match(await browser.value("document.getElementById('counts').textContent"), /^2 messages, 1 not read yet$/);
-    await hear(path("ea01.air"));
+    await hear(path('ea01.air'));
     assert.equal((await titles()).length, 2);
     await expectFault(/^Lines without effect: 1\. The first is line 1: the time is before/,
-        () => hear(path("ea01.air")));
+        () => hear(path('ea01.air')));
 }
 
 async function triesRecording() {
-    const [, first] = example("two-messages.air").split(/^T .*\n/m);
+    const [, first] = example('two-messages.air').split(/^T .*\n/m);
     writeFileSync(`${room}/two-messages.wav`, waveOf(first, 1437));
-    await began("2025-01-05 00:40");
+    await began('2025-01-05 00:40');
     await hear(`${room}/two-messages.wav`);
     const shown = await titles();
     assert.equal(shown.length, 4);
@@ -112,13 +112,13 @@ async function triesRefusal() {
     const labels = "[...document.querySelectorAll('#stations label')]";
     const box = `${labels}.find((one) => one.textContent === ' E').firstChild`;
     await browser.value(`${box}.click()`);
-    await hear(path("number-00.air"));
+    await hear(path('number-00.air'));
     await forgetFaults();
     assert.equal((await titles()).length, 4);
     await load();
     assert.equal(await browser.value(`${box}.checked`), true);
     await browser.value(`${box}.click()`);
-    await hear(path("number-00.air"));
+    await hear(path('number-00.air'));
     await forgetFaults();
     assert.equal((await titles()).length, 7);
     const vital = "[...document.querySelectorAll('#subjects input')].filter((one) => one.disabled).length";
@@ -126,32 +126,32 @@ async function triesRefusal() {
 }
 
 async function triesFaults() {
-    writeFileSync(`${room}/note.txt`, "Buoy 7 is unlit\n");
+    writeFileSync(`${room}/note.txt`, 'Buoy 7 is unlit\n');
     writeFileSync(`${room}/noise.bin`, Buffer.from(Array.from({ length: 5000 }, (_, at) => (at * at) % 251)));
-    writeFileSync(`${room}/empty.wav`, "");
-    await expectFault(/neither an air file nor a log/, () => browser.giveFiles("#file", `${room}/note.txt`));
-    await expectFault(/no sound that the browser can decode/, () => browser.giveFiles("#file", `${room}/noise.bin`));
-    await expectFault(/file is empty/, () => browser.giveFiles("#file", `${room}/empty.wav`));
-    await began("yesterday");
-    await expectFault(/has to be a time of UTC/, () => browser.giveFiles("#file", path("ea01.air")));
-    await began("");
-    await expectFault(/has no message/, () => browser.giveFiles("#load-log", `${room}/note.txt`));
+    writeFileSync(`${room}/empty.wav`, '');
+    await expectFault(/neither an air file nor a log/, () => browser.giveFiles('#file', `${room}/note.txt`));
+    await expectFault(/no sound that the browser can decode/, () => browser.giveFiles('#file', `${room}/noise.bin`));
+    await expectFault(/file is empty/, () => browser.giveFiles('#file', `${room}/empty.wav`));
+    await began('yesterday');
+    await expectFault(/has to be a time of UTC/, () => browser.giveFiles('#file', path('ea01.air')));
+    await began('');
+    await expectFault(/has no message/, () => browser.giveFiles('#load-log', `${room}/note.txt`));
 }
 
 /** The log as a file, and what another page that takes it remembers. */
 async function triesLogs() {
-    await browser.send("Browser.setDownloadBehavior", { behavior: "allow", downloadPath: room });
+    await browser.send('Browser.setDownloadBehavior', { behavior: 'allow', downloadPath: room });
     const count = (await titles()).length;
-    await press("#save-log");
+    await press('#save-log');
     for (let tried = 0; tried < 50 && !existsSync(`${room}/navtex.log`); tried++) await pause(100);
-    const log = readFileSync(`${room}/navtex.log`, "latin1");
-    assert.ok(log.startsWith(example("heard-badly.log")));
-    await browser.value("window.confirm = () => true");
-    await press("#anew");
+    const log = readFileSync(`${room}/navtex.log`, 'latin1');
+    assert.ok(log.startsWith(example('heard-badly.log')));
+    await browser.value('window.confirm = () => true');
+    await press('#anew');
     await browser.until("document.querySelectorAll('#list li').length === 0");
-    await browser.giveFiles("#load-log", `${room}/navtex.log`);
+    await browser.giveFiles('#load-log', `${room}/navtex.log`);
     await browser.until(`document.querySelectorAll('#list li').length === ${count}`);
-    await hear(path("ea01.air"));
+    await hear(path('ea01.air'));
     await forgetFaults();
     assert.equal((await titles()).length, count);
 }
@@ -162,17 +162,17 @@ async function triesTones() {
         + `.dispatchEvent(new KeyboardEvent('keydown', { key: '${name}', cancelable: true }))`);
     const middle = () => browser.value("Number(document.getElementById('middle').value)");
     const before = await middle();
-    await key("ArrowRight");
-    await key("PageDown");
+    await key('ArrowRight');
+    await key('PageDown');
     assert.equal(await middle(), before + 5 - 50);
     assert.equal(await browser.value("document.getElementById('search').checked"), false);
-    await press("#search");
+    await press('#search');
 }
 
 /** Each thing that can be used has a name that a screen reader says. */
 async function triesNames() {
-    const used = new Set(["button", "checkbox", "combobox", "slider", "spinbutton", "textbox", "link", "meter"]);
-    const { nodes } = await browser.call("Accessibility.getFullAXTree");
+    const used = new Set(['button', 'checkbox', 'combobox', 'slider', 'spinbutton', 'textbox', 'link', 'meter']);
+    const { nodes } = await browser.call('Accessibility.getFullAXTree');
     const found = nodes.filter(({ ignored, role }) => !ignored && used.has(role?.value));
     assert.ok(found.length > 10);
     for (const { role, name } of found) assert.ok(name?.value, `a ${role.value} has no name`);
@@ -181,13 +181,13 @@ async function triesNames() {
 /** From a web server it is the same page. */
 async function triesServer() {
     const server = createServer((_, answer) => {
-        answer.setHeader("Content-Type", "text/html");
+        answer.setHeader('Content-Type', 'text/html');
         answer.end(readFileSync(`${room}/navtex.html`));
     });
-    await new Promise((resolve) => server.listen(0, "127.0.0.1", resolve));
+    await new Promise((resolve) => server.listen(0, '127.0.0.1', resolve));
     await browser.open(`http://127.0.0.1:${server.address().port}/navtex.html`);
     await ready();
-    await hear(path("ea01.air"));
+    await hear(path('ea01.air'));
     assert.equal((await titles()).length, 1);
     server.close();
     server.closeAllConnections();
@@ -195,7 +195,7 @@ async function triesServer() {
 
 async function triesMicrophone() {
     const count = (await titles()).length;
-    await press("#microphone");
+    await press('#microphone');
     await browser.until("document.getElementById('source').textContent.startsWith('Hearing the microphone')");
     await browser.until("document.getElementById('lock').textContent === 'locked'", HEARD);
     await browser.until(`document.querySelectorAll('#list li').length === ${count + 2}`, HEARD);
@@ -203,26 +203,26 @@ async function triesMicrophone() {
 }
 
 async function triesNoLeave() {
-    await browser.send("Browser.setPermission", { permission: { name: "microphone" }, setting: "denied" });
-    await expectFault(/no leave to use the microphone/, () => press("#microphone"));
+    await browser.send('Browser.setPermission', { permission: { name: 'microphone' }, setting: 'denied' });
+    await expectFault(/no leave to use the microphone/, () => press('#microphone'));
 }
 
 async function keepPictures() {
     mkdirSync(pictures, { recursive: true });
     const keep = async (name, ...size) => writeFileSync(`${pictures}/${name}.png`, await browser.picture(...size));
-    await keep("day", 1000, 1100, false);
-    await keep("phone", 390, 844, true);
-    await press("#night");
-    await keep("night", 1000, 1100, false);
-    await press("#large");
-    await keep("large", 390, 844, true);
-    await press("#large");
-    await press("#night");
+    await keep('day', 1000, 1100, false);
+    await keep('phone', 390, 844, true);
+    await press('#night');
+    await keep('night', 1000, 1100, false);
+    await press('#large');
+    await keep('large', 390, 844, true);
+    await press('#large');
+    await press('#night');
 }
 
-writeFileSync(`${room}/microphone.wav`, waveOf(example("refused.air"), 1000));
-browser = await Chromium.start(program, `${room}/browser`, ["--use-fake-ui-for-media-stream",
-    "--use-fake-device-for-media-stream", `--use-file-for-fake-audio-capture=${room}/microphone.wav`]);
+writeFileSync(`${room}/microphone.wav`, waveOf(example('refused.air'), 1000));
+browser = await Chromium.start(program, `${room}/browser`, ['--use-fake-ui-for-media-stream',
+    '--use-fake-device-for-media-stream', `--use-file-for-fake-audio-capture=${room}/microphone.wav`]);
 try {
     await load();
     await triesAirFile();
@@ -235,7 +235,7 @@ try {
     await triesNames();
     await triesMicrophone();
     if (pictures) await keepPictures();
-    await press("#stop");
+    await press('#stop');
     await browser.until("document.getElementById('source').textContent === 'The microphone was stopped.'");
     await triesNoLeave();
     assert.deepEqual(browser.requests.filter((address) => address !== PAGE), []);

@@ -1,35 +1,35 @@
 // The lines of an air file, and what a receiver does with them: as `navtex watch` takes them, a line
 // that isn't understood has no effect, and neither has a moment that goes back.
-import { ReceiverFault } from "./receiver.js";
+import { ReceiverFault } from './receiver.js';
 
 const LONGEST = 514; // characters of a line without its end
-const SELECTING = { RS: "refuseStation", AS: "acceptStation", RJ: "refuseSubject", AJ: "acceptSubject" };
+const SELECTING = { RS: 'refuseStation', AS: 'acceptStation', RJ: 'refuseSubject', AJ: 'acceptSubject' };
 
 /** What a line says: a moment, elements of a channel or a choice; null where it says nothing. */
 export function readLine(line) {
     if (line.length > LONGEST) return null;
     let found = /^T (0|[1-9]\d{0,10})$/.exec(line);
-    if (found) return { kind: "moment", moment: Number(found[1]) };
+    if (found) return { kind: 'moment', moment: Number(found[1]) };
     found = /^B([012]?) ([01]{1,512})$/.exec(line);
-    if (found) return { kind: "elements", channel: Number(found[1]), elements: elementsOf(found[2]) };
+    if (found) return { kind: 'elements', channel: Number(found[1]), elements: elementsOf(found[2]) };
     found = /^(RS|AS|RJ|AJ)([012]?) ([A-Z])$/.exec(line);
     if (found) {
-        return { kind: "choice", call: SELECTING[found[1]], channel: Number(found[2]), letter: found[3] };
+        return { kind: 'choice', call: SELECTING[found[1]], channel: Number(found[2]), letter: found[3] };
     }
     return null;
 }
 
 /** Digits as elements: a byte each, 1 for B. */
 export function elementsOf(digits) {
-    return Uint8Array.from(digits, (digit) => (digit === "1" ? 1 : 0));
+    return Uint8Array.from(digits, (digit) => (digit === '1' ? 1 : 0));
 }
 
 /** Cuts text that comes in pieces into lines. */
 export class LineSplitter {
-    #rest = "";
+    #rest = '';
 
     push(text) {
-        const lines = (this.#rest + text).split("\n");
+        const lines = (this.#rest + text).split('\n');
         this.#rest = lines.pop();
         return lines;
     }
@@ -58,7 +58,7 @@ export class AirRun {
     take(line) {
         this.lines += 1;
         const said = readLine(line);
-        if (said === null) return this.#passOver("it is not understood");
+        if (said === null) return this.#passOver('it is not understood');
         try {
             return this.#act(said);
         } catch (fault) {
@@ -68,11 +68,11 @@ export class AirRun {
     }
 
     #act(said) {
-        if (said.kind === "elements") {
+        if (said.kind === 'elements') {
             this.#begin();
             return this.#receiver.hear(said.channel, said.elements);
         }
-        if (said.kind === "moment") {
+        if (said.kind === 'moment') {
             this.#receiver.setMoment(said.moment);
             this.#start = null;
         } else {

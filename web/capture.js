@@ -8,7 +8,7 @@ export class SoundFault extends Error {}
 
 /** The samples of a file that the browser can decode: both sides of a stereo sound are added. */
 export async function samplesOf(bytes) {
-    if (typeof OfflineAudioContext === "undefined") {
+    if (typeof OfflineAudioContext === 'undefined') {
         throw new SoundFault("This browser can't decode sound. A current Firefox, Chrome, Edge or Safari can.");
     }
     const context = new OfflineAudioContext(1, 1, FILE_RATE);
@@ -16,7 +16,7 @@ export async function samplesOf(bytes) {
     try {
         sound = await context.decodeAudioData(bytes);
     } catch {
-        throw new SoundFault("This file is no sound that the browser can decode. WAV, MP3, FLAC and Ogg mostly are.");
+        throw new SoundFault('This file is no sound that the browser can decode. WAV, MP3, FLAC and Ogg mostly are.');
     }
     return { rate: sound.sampleRate, samples: added(sound) };
 }
@@ -51,9 +51,9 @@ registerProcessor("gatherer", class extends AudioWorkletProcessor {
 });`;
 
 const REFUSED = {
-    NotAllowedError: "The browser got no leave to use the microphone. Allow it in the settings of this page.",
-    SecurityError: "The browser gives this page no microphone. Open it from a disk or by https.",
-    NotFoundError: "No microphone was found. Is one connected?",
+    NotAllowedError: 'The browser got no leave to use the microphone. Allow it in the settings of this page.',
+    SecurityError: 'The browser gives this page no microphone. Open it from a disk or by https.',
+    NotFoundError: 'No microphone was found. Is one connected?',
     NotReadableError: "The microphone can't be opened. Perhaps another program uses it.",
     AbortError: "The microphone couldn't be started.",
 };
@@ -67,10 +67,10 @@ export class Microphone {
     /** Asks for the microphone and begins; `onSamples` gets blocks, `onEnd` is called if it goes away. */
     static async open(onSamples, onEnd) {
         if (!navigator.mediaDevices?.getUserMedia) {
-            throw new SoundFault("This browser gives this page no microphone. Open it from a disk or by https.");
+            throw new SoundFault('This browser gives this page no microphone. Open it from a disk or by https.');
         }
-        if (typeof AudioWorkletNode === "undefined") {
-            throw new SoundFault("This browser lacks what a microphone needs here (AudioWorklet).");
+        if (typeof AudioWorkletNode === 'undefined') {
+            throw new SoundFault('This browser lacks what a microphone needs here (AudioWorklet).');
         }
         const microphone = new Microphone();
         try {
@@ -85,8 +85,8 @@ export class Microphone {
     async #begin(onSamples, onEnd) {
         this.#stream = await navigator.mediaDevices.getUserMedia({ audio: UNCHANGED });
         this.#context = new AudioContext();
-        await this.#context.audioWorklet.addModule("data:text/javascript," + encodeURIComponent(GATHERER));
-        const gatherer = new AudioWorkletNode(this.#context, "gatherer", { numberOfOutputs: 0 });
+        await this.#context.audioWorklet.addModule('data:text/javascript,' + encodeURIComponent(GATHERER));
+        const gatherer = new AudioWorkletNode(this.#context, 'gatherer', { numberOfOutputs: 0 });
         gatherer.port.onmessage = ({ data }) => onSamples(data);
         this.#context.createMediaStreamSource(this.#stream).connect(gatherer);
         this.#stream.getAudioTracks()[0].onended = onEnd;

@@ -1,5 +1,5 @@
 // What is refused: a box for each station and for each subject of the chosen frequency.
-import { isVital, LETTERS, subjectName } from "./subjects.js";
+import { isVital, LETTERS, subjectName } from './subjects.js';
 
 /** Shows the boxes of a kind, "Station" or "Subject"; `onChange` gets a letter and whether it is refused. */
 export function showBoxes(place, kind, refused, onChange) {
@@ -7,13 +7,13 @@ export function showBoxes(place, kind, refused, onChange) {
 }
 
 function boxOf(kind, letter, isRefused, onChange) {
-    const box = document.createElement("input");
-    box.type = "checkbox";
+    const box = document.createElement('input');
+    box.type = 'checkbox';
     box.checked = isRefused;
-    box.disabled = kind === "Subject" && isVital(letter);
-    box.addEventListener("change", () => onChange(letter, box.checked));
-    const label = document.createElement("label");
+    box.disabled = kind === 'Subject' && isVital(letter);
+    box.addEventListener('change', () => onChange(letter, box.checked));
+    const label = document.createElement('label');
     label.append(box, ` ${letter}`);
-    if (kind === "Subject") label.append(` ${subjectName(letter)}${box.disabled ? " (can't be refused)" : ""}`);
+    if (kind === 'Subject') label.append(` ${subjectName(letter)}${box.disabled ? " (can't be refused)" : ""}`);
     return label;
 }

@@ -8,11 +8,11 @@ export function entryAt(text, at = 0) {
     HEAD.lastIndex = at;
     const head = HEAD.exec(text);
     if (head === null) return null;
-    const [, station, subject, number, channel = "0", civil, how, errors, characters] = head;
+    const [, station, subject, number, channel = '0', civil, how, errors, characters] = head;
     const begin = at + head[0].length;
     const body = text.slice(begin, begin + Number(characters));
-    const gap = body === "" || body.endsWith("\n") ? "\n" : "\n\n";
-    const lost = body.split("*").length - 1;
+    const gap = body === '' || body.endsWith('\n') ? '\n' : '\n\n';
+    const lost = body.split('*').length - 1;
     const moment = momentOf(civil);
     const isWhole = body.length === Number(characters) && TEXT.test(body) && lost === Number(errors)
         && moment !== null && text.startsWith(gap, begin + body.length);
@@ -24,13 +24,13 @@ export function entryAt(text, at = 0) {
 
 /** Seconds since 1970 of a time of UTC, as 2025-01-01 00:40:00; null where there is no such time. */
 export function momentOf(civil) {
-    const milliseconds = Date.parse(civil.replace(" ", "T") + "Z");
+    const milliseconds = Date.parse(civil.replace(' ', 'T') + 'Z');
     if (Number.isNaN(milliseconds) || milliseconds < 0) return null;
     return civilOf(milliseconds / 1000) === civil ? milliseconds / 1000 : null;
 }
 
 export function civilOf(moment) {
-    return new Date(moment * 1000).toISOString().slice(0, 19).replace("T", " ");
+    return new Date(moment * 1000).toISOString().slice(0, 19).replace('T', ' ');
 }
 
 /** All entries of a log, of a kept log, or of several one behind the other; and the first line that
@@ -39,9 +39,9 @@ export function readLog(text) {
     const entries = [];
     let stray = null;
     for (let at = 0; at < text.length;) {
-        const entry = text[at] === "[" ? entryAt(text, at) : null;
+        const entry = text[at] === '[' ? entryAt(text, at) : null;
         if (entry !== null) entries.push(entry);
-        else if (!/\s/.test(text[at])) stray ??= text.slice(0, at).split("\n").length;
+        else if (!/\s/.test(text[at])) stray ??= text.slice(0, at).split('\n').length;
         at += entry?.log.length ?? 1;
     }
     return { entries, stray };
@@ -49,7 +49,7 @@ export function readLog(text) {
 
 /** Whether a log remembers the entry: it is whole, and less than 4 per cent of it are lost. */
 export function isGood(entry) {
-    return entry.how === "full" && 25 * entry.errors < Math.max(1, entry.characters);
+    return entry.how === 'full' && 25 * entry.errors < Math.max(1, entry.characters);
 }
 
 export function identityOf(entry) {
@@ -68,6 +68,6 @@ export function jsonOf(entry) {
         station: entry.station,
         subject: entry.subject,
         text: entry.text,
-        time: entry.time.replace(" ", "T") + "Z",
+        time: entry.time.replace(' ', 'T') + 'Z',
     });
 }

@@ -1,9 +1,9 @@
 // From samples to the lines of an air file: a demodulator, the spectrum beside it, and the time.
-import { LineSplitter } from "./air.js";
-import { Demodulator } from "./demodulator.js";
-import { Look } from "./look.js";
-import { judged } from "./sound/said.js";
-import { Spectrum } from "./spectrum.js";
+import { LineSplitter } from './air.js';
+import { Demodulator } from './demodulator.js';
+import { Look } from './look.js';
+import { judged } from './sound/said.js';
+import { Spectrum } from './spectrum.js';
 
 const BAUD = 100;
 const LINE = 100;     // elements of a line, so that its moment is true to a second
@@ -11,10 +11,10 @@ const SILENCE = -100; // dB
 
 // What the demodulator says to who runs it as a program, and what the page says in its place.
 const SAID_HERE = [
-    [/;? (?:or )?try --find$/, ""],
-    [/, look at what the program before it says/, ""],
-    [/^no sound came.*/, "got no sound"],
-    [/, where --centre names others: name (\d+), or none/, ": choose these, or look for the tones"],
+    [/;? (?:or )?try --find$/, ''],
+    [/, look at what the program before it says/, ''],
+    [/^no sound came.*/, 'got no sound'],
+    [/, where --centre names others: name (\d+), or none/, ': choose these, or look for the tones'],
 ];
 
 /** Hears one channel of sound. What it is told to do is in `tuning`: centre, search, exchanged. */
@@ -81,7 +81,7 @@ export class Hearing {
 
     #lines(told) {
         const lines = [];
-        let text = "";
+        let text = '';
         for (const { moment, bits } of told) {
             for (let from = 0; from < bits.length; from += LINE) {
                 lines.push(...this.#moment(this.#begun + moment + from / BAUD));
@@ -104,5 +104,5 @@ export class Hearing {
 export function linesOf(text) {
     const splitter = new LineSplitter();
     const lines = splitter.push(text);
-    return splitter.rest === "" ? lines : [...lines, splitter.rest];
+    return splitter.rest === '' ? lines : [...lines, splitter.rest];
 }

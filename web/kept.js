@@ -1,9 +1,9 @@
 // The receiver with its messages: whatever is printed is kept at once, with the state behind it.
 // After a reload it goes on from there, so that nothing is printed again.
-import { AirRun } from "./air.js";
-import { entryAt, readLog } from "./entries.js";
-import { EMPTY_STATE, readState, stateAt, stateWith } from "./state.js";
-import { StoreFault } from "./store.js";
+import { AirRun } from './air.js';
+import { entryAt, readLog } from './entries.js';
+import { EMPTY_STATE, readState, stateAt, stateWith } from './state.js';
+import { StoreFault } from './store.js';
 
 export class KeptReceiver {
     #receiver;
@@ -58,7 +58,7 @@ export class KeptReceiver {
 
     /** Refuses a station or a subject on a channel, or accepts it again. */
     choose(kind, channel, letter, isRefused) {
-        this.#receiver[(isRefused ? "refuse" : "accept") + kind](channel, letter);
+        this.#receiver[(isRefused ? 'refuse' : 'accept') + kind](channel, letter);
         this.#save();
     }
 
@@ -83,7 +83,7 @@ export class KeptReceiver {
 
     /** Forgets all messages and what is remembered; what is refused stays. */
     beginAnew(now) {
-        const state = this.#receiver.save().replace(/^[A-Z]{2}\d\d .*\n/gm, "");
+        const state = this.#receiver.save().replace(/^[A-Z]{2}\d\d .*\n/gm, '');
         this.#receiver.abandon();
         this.#open(state, now);
         this.#messages = [];

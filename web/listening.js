@@ -1,8 +1,8 @@
 // One sound or one file that is being heard, from its beginning to its end.
-import { readLine } from "./air.js";
-import { Hearing, linesOf } from "./hearing.js";
-import { Look } from "./look.js";
-import { Microphone } from "./capture.js";
+import { readLine } from './air.js';
+import { Hearing, linesOf } from './hearing.js';
+import { Look } from './look.js';
+import { Microphone } from './capture.js';
 
 const BUSY = 40;       // milliseconds after which the page may do something else
 const CHUNK = 1;       // seconds of a recording that are heard at a time
@@ -43,8 +43,8 @@ export class Listening {
             await this.#rest(at / lines.length);
             this.#take(lines[at]);
             const said = readLine(lines[at]);
-            if (said?.kind === "elements" && said.channel === channel) {
-                this.#show.text(look.push(said.elements.join("")));
+            if (said?.kind === 'elements' && said.channel === channel) {
+                this.#show.text(look.push(said.elements.join('')));
             }
         }
         return this.#end();

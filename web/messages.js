@@ -1,13 +1,13 @@
 // The list of messages, newest first.
-import { identityOf } from "./entries.js";
-import { subjectName } from "./subjects.js";
+import { identityOf } from './entries.js';
+import { subjectName } from './subjects.js';
 
-export const FREQUENCIES = ["518 kHz", "490 kHz", "4209.5 kHz"];
+export const FREQUENCIES = ['518 kHz', '490 kHz', '4209.5 kHz'];
 
 const ENDS = {
-    full: "complete",
+    full: 'complete',
     cut: "cut: its end wasn't heard",
-    long: "too long: cut after 4100 characters",
+    long: 'too long: cut after 4100 characters',
 };
 
 function made(name, className, ...inside) {
@@ -24,7 +24,7 @@ export function titleOf(message) {
 }
 
 function countOf(message) {
-    if (message.characters === 0) return "without a text";
+    if (message.characters === 0) return 'without a text';
     if (message.errors === 0) return `none of ${message.characters} letters lost`;
     return `${message.errors} of ${message.characters} letters lost`;
 }
@@ -32,32 +32,32 @@ function countOf(message) {
 /** A text in which each lost letter is marked. */
 function textWithMarks(text) {
     return text.split(/(\*+)/).map((part) => {
-        if (!part.startsWith("*")) return part;
-        const mark = made("mark", "lost", part);
-        mark.title = part.length === 1 ? "a lost letter" : `${part.length} lost letters`;
+        if (!part.startsWith('*')) return part;
+        const mark = made('mark', 'lost', part);
+        mark.title = part.length === 1 ? 'a lost letter' : `${part.length} lost letters`;
         return mark;
     });
 }
 
 function itemOf(message, onRead) {
-    const title = made("h3", "", titleOf(message));
-    const time = made("time", "", `${message.time} UTC`);
-    time.dateTime = message.time.replace(" ", "T") + "Z";
-    const facts = made("p", "facts", time,
+    const title = made('h3', '', titleOf(message));
+    const time = made('time', '', `${message.time} UTC`);
+    time.dateTime = message.time.replace(' ', 'T') + 'Z';
+    const facts = made('p', 'facts', time,
         `, ${FREQUENCIES[message.channel]}, ${ENDS[message.how]}, ${countOf(message)}`);
-    const text = made("pre", "", ...textWithMarks(message.text.replace(/\n$/, "")));
-    const item = made("li", `message ${message.how}`, made("article", "", title, facts, text));
+    const text = made('pre', '', ...textWithMarks(message.text.replace(/\n$/, '')));
+    const item = made('li', `message ${message.how}`, made('article', '', title, facts, text));
     if (!message.isRead) addUnread(item, title, message, onRead);
     return item;
 }
 
 function addUnread(item, title, message, onRead) {
-    item.classList.add("unread");
-    title.prepend(made("span", "badge", "New"), " ");
-    const button = made("button", "", "Mark as read");
-    button.type = "button";
-    button.setAttribute("aria-label", `Mark ${identityOf(message)} as read`);
-    button.addEventListener("click", () => onRead(message));
+    item.classList.add('unread');
+    title.prepend(made('span', 'badge', 'New'), ' ');
+    const button = made('button', '', 'Mark as read');
+    button.type = 'button';
+    button.setAttribute('aria-label', `Mark ${identityOf(message)} as read`);
+    button.addEventListener('click', () => onRead(message));
     item.firstChild.append(button);
 }
 
@@ -69,6 +69,6 @@ export function showMessages(list, messages, onRead) {
 /** How many there are and how many of them are new, in words. */
 export function countsOf(messages) {
     const unread = messages.filter(({ isRead }) => !isRead).length;
-    if (messages.length === 0) return "No message was received yet.";
+    if (messages.length === 0) return 'No message was received yet.';
     return `${messages.length} ${messages.length === 1 ? "message" : "messages"}, ${unread} not read yet`;
 }

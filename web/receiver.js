@@ -27,11 +27,11 @@ export const Status = Object.freeze({
 });
 
 const WORDS = new Map([
-    [Status.MOMENT_RANGE, "the time is past the year 2999"],
-    [Status.MOMENT_BACK, "the time is before the one in force"],
+    [Status.MOMENT_RANGE, 'the time is past the year 2999'],
+    [Status.MOMENT_BACK, 'the time is before the one in force'],
     [Status.VITAL, "subjects A, B, D and L can't be refused"],
-    [Status.STATE_LINE, "what was kept is no state of a receiver"],
-    [Status.STATE_CUT, "what was kept of the receiver has no end"],
+    [Status.STATE_LINE, 'what was kept is no state of a receiver'],
+    [Status.STATE_CUT, 'what was kept of the receiver has no end'],
 ]);
 
 /** A call that wasn't done. The receiver is as it was before. */
@@ -79,7 +79,7 @@ export class Receiver {
 
     /** Opens it at a moment, in seconds since 1970. It remembers nothing. */
     open(moment) {
-        this.#call("nx_live_open", BigInt(moment));
+        this.#call('nx_live_open', BigInt(moment));
     }
 
     /** Opens it from the text of a state, as `save` gives it. */
@@ -87,17 +87,17 @@ export class Receiver {
         const bytes = bytesOf(state);
         if (bytes.length > MAX_STATE) throw new ReceiverFault(Status.STATE_LINE);
         this.#bytes(this.#at.state, bytes.length).set(bytes);
-        this.#call("nx_live_open_from", BigInt(this.#at.state), BigInt(bytes.length));
+        this.#call('nx_live_open_from', BigInt(this.#at.state), BigInt(bytes.length));
     }
 
     /** The text of a state: what is remembered, and what is refused. */
     save() {
-        this.#call("nx_live_save", BigInt(this.#at.state), BigInt(MAX_STATE), BigInt(this.#at.written));
+        this.#call('nx_live_save', BigInt(this.#at.state), BigInt(MAX_STATE), BigInt(this.#at.written));
         return textOf(this.#bytes(this.#at.state, this.#number(this.#at.written)));
     }
 
     setMoment(moment) {
-        this.#call("nx_live_set_moment", BigInt(moment));
+        this.#call('nx_live_set_moment', BigInt(moment));
     }
 
     /** Hears elements, each a byte, 1 for B and 0 for Y: the entries that are printed, in order. */
@@ -106,34 +106,34 @@ export class Receiver {
         for (let from = 0; from < elements.length;) {
             const [heard, entry] = this.#hearPiece(channel, elements.subarray(from, from + MAX_ELEMENTS));
             from += heard;
-            if (entry !== "") entries.push(entry);
+            if (entry !== '') entries.push(entry);
         }
         return entries;
     }
 
     refuseStation(channel, letter) {
-        this.#select("nx_live_refuse_station", channel, letter);
+        this.#select('nx_live_refuse_station', channel, letter);
     }
 
     acceptStation(channel, letter) {
-        this.#select("nx_live_accept_station", channel, letter);
+        this.#select('nx_live_accept_station', channel, letter);
     }
 
     refuseSubject(channel, letter) {
-        this.#select("nx_live_refuse_subject", channel, letter);
+        this.#select('nx_live_refuse_subject', channel, letter);
     }
 
     acceptSubject(channel, letter) {
-        this.#select("nx_live_accept_subject", channel, letter);
+        this.#select('nx_live_accept_subject', channel, letter);
     }
 
     /** Closes it: the entries that its end prints, of messages that were still being heard. */
     close() {
         const entries = [];
         for (;;) {
-            this.#call("nx_live_close", BigInt(this.#at.log), BigInt(MAX_ENTRY), BigInt(this.#at.written));
+            this.#call('nx_live_close', BigInt(this.#at.log), BigInt(MAX_ENTRY), BigInt(this.#at.written));
             const entry = this.#entry();
-            if (entry === "") return entries;
+            if (entry === '') return entries;
             entries.push(entry);
         }
     }
@@ -145,7 +145,7 @@ export class Receiver {
 
     #hearPiece(channel, elements) {
         this.#bytes(this.#at.elements, elements.length).set(elements);
-        this.#call("nx_live_hear", channel, BigInt(this.#at.elements), BigInt(elements.length),
+        this.#call('nx_live_hear', channel, BigInt(this.#at.elements), BigInt(elements.length),
             BigInt(this.#at.heard), BigInt(this.#at.log), BigInt(MAX_ENTRY), BigInt(this.#at.written));
         return [this.#number(this.#at.heard), this.#entry()];
     }

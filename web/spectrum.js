@@ -1,5 +1,5 @@
 // The loudness of each pitch, for the waterfall.
-import { Fourier } from "./sound/fourier.js";
+import { Fourier } from './sound/fourier.js';
 
 export const LOWEST = 300; // Hz, what the waterfall shows
 export const HIGHEST = 3500;

@@ -1,8 +1,8 @@
 // What stays over a reload, in the browser's own store: messages with the receiver's state in one
 // piece, so that neither is kept without the other, and the choices of the page in another.
 
-const RECEIVED = "navtex.received";
-const CHOICES = "navtex.choices";
+const RECEIVED = 'navtex.received';
+const CHOICES = 'navtex.choices';
 const VERSION = 1;
 
 /** Why nothing can be kept, in words for who uses the page. */
@@ -49,7 +49,7 @@ export class Store {
 
     /** Calls back where another window of the page writes what was received. */
     onOther(call) {
-        window.addEventListener("storage", ({ key }) => { if (key === RECEIVED) call(); });
+        window.addEventListener('storage', ({ key }) => { if (key === RECEIVED) call(); });
     }
 
     #get(key) {
@@ -69,7 +69,7 @@ export class Store {
             this.#storage?.setItem(key, JSON.stringify(value));
         } catch {
             throw new StoreFault("The browser's store is full or closed: what comes now is lost with this page. "
-                + "Save the log, and then begin anew.");
+                + 'Save the log, and then begin anew.');
         }
     }
 }

@@ -5,30 +5,30 @@
 // meaning there. Decca and Omega, of which G and I tell, are switched off today.
 
 const NAMES = new Map([
-    ["A", "navigational warning"],
-    ["B", "meteorological warning"],
-    ["C", "ice report"],
-    ["D", "search and rescue information"],
-    ["E", "meteorological forecast"],
-    ["F", "pilot service message"],
-    ["G", "Decca message"],
-    ["H", "Loran message"],
-    ["I", "Omega message"],
-    ["J", "satellite navigation message"],
-    ["K", "other electronic navigation message"],
-    ["L", "navigational warning, additional to A"],
-    ["V", "special service"],
-    ["W", "special service"],
-    ["X", "special service"],
-    ["Y", "special service"],
-    ["Z", "no message on hand"],
+    ['A', 'navigational warning'],
+    ['B', 'meteorological warning'],
+    ['C', 'ice report'],
+    ['D', 'search and rescue information'],
+    ['E', 'meteorological forecast'],
+    ['F', 'pilot service message'],
+    ['G', 'Decca message'],
+    ['H', 'Loran message'],
+    ['I', 'Omega message'],
+    ['J', 'satellite navigation message'],
+    ['K', 'other electronic navigation message'],
+    ['L', 'navigational warning, additional to A'],
+    ['V', 'special service'],
+    ['W', 'special service'],
+    ['X', 'special service'],
+    ['Y', 'special service'],
+    ['Z', 'no message on hand'],
 ]);
 
-export const LETTERS = [..."ABCDEFGHIJKLMNOPQRSTUVWXYZ"];
-const VITAL = new Set("ABDL");
+export const LETTERS = [...'ABCDEFGHIJKLMNOPQRSTUVWXYZ'];
+const VITAL = new Set('ABDL');
 
 export function subjectName(letter) {
-    return NAMES.get(letter) ?? "subject without a name";
+    return NAMES.get(letter) ?? 'subject without a name';
 }
 
 /** Whether the receiver refuses to refuse it. */

@@ -1,6 +1,6 @@
 // The waterfall: the loudness of each pitch, newest at the top, and two lines where the tones are
 // expected. The lines are moved by dragging, by the arrow keys, or by the number beside them.
-import { HIGHEST, LOWEST } from "./spectrum.js";
+import { HIGHEST, LOWEST } from './spectrum.js';
 
 const SHIFT = 170;
 const RANGE = 45;     // dB from dark to bright
@@ -33,27 +33,27 @@ export class Waterfall {
     /** `slider` has the canvas and both lines in it; `onMiddle` gets the middle that was chosen. */
     constructor(slider, onMiddle) {
         this.#slider = slider;
-        this.#canvas = slider.querySelector("canvas");
-        this.#drawing = this.#canvas.getContext("2d");
-        this.#lines = [...slider.querySelectorAll(".tone")];
+        this.#canvas = slider.querySelector('canvas');
+        this.#drawing = this.#canvas.getContext('2d');
+        this.#lines = [...slider.querySelectorAll('.tone')];
         this.#onMiddle = onMiddle;
-        slider.setAttribute("aria-valuemin", LOWEST + SHIFT / 2);
-        slider.setAttribute("aria-valuemax", HIGHEST - SHIFT / 2);
-        slider.addEventListener("pointerdown", (event) => this.#drag(event));
-        slider.addEventListener("pointermove", (event) => {
+        slider.setAttribute('aria-valuemin', LOWEST + SHIFT / 2);
+        slider.setAttribute('aria-valuemax', HIGHEST - SHIFT / 2);
+        slider.addEventListener('pointerdown', (event) => this.#drag(event));
+        slider.addEventListener('pointermove', (event) => {
             if (slider.hasPointerCapture(event.pointerId)) this.#moveTo(event);
         });
-        slider.addEventListener("keydown", (event) => this.#press(event));
+        slider.addEventListener('keydown', (event) => this.#press(event));
     }
 
     get middle() {
-        return Number(this.#slider.getAttribute("aria-valuenow"));
+        return Number(this.#slider.getAttribute('aria-valuenow'));
     }
 
     /** Shows the lines on both sides of a middle. */
     show(middle) {
-        this.#slider.setAttribute("aria-valuenow", Math.round(middle));
-        this.#slider.setAttribute("aria-valuetext", `${Math.round(middle)} hertz`);
+        this.#slider.setAttribute('aria-valuenow', Math.round(middle));
+        this.#slider.setAttribute('aria-valuetext', `${Math.round(middle)} hertz`);
         this.#lines.forEach((line, at) => {
             const pitch = middle + (at === 0 ? -SHIFT / 2 : SHIFT / 2);
             line.style.left = `${(100 * (pitch - LOWEST)) / (HIGHEST - LOWEST)}%`;
