@@ -1,7 +1,7 @@
 // Sound from a file or from a microphone, as samples from -1 to 1.
 
-const FILE_RATE = 8000;  // samples a second that a file is brought to
-const BLOCK = 2048;      // samples that the microphone gives at a time
+const RATE = 8000; // samples a second that a sound is brought to, where the browser can do that
+const BLOCK = 800; // samples that the microphone gives at a time
 
 /** Why there is no sound, in words for who uses the page. */
 export class SoundFault extends Error {}
@@ -11,7 +11,7 @@ export async function samplesOf(bytes) {
     if (typeof OfflineAudioContext === 'undefined') {
         throw new SoundFault("This browser can't decode sound. A current Firefox, Chrome, Edge or Safari can.");
     }
-    const context = new OfflineAudioContext(1, 1, FILE_RATE);
+    const context = new OfflineAudioContext(1, 1, RATE);
     let sound;
     try {
         sound = await context.decodeAudioData(bytes);
@@ -84,13 +84,25 @@ export class Microphone {
 
     async #begin(onSamples, onEnd) {
         this.#stream = await navigator.mediaDevices.getUserMedia({ audio: UNCHANGED });
-        this.#context = new AudioContext();
+        const source = this.#join();
         await this.#context.audioWorklet.addModule('data:text/javascript,' + encodeURIComponent(GATHERER));
         const gatherer = new AudioWorkletNode(this.#context, 'gatherer', { numberOfOutputs: 0 });
         gatherer.port.onmessage = ({ data }) => onSamples(data);
-        this.#context.createMediaStreamSource(this.#stream).connect(gatherer);
+        source.connect(gatherer);
         this.#stream.getAudioTracks()[0].onended = onEnd;
         await this.#context.resume();
+    }
+
+    /** The stream as a source of sound, at our rate; some browsers give it at its own rate alone. */
+    #join() {
+        try {
+            this.#context = new AudioContext({ sampleRate: RATE });
+            return this.#context.createMediaStreamSource(this.#stream);
+        } catch {
+            this.#context?.close();
+            this.#context = new AudioContext();
+            return this.#context.createMediaStreamSource(this.#stream);
+        }
     }
 
     get rate() {
