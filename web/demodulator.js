@@ -4,7 +4,15 @@
 //     const demodulator = new Demodulator({ rate: 48000 });
 //     for (const { moment, bits } of demodulator.push(samples)) { .. }
 //     for (const { moment, bits } of demodulator.finish()) { .. }
-//     demodulator.heard();   // 'heard NAVTEX'
+//     demodulator.heard();   // "heard NAVTEX"
+//
+// What stands in examples/sound is here:
+// - elements: this file, and sound/said.js
+// - demodulator.py: sound/receiver.js, sound/find.js
+// - receive.py: sound/rates.js, sound/middle.js, sound/mixer.js, sound/clock.js
+// - sendings.py: sound/sendings.js, and what it needs: sound/loudness.js, sound/cases.js,
+//   sound/likelihood.js, sound/words.js, sound/phase.js, sound/jumps.js, sound/store.js
+// - plain.py: sound/plain.js
 
 import { otherRate } from "./sound/find.js";
 import { mean } from "./sound/numbers.js";
@@ -54,7 +62,7 @@ export class Demodulator {
         const told = [];
         for (let from = 0; from < samples.length;) {
             const count = Math.min(samples.length - from, this.piece.length - this.filled);
-            this.piece.set(samples.subarray(from, from + count), this.filled);
+            this.piece.set(samples.subarray(from, from + count).map(numberOrStill), this.filled);
             this.filled += count;
             from += count;
             if (this.filled === this.piece.length) {
@@ -150,6 +158,11 @@ class Level {
     decibels() {
         return 10 * Math.log10(2 * this.power + 1e-12);
     }
+}
+
+/** A sample; what is no number, as a damaged recording may have it, is silence. */
+function numberOrStill(sample) {
+    return Number.isFinite(sample) ? sample : 0;
 }
 
 function refuseOutOfRange(rate, centre) {
