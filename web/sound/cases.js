@@ -64,33 +64,45 @@ export class Cases {
     /** The probability of each case at each element, by what the other elements tell. */
     weigh() {
         const shares = new Float64Array(this.either.length);
-        let before = OFTEN;
+        const before = OFTEN.slice();
         for (let first = 0; first < shares.length; first += CASES.length) {
             shares.set(before, first);
-            before = this.passed(before, first);
+            this.pass(before, first);
         }
-        let behind = new Float64Array(CASES.length).fill(1);
+        const behind = new Float64Array(CASES.length).fill(1);
         for (let first = shares.length - CASES.length; first >= 0; first -= CASES.length) {
             for (let one = 0; one < CASES.length; one++) {
                 shares[first + one] *= behind[one];
             }
-            behind = this.returned(behind, first);
+            this.passBack(behind, first);
         }
         return shares;
     }
 
     /** The step on from an element to the next one. */
-    passed(before, first) {
-        const heard = before.map((share, one) => share * this.either[first + one]);
-        const kept = (1 - CHANGE) / heard.reduce((sum, one) => sum + one);
-        return heard.map((share, one) => share * kept + CHANGE * OFTEN[one]);
+    pass(before, first) {
+        let sum = 0;
+        for (let one = 0; one < CASES.length; one++) {
+            before[one] *= this.either[first + one];
+            sum += before[one];
+        }
+        const kept = (1 - CHANGE) / sum;
+        for (let one = 0; one < CASES.length; one++) {
+            before[one] = before[one] * kept + CHANGE * OFTEN[one];
+        }
     }
 
     /** The step back from an element to the one before. */
-    returned(behind, first) {
-        const heard = behind.map((share, one) => share * this.either[first + one]);
-        const kept = (1 - CHANGE) / heard.reduce((sum, share, one) => sum + share * OFTEN[one], 0);
-        return heard.map((share) => share * kept + CHANGE);
+    passBack(behind, first) {
+        let sum = 0;
+        for (let one = 0; one < CASES.length; one++) {
+            behind[one] *= this.either[first + one];
+            sum += behind[one] * OFTEN[one];
+        }
+        const kept = (1 - CHANGE) / sum;
+        for (let one = 0; one < CASES.length; one++) {
+            behind[one] = behind[one] * kept + CHANGE;
+        }
     }
 
     /** The likelihood of a tone at an element, where its case is told by the others. */

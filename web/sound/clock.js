@@ -1,6 +1,6 @@
 // Where elements begin, and what each of the tones is in them.
 
-import { between, clip, modulo, placeOfGreatest } from "./numbers.js";
+import { between, clip, listOf, modulo, placeOfGreatest } from "./numbers.js";
 import { AHEAD, INNER_RATE, PER, PIECE, SHIFT } from "./rates.js";
 import { Signal } from "./signal.js";
 
@@ -8,8 +8,8 @@ const CLOCK_MEMORY = 15;   // pieces that the clock remembers
 const CLOCK_STEP = 100;    // what a step of the clock has to explain: noise gives 80, half an element 450
 const ROUND = 320;         // samples in which both tones, half a SHIFT off, make whole turns (17 of them)
 const TONE_ANGLE = -Math.PI * SHIFT / INNER_RATE;
-const TONE_COSINES = Float64Array.from({ length: ROUND }, (_, place) => Math.cos(TONE_ANGLE * place));
-const TONE_SINES = Float64Array.from({ length: ROUND }, (_, place) => Math.sin(TONE_ANGLE * place));
+const TONE_COSINES = listOf(ROUND, (place) => Math.cos(TONE_ANGLE * place));
+const TONE_SINES = listOf(ROUND, (place) => Math.sin(TONE_ANGLE * place));
 
 /**
  * The clock of elements.
@@ -142,7 +142,7 @@ function turnedSums(signal, begin, sign) {
 /** The energy over each 16 samples. */
 function energies(sums) {
     const count = sums.length - 1 - PER;
-    return Float64Array.from({ length: count }, (_, place) =>
+    return listOf(count, (place) =>
         (sums.real[place + PER] - sums.real[place]) ** 2 + (sums.imaginary[place + PER] - sums.imaginary[place]) ** 2);
 }
 

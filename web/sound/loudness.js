@@ -2,7 +2,7 @@
 
 import { Cases } from "./cases.js";
 import { logBessel, probability } from "./likelihood.js";
-import { clip } from "./numbers.js";
+import { clip, listOf } from "./numbers.js";
 
 export const BEFORE = 50;      // elements before one that tell its loudness and noise
 export const BEHIND = 20;      // elements behind it that do
@@ -84,7 +84,7 @@ class Near {
         for (let place = 0; place < values.length; place++) {
             sums[place + 2] = sums[place] + values[place];
         }
-        return Float64Array.from({ length: 2 * this.count }, (_, place) => {
+        return listOf(2 * this.count, (place) => {
             const element = this.first + (place >> 1);
             const since = Math.max(element - BEFORE, 0);
             const upto = element + BEHIND + 1;
@@ -94,7 +94,7 @@ class Near {
 
     /** Values of the elements from `first` on, for all: those of the nearest one. */
     wide(values) {
-        return Float64Array.from({ length: 2 * this.all }, (_, place) => {
+        return listOf(2 * this.all, (place) => {
             const element = clip((place >> 1) - this.first, 0, this.count - 1);
             return values[2 * element + place % 2];
         });

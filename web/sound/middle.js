@@ -1,7 +1,7 @@
 // Finds the middle of the two tones.
 
 import { Fourier } from "./fourier.js";
-import { between, joined, mean, median } from "./numbers.js";
+import { between, joined, listOf, mean, median } from "./numbers.js";
 import { SHIFT } from "./rates.js";
 
 const SPECTRUM_SECONDS = 0.2;   // seconds of sound that one spectrum is made of
@@ -78,18 +78,18 @@ export class Middle {
 }
 
 function hannWindow(size) {
-    return Float64Array.from({ length: size }, (_, place) =>
+    return listOf(size, (place) =>
         0.5 + 0.5 * Math.cos(Math.PI * (2 * place - size + 1) / (size - 1)));
 }
 
 function placesWithin(first, end) {
     const count = Math.max(0, Math.ceil((end - first) / APART));
-    return Float64Array.from({ length: count }, (_, place) => first + place * APART);
+    return listOf(count, (place) => first + place * APART);
 }
 
 /** How the power of a keyed tone lies around its frequency. */
 function lineOfTone(bin) {
-    const line = Float64Array.from({ length: 2 * LINE_REACH + 1 }, (_, place) =>
+    const line = listOf(2 * LINE_REACH + 1, (place) =>
         Math.exp(-(((place - LINE_REACH) * bin / LINE_WIDTH) ** 2)));
     const sum = line.reduce((one, other) => one + other);
     return line.map((part) => part / sum);

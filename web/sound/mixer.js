@@ -1,6 +1,6 @@
 // Samples at any rate, mixed down by a frequency that may change, at 16 samples an element.
 
-import { median, roundEven } from "./numbers.js";
+import { listOf, median, roundEven } from "./numbers.js";
 import { INNER_RATE } from "./rates.js";
 import { Signal } from "./signal.js";
 
@@ -145,7 +145,7 @@ function spread(marks, around) {
 }
 
 function filterWeights(late, half, band) {
-    return Float64Array.from({ length: 2 * half + 1 }, (_, place) => {
+    return listOf(2 * half + 1, (place) => {
         const away = late + (place - half);
         return sinc(band * away) * (0.5 + 0.5 * Math.cos(Math.PI * away / (half + 1))) * band;
     });
