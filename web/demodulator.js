@@ -1,19 +1,25 @@
-// The demodulator of the page: samples in, elements out. It is the one of examples/sound, and gives
-// the same elements. Nothing of it is proved or promised.
+// The demodulator of the page: samples in, elements out. It is that of examples/sound, whose README
+// says how it decides, and gives the same elements. Nothing of it is proved or promised.
 //
 //     const demodulator = new Demodulator({ rate: 48000 });
 //     for (const { moment, bits } of demodulator.push(samples)) { .. }
 //     for (const { moment, bits } of demodulator.finish()) { .. }
-//     demodulator.heard();   // 'heard NAVTEX'
+//     demodulator.heard();   // "heard NAVTEX"
+//
+// What stands in examples/sound is here:
+// - elements: this file, and sound/said.js
+// - demodulator.py: sound/receiver.js, sound/find.js
+// - receive.py: sound/rates.js, sound/middle.js, sound/mixer.js, sound/clock.js
+// - sendings.py: sound/sendings.js, and what it needs: sound/loudness.js, sound/cases.js,
+//   sound/likelihood.js, sound/words.js, sound/phase.js, sound/jumps.js, sound/store.js
+// - plain.py: sound/plain.js
 
-import { Plain } from './plain.js';
-import { find, otherRate } from './sound/find.js';
-import { joined, mean } from './sound/numbers.js';
-import { pieceLength } from './sound/rates.js';
-import { Receiver } from './sound/receiver.js';
-import { judged, QUIET, statusLine } from './sound/said.js';
-
-export { find };
+import { otherRate } from "./sound/find.js";
+import { mean } from "./sound/numbers.js";
+import { Plain } from "./sound/plain.js";
+import { pieceLength } from "./sound/rates.js";
+import { Receiver } from "./sound/receiver.js";
+import { judged, QUIET, statusLine } from "./sound/said.js";
 
 const LEAST_SAMPLES = 6000;      // samples a second
 const MOST_SAMPLES = 192000;
@@ -25,10 +31,13 @@ const LEVEL_PIECES = 50;         // pieces over which the level is averaged
 /**
  * Takes samples, piece by piece as they come, and tells the elements that are decided.
  *
- * `rate`: samples a second. `centre`: the middle of the tones, which is looked for within 100 Hz of
- * it; where none is named it is looked for from 300 to 3500 Hz. `search`: it is looked for everywhere,
- * from `centre` on. `exchanged`: the lower tone is B, until the first lock, which finds it. `plain`:
- * each element is decided by itself, at the pitch and sideband that are named, without delay.
+ * - `rate`: samples a second.
+ * - `centre`: the middle of the tones, which is looked for within 100 Hz of it. Where none is named
+ *   it is looked for from 300 to 3500 Hz.
+ * - `search`: it is looked for everywhere, from `centre` on.
+ * - `exchanged`: the lower tone is B, until the first lock, which finds it.
+ * - `plain`: each element is decided by itself, at the pitch and sideband that are named, without
+ *   delay.
  */
 export class Demodulator {
     constructor({ rate, centre, search = centre === undefined, exchanged = false, plain = false }) {
@@ -39,45 +48,53 @@ export class Demodulator {
         this.receiver = plain
             ? new Plain({ rate, centre: named, exchanged })
             : new Receiver({ rate, centre: named, search, exchanged });
-        this.piece = pieceLength(rate);
-        this.samples = new Float64Array(0);   // those that don't fill a piece yet
+        this.piece = new Float64Array(pieceLength(rate));
+        this.filled = 0;                      // samples of the piece so far
         this.level = new Level();
         this.kept = [];                       // pieces, until phasing is met
     }
 
-    /** Takes samples from -1 to 1. Tells the new elements: when the first was heard, in seconds, and their bits. */
+    /**
+     * Takes samples from -1 to 1, as many as there are. Tells the new elements: when the first of
+     * them was heard, in seconds of sound, and their bits.
+     */
     push(samples) {
-        this.samples = joined(this.samples, samples);
         const told = [];
-        let used = 0;
-        for (; used + this.piece <= this.samples.length; used += this.piece) {
-            told.push(this.hear(this.samples.slice(used, used + this.piece)));
+        for (let from = 0; from < samples.length;) {
+            const count = Math.min(samples.length - from, this.piece.length - this.filled);
+            this.piece.set(samples.subarray(from, from + count).map(numberOrStill), this.filled);
+            this.filled += count;
+            from += count;
+            if (this.filled === this.piece.length) {
+                told.push(this.hear(this.piece));
+                this.filled = 0;
+            }
         }
-        this.samples = this.samples.slice(used);
         return told.filter(({ bits }) => bits);
     }
 
     /** The sound is at its end: tells the elements that were still held back. */
     finish() {
-        const told = this.samples.length ? [this.hear(this.samples)] : [];
-        this.samples = new Float64Array(0);
+        const told = this.filled ? [this.hear(this.piece.subarray(0, this.filled))] : [];
+        this.filled = 0;
         return [...told, this.receiver.end()].filter(({ bits }) => bits);
     }
 
     hear(samples) {
         this.level.hear(samples);
+        const told = this.receiver.hear(samples);
         this.keep(samples);
-        return this.receiver.hear(samples);
+        return told;
     }
 
-    /** Keeps the last samples as long as no phasing is met, but those of --plain, which meets none. */
+    /** Keeps the last samples until phasing is met. */
     keep(samples) {
         if (this.isPlain || this.receiver.phasing) {
             this.kept = [];
             return;
         }
         this.kept.push(Float32Array.from(samples));
-        if (this.kept.length > Math.trunc(KEPT_SAMPLES / this.piece)) {
+        if (this.kept.length > Math.ceil(KEPT_SAMPLES / this.piece.length)) {
             this.kept.shift();
         }
     }
@@ -89,7 +106,7 @@ export class Demodulator {
         return {
             seconds: this.level.samples / this.rate,
             level: this.level.decibels(),
-            middle, sideband: exchanged ? 'lower' : 'upper', locked, told, phasing, locks, sure, unsure, jumps, single,
+            middle, sideband: exchanged ? "lower" : "upper", locked, told, phasing, locks, sure, unsure, jumps, single,
         };
     }
 
@@ -98,13 +115,16 @@ export class Demodulator {
         return statusLine(this.status());
     }
 
-    /** What was heard so far, in words. At the end another rate is tried where no phasing was met. */
-    heard() {
+    /**
+     * What was heard so far, in words. Where no phasing was met other rates are tried, which takes
+     * some seconds; not so where `isRateSure`.
+     */
+    heard({ isRateSure = false } = {}) {
         if (this.isPlain) {
-            return '';
+            return "";
         }
-        const isLoud = this.kept.length > 0 && this.level.loudest >= QUIET ** 2;
-        const other = isLoud ? otherRate(this.keptSamples(), this.rate) : null;
+        const isTried = !isRateSure && this.kept.length > 0 && this.level.loudest >= QUIET ** 2;
+        const other = isTried ? otherRate(this.keptSamples(), this.rate) : null;
         return judged(this.receiver, this.level.loudest, other);
     }
 
@@ -128,7 +148,7 @@ class Level {
     }
 
     hear(samples) {
-        const power = mean(samples.map(sample => sample * sample));
+        const power = mean(samples.map((sample) => sample * sample));
         this.samples += samples.length;
         this.power += (power - this.power) / Math.min(this.samples / samples.length, LEVEL_PIECES);
         this.loudest = Math.max(this.loudest, power);
@@ -138,6 +158,11 @@ class Level {
     decibels() {
         return 10 * Math.log10(2 * this.power + 1e-12);
     }
+}
+
+/** A sample; what is no number, as a damaged recording may have it, is silence. */
+function numberOrStill(sample) {
+    return Number.isFinite(sample) ? sample : 0;
 }
 
 function refuseOutOfRange(rate, centre) {

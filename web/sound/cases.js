@@ -1,6 +1,6 @@
 // What may happen near an element, and what each of the cases explains.
 
-import { logBessel } from './likelihood.js';
+import { logBessel } from "./likelihood.js";
 
 const CHANGE = 0.03;       // how often another case begins at an element
 const CASES = [            // how often; A² of the upper and the lower tone, N of both, as parts of those near
@@ -17,11 +17,11 @@ const CASES = [            // how often; A² of the upper and the lower tone, N 
 ];
 const OFTEN_SUM = CASES.reduce((sum, [often]) => sum + often, 0);
 const OFTEN = Float64Array.from(CASES, ([often]) => often / OFTEN_SUM);
-const LOUD_PARTS = [1, 2].map(column => Float64Array.from(CASES, row => row[column]));     // by tone
-const NOISE_PARTS = [3, 4].map(column => Float64Array.from(CASES, row => row[column]));
-const SIZE_PARTS = [0, 1].map(tone => Float64Array.from(CASES, (_, one) =>
+const LOUD_PARTS = [1, 2].map((column) => Float64Array.from(CASES, (row) => row[column]));     // by tone
+const NOISE_PARTS = [3, 4].map((column) => Float64Array.from(CASES, (row) => row[column]));
+const SIZE_PARTS = [0, 1].map((tone) => Float64Array.from(CASES, (_, one) =>
     Math.sqrt(LOUD_PARTS[tone][one]) / NOISE_PARTS[tone][one]));
-const RATIO_PARTS = [0, 1].map(tone => Float64Array.from(CASES, (_, one) =>
+const RATIO_PARTS = [0, 1].map((tone) => Float64Array.from(CASES, (_, one) =>
     LOUD_PARTS[tone][one] / NOISE_PARTS[tone][one]));
 
 /**
@@ -33,7 +33,7 @@ export class Cases {
         this.count = power.length / 2;
         this.likes = [new Float64Array(this.count * CASES.length), new Float64Array(this.count * CASES.length)];
         for (let element = 0; element < this.count; element++) {
-            const pair = values => values.subarray(2 * element, 2 * element + 2);
+            const pair = (values) => values.subarray(2 * element, 2 * element + 2);
             this.explain(element, pair(power), pair(loud), pair(noise));
         }
         this.either = this.likes[0].map((one, place) => one + this.likes[1][place] + 1e-30);
@@ -43,53 +43,66 @@ export class Cases {
     /** The likelihood of each tone in each case, over that of the likeliest. */
     explain(element, power, loud, noise) {
         const first = element * CASES.length;
+        const [upperLikes, lowerLikes] = this.likes;
         let top = -Infinity;
         for (let one = 0; one < CASES.length; one++) {
-            const still = [0, 1].map(tone => stillness(power[tone], noise[tone] * NOISE_PARTS[tone][one]));
-            const more = [0, 1].map(tone => evidence(power[tone], loud[tone] * LOUD_PARTS[tone][one],
-                noise[tone] * NOISE_PARTS[tone][one]));
-            for (const tone of [0, 1]) {
-                this.likes[tone][first + one] = still[0] + still[1] + more[tone];
-                top = Math.max(top, this.likes[tone][first + one]);
-            }
+            const upperNoise = noise[0] * NOISE_PARTS[0][one];
+            const lowerNoise = noise[1] * NOISE_PARTS[1][one];
+            const still = stillness(power[0], upperNoise) + stillness(power[1], lowerNoise);
+            const upper = still + evidence(power[0], loud[0] * LOUD_PARTS[0][one], upperNoise);
+            const lower = still + evidence(power[1], loud[1] * LOUD_PARTS[1][one], lowerNoise);
+            upperLikes[first + one] = upper;
+            lowerLikes[first + one] = lower;
+            top = Math.max(top, upper, lower);
         }
-        for (const likes of this.likes) {
-            for (let one = first; one < first + CASES.length; one++) {
-                likes[one] = Math.exp(likes[one] - top);
-            }
+        for (let one = first; one < first + CASES.length; one++) {
+            upperLikes[one] = Math.exp(upperLikes[one] - top);
+            lowerLikes[one] = Math.exp(lowerLikes[one] - top);
         }
     }
 
     /** The probability of each case at each element, by what the other elements tell. */
     weigh() {
         const shares = new Float64Array(this.either.length);
-        let before = OFTEN;
+        const before = OFTEN.slice();
         for (let first = 0; first < shares.length; first += CASES.length) {
             shares.set(before, first);
-            before = this.passed(before, first);
+            this.pass(before, first);
         }
-        let behind = new Float64Array(CASES.length).fill(1);
+        const behind = new Float64Array(CASES.length).fill(1);
         for (let first = shares.length - CASES.length; first >= 0; first -= CASES.length) {
             for (let one = 0; one < CASES.length; one++) {
                 shares[first + one] *= behind[one];
             }
-            behind = this.returned(behind, first);
+            this.passBack(behind, first);
         }
         return shares;
     }
 
     /** The step on from an element to the next one. */
-    passed(before, first) {
-        const heard = before.map((share, one) => share * this.either[first + one]);
-        const kept = (1 - CHANGE) / heard.reduce((sum, one) => sum + one);
-        return heard.map((share, one) => share * kept + CHANGE * OFTEN[one]);
+    pass(before, first) {
+        let sum = 0;
+        for (let one = 0; one < CASES.length; one++) {
+            before[one] *= this.either[first + one];
+            sum += before[one];
+        }
+        const kept = (1 - CHANGE) / sum;
+        for (let one = 0; one < CASES.length; one++) {
+            before[one] = before[one] * kept + CHANGE * OFTEN[one];
+        }
     }
 
     /** The step back from an element to the one before. */
-    returned(behind, first) {
-        const heard = behind.map((share, one) => share * this.either[first + one]);
-        const kept = (1 - CHANGE) / heard.reduce((sum, share, one) => sum + share * OFTEN[one], 0);
-        return heard.map(share => share * kept + CHANGE);
+    passBack(behind, first) {
+        let sum = 0;
+        for (let one = 0; one < CASES.length; one++) {
+            behind[one] *= this.either[first + one];
+            sum += behind[one] * OFTEN[one];
+        }
+        const kept = (1 - CHANGE) / sum;
+        for (let one = 0; one < CASES.length; one++) {
+            behind[one] = behind[one] * kept + CHANGE;
+        }
     }
 
     /** The likelihood of a tone at an element, where its case is told by the others. */
@@ -102,7 +115,7 @@ export class Cases {
         return Math.log(sum + 1e-300);
     }
 
-    /** The mean parts of A / N and of A² / N at an element, by the cases, of which it tells too. */
+    /** The mean parts of A / N and A² / N at an element, by the cases, of which it tells too. */
     parts(element, tone) {
         const first = element * CASES.length;
         let [all, size, ratio] = [0, 0, 0];

@@ -1,15 +1,15 @@
 // Where elements begin, and what each of the tones is in them.
 
-import { between, clip, modulo, placeOfGreatest } from './numbers.js';
-import { AHEAD, INNER_RATE, PER, PIECE, SHIFT } from './rates.js';
-import { Signal } from './signal.js';
+import { between, clip, listOf, modulo, placeOfGreatest } from "./numbers.js";
+import { AHEAD, INNER_RATE, PER, PIECE, SHIFT } from "./rates.js";
+import { Signal } from "./signal.js";
 
 const CLOCK_MEMORY = 15;   // pieces that the clock remembers
 const CLOCK_STEP = 100;    // what a step of the clock has to explain: noise gives 80, half an element 450
 const ROUND = 320;         // samples in which both tones, half a SHIFT off, make whole turns (17 of them)
 const TONE_ANGLE = -Math.PI * SHIFT / INNER_RATE;
-const TONE_COSINES = Float64Array.from({ length: ROUND }, (_, place) => Math.cos(TONE_ANGLE * place));
-const TONE_SINES = Float64Array.from({ length: ROUND }, (_, place) => Math.sin(TONE_ANGLE * place));
+const TONE_COSINES = listOf(ROUND, (place) => Math.cos(TONE_ANGLE * place));
+const TONE_SINES = listOf(ROUND, (place) => Math.sin(TONE_ANGLE * place));
 
 /**
  * The clock of elements.
@@ -86,14 +86,14 @@ export class Clock {
         return begins.map((begin, one) => ({ begin, upper: upper[one], lower: lower[one] }));
     }
 
-    /** The place that the swings show, where the past counts as long as no step explains them better. */
+    /** The place that the swings show; the past counts as long as no step explains them better. */
     place() {
         const sums = [this.past];
         for (const swing of this.swings) {
             sums.push(plus(sums[sums.length - 1], swing));
         }
         const all = sums[sums.length - 1];
-        const gains = sums.slice(0, -1).map(sum => sizeOf(sum) + sizeOf(minus(all, sum)) - sizeOf(all));
+        const gains = sums.slice(0, -1).map((sum) => sizeOf(sum) + sizeOf(minus(all, sum)) - sizeOf(all));
         const first = placeOfGreatest(gains);
         const isStep = gains[first] > CLOCK_STEP;
         if (!isStep) {
@@ -114,7 +114,7 @@ export class Clock {
      */
     tones(begins, sign) {
         const sums = turnedSums(this.heard, this.begin, sign);
-        return begins.map(begin => {
+        return begins.map((begin) => {
             const first = begin - this.begin;
             const real = (between(sums.real, first + PER) - between(sums.real, first)) / PER;
             const imaginary = (between(sums.imaginary, first + PER) - between(sums.imaginary, first)) / PER;
@@ -125,7 +125,7 @@ export class Clock {
     }
 }
 
-/** The sums of the first 0, 1, 2, .. samples, turned back by a tone; `begin` is the number of the first. */
+/** The sums of the first 0, 1, 2, .. samples, turned back by a tone. `begin` numbers the first. */
 function turnedSums(signal, begin, sign) {
     const sums = Signal.still(signal.length + 1);
     for (let place = 0; place < signal.length; place++) {
@@ -142,7 +142,7 @@ function turnedSums(signal, begin, sign) {
 /** The energy over each 16 samples. */
 function energies(sums) {
     const count = sums.length - 1 - PER;
-    return Float64Array.from({ length: count }, (_, place) =>
+    return listOf(count, (place) =>
         (sums.real[place + PER] - sums.real[place]) ** 2 + (sums.imaginary[place + PER] - sums.imaginary[place]) ** 2);
 }
 

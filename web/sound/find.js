@@ -1,9 +1,9 @@
 // Where NAVTEX is in a recording, and whether its samples are of another rate.
 
-import { Middle } from './middle.js';
-import { placeOfGreatest } from './numbers.js';
-import { pieceLength } from './rates.js';
-import { Receiver, SEARCHED, THERE } from './receiver.js';
+import { Middle } from "./middle.js";
+import { placeOfGreatest } from "./numbers.js";
+import { pieceLength } from "./rates.js";
+import { Receiver, SEARCHED, THERE } from "./receiver.js";
 
 const RATES = [48000, 44100, 8000, 16000, 22050, 11025, 12000, 24000, 32000, 96000];
 const EACH_PIECE = 5;        // scores are looked at each so many pieces
@@ -14,8 +14,9 @@ const LEAD = 8;              // seconds before that from which on it is tried
 
 /** Another usual rate at which these samples have phasing of NAVTEX, or null. */
 export function otherRate(samples, rate) {
-    const isThere = other => find(samples, other, { places: 1, seconds: 30, least: THERE }).some(one => one.phasing);
-    return RATES.find(other => other !== rate && isThere(other)) ?? null;
+    const looked = { places: 1, seconds: 30, least: THERE };
+    const isThere = (other) => find(samples, other, looked).some((one) => one.phasing);
+    return RATES.find((other) => other !== rate && isThere(other)) ?? null;
 }
 
 /**
@@ -29,12 +30,12 @@ export function otherRate(samples, rate) {
 export function find(samples, rate, { places = 6, seconds = 120, least = 0 } = {}) {
     const spectrum = new Middle(rate, ...SEARCHED);
     const scores = scoresOf(samples, rate, spectrum);
-    const best = Float64Array.from(spectrum.places, (_, place) => Math.max(0, ...scores.map(row => row[place])));
+    const best = Float64Array.from(spectrum.places, (_, place) => Math.max(0, ...scores.map((row) => row[place])));
     const found = [];
     while (found.length < places && Math.max(...best) > least) {
         const place = placeOfGreatest(best);
         const centre = spectrum.places[place];
-        const clear = scores.findIndex(row => row[place] >= BEGUN * best[place]);
+        const clear = scores.findIndex((row) => row[place] >= BEGUN * best[place]);
         found.push(tried(samples, rate, centre, clear, seconds));
         spectrum.places.forEach((other, at) => {
             best[at] = Math.abs(other - centre) < BESIDE_PLACE ? 0 : best[at];
@@ -69,7 +70,7 @@ function tried(samples, rate, centre, clear, seconds) {
 function clearest(found) {
     const clear = [];
     for (const one of found.sort((a, b) => b.phasing - a.phasing || b.locks - a.locks)) {
-        if (one.locks && clear.every(other => Math.abs(one.middle - other.middle) > BESIDE_FOUND)) {
+        if (one.locks && clear.every((other) => Math.abs(one.middle - other.middle) > BESIDE_FOUND)) {
             clear.push(one);
         }
     }

@@ -1,8 +1,8 @@
 // Where sound was lost or doubled on its way: words go on some elements earlier or later.
 
-import { logSum } from './likelihood.js';
-import { clip, modulo } from './numbers.js';
-import { GAP, pairs, UNHEARD, WORD } from './words.js';
+import { logSum } from "./likelihood.js";
+import { clip, modulo } from "./numbers.js";
+import { GAP, pairs, UNHEARD, WORD } from "./words.js";
 
 export const TURN = 14;     // elements of two slots
 export const ON = 10;       // positions behind one that are looked at
@@ -14,8 +14,8 @@ const WIDTHS = 12;          // so many lengths of what is heard between are trie
 const DOUBLED = 1;          // sound is lost more often than doubled: so much speaks against it
 
 /**
- * The likeliest jump behind `place`, where the last of the next positions speak for another place in
- * a turn: where words end, where they begin again, and how many elements later. `proof(place)` is
+ * The likeliest jump behind `place`, where the last of the next positions speak for another place
+ * in a turn: where words end, where they begin again, how many elements later. `proof(place)` is
  * what speaks for a position at a place.
  */
 export function findJump(words, proof, isExchanged, place) {
@@ -31,7 +31,7 @@ export function findJump(words, proof, isExchanged, place) {
     return best;
 }
 
-/** The place in a turn for which the last positions speak, and by how much more than for this one. */
+/** The place in a turn for which the last positions speak, and by how much more than for this. */
 function otherTurn(proof, place) {
     let best = { gain: -Infinity, turn: 0 };
     const gains = new Float64Array(TURN);
@@ -48,8 +48,8 @@ function otherTurn(proof, place) {
 }
 
 /**
- * A jump by `step` elements behind `place`. Words are heard whole before an end, and from a begin on
- * `step` elements later; a word between says nothing.
+ * A jump by `step` elements behind `place`. Words are heard whole before an end, and from a begin
+ * on `step` elements later; a word between says nothing.
  */
 class Jump {
     constructor(words, isExchanged, place, step) {
@@ -64,8 +64,8 @@ class Jump {
 
     /** What speaks for a position, where each of its words isn't heard, heard before, or behind. */
     proofsOf(dx) {
-        const [sent, again] = [dx, dx + GAP].map(at => [UNHEARD, this.row(at), this.row(at + this.step)]);
-        return sent.map(one => again.map(other =>
+        const [sent, again] = [dx, dx + GAP].map((at) => [UNHEARD, this.row(at), this.row(at + this.step)]);
+        return sent.map((one) => again.map((other) =>
             clip(logSum(pairs(one, other, this.isExchanged)), -8, 6)));
     }
 

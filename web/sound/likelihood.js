@@ -1,8 +1,10 @@
 // Likelihoods, as natural logarithms.
 
+import { listOf } from "./numbers.js";
+
 const BESSEL_END = 40;     // up to here ln I0 is looked up in a table
 const BESSEL_STEPS = 1600;
-const BESSEL_TABLE = Float64Array.from({ length: BESSEL_STEPS + 1 }, (_, place) =>
+const BESSEL_TABLE = listOf(BESSEL_STEPS + 1, (place) =>
     Math.log(besselI0(place * BESSEL_END / BESSEL_STEPS)));
 
 /** I0, the modified Bessel function of order 0, by its series. */

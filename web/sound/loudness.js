@@ -1,8 +1,8 @@
 // The loudness of both tones and the noise near each element, and what an element tells by them.
 
-import { Cases } from './cases.js';
-import { logBessel, probability } from './likelihood.js';
-import { clip } from './numbers.js';
+import { Cases } from "./cases.js";
+import { logBessel, probability } from "./likelihood.js";
+import { clip, listOf } from "./numbers.js";
 
 export const BEFORE = 50;      // elements before one that tell its loudness and noise
 export const BEHIND = 20;      // elements behind it that do
@@ -53,7 +53,7 @@ function sentTones(power, loud, noise) {
     return likes.map((one, place) => probability(one - likes[place ^ 1]));
 }
 
-/** ln I0(2 A |r| / N) - A² / N: Rice over Rayleigh, for |r|², A² and N; |r| is cut, for clicks. */
+/** ln I0(2 A |r| / N) - A² / N: Rice over Rayleigh. |r| is cut, for clicks; `power` is |r|². */
 function likely(power, loud, noise) {
     const size = Math.min(Math.sqrt(power), 1.5 * Math.sqrt(loud) + 2 * Math.sqrt(noise));
     return logBessel(2 * Math.sqrt(loud) * size / noise) - loud / noise;
@@ -70,7 +70,7 @@ class Near {
     /** A² and N near each element, where `sent` is the probability of each tone. */
     estimate(power, sent) {
         const stillPower = this.sums(power.map((one, place) => (1 - sent[place]) * one));
-        const still = this.sums(sent.map(one => 1 - one));
+        const still = this.sums(sent.map((one) => 1 - one));
         const sentPower = this.sums(power.map((one, place) => sent[place] * one));
         const times = this.sums(sent);
         const noise = stillPower.map((one, place) => one / still[place]);
@@ -84,7 +84,7 @@ class Near {
         for (let place = 0; place < values.length; place++) {
             sums[place + 2] = sums[place] + values[place];
         }
-        return Float64Array.from({ length: 2 * this.count }, (_, place) => {
+        return listOf(2 * this.count, (place) => {
             const element = this.first + (place >> 1);
             const since = Math.max(element - BEFORE, 0);
             const upto = element + BEHIND + 1;
@@ -94,7 +94,7 @@ class Near {
 
     /** Values of the elements from `first` on, for all: those of the nearest one. */
     wide(values) {
-        return Float64Array.from({ length: 2 * this.all }, (_, place) => {
+        return listOf(2 * this.all, (place) => {
             const element = clip((place >> 1) - this.first, 0, this.count - 1);
             return values[2 * element + place % 2];
         });

@@ -1,8 +1,8 @@
 // Finds the middle of the two tones.
 
-import { Fourier } from './fourier.js';
-import { between, joined, mean, median } from './numbers.js';
-import { SHIFT } from './rates.js';
+import { Fourier } from "./fourier.js";
+import { between, joined, listOf, mean, median } from "./numbers.js";
+import { SHIFT } from "./rates.js";
 
 const SPECTRUM_SECONDS = 0.2;   // seconds of sound that one spectrum is made of
 const SPECTRA = 12;             // so many spectra are averaged
@@ -33,7 +33,7 @@ export class Middle {
 
     hear(samples) {
         this.before = joined(this.before, samples).slice(-this.size);
-        if (this.before.length === this.size && this.before.some(sample => sample !== 0)) {
+        if (this.before.length === this.size && this.before.some((sample) => sample !== 0)) {
             this.average(this.fourier.power(this.before.map((sample, place) => sample * this.window[place])));
             this.smooth = smoothed(this.power, this.line);
         }
@@ -58,7 +58,7 @@ export class Middle {
 
     /** The score of each place. */
     scores() {
-        return Float64Array.from(this.places, place => this.score(place));
+        return Float64Array.from(this.places, (place) => this.score(place));
     }
 
     /** The clearest place from `first` to `last`, and its score. */
@@ -78,31 +78,31 @@ export class Middle {
 }
 
 function hannWindow(size) {
-    return Float64Array.from({ length: size }, (_, place) =>
+    return listOf(size, (place) =>
         0.5 + 0.5 * Math.cos(Math.PI * (2 * place - size + 1) / (size - 1)));
 }
 
 function placesWithin(first, end) {
     const count = Math.max(0, Math.ceil((end - first) / APART));
-    return Float64Array.from({ length: count }, (_, place) => first + place * APART);
+    return listOf(count, (place) => first + place * APART);
 }
 
 /** How the power of a keyed tone lies around its frequency. */
 function lineOfTone(bin) {
-    const line = Float64Array.from({ length: 2 * LINE_REACH + 1 }, (_, place) =>
+    const line = listOf(2 * LINE_REACH + 1, (place) =>
         Math.exp(-(((place - LINE_REACH) * bin / LINE_WIDTH) ** 2)));
     const sum = line.reduce((one, other) => one + other);
-    return line.map(part => part / sum);
+    return line.map((part) => part / sum);
 }
 
 function smoothed(power, line) {
     const smooth = new Float64Array(power.length);
-    for (let place = 0; place < power.length; place++) {
-        const first = Math.max(0, place - LINE_REACH);
-        const last = Math.min(power.length - 1, place + LINE_REACH);
-        for (let at = first; at <= last; at++) {
-            smooth[place] += power[at] * line[at - place + LINE_REACH];
+    line.forEach((part, at) => {
+        const off = at - LINE_REACH;
+        const last = Math.min(power.length, power.length - off);
+        for (let place = Math.max(0, -off); place < last; place++) {
+            smooth[place] += power[place + off] * part;
         }
-    }
+    });
     return smooth;
 }

@@ -1,8 +1,8 @@
 // Samples at any rate, mixed down by a frequency that may change, at 16 samples an element.
 
-import { median, roundEven } from './numbers.js';
-import { INNER_RATE } from './rates.js';
-import { Signal } from './signal.js';
+import { listOf, median, roundEven } from "./numbers.js";
+import { INNER_RATE } from "./rates.js";
+import { Signal } from "./signal.js";
 
 const LEAST_RATE = 6000;        // samples a second that are left where samples are averaged first
 const FILTER_BAND = 320;        // Hz on each side of the middle that pass the filter
@@ -63,7 +63,7 @@ export class Mixer {
             return piece;
         }
         const around = Math.trunc(CLICK_AROUND * this.rate) + 1;
-        const isClick = spread(piece.sizes().map(size => size > limit ? 1 : 0), around);
+        const isClick = spread(piece.sizes().map((size) => size > limit ? 1 : 0), around);
         const clicks = isClick.reduce((one, other) => one + other, 0);
         if (clicks === 0 || clicks / piece.length >= CLICK_MOST) {
             return piece;
@@ -145,7 +145,7 @@ function spread(marks, around) {
 }
 
 function filterWeights(late, half, band) {
-    return Float64Array.from({ length: 2 * half + 1 }, (_, place) => {
+    return listOf(2 * half + 1, (place) => {
         const away = late + (place - half);
         return sinc(band * away) * (0.5 + 0.5 * Math.cos(Math.PI * away / (half + 1))) * band;
     });

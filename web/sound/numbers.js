@@ -41,7 +41,7 @@ export function mean(values, first = 0, last = values.length) {
 }
 
 export function median(values) {
-    const sorted = Float64Array.from(values).sort();
+    const sorted = values.slice().sort();
     const half = sorted.length >> 1;
     return sorted.length % 2 ? sorted[half] : (sorted[half - 1] + sorted[half]) / 2;
 }
@@ -56,6 +56,15 @@ export function between(values, place) {
         return values[values.length - 1];
     }
     return values[below] + (values[below + 1] - values[below]) * (place - below);
+}
+
+/** So many numbers, each of which `value` tells for its place. */
+export function listOf(count, value) {
+    const list = new Float64Array(count);
+    for (let place = 0; place < count; place++) {
+        list[place] = value(place);
+    }
+    return list;
 }
 
 /** Two lists of samples, one behind the other. */

@@ -1,18 +1,18 @@
 // The phase of the tones through a word: a sender changes from tone to tone without a jump.
 
-import { logBessel } from './likelihood.js';
-import { inState, RATIO, SIZE } from './loudness.js';
-import { BAUD, SHIFT } from './rates.js';
-import { PATTERNS, WORD, wordsOf } from './words.js';
+import { logBessel } from "./likelihood.js";
+import { inState, RATIO, SIZE } from "./loudness.js";
+import { BAUD, SHIFT } from "./rates.js";
+import { PATTERNS, WORD, wordsOf } from "./words.js";
 
 export const ELEMENT_SECONDS = 1 / BAUD;
 const ELEMENT_TURNS = SHIFT / 2 / BAUD;   // turns that an element adds or takes: 0.85
 const LAGS = [1, 2, 3];                   // elements between those whose phases are compared
 
 // Where the phase of each word stands at the beginning of each of its elements, turned back.
-const TURNED = PATTERNS.map(pattern => {
+const TURNED = PATTERNS.map((pattern) => {
     let turns = 0;
-    return pattern.map(bit => {
+    return pattern.map((bit) => {
         const angle = -2 * Math.PI * turns;
         turns += bit ? ELEMENT_TURNS : -ELEMENT_TURNS;
         return { cosine: Math.cos(angle), sine: Math.sin(angle) };
@@ -25,9 +25,9 @@ function toneOf(bit) {
 }
 
 /**
- * The sum of c(i + m) c(i)*, m from 1 to 3, where c is the tones of a word turned back. Its angle is
- * 4 pi times the seconds of an element times the frequency that is left in c (Luise and Reggiannini
- * 1995).
+ * The sum of c(i + m) c(i)*, m from 1 to 3, where c is the tones of a word turned back. Its angle
+ * is 4 pi times the seconds of an element times the frequency that is left in c (Luise and
+ * Reggiannini 1995).
  */
 export function slopeOf(tones, state, place, word) {
     const real = new Float64Array(WORD);
@@ -62,7 +62,7 @@ export function offBySlope({ real, imaginary }) {
  */
 export function wordsWithPhase(tones, state, place, off) {
     const heard = Array.from({ length: WORD }, (_, element) =>
-        [0, 1].map(bit => turnedTone(tones, state, place, element, toneOf(bit), off)));
+        [0, 1].map((bit) => turnedTone(tones, state, place, element, toneOf(bit), off)));
     const ratios = wordsOf((element, tone) => state.get(place + element, inState(tone, RATIO)));
     return ratios.map((ratio, word) => {
         let real = 0;

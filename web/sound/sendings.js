@@ -1,14 +1,14 @@
 // From the tones of elements to elements: words are decided from both sendings of a position.
 
-import { findJump, ON, TURN } from './jumps.js';
-import { logAdd, logSum, probability } from './likelihood.js';
-import { BEFORE, BEHIND, inState, LIKELIHOOD, LOUD, STATE, statesOf } from './loudness.js';
-import { clip, modulo, placeOfGreatest } from './numbers.js';
-import { offBySlope, slopeOf, wordsWithPhase } from './phase.js';
-import { Store } from './store.js';
+import { findJump, ON, TURN } from "./jumps.js";
+import { logAdd, logSum, probability } from "./likelihood.js";
+import { BEFORE, BEHIND, inState, LIKELIHOOD, LOUD, STATE, statesOf } from "./loudness.js";
+import { clip, modulo, placeOfGreatest } from "./numbers.js";
+import { offBySlope, slopeOf, wordsWithPhase } from "./phase.js";
+import { Store } from "./store.js";
 import {
     asHeard, DX, GAP, pairs, PAIRS, PATTERNS, PHASING_ONE, PHASING_TWO, RX, spoilt, SPOILT_ROW, UNHEARD, WORD, wordsOf,
-} from './words.js';
+} from "./words.js";
 
 const BACK = 14;       // positions before one that tell a lock
 const LOCK = 14;       // evidence for a lock
@@ -69,7 +69,7 @@ export class Sendings {
                 this.stretches.shift();
             }
         }
-        return this.out.rows(first, this.told).join('');
+        return this.out.rows(first, this.told).join("");
     }
 
     /** The element of those heard that is told next. */
@@ -102,9 +102,9 @@ export class Sendings {
     /** What speaks for a position at each place, and how the phase grows in its likeliest words. */
     hearPositions() {
         for (let place = this.proof.end; place + GAP < this.words.end; place++) {
-            const heard = [false, true].map(isExchanged => this.position(place, isExchanged));
-            this.proof.add(heard.map(one => one.proof));
-            this.slopes.add(heard.flatMap(one => [one.slope.real, one.slope.imaginary]));
+            const heard = [false, true].map((isExchanged) => this.position(place, isExchanged));
+            this.proof.add(heard.map((one) => one.proof));
+            this.slopes.add(heard.flatMap((one) => [one.slope.real, one.slope.imaginary]));
         }
     }
 
@@ -142,13 +142,14 @@ export class Sendings {
 
     /** An element by itself: the louder tone. */
     byItself(place) {
-        const [upper, lower] = [0, 2].map(first => Math.hypot(this.tones.get(place, first), this.tones.get(place, first + 1)));
+        const size = (column) => Math.hypot(this.tones.get(place, column), this.tones.get(place, column + 1));
+        const [upper, lower] = [size(0), size(2)];
         return this.isTuned && (upper > lower) !== this.exchanged ? 1 : 0;
     }
 
     /**
-     * The lock: the place in a turn, and the sideband, for which the positions near here speak. It is
-     * told in the slot of the lock before.
+     * The lock: the place in a turn, and the sideband, for which the positions near here speak. It
+     * is told in the slot of the lock before.
      */
     seek(place) {
         const { first, last } = this.stretches[0];
@@ -198,7 +199,7 @@ export class Sendings {
 
     /** Whether one of the tones is missing. */
     isSingle({ first, last }) {
-        const loud = [0, 1].map(tone => {
+        const loud = [0, 1].map((tone) => {
             let sum = 0;
             for (let place = first; place < last; place++) {
                 sum += this.state.get(place, inState(tone, LOUD));
@@ -220,7 +221,7 @@ export class Sendings {
      * and no sooner, so that more is heard of it.
      */
     meetJump(place) {
-        const proof = at => this.proof.get(at, Number(this.exchanged));
+        const proof = (at) => this.proof.get(at, Number(this.exchanged));
         const jump = findJump(this.words, proof, this.exchanged, place);
         if (jump && jump.end <= place + GAP + WORD + TURN) {
             const { first, shift } = this.stretches[0];
@@ -250,12 +251,12 @@ export class Sendings {
         this.put(this.told + GAP, rx);
     }
 
-    /** Two models of each pair are mixed, with and without phase, by what spoke for each of late. */
+    /** Two models of each pair, with and without phase, mixed by what spoke for each of late. */
     models(place) {
         const off = this.off(place);
-        const places = [this.told, this.told + GAP].map(told => this.heardAt(told));
-        const rows = places.map(at => at === null ? UNHEARD : this.row(at));
-        const turned = places.map(at =>
+        const places = [this.told, this.told + GAP].map((told) => this.heardAt(told));
+        const rows = places.map((at) => at === null ? UNHEARD : this.row(at));
+        const turned = places.map((at) =>
             at === null ? UNHEARD : spoilt(wordsWithPhase(this.tones, this.state, at, off)));
         const still = pairs(...rows, this.exchanged);
         const turning = pairs(...turned, this.exchanged);

@@ -4,7 +4,7 @@
 // word is named by its number, element 1 in the least place, B as 1. With the tones exchanged it is
 // 127 less its number. Likelihoods are natural logarithms, over that of noise alone.
 
-import { logAdd, logSum } from './likelihood.js';
+import { logAdd, logSum } from "./likelihood.js";
 
 export const WORD = 7;          // elements of a word
 export const GAP = 35;          // elements between both sendings
@@ -31,7 +31,7 @@ export function asHeard(word, isExchanged) {
     return isExchanged ? word ^ 127 : word;
 }
 
-/** The likelihoods of 128 words where a sending may also be spoilt to any, and behind them their mean. */
+/** The likelihoods of all words where a sending may be spoilt to any; behind them their mean. */
 export function spoilt(models) {
     const mean = logSum(models, 0, WORDS) - Math.log(WORDS);
     const row = new Float64Array(SPOILT_ROW);
@@ -60,9 +60,14 @@ export function pairs(dx, rx, isExchanged) {
     return models;
 }
 
-/** The likelihood of each word: the sum of those of its elements. `likes(element, tone)` says them. */
+/** The likelihood of each word: the sum of those of its elements, by `likes(element, tone)`. */
 export function wordsOf(likes) {
-    const table = Array.from({ length: WORD }, (_, element) => [likes(element, 1), likes(element, 0)]);
-    return Float64Array.from(PATTERNS, pattern =>
-        pattern.reduce((sum, bit, element) => sum + table[element][bit], 0));
+    const sums = new Float64Array(WORDS);
+    for (let element = 0; element < WORD; element++) {
+        const ifSent = [likes(element, 1), likes(element, 0)];
+        for (let word = 0; word < WORDS; word++) {
+            sums[word] += ifSent[(word >> element) & 1];
+        }
+    }
+    return sums;
 }
