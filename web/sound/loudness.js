@@ -1,8 +1,8 @@
 // The loudness of both tones and the noise near each element, and what an element tells by them.
 
-import { Cases } from "./cases.js";
-import { logBessel, probability } from "./likelihood.js";
-import { clip, listOf } from "./numbers.js";
+import { Cases } from './cases.js';
+import { logBessel, probability } from './likelihood.js';
+import { clip, listOf } from './numbers.js';
 
 export const BEFORE = 50;      // elements before one that tell its loudness and noise
 export const BEHIND = 20;      // elements behind it that do
