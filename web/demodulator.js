@@ -18,8 +18,8 @@ import { otherRate } from './sound/find.js';
 import { mean } from './sound/numbers.js';
 import { Plain } from './sound/plain.js';
 import { pieceLength } from './sound/rates.js';
-import { Whole } from './sound/whole.js';
 import { judged, QUIET, statusLine } from './sound/said.js';
+import { Whole } from './sound/whole.js';
 
 const LEAST_SAMPLES = 6000;      // samples a second
 const MOST_SAMPLES = 192000;
