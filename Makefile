@@ -2,14 +2,16 @@
 PREFIX = /usr/local
 PROGRAM = crates/nx_cli/out/nx_cli
 CRATE =
+MODULE = out/live/navtex32.wasm
 
-.PHONY: help check test ci bench install install-lib uninstall deb deb-lib live clean
+.PHONY: help check test ci bench live page install install-lib uninstall deb deb-lib clean
 
 help:
 	@echo 'make check CRATE=nx_sync  prove one crate, and those below it that have changed'
 	@echo 'make test                 run all tests that need no proof: two to three minutes on two processors'
 	@echo 'make ci                   the merge gate: all proofs, wrong bodies, tests, programs: hours'
 	@echo 'make bench                measure the built program'
+	@echo 'make page                 out/navtex.html, the receiver as a page for a browser; make live builds its module first'
 	@echo 'make install              put the built program, man pages, completion, the tools for sound, a service and examples below PREFIX ($(PREFIX))'
 	@echo 'make install-lib          put the built library for C, its header and navtex.pc there'
 	@echo 'make uninstall            take them all away, but for the settings in /etc/default'
@@ -32,6 +34,10 @@ ci:
 bench:
 	bench/listen
 	bench/stream
+
+page:
+	@[ -f $(MODULE) ] || { echo 'there is no $(MODULE): make live proves and builds it' >&2; exit 1; }
+	web/make $(MODULE) out/navtex.html
 
 install:
 	@[ -x $(PROGRAM) ] || { echo 'there is no $(PROGRAM): (cd crates/nx_cli && rt run -- code) proves and builds it' >&2; exit 1; }

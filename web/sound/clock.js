@@ -1,0 +1,173 @@
+// Where elements begin, and what each of the tones is in them.
+
+import { between, clip, listOf, modulo, placeOfGreatest } from './numbers.js';
+import { AHEAD, INNER_RATE, PER, PIECE, SHIFT } from './rates.js';
+import { Signal } from './signal.js';
+
+const CLOCK_MEMORY = 15;   // pieces that the clock remembers
+const CLOCK_STEP = 100;    // what a step of the clock has to explain: noise gives 80, half an element 450
+const ROUND = 320;         // samples in which both tones, half a SHIFT off, make whole turns (17 of them)
+const TONE_ANGLE = -Math.PI * SHIFT / INNER_RATE;
+const TONE_COSINES = listOf(ROUND, (place) => Math.cos(TONE_ANGLE * place));
+const TONE_SINES = listOf(ROUND, (place) => Math.sin(TONE_ANGLE * place));
+
+/**
+ * The clock of elements.
+ *
+ * E(t) is the energy of a tone over the 16 samples up to t. |E_B - E_Y| is largest where an element
+ * ends, so the angle of the sum of |E_B - E_Y| e^(-2 pi i t / 16) tells the place (after Oerder and
+ * Meyr 1988). The sum is over 3 s before and 1 s after. Each element moves by an eighth of what it
+ * is late, at most 2 per cent of its length, so that the count of elements goes on where nothing is
+ * heard. Where sound was lost or doubled the place changes at once: two sums, before a piece and
+ * from it on, are then together much longer than the sum of all.
+ */
+export class Clock {
+    constructor() {
+        this.heard = Signal.still(0);   // samples at INNER_RATE that are still needed
+        this.begin = 0;                 // number of the first of them
+        this.seen = 0;                  // pieces whose swing is known
+        this.swings = [];               // the sums of the pieces that no element was taken of
+        this.past = point(0, 0);        // the sum before them, as it is remembered
+        this.loud = 0;
+        this.next = 0;                  // where the next element begins
+    }
+
+    /** The new elements of each piece: where they begin, in samples, and both tones in them. */
+    hear(samples) {
+        this.heard = this.heard.and(samples);
+        const size = PER * PIECE;
+        const told = [];
+        while ((this.seen + 1) * size + PER <= this.begin + this.heard.length) {
+            this.swings.push(this.swing(this.seen * size));
+            this.seen += 1;
+            if (this.swings.length > AHEAD) {
+                told.push(...this.piece());
+            }
+        }
+        return told;
+    }
+
+    /** The sum over one piece, from the end of its first element on. */
+    swing(first) {
+        const part = this.heard.part(first - this.begin, first - this.begin + PER * (PIECE + 1));
+        const upper = energies(turnedSums(part, 0, 1));
+        const lower = energies(turnedSums(part, 0, -1));
+        let loud = 0;
+        let real = 0;
+        let imaginary = 0;
+        for (let place = 0; place < upper.length; place++) {
+            const shown = Math.abs(upper[place] - lower[place]);
+            loud += (upper[place] + lower[place]) / upper.length;
+            real += shown * Math.cos(2 * Math.PI * place / PER);
+            imaginary -= shown * Math.sin(2 * Math.PI * place / PER);
+        }
+        this.loud += (loud - this.loud) / 5;
+        const scale = Math.max(loud, this.loud) + 1e-30;
+        return point(real / scale, imaginary / scale);
+    }
+
+    /** The elements of the oldest piece. */
+    piece() {
+        const place = this.place();
+        const oldest = this.swings.shift();
+        const kept = Math.exp(-1 / CLOCK_MEMORY);
+        this.past = point((this.past.real + oldest.real) * kept, (this.past.imaginary + oldest.imaginary) * kept);
+        const limit = (this.seen - AHEAD) * PER * PIECE;
+        const begins = [];
+        while (this.next < limit) {
+            begins.push(this.next);
+            this.next += PER + clip(late(place, this.next) / 8, -0.02 * PER, 0.02 * PER);
+        }
+        const upper = this.tones(begins, 1);
+        const lower = this.tones(begins, -1);
+        const drop = Math.max(0, Math.trunc(this.next) - this.begin - 2 * PER);
+        this.heard = this.heard.part(drop);
+        this.begin += drop;
+        return begins.map((begin, one) => ({ begin, upper: upper[one], lower: lower[one] }));
+    }
+
+    /** The place that the swings show; the past counts as long as no step explains them better. */
+    place() {
+        const sums = [this.past];
+        for (const swing of this.swings) {
+            sums.push(plus(sums[sums.length - 1], swing));
+        }
+        const all = sums[sums.length - 1];
+        const gains = sums.slice(0, -1).map((sum) => sizeOf(sum) + sizeOf(minus(all, sum)) - sizeOf(all));
+        const first = placeOfGreatest(gains);
+        const isStep = gains[first] > CLOCK_STEP;
+        if (!isStep) {
+            return shownBy(all);
+        }
+        if (first > 0) {
+            return shownBy(sums[first]);
+        }
+        const place = shownBy(minus(all, this.past));
+        this.past = point(0, 0);
+        this.next += late(place, this.next);
+        return place;
+    }
+
+    /**
+     * The upper tone (sign 1) or the lower in each element: the mean of x e^(-2 pi i f t), t from
+     * its beginning, between samples by straight lines.
+     */
+    tones(begins, sign) {
+        const sums = turnedSums(this.heard, this.begin, sign);
+        return begins.map((begin) => {
+            const first = begin - this.begin;
+            const real = (between(sums.real, first + PER) - between(sums.real, first)) / PER;
+            const imaginary = (between(sums.imaginary, first + PER) - between(sums.imaginary, first)) / PER;
+            const cosine = Math.cos(TONE_ANGLE * begin);
+            const sine = -sign * Math.sin(TONE_ANGLE * begin);
+            return point(real * cosine - imaginary * sine, real * sine + imaginary * cosine);
+        });
+    }
+}
+
+/** The sums of the first 0, 1, 2, .. samples, turned back by a tone. `begin` numbers the first. */
+function turnedSums(signal, begin, sign) {
+    const sums = Signal.still(signal.length + 1);
+    for (let place = 0; place < signal.length; place++) {
+        const cosine = TONE_COSINES[(begin + place) % ROUND];
+        const sine = sign * TONE_SINES[(begin + place) % ROUND];
+        const real = signal.real[place];
+        const imaginary = signal.imaginary[place];
+        sums.real[place + 1] = sums.real[place] + real * cosine - imaginary * sine;
+        sums.imaginary[place + 1] = sums.imaginary[place] + real * sine + imaginary * cosine;
+    }
+    return sums;
+}
+
+/** The energy over each 16 samples. */
+function energies(sums) {
+    const count = sums.length - 1 - PER;
+    return listOf(count, (place) =>
+        (sums.real[place + PER] - sums.real[place]) ** 2 + (sums.imaginary[place + PER] - sums.imaginary[place]) ** 2);
+}
+
+/** How much later than `next` the nearest place of a beginning is. */
+function late(place, next) {
+    return modulo(place - next + PER / 2, PER) - PER / 2;
+}
+
+/** Where elements begin, by a sum of swings. */
+function shownBy(sum) {
+    return -Math.atan2(sum.imaginary, sum.real) / (2 * Math.PI) * PER;
+}
+
+function point(real, imaginary) {
+    return { real, imaginary };
+}
+
+function plus(one, other) {
+    return point(one.real + other.real, one.imaginary + other.imaginary);
+}
+
+function minus(one, other) {
+    return point(one.real - other.real, one.imaginary - other.imaginary);
+}
+
+function sizeOf(one) {
+    return Math.hypot(one.real, one.imaginary);
+}

@@ -1,0 +1,89 @@
+// The phase of the tones through a word: a sender changes from tone to tone without a jump.
+
+import { logBessel } from './likelihood.js';
+import { inState, RATIO, SIZE } from './loudness.js';
+import { BAUD, SHIFT } from './rates.js';
+import { PATTERNS, WORD, wordsOf } from './words.js';
+
+export const ELEMENT_SECONDS = 1 / BAUD;
+const ELEMENT_TURNS = SHIFT / 2 / BAUD;   // turns that an element adds or takes: 0.85
+const LAGS = [1, 2, 3];                   // elements between those whose phases are compared
+
+// Where the phase of each word stands at the beginning of each of its elements, turned back.
+const TURNED = PATTERNS.map((pattern) => {
+    let turns = 0;
+    return pattern.map((bit) => {
+        const angle = -2 * Math.PI * turns;
+        turns += bit ? ELEMENT_TURNS : -ELEMENT_TURNS;
+        return { cosine: Math.cos(angle), sine: Math.sin(angle) };
+    });
+});
+
+/** The column of a tone: the upper one is sent for 1. */
+function toneOf(bit) {
+    return bit ? 0 : 1;
+}
+
+/**
+ * The sum of c(i + m) c(i)*, m from 1 to 3, where c is the tones of a word turned back. Its angle
+ * is 4 pi times the seconds of an element times the frequency that is left in c (Luise and
+ * Reggiannini 1995).
+ */
+export function slopeOf(tones, state, place, word) {
+    const real = new Float64Array(WORD);
+    const imaginary = new Float64Array(WORD);
+    for (let element = 0; element < WORD; element++) {
+        const tone = toneOf(PATTERNS[word][element]);
+        const { cosine, sine } = TURNED[word][element];
+        const size = state.get(place + element, inState(tone, SIZE));
+        const heardReal = tones.get(place + element, 2 * tone);
+        const heardImaginary = tones.get(place + element, 2 * tone + 1);
+        real[element] = (heardReal * cosine - heardImaginary * sine) * size;
+        imaginary[element] = (heardReal * sine + heardImaginary * cosine) * size;
+    }
+    const slope = { real: 0, imaginary: 0 };
+    for (const lag of LAGS) {
+        for (let one = 0; one + lag < WORD; one++) {
+            slope.real += real[one + lag] * real[one] + imaginary[one + lag] * imaginary[one];
+            slope.imaginary += imaginary[one + lag] * real[one] - real[one + lag] * imaginary[one];
+        }
+    }
+    return slope;
+}
+
+/** How far a slope says that the middle is off, in Hz. */
+export function offBySlope({ real, imaginary }) {
+    return Math.atan2(imaginary, real) / (4 * Math.PI * ELEMENT_SECONDS);
+}
+
+/**
+ * The likelihood of each word whose tones follow each other without a jump of phase:
+ * ln I0(|sum of 2 A r e^(-i phi) / N|) - sum of A² / N. `off` is how far the middle is off, in Hz.
+ */
+export function wordsWithPhase(tones, state, place, off) {
+    const heard = Array.from({ length: WORD }, (_, element) =>
+        [0, 1].map((bit) => turnedTone(tones, state, place, element, toneOf(bit), off)));
+    const ratios = wordsOf((element, tone) => state.get(place + element, inState(tone, RATIO)));
+    return ratios.map((ratio, word) => {
+        let real = 0;
+        let imaginary = 0;
+        for (let element = 0; element < WORD; element++) {
+            const one = heard[element][PATTERNS[word][element]];
+            const { cosine, sine } = TURNED[word][element];
+            real += one.real * cosine - one.imaginary * sine;
+            imaginary += one.real * sine + one.imaginary * cosine;
+        }
+        return logBessel(Math.hypot(real, imaginary)) - ratio;
+    });
+}
+
+/** 2 A r / N of a tone in an element of a word, turned back by what the middle is off. */
+function turnedTone(tones, state, place, element, tone, off) {
+    const scale = 2 * state.get(place + element, inState(tone, SIZE));
+    const real = scale * tones.get(place + element, 2 * tone);
+    const imaginary = scale * tones.get(place + element, 2 * tone + 1);
+    const angle = -2 * Math.PI * off * ELEMENT_SECONDS * element;
+    const cosine = Math.cos(angle);
+    const sine = Math.sin(angle);
+    return { real: real * cosine - imaginary * sine, imaginary: real * sine + imaginary * cosine };
+}

@@ -1,0 +1,312 @@
+// From the tones of elements to elements: words are decided from both sendings of a position.
+
+import { findJump, ON, TURN } from './jumps.js';
+import { logAdd, logSum, probability } from './likelihood.js';
+import { BEFORE, BEHIND, inState, LIKELIHOOD, LOUD, STATE, statesOf } from './loudness.js';
+import { clip, modulo, placeOfGreatest } from './numbers.js';
+import { offBySlope, slopeOf, wordsWithPhase } from './phase.js';
+import { Store } from './store.js';
+import {
+    asHeard, DX, GAP, pairs, PAIRS, PATTERNS, PHASING_ONE, PHASING_TWO, RX, spoilt, SPOILT_ROW, UNHEARD, WORD, wordsOf,
+} from './words.js';
+
+const BACK = 14;       // positions before one that tell a lock
+const LOCK = 14;       // evidence for a lock
+const LOSE = 5;        // against it
+const BETTER = 8;      // and for another one
+const SURE = 0.98;     // a word is written where it is so probable
+const PAIR = 0.06;     // for a lock one tone has this part of the other's A²
+const NEAREST = 12;    // positions before one that tell how far the middle is off
+
+/**
+ * Takes the tones of elements and tells elements, 2.3 s behind. All is numbered by elements.
+ *
+ * Where sound is lost or doubled on its way, words jump: they are heard some elements earlier or
+ * later than those before. They are told in the slots of the words before all the same, so elements
+ * are put in or left out. A stretch is sound without a jump: what is told as element i is heard as
+ * element i + shift, from its first element on and before its last.
+ */
+export class Sendings {
+    constructor(isExchanged = false) {
+        this.exchanged = isExchanged;      // whether the lower tone is B
+        this.lock = null;                  // the place of DX words as told, from 0 to 13
+        this.slot = null;                  // that of the latest lock
+        this.stretches = [{ first: 0, last: Infinity, shift: 0 }];   // the one that is told, and the next
+        this.sure = 0;                     // words that were sure
+        this.unsure = 0;                   // those between them that weren't
+        this.doubts = -Infinity;           // words not sure since the latest sure one of a lock
+        this.jumps = 0;                    // jumps met
+        this.isTuned = true;               // whether words that are found now count
+        this.single = 0;                   // how often a lock was refused for one tone alone
+        this.middle = null;                // the middle by the phase of words, in a lock
+        this.phasing = 0;                  // pairs of phasing positions met
+        this.phases = 0;                   // phasing positions in a row now
+        this.phase = 0;                    // what speaks for tones without a jump of phase
+        this.tones = new Store(4);         // of the upper and of the lower tone, real and imaginary
+        this.mixed = new Store(1);         // the frequency that they were mixed down by
+        this.state = new Store(STATE);     // loudness and likelihood of both tones
+        this.words = new Store(SPOILT_ROW);   // the likelihood of each word that begins here
+        this.proof = new Store(2);         // that of a position that begins here; exchanged
+        this.slopes = new Store(4);        // how the phase of its words grows; exchanged
+        this.out = new Store(1);
+        this.told = 0;
+    }
+
+    /** Takes elements, mixed down by this middle, and tells those that are decided. */
+    hear(elements, middle) {
+        for (const { upper, lower } of elements) {
+            this.tones.add([upper.real, upper.imaginary, lower.real, lower.imaginary]);
+            this.mixed.add([middle]);
+        }
+        this.hearTones();
+        this.hearWords();
+        this.hearPositions();
+        const first = this.told;
+        while (this.here + TURN * (ON + 1) + WORD + GAP < this.words.end) {
+            this.decide();
+            this.told += 1;
+            if (this.here + WORD > this.stretches[0].last) {
+                this.stretches.shift();
+            }
+        }
+        return this.out.rows(first, this.told).join('');
+    }
+
+    /** The element of those heard that is told next. */
+    get here() {
+        return this.told + this.stretches[0].shift;
+    }
+
+    hearTones() {
+        const first = this.state.end;
+        const end = this.tones.end - BEHIND;
+        if (end > first) {
+            const begin = Math.max(0, first - BEFORE);
+            const power = new Float64Array(2 * (this.tones.end - begin));
+            const tones = this.tones.rows(begin, this.tones.end);
+            for (let place = 0; place < power.length; place++) {
+                power[place] = tones[2 * place] ** 2 + tones[2 * place + 1] ** 2 + 1e-15;
+            }
+            this.state.add(statesOf(power, first - begin));
+        }
+    }
+
+    /** The likelihood of each word: the sum of those of its elements, without their phase. */
+    hearWords() {
+        for (let place = this.words.end; place + WORD <= this.state.end; place++) {
+            const likes = (element, tone) => this.state.get(place + element, inState(tone, LIKELIHOOD));
+            this.words.add(spoilt(wordsOf(likes)));
+        }
+    }
+
+    /** What speaks for a position at each place, and how the phase grows in its likeliest words. */
+    hearPositions() {
+        for (let place = this.proof.end; place + GAP < this.words.end; place++) {
+            const heard = [false, true].map((isExchanged) => this.position(place, isExchanged));
+            this.proof.add(heard.map((one) => one.proof));
+            this.slopes.add(heard.flatMap((one) => [one.slope.real, one.slope.imaginary]));
+        }
+    }
+
+    position(place, isExchanged) {
+        const models = pairs(this.row(place), this.row(place + GAP), isExchanged);
+        const all = logSum(models);
+        const best = placeOfGreatest(models, DX.length);
+        const share = Math.exp(models[placeOfGreatest(models)] - all);
+        const dx = slopeOf(this.tones, this.state, place, asHeard(DX[best], isExchanged));
+        const rx = slopeOf(this.tones, this.state, place + GAP, asHeard(RX[best], isExchanged));
+        const slope = { real: share * (dx.real + rx.real), imaginary: share * (dx.imaginary + rx.imaginary) };
+        return { proof: clip(all, -4, 6), slope };
+    }
+
+    /** The likelihoods of the words that begin at an element. */
+    row(place) {
+        return this.words.rows(place, place + 1);
+    }
+
+    /** The element that is told next, and the words of a position that begins there. */
+    decide() {
+        if (this.out.end <= this.told) {
+            this.out.add([this.byItself(this.here)]);
+        }
+        if (this.told % TURN === 0) {
+            this.seek(this.here);
+        }
+        if (this.lock !== null && this.told % TURN === this.lock) {
+            if (this.stretches.length === 1) {
+                this.meetJump(this.here);
+            }
+            this.write(this.here);
+        }
+    }
+
+    /** An element by itself: the louder tone. */
+    byItself(place) {
+        const size = (column) => Math.hypot(this.tones.get(place, column), this.tones.get(place, column + 1));
+        const [upper, lower] = [size(0), size(2)];
+        return this.isTuned && (upper > lower) !== this.exchanged ? 1 : 0;
+    }
+
+    /**
+     * The lock: the place in a turn, and the sideband, for which the positions near here speak. It
+     * is told in the slot of the lock before.
+     */
+    seek(place) {
+        const { first, last } = this.stretches[0];
+        const back = Math.min(BACK - 1, Math.floor((place - first) / TURN));
+        const on = Math.min(ON + 1, Math.floor((last - place) / TURN));
+        if (back + on < ON / 2) {
+            return;
+        }
+        const near = { first: place - TURN * back, last: place + TURN * on };
+        const scores = this.scores(near);
+        const best = placeOfGreatest(scores);
+        const here = this.lock === null ? -Infinity : scores[2 * this.lock + Number(this.exchanged)];
+        if (scores[best] > Math.max(LOCK, here + BETTER)) {
+            this.take(best >> 1, best % 2 === 1, near);
+        } else if (here < LOSE) {
+            this.lock = null;
+            this.middle = null;
+        }
+    }
+
+    /** What speaks for each place in a turn, on each sideband. */
+    scores({ first, last }) {
+        const scores = new Float64Array(2 * TURN);
+        this.proof.rows(first, last).forEach((proof, place) => {
+            scores[place % scores.length] += proof;
+        });
+        return scores;
+    }
+
+    /** Locks to a place in a turn, where both tones are heard. */
+    take(turn, isExchanged, near) {
+        if (!this.isTuned || this.isSingle(near)) {
+            this.single += this.isTuned ? 1 : 0;
+            return;
+        }
+        this.slot ??= turn;
+        this.lock = this.slot;
+        this.exchanged = isExchanged;
+        this.phase = 0;
+        this.doubts = -Infinity;
+        const step = modulo(turn - this.slot + TURN / 2, TURN) - TURN / 2;
+        if (step) {
+            const { first, shift } = this.stretches[0];
+            this.stretches = [{ first, last: Infinity, shift: shift + step }];
+        }
+    }
+
+    /** Whether one of the tones is missing. */
+    isSingle({ first, last }) {
+        const loud = [0, 1].map((tone) => {
+            let sum = 0;
+            for (let place = first; place < last; place++) {
+                sum += this.state.get(place, inState(tone, LOUD));
+            }
+            return sum;
+        });
+        return Math.min(...loud) < PAIR * Math.max(...loud);
+    }
+
+    /** What was heard before this element tells nothing of a lock. */
+    forget(first) {
+        this.lock = null;
+        this.middle = null;
+        this.stretches = [{ first, last: Infinity, shift: this.stretches[0].shift }];
+    }
+
+    /**
+     * Looks for a jump ahead. It is taken when a word of the position at `place` may be behind it,
+     * and no sooner, so that more is heard of it.
+     */
+    meetJump(place) {
+        const proof = (at) => this.proof.get(at, Number(this.exchanged));
+        const jump = findJump(this.words, proof, this.exchanged, place);
+        if (jump && jump.end <= place + GAP + WORD + TURN) {
+            const { first, shift } = this.stretches[0];
+            this.stretches = [
+                { first, last: jump.end, shift },
+                { first: jump.begin, last: Infinity, shift: shift + jump.step },
+            ];
+            this.jumps += 1;
+        }
+    }
+
+    /** Where the word that is told at `place` was heard in one piece, if it was. */
+    heardAt(place) {
+        const whole = this.stretches.find(({ first, last, shift }) =>
+            first <= place + shift && place + shift + WORD <= last);
+        return whole ? place + whole.shift : null;
+    }
+
+    /** The words of the position that begins here, in both places; where none is sure, 0. */
+    write(place) {
+        const models = this.models(place);
+        const best = placeOfGreatest(models);
+        const isSure = models[best] - logSum(models) >= Math.log(SURE);
+        const [dx, rx] = isSure ? pairOf(best) : [0, 0];
+        this.count(dx);
+        this.put(this.told, dx);
+        this.put(this.told + GAP, rx);
+    }
+
+    /** Two models of each pair, with and without phase, mixed by what spoke for each of late. */
+    models(place) {
+        const off = this.off(place);
+        const places = [this.told, this.told + GAP].map((told) => this.heardAt(told));
+        const rows = places.map((at) => at === null ? UNHEARD : this.row(at));
+        const turned = places.map((at) =>
+            at === null ? UNHEARD : spoilt(wordsWithPhase(this.tones, this.state, at, off)));
+        const still = pairs(...rows, this.exchanged);
+        const turning = pairs(...turned, this.exchanged);
+        this.phase = clip(0.95 * this.phase + logSum(turning) - logSum(still), -6, 6);
+        const share = probability(this.phase);
+        return still.map((one, pair) => logAdd(one + Math.log(1 - share), turning[pair] + Math.log(share)));
+    }
+
+    /** Writes a word; elements up to its end that nobody wrote are 0. */
+    put(begin, word) {
+        this.out.add(new Float64Array(Math.max(0, begin + WORD - this.out.end)));
+        this.out.rows(begin, begin + WORD).set(PATTERNS[word]);
+    }
+
+    /** Counts a position: words that aren't sure count only between sure ones of a lock. */
+    count(dx) {
+        if (dx === 0) {
+            this.doubts += 1;
+            return;
+        }
+        this.sure += 1;
+        this.unsure += Math.max(0, this.doubts);
+        this.doubts = 0;
+        this.phases = dx === PHASING_TWO ? this.phases + 1 : 0;
+        this.phasing += dx === PHASING_TWO && this.phases % 2 === 0 ? 1 : 0;
+    }
+
+    /** How far the middle is from where element `place` was mixed down, in Hz. */
+    off(place) {
+        const { first, last } = this.stretches[0];
+        const total = { real: 0, imaginary: 0 };
+        const column = this.exchanged ? 2 : 0;
+        let [count, middles] = [0, 0];
+        for (let at = place - NEAREST * TURN; at <= place + ON * TURN; at += TURN) {
+            if (at >= Math.max(first, this.slopes.first) && at < last) {
+                total.real += this.slopes.get(at, column);
+                total.imaginary += this.slopes.get(at, column + 1);
+                middles += this.mixed.get(at);
+                count += 1;
+            }
+        }
+        if (count === 0) {
+            return 0;
+        }
+        this.middle = middles / count + offBySlope(total);
+        return this.middle - this.mixed.get(place);
+    }
+}
+
+/** The words of a pair; behind an end nothing is sent again. */
+function pairOf(best) {
+    return best === PAIRS - 1 ? [PHASING_ONE, 0] : [DX[best], RX[best]];
+}

@@ -1,0 +1,64 @@
+// The text of a state, as the receiver saves it: for each channel what is refused and what is
+// remembered. The page reads it to show the choices, and writes one where a log is loaded.
+import { identityOf, isGood } from './entries.js';
+
+export const CHANNELS = 3;
+const MEMORY = 237600; // seconds, 66 hours, for which a message is remembered
+const MOST = 200;      // messages that are remembered on a channel
+
+/** The state of a receiver that has heard nothing. */
+export const EMPTY_STATE = 'STATE 2\nC0\nC1\nC2\nEND\n';
+
+/** The channels of a state: refused stations, refused subjects, remembered identities in order. */
+export function readState(text) {
+    const channels = Array.from({ length: CHANNELS }, () => ({ stations: [], subjects: [], remembered: [] }));
+    let here = channels[0];
+    for (const line of text.split('\n')) {
+        const [word, value] = line.split(' ');
+        if (/^C[012]$/.test(word)) here = channels[Number(word[1])];
+        else if (word === 'RS') here.stations.push(value);
+        else if (word === 'RJ') here.subjects.push(value);
+        else if (/^[A-Z]{2}\d\d$/.test(word)) here.remembered.push({ identity: word, moment: Number(value) });
+    }
+    return channels;
+}
+
+export function writeState(channels) {
+    const lines = channels.flatMap((channel, number) => [
+        `C${number}`,
+        ...channel.stations.map((letter) => `RS ${letter}`),
+        ...channel.subjects.map((letter) => `RJ ${letter}`),
+        ...channel.remembered.map(({ identity, moment }) => `${identity} ${moment}`),
+    ]);
+    return ['STATE 2', ...lines, 'END', ''].join('\n');
+}
+
+/** A state without what a clock that ran far ahead left in it: 66 hours or more after now. */
+export function stateAt(text, now) {
+    return writeState(readState(text).map((channel) => ({
+        ...channel,
+        remembered: channel.remembered.filter(({ moment }) => moment < now + MEMORY),
+    })));
+}
+
+/** A state that remembers what it did, and the good entries of a log too. */
+export function stateWith(text, entries) {
+    return writeState(readState(text).map((channel, number) => {
+        const logged = entries.filter((entry) =>
+            entry.channel === number && entry.number !== '00' && isGood(entry));
+        const added = logged.map((entry) => ({ identity: identityOf(entry), moment: entry.moment }));
+        return { ...channel, remembered: joined([...channel.remembered, ...added]) };
+    }));
+}
+
+/** In order of time, two of one identity at least 66 hours apart, the last 200 of them. */
+function joined(remembered) {
+    const newest = new Map();
+    const inOrder = [...remembered].sort((one, other) => one.moment - other.moment);
+    const apart = inOrder.filter(({ identity, moment }) => {
+        const isNew = !newest.has(identity) || newest.get(identity) + MEMORY <= moment;
+        if (isNew) newest.set(identity, moment);
+        return isNew;
+    });
+    return apart.slice(-MOST);
+}
