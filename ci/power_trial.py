@@ -22,7 +22,7 @@ SLOT = 600
 STATIONS = "ABCDEFGHIJKLMNOPQRSTUVWX"
 # Where a sync costs nothing, for logs that are only opened.
 IN_MEMORY = "/dev/shm" if os.access("/dev/shm", os.W_OK) else None
-CANT_OPEN, CANT_WRITE = "navtex: the log {} can't be opened", "navtex: the log {} can't be written"
+CANT_OPEN, CANT_WRITE = "navtex: the log {} can't be opened: {}", "navtex: the log {} can't be written"
 PUT_FAILED = "navtex: the log can't be written; entries go to standard output from here on"
 
 # Behind the last N of an emission's only message stand CR, LF, LF and three ends: 49 elements are
