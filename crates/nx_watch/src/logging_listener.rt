@@ -225,6 +225,14 @@ impl<D: DiskFile + Drop> LoggingListener<D> {
             → HasKept D.DiskFile self.keeper self.keeper [] []
             → TellsOfLines old (F.contents notices.new.inner) notices.new.failures }
     {
+        // It holds no more than the receivers, its keeper, here of a file of eight bytes, and an
+        // entry.
+        prove!(
+            size_of::<LoggingListener<u64>>()
+                == size_of::<Listener>()
+                    + size_of::<Keeper<u64>>()
+                    + size_of::<ArrayVec<u8, MAX_ENTRY>>()
+        );
         match watch_lines(reader, writer, notices, &mut self, first, MOST_BYTES) {
             Ok(counts) => self.finish(writer, notices).answer(Ok(counts)),
             Err(end) => match end {

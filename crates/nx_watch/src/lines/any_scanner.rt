@@ -36,6 +36,9 @@ pub(crate) enum Ended {
     Unknown(NoEffect),
 }
 
+// It holds a fixed number of bytes.
+const _: () = prove!(size_of::<AnyScanner>() == size_of::<Scanner>() + 8);
+
 impl AnyScanner {
     /// A scanner before the first byte.
     pub(crate) fn new() -> AnyScanner

@@ -60,6 +60,9 @@ pub(crate) enum Effect {
     Ends { last: u64, given: u64 },
 }
 
+// They hold a fixed number of bytes.
+const _: () = prove!(size_of::<LineEffects>() == 56);
+
 impl LineEffects {
     /// Before the first line of a watch that starts so.
     pub(crate) fn new(first: StartMoments) -> LineEffects

@@ -160,6 +160,9 @@ struct LineRun {
     effects: LineEffects,
 }
 
+// It holds no more than these.
+const _: () = prove!(size_of::<LineRun>() == size_of::<AnyScanner>() + size_of::<LineEffects>());
+
 impl LineRun {
     /// Reads the input to its end or its limit, or until the run is over.
     fn read_lines<R: Read, D: DiskFile + Drop, W: Write, F: Write>(
