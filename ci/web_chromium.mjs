@@ -13,6 +13,7 @@ export class Chromium {
     #session;
     #errors = [];
     #requests = [];
+    #onLoaded = () => {};
 
     /** Starts it with a folder for what it keeps, and opens one empty page. */
     static async start(program, folder, options = []) {
@@ -45,8 +46,22 @@ export class Chromium {
         return this.send(method, params, this.#session);
     }
 
+    /** Opens a page, and waits until it is loaded. */
     async open(address) {
+        const loaded = this.#loaded();
         await this.call('Page.navigate', { url: address });
+        await loaded;
+    }
+
+    /** Loads the page again. */
+    async reload() {
+        const loaded = this.#loaded();
+        await this.call('Page.reload');
+        await loaded;
+    }
+
+    #loaded() {
+        return new Promise((resolve) => { this.#onLoaded = resolve; });
     }
 
     /** The value of an expression in the page. */
@@ -113,6 +128,7 @@ export class Chromium {
             const { text, exception } = params.exceptionDetails;
             this.#errors.push(exception?.description ?? text);
         }
+        if (method === 'Page.loadEventFired') this.#onLoaded();
         if (method === 'Network.requestWillBeSent' && !/^(data|blob|about):/.test(params.request.url)) {
             this.#requests.push(params.request.url);
         }

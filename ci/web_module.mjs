@@ -162,6 +162,9 @@ async function triesKeeping() {
     assert.equal(later.messages.length, 1);
     assert.deepEqual(later.refused[1].stations, ['B']);
     assert.equal(hear(later, example('ea01.air')), '');
+    const badly = await opened(storage());
+    assert.equal(hear(badly, example('heard-badly.air')), example('heard-badly.log'));
+    assert.equal(hear(badly, example('ea01.air')), '', 'a moment that goes back leaves the one in force');
     const other = await opened(storage());
     assert.deepEqual(other.load(` \n${example("ea01.log")} `, now), { found: 1, added: 1, stray: null });
     assert.equal(hear(other, example('ea01.air')), '');

@@ -1,6 +1,6 @@
 // The lines of an air file, and what a receiver does with them: as `navtex watch` takes them, a line
 // that isn't understood has no effect, and neither has a moment that goes back.
-import { ReceiverFault } from './receiver.js';
+import { MAX_MOMENT, ReceiverFault } from './receiver.js';
 
 const LONGEST = 514; // characters of a line without its end
 const SELECTING = { RS: 'refuseStation', AS: 'acceptStation', RJ: 'refuseSubject', AJ: 'acceptSubject' };
@@ -73,8 +73,8 @@ export class AirRun {
             return this.#receiver.hear(said.channel, said.elements);
         }
         if (said.kind === 'moment') {
+            if (said.moment <= MAX_MOMENT) this.#start = null; // also where it goes back
             this.#receiver.setMoment(said.moment);
-            this.#start = null;
         } else {
             this.#receiver[said.call](said.channel, said.letter);
         }

@@ -70,8 +70,7 @@ export class KeptReceiver {
     /** Takes the messages of a log that aren't there yet, and remembers them: how many they are. */
     load(text, now) {
         const { entries, stray } = readLog(text);
-        const known = new Set(this.#messages.map(({ log }) => log));
-        const added = entries.filter(({ log }) => !known.has(log) && known.add(log));
+        const added = this.#unknown(entries);
         const state = stateWith(this.#receiver.save(), entries);
         this.#receiver.abandon();
         this.#open(state, now);
@@ -88,6 +87,16 @@ export class KeptReceiver {
         this.#open(state, now);
         this.#messages = [];
         this.#save();
+    }
+
+    /** The entries that aren't there yet; of equal ones as many as there are more. */
+    #unknown(entries) {
+        const known = this.#messages.map(({ log }) => log);
+        return entries.filter(({ log }) => {
+            const at = known.indexOf(log);
+            if (at >= 0) known.splice(at, 1);
+            return at < 0;
+        });
     }
 
     /** Opens it from a state, or from what the messages tell where that is none. */

@@ -126,9 +126,8 @@ class Page {
     // What is heard.
 
     #joinFiles() {
-        const file = find('file');
-        file.addEventListener('change', () => this.#try(() => this.#takeFile(file)));
-        find('load-log').addEventListener('change', () => this.#try(() => this.#takeLog(find('load-log'))));
+        this.#joinField('file', (one) => this.#openFile(one));
+        this.#joinField('load-log', (one) => this.#openLog(one));
         find('microphone').addEventListener('click', () => this.#try(() => this.#hearMicrophone()));
         find('stop').addEventListener('click', () => this.#try(() => this.#stop()));
         document.addEventListener('dragover', (event) => {
@@ -150,19 +149,18 @@ class Page {
         if (file !== undefined) this.#try(() => this.#openFile(file));
     }
 
-    async #takeFile(field) {
-        const [file] = field.files;
-        if (file !== undefined) await this.#openFile(file);
-        field.value = ''; // so that the same file may be chosen again
+    #joinField(id, open) {
+        const field = find(id);
+        field.addEventListener('change', () => {
+            const [file] = field.files;
+            if (file === undefined) return;
+            this.#try(() => open(file)).finally(() => { field.value = ''; }); // so that it may be chosen again
+        });
     }
 
-    async #takeLog(field) {
-        const [file] = field.files;
-        if (file !== undefined) {
-            await this.#stop();
-            this.#loadLog(await file.arrayBuffer(), file.name);
-        }
-        field.value = '';
+    async #openLog(file) {
+        await this.#stop();
+        this.#loadLog(await file.arrayBuffer(), file.name);
     }
 
     async #openFile(file) {
