@@ -45,8 +45,14 @@ enum nx_live_status {
     NX_LIVE_NO_SUBJECT = 36    /* the byte names no subject */
 };
 
-/* How many bytes of room a receiver needs, and how they are aligned. */
+/* How many bytes of room a receiver needs, and how they are aligned. Over the C that wasm2c makes, the
+ * memory of the whole module lies in the room, its stack too; all is then compiled with
+ * -DNX_LIVE_BY_WASM2C. */
+#ifdef NX_LIVE_BY_WASM2C
+#define NX_LIVE_ROOM 304320
+#else
 #define NX_LIVE_ROOM 26584
+#endif
 #define NX_LIVE_ROOM_ALIGNMENT 8
 
 /* Room for this many bytes holds each entry. */
@@ -93,6 +99,12 @@ uint32_t nx_live_close(struct nx_live *receiver, uint8_t *log, size_t capacity, 
 
 /* Closes a receiver, and prints nothing. */
 void nx_live_abandon(struct nx_live *receiver);
+
+#ifdef NX_LIVE_BY_WASM2C
+/* The caller's: called where the module can't go on, as with too small a stack. The receiver is lost
+ * then, and this doesn't return. */
+void nx_live_trapped(void);
+#endif
 
 #ifdef __cplusplus
 }

@@ -1,0 +1,138 @@
+/* The receiver of navtex-live.h, on an air file on standard input, whose lines are given to it one
+ * by one:
+ *
+ *   live-air hear PIECE              writes the log; elements are given in pieces of so many
+ *   live-air resume STATE NEW        the same in pieces of 7, from the state in the file STATE; the
+ *                                    new one goes to the file NEW
+ *   live-air speed PIECE TIMES       hears all elements so often, and says how many nanoseconds of
+ *                                    the processor one took
+ *
+ * The status is 0, or 2 with the status of a call on standard error. */
+#include "navtex-live.h"
+#include <inttypes.h>
+#include <stdio.h>
+#include <stdlib.h>
+#include <string.h>
+#include <time.h>
+
+static _Alignas(NX_LIVE_ROOM_ALIGNMENT) unsigned char room[NX_LIVE_ROOM];
+static uint8_t entry[NX_LIVE_MAX_ENTRY];
+static struct nx_live receiver;
+
+static void done(const char *what, uint32_t status) {
+    if (status != NX_LIVE_DONE) {
+        fprintf(stderr, "live-air: %s: status %" PRIu32 "\n", what, status);
+        exit(2);
+    }
+}
+
+/* The channel of a line, from the byte behind its letters; moves it to what stands behind the
+ * space. */
+static uint8_t channel_of(const char **at) {
+    uint8_t channel = **at == ' ' ? 0 : (uint8_t)(*(*at)++ - '0');
+    ++*at;
+    return channel;
+}
+
+/* Hears the digits of a line in pieces. */
+static void hear(uint8_t channel, const char *digits, size_t count, size_t piece) {
+    uint8_t elements[1024];
+    for (size_t at = 0; at < count; at++)
+        elements[at] = (uint8_t)(digits[at] - '0');
+    for (size_t at = 0, heard, written; at < count; at += heard) {
+        size_t next = count - at < piece ? count - at : piece;
+        done("nx_live_hear",
+             nx_live_hear(&receiver, channel, elements + at, next, &heard, entry, sizeof entry, &written));
+        fwrite(entry, 1, written, stdout);
+    }
+}
+
+static void command(const char *line) {
+    const char *at = line + 2;
+    uint8_t channel = channel_of(&at), letter = (uint8_t)*at;
+    int refuses = line[0] == 'R', is_station = line[1] == 'S';
+    done("a command", refuses ? is_station ? nx_live_refuse_station(&receiver, channel, letter)
+                                           : nx_live_refuse_subject(&receiver, channel, letter)
+                      : is_station ? nx_live_accept_station(&receiver, channel, letter)
+                                   : nx_live_accept_subject(&receiver, channel, letter));
+}
+
+static void give_file(size_t piece) {
+    static char line[1024];
+    while (fgets(line, sizeof line, stdin) != NULL) {
+        const char *at = line + 1;
+        if (line[0] == 'T') {
+            done("nx_live_set_moment", nx_live_set_moment(&receiver, strtoull(line + 2, NULL, 10)));
+        } else if (line[0] == 'B') {
+            uint8_t channel = channel_of(&at);
+            hear(channel, at, strcspn(at, "\n"), piece);
+        } else {
+            command(line);
+        }
+    }
+}
+
+static void close_all(void) {
+    size_t written;
+    do {
+        done("nx_live_close", nx_live_close(&receiver, entry, sizeof entry, &written));
+        fwrite(entry, 1, written, stdout);
+    } while (written > 0);
+}
+
+/* A receiver that was closed opens again in the same room. */
+static int hear_file(size_t piece) {
+    done("nx_live_open", nx_live_open(&receiver, 0));
+    close_all();
+    done("nx_live_open", nx_live_open(&receiver, 0));
+    give_file(piece);
+    close_all();
+    return 0;
+}
+
+static int resume(const char *state_name, const char *new_name) {
+    static uint8_t state[1 << 14];
+    size_t written;
+    FILE *from = fopen(state_name, "rb");
+    size_t length = from == NULL ? 0 : fread(state, 1, sizeof state, from);
+    done("nx_live_open_from", nx_live_open_from(&receiver, state, length));
+    give_file(7);
+    done("nx_live_save", nx_live_save(&receiver, state, sizeof state, &written));
+    FILE *to = fopen(new_name, "wb");
+    if (to == NULL || fwrite(state, 1, written, to) != written || fclose(to) != 0)
+        done("a file was not written", 1);
+    close_all();
+    return 0;
+}
+
+/* Hears the elements of all lines, of channel 0, so often. */
+static int speed(size_t piece, int times) {
+    static uint8_t elements[1 << 20];
+    size_t count = 0, heard, written;
+    for (int byte; (byte = getchar()) != EOF && count < sizeof elements;)
+        if (byte == '0' || byte == '1')
+            elements[count++] = (uint8_t)(byte - '0');
+    done("nx_live_open", nx_live_open(&receiver, 0));
+    clock_t began = clock();
+    for (int time = 0; time < times; time++)
+        for (size_t at = 0; at < count; at += heard) {
+            size_t next = count - at < piece ? count - at : piece;
+            done("nx_live_hear",
+                 nx_live_hear(&receiver, 0, elements + at, next, &heard, entry, sizeof entry, &written));
+        }
+    double seconds = (double)(clock() - began) / CLOCKS_PER_SEC;
+    printf("%.2f ns an element, %zu elements %d times\n", seconds * 1e9 / ((double)count * times), count, times);
+    return 0;
+}
+
+int main(int argument_count, char **arguments) {
+    nx_live_lend(&receiver, room);
+    if (argument_count == 3 && strcmp(arguments[1], "hear") == 0)
+        return hear_file(strtoul(arguments[2], NULL, 10));
+    if (argument_count == 4 && strcmp(arguments[1], "resume") == 0)
+        return resume(arguments[2], arguments[3]);
+    if (argument_count == 4 && strcmp(arguments[1], "speed") == 0)
+        return speed(strtoul(arguments[2], NULL, 10), atoi(arguments[3]));
+    fputs("usage: live-air hear PIECE | resume STATE NEW | speed PIECE TIMES\n", stderr);
+    return 2;
+}

@@ -1,0 +1,53 @@
+// What live-air.c does, by node over a module:
+//
+//   node live-air.mjs MODULE hear PIECE
+//   node live-air.mjs MODULE resume STATE NEW
+//   node live-air.mjs MODULE speed PIECE TIMES
+import { readFileSync, writeFileSync, writeSync } from "node:fs";
+import { Receiver } from "./receiver.mjs";
+
+const [module, call, first, second] = process.argv.slice(2);
+const receiver = await Receiver.of(readFileSync(module));
+
+function writeOut(entries) {
+  for (const entry of entries) writeSync(1, entry);
+}
+
+function elementsOf(digits) {
+  return Uint8Array.from(digits, (digit) => digit.charCodeAt(0) - 48);
+}
+
+function give(line, piece) {
+  const [, letters, channel, value] = /^(T|B|RS|AS|RJ|AJ)([012]?) (.*)$/.exec(line);
+  if (letters === "T") return receiver.setMoment(value);
+  if (letters !== "B")
+    return receiver.select(Number(channel), letters[0] === "R" ? "refuse" : "accept",
+      letters[1] === "S" ? "station" : "subject", value);
+  const elements = elementsOf(value);
+  for (let at = 0; at < elements.length; at += piece)
+    writeOut(receiver.hear(Number(channel), elements.subarray(at, at + piece)));
+}
+
+function giveFile(piece) {
+  for (const line of readFileSync(0, "latin1").split("\n").slice(0, -1)) give(line, piece);
+}
+
+function speed(piece, times) {
+  const elements = elementsOf(readFileSync(0, "latin1").replace(/[^01]/g, ""));
+  receiver.open(0);
+  const began = process.hrtime.bigint();
+  for (let time = 0; time < times; time++)
+    for (let at = 0; at < elements.length; at += piece) receiver.hear(0, elements.subarray(at, at + piece));
+  const nanoseconds = Number(process.hrtime.bigint() - began);
+  console.log(`${(nanoseconds / elements.length / times).toFixed(2)} ns an element`);
+}
+
+if (call === "speed") {
+  speed(Number(first), Number(second));
+} else {
+  if (call === "hear") receiver.open(0);
+  else receiver.openFrom(readFileSync(first));
+  giveFile(call === "hear" ? Number(first) : 7);
+  if (call === "resume") writeFileSync(second, receiver.save());
+  writeOut(receiver.close());
+}

@@ -1,0 +1,163 @@
+/* The calls of navtex-live.h over the C that wasm2c makes of a receiver: any C compiler takes the
+ * two. In the room of a receiver a whole instance lies, with the memory of its module: elements are
+ * copied into it, and entries out of it. Compile this, navtex_live.c and all that calls them with
+ * -DNX_LIVE_BY_WASM2C. */
+#include "navtex-live.h"
+#include "navtex_live.h"
+
+#ifndef NX_LIVE_BY_WASM2C
+#error "all is compiled with -DNX_LIVE_BY_WASM2C, since a receiver needs more room so"
+#endif
+#if defined __BYTE_ORDER__ && __BYTE_ORDER__ != __ORDER_LITTLE_ENDIAN__
+#error "a processor with the greatest byte first was never tried"
+#endif
+
+#define PIECE 512u        /* so many elements go into the module at once */
+#define MOST_STATE 12288u /* no text of a state is longer */
+
+/* What the calls of the module write to, behind its own memory. */
+struct lent {
+    uint64_t handle, heard, written;
+    uint8_t room[26584];
+    uint8_t elements[PIECE];
+    uint8_t log[MOST_STATE];
+};
+
+/* What lies in the room of a receiver. */
+struct place {
+    Z_navtex_live_instance_t module;
+    uint8_t memory[NX_LIVE_ROOM - sizeof(Z_navtex_live_instance_t)];
+};
+
+/* Where the module's own memory ends, with its stack and its constants; and where a part of what is
+ * lent stands, as the module counts. */
+#define OWN ((sizeof(((struct place *)0)->memory) - sizeof(struct lent)) / 8 * 8)
+#define AT(part) (OWN + offsetof(struct lent, part))
+
+_Static_assert(sizeof(struct place) <= NX_LIVE_ROOM, "the room holds an instance");
+_Static_assert(NX_LIVE_MAX_ENTRY <= MOST_STATE, "an entry has place where a state has");
+
+static size_t number_at(const struct place *place, size_t at) {
+    uint64_t number;
+    memcpy(&number, place->memory + at, sizeof number);
+    return (size_t)number;
+}
+
+static struct place *place_of(struct nx_live *receiver) { return receiver->room; }
+
+static size_t least(size_t one, size_t other) { return one < other ? one : other; }
+
+void wasm_rt_trap(wasm_rt_trap_t why) {
+    (void)why;
+    nx_live_trapped();
+    for (;;)
+        ;
+}
+
+void wasm_rt_allocate_memory(wasm_rt_memory_t *memory, uint32_t pages, uint32_t most) {
+    struct place *place = (struct place *)((unsigned char *)memory - offsetof(struct place, module.w2c_memory));
+    (void)pages, (void)most;
+    memset(place->memory, 0, sizeof place->memory);
+    *memory = (wasm_rt_memory_t){place->memory, 0, 0, sizeof place->memory};
+}
+
+uint32_t wasm_rt_grow_memory(wasm_rt_memory_t *memory, uint32_t pages) {
+    (void)memory, (void)pages;
+    return UINT32_MAX;
+}
+
+void wasm_rt_free_memory(wasm_rt_memory_t *memory) { (void)memory; }
+
+void nx_live_lend(struct nx_live *receiver, void *room) {
+    receiver->room = room;
+    Z_navtex_live_init_module();
+    Z_navtex_live_instantiate(&place_of(receiver)->module);
+    if (*Z_navtex_liveZ___heap_base(&place_of(receiver)->module) > OWN)
+        wasm_rt_trap(WASM_RT_TRAP_OOB); /* NX_LIVE_ROOM is that of another module */
+    Z_navtex_liveZ_nx_live_lend(&place_of(receiver)->module, AT(handle), AT(room));
+}
+
+void nx_live_return(struct nx_live *receiver) {
+    Z_navtex_liveZ_nx_live_return(&place_of(receiver)->module, AT(handle));
+    Z_navtex_live_free(&place_of(receiver)->module);
+}
+
+uint32_t nx_live_open(struct nx_live *receiver, uint64_t moment) {
+    return Z_navtex_liveZ_nx_live_open(&place_of(receiver)->module, AT(handle), moment);
+}
+
+uint32_t nx_live_open_from(struct nx_live *receiver, const uint8_t *state, size_t length) {
+    struct place *place = place_of(receiver);
+    length = least(length, MOST_STATE); /* what stands behind a state isn't read */
+    memcpy(place->memory + AT(log), state, length);
+    return Z_navtex_liveZ_nx_live_open_from(&place->module, AT(handle), AT(log), length);
+}
+
+uint32_t nx_live_set_moment(struct nx_live *receiver, uint64_t moment) {
+    return Z_navtex_liveZ_nx_live_set_moment(&place_of(receiver)->module, AT(handle), moment);
+}
+
+/* Hears a piece of elements, and adds how many were heard. */
+static uint32_t hear_piece(struct place *place, uint8_t channel, const uint8_t *elements, size_t count,
+                           size_t *heard, size_t capacity, size_t *written) {
+    memcpy(place->memory + AT(elements), elements, count);
+    uint32_t status = Z_navtex_liveZ_nx_live_hear(&place->module, AT(handle), channel, AT(elements), count, AT(heard),
+                                                  AT(log), least(capacity, NX_LIVE_MAX_ENTRY), AT(written));
+    *heard += number_at(place, AT(heard));
+    *written = number_at(place, AT(written));
+    return status;
+}
+
+uint32_t nx_live_hear(struct nx_live *receiver, uint8_t channel, const uint8_t *elements, size_t count,
+                      size_t *heard, uint8_t *log, size_t capacity, size_t *written) {
+    struct place *place = place_of(receiver);
+    uint32_t status;
+    *heard = 0;
+    /* a byte that is no element: nothing is heard, and the answer is that to this byte alone */
+    for (size_t at = 0; at < count; at++)
+        if (elements[at] > 1)
+            return hear_piece(place, channel, elements + at, 1, heard, capacity, written);
+    do
+        status = hear_piece(place, channel, elements + *heard, least(count - *heard, PIECE), heard, capacity, written);
+    while (status == NX_LIVE_DONE && *written == 0 && *heard < count);
+    memcpy(log, place->memory + AT(log), *written);
+    return status;
+}
+
+uint32_t nx_live_refuse_station(struct nx_live *receiver, uint8_t channel, uint8_t station) {
+    return Z_navtex_liveZ_nx_live_refuse_station(&place_of(receiver)->module, AT(handle), channel, station);
+}
+
+uint32_t nx_live_accept_station(struct nx_live *receiver, uint8_t channel, uint8_t station) {
+    return Z_navtex_liveZ_nx_live_accept_station(&place_of(receiver)->module, AT(handle), channel, station);
+}
+
+uint32_t nx_live_refuse_subject(struct nx_live *receiver, uint8_t channel, uint8_t subject) {
+    return Z_navtex_liveZ_nx_live_refuse_subject(&place_of(receiver)->module, AT(handle), channel, subject);
+}
+
+uint32_t nx_live_accept_subject(struct nx_live *receiver, uint8_t channel, uint8_t subject) {
+    return Z_navtex_liveZ_nx_live_accept_subject(&place_of(receiver)->module, AT(handle), channel, subject);
+}
+
+uint32_t nx_live_save(struct nx_live *receiver, uint8_t *state, size_t capacity, size_t *written) {
+    struct place *place = place_of(receiver);
+    uint32_t status = Z_navtex_liveZ_nx_live_save(&place->module, AT(handle), AT(log), least(capacity, MOST_STATE),
+                                                  AT(written));
+    *written = number_at(place, AT(written));
+    memcpy(state, place->memory + AT(log), least(*written, capacity));
+    return status;
+}
+
+uint32_t nx_live_close(struct nx_live *receiver, uint8_t *log, size_t capacity, size_t *written) {
+    struct place *place = place_of(receiver);
+    uint32_t status = Z_navtex_liveZ_nx_live_close(&place->module, AT(handle), AT(log),
+                                                   least(capacity, NX_LIVE_MAX_ENTRY), AT(written));
+    *written = number_at(place, AT(written));
+    memcpy(log, place->memory + AT(log), *written);
+    return status;
+}
+
+void nx_live_abandon(struct nx_live *receiver) {
+    Z_navtex_liveZ_nx_live_abandon(&place_of(receiver)->module, AT(handle));
+}

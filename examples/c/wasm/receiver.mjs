@@ -1,0 +1,112 @@
+// A receiver by a module, navtex.wasm or navtex32.wasm, in a browser or in node. The calls are those of
+// navtex-live.h. Each has the numbers of the module's memory as its arguments; here a method takes
+// bytes and gives bytes.
+
+const ROOM = 26584; // NX_LIVE_ROOM of the header
+const MAX_ENTRY = 4163; // NX_LIVE_MAX_ENTRY
+const MAX_STATE = 12288; // no text of a state is longer
+const PIECE = 4096; // elements that one call of the module hears
+const PAGE = 65536;
+
+// What the calls write to, behind the module's own memory.
+const OFFSETS = { handle: 0, heard: 8, written: 16, room: 24, log: 24 + ROOM, elements: 24 + ROOM + MAX_STATE };
+const SIZE = OFFSETS.elements + PIECE;
+
+function grow(memory, pages) {
+  try {
+    return memory.grow(pages);
+  } catch {
+    return memory.grow(BigInt(pages)); // a newer engine, of a memory of 64 bits
+  }
+}
+
+/** A call that wasn't done, with its status: a number of `enum nx_live_status`. */
+export class Refused extends Error {
+  constructor(call, status) {
+    super(`${call}: status ${status}`);
+    this.status = status;
+  }
+}
+
+export class Receiver {
+  /** A closed receiver, by the bytes of a module. */
+  static async of(bytes) {
+    const { instance } = await WebAssembly.instantiate(bytes, {});
+    return new Receiver(instance.exports);
+  }
+
+  constructor(exports) {
+    this.exports = exports;
+    this.base = Math.ceil(Number(exports.__heap_base.value) / 8) * 8;
+    const lacking = this.base + SIZE - exports.memory.buffer.byteLength;
+    if (lacking > 0) grow(exports.memory, Math.ceil(lacking / PAGE));
+    exports.nx_live_lend(this.at("handle"), this.at("room"));
+  }
+
+  at(name) {
+    return BigInt(this.base + OFFSETS[name]);
+  }
+
+  bytes(name, length) {
+    return new Uint8Array(this.exports.memory.buffer, this.base + OFFSETS[name], length);
+  }
+
+  number(name) {
+    return Number(new DataView(this.exports.memory.buffer).getBigUint64(this.base + OFFSETS[name], true));
+  }
+
+  call(name, ...given) {
+    const status = this.exports[name](this.at("handle"), ...given);
+    if (status !== 0) throw new Refused(name, status);
+  }
+
+  /** Opens it at a moment, in seconds since 1970. */
+  open(moment) {
+    this.call("nx_live_open", BigInt(moment));
+  }
+
+  /** Opens it from the text of a state, as `save` gives it. */
+  openFrom(state) {
+    const begin = state.subarray(0, MAX_STATE); // what stands behind a state isn't read
+    this.bytes("log", begin.length).set(begin);
+    this.call("nx_live_open_from", this.at("log"), BigInt(begin.length));
+  }
+
+  setMoment(moment) {
+    this.call("nx_live_set_moment", BigInt(moment));
+  }
+
+  /** Hears elements of a channel, 1 for B and 0 for Y: gives the entries that are printed. */
+  hear(channel, elements) {
+    const entries = [];
+    for (let at = 0; at < elements.length; at += this.number("heard")) {
+      const piece = elements.subarray(at, at + PIECE);
+      this.bytes("elements", piece.length).set(piece);
+      this.call("nx_live_hear", channel, this.at("elements"), BigInt(piece.length), this.at("heard"),
+        this.at("log"), BigInt(MAX_ENTRY), this.at("written"));
+      if (this.number("written") > 0) entries.push(this.bytes("log", this.number("written")).slice());
+    }
+    return entries;
+  }
+
+  /** Refuses or accepts a station or a subject: `select(0, "refuse", "station", "E")`. */
+  select(channel, what, of, letter) {
+    this.call(`nx_live_${what}_${of}`, channel, letter.charCodeAt(0));
+  }
+
+  /** The text of a state, to go on with. */
+  save() {
+    this.call("nx_live_save", this.at("log"), BigInt(MAX_STATE), this.at("written"));
+    return this.bytes("log", this.number("written")).slice();
+  }
+
+  /** Ends the elements: gives what their end prints. The receiver may be opened again. */
+  close() {
+    const entries = [];
+    do {
+      this.call("nx_live_close", this.at("log"), BigInt(MAX_ENTRY), this.at("written"));
+      if (this.number("written") > 0) entries.push(this.bytes("log", this.number("written")).slice());
+    } while (this.number("written") > 0);
+    return entries;
+  }
+}

@@ -1,0 +1,99 @@
+/* What the C that wasm2c makes of a receiver asks of its runtime, with no malloc, no stdio and no
+ * signals. It stands in place of the file of this name that comes with wasm2c (1.0.32 of wabt), and
+ * serves a module without tables of functions. */
+#ifndef WASM_RT_H_
+#define WASM_RT_H_
+
+#include <stdbool.h>
+#include <stddef.h>
+#include <stdint.h>
+#include <string.h>
+
+#ifdef __cplusplus
+extern "C" {
+#endif
+
+#ifdef __GNUC__
+#define LIKELY(x) __builtin_expect(!!(x), 1)
+#define UNLIKELY(x) __builtin_expect(!!(x), 0)
+#define WASM_RT_NO_RETURN __attribute__((noreturn))
+#else
+#define LIKELY(x) (x)
+#define UNLIKELY(x) (x)
+#define WASM_RT_NO_RETURN
+#endif
+#define wasm_rt_memcpy memcpy
+
+/* Each access to the module's memory is checked, unless NX_LIVE_UNCHECKED is defined. */
+#ifdef NX_LIVE_UNCHECKED
+#define WASM_RT_MEMCHECK_SIGNAL_HANDLER 1
+#else
+#define WASM_RT_MEMCHECK_SIGNAL_HANDLER 0
+#endif
+#define WASM_RT_USE_STACK_DEPTH_COUNT 0
+
+typedef enum {
+    WASM_RT_TRAP_OOB,
+    WASM_RT_TRAP_INT_OVERFLOW,
+    WASM_RT_TRAP_DIV_BY_ZERO,
+    WASM_RT_TRAP_INVALID_CONVERSION,
+    WASM_RT_TRAP_UNREACHABLE,
+    WASM_RT_TRAP_CALL_INDIRECT,
+    WASM_RT_TRAP_EXHAUSTION
+} wasm_rt_trap_t;
+
+static inline bool wasm_rt_is_initialized(void) { return true; }
+
+/* Called where the module can't go on; it doesn't return. */
+WASM_RT_NO_RETURN void wasm_rt_trap(wasm_rt_trap_t why);
+
+typedef struct {
+    uint8_t *data;
+    uint32_t pages, max_pages, size;
+} wasm_rt_memory_t;
+
+/* Gives a module its memory; live.c has it in the room of its receiver. */
+void wasm_rt_allocate_memory(wasm_rt_memory_t *memory, uint32_t pages, uint32_t most);
+uint32_t wasm_rt_grow_memory(wasm_rt_memory_t *memory, uint32_t pages);
+void wasm_rt_free_memory(wasm_rt_memory_t *memory);
+
+/* Tables of functions: the module has none, and these are only named by what wasm2c writes always. */
+typedef enum {
+    WASM_RT_I32,
+    WASM_RT_I64,
+    WASM_RT_F32,
+    WASM_RT_F64
+} wasm_rt_type_t;
+
+typedef void (*wasm_rt_function_ptr_t)(void);
+typedef void *wasm_rt_externref_t;
+
+typedef struct {
+    uint32_t func_type;
+    wasm_rt_function_ptr_t func;
+    void *module_instance;
+} wasm_rt_funcref_t;
+
+typedef struct {
+    wasm_rt_funcref_t *data;
+    uint32_t max_size, size;
+} wasm_rt_funcref_table_t;
+
+typedef struct {
+    wasm_rt_externref_t *data;
+    uint32_t max_size, size;
+} wasm_rt_externref_table_t;
+
+static const wasm_rt_funcref_t wasm_rt_funcref_null_value = {0, NULL, NULL};
+static const wasm_rt_externref_t wasm_rt_externref_null_value = NULL;
+
+static inline uint32_t wasm_rt_register_func_type(uint32_t parameters, uint32_t results, ...) {
+    (void)parameters, (void)results;
+    return 0;
+}
+
+#ifdef __cplusplus
+}
+#endif
+
+#endif
