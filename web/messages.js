@@ -46,19 +46,19 @@ function itemOf(message, onRead) {
     const facts = made('p', 'facts', time,
         `, ${FREQUENCIES[message.channel]}, ${ENDS[message.how]}, ${countOf(message)}`);
     const text = made('pre', '', ...textWithMarks(message.text.replace(/\n$/, '')));
-    const item = made('li', `message ${message.how}`, made('article', '', title, facts, text));
-    if (!message.isRead) addUnread(item, title, message, onRead);
-    return item;
+    const head = made('div', 'head', title);
+    if (!message.isRead) addUnread(head, title, message, onRead);
+    const kind = message.isRead ? 'message' : 'message unread';
+    return made('li', kind, made('article', '', head, facts, text));
 }
 
-function addUnread(item, title, message, onRead) {
-    item.classList.add('unread');
+function addUnread(head, title, message, onRead) {
     title.prepend(made('span', 'badge', 'New'), ' ');
     const button = made('button', '', 'Mark as read');
     button.type = 'button';
     button.setAttribute('aria-label', `Mark ${identityOf(message)} as read`);
     button.addEventListener('click', () => onRead(message));
-    item.firstChild.append(button);
+    head.append(button);
 }
 
 /** Shows messages in a list; `onRead` gets the one whose button is pressed. */

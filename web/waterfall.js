@@ -3,7 +3,7 @@
 import { HIGHEST, LOWEST } from './spectrum.js';
 
 const SHIFT = 170;
-const RANGE = 45;     // dB from dark to bright
+const RANGE = 35;     // dB from dark to bright
 const BELOW = 8;      // dB by which dark is quieter than what is usual in a row
 const SLOW = 10;      // rows over which the usual loudness is averaged
 const LEAST = -100;   // dB
@@ -27,7 +27,7 @@ export class Waterfall {
     #lines;
     #onMiddle;
     #rows = [];        // the brightness of each row that is shown, the newest first
-    #usual = null;     // dB
+    #dark = null;      // dB, of late
     #isNight = false;
 
     /** `slider` has the canvas and both lines in it; `onMiddle` gets the middle that was chosen. */
@@ -65,9 +65,10 @@ export class Waterfall {
         const { width, height } = this.#canvas;
         const row = Float32Array.from({ length: width }, (_, x) =>
             Math.max(LEAST, 10 * Math.log10(powerAt(LOWEST + ((HIGHEST - LOWEST) * x) / width) + 1e-12)));
-        const usual = Float32Array.from(row).sort()[width >> 1];
-        this.#usual = this.#usual === null ? usual : this.#usual + (usual - this.#usual) / SLOW;
-        const bright = row.map((loud) => (loud - this.#usual + BELOW) / RANGE);
+        const sorted = Float32Array.from(row).sort();
+        const dark = Math.max(sorted[width >> 1] - BELOW, sorted[width - 1] - RANGE);
+        this.#dark = this.#dark === null ? dark : this.#dark + (dark - this.#dark) / SLOW;
+        const bright = row.map((loud) => (loud - this.#dark) / RANGE);
         this.#rows = [bright, ...this.#rows].slice(0, height);
         this.#drawing.drawImage(this.#canvas, 0, 0, width, height - 1, 0, 1, width, height - 1);
         this.#draw(bright, 0);
