@@ -104,7 +104,8 @@ async function triesRecording() {
     const shown = await titles();
     assert.equal(shown.length, 4);
     assert.match(shown[0], /EB02: station E, B meteorological warning, number 02$/);
-    assert.match(await browser.value("document.querySelector('#list time').textContent"), /^2025-01-05 00:40:\d\d UTC$/);
+    const time = await browser.value("document.querySelector('#list time').textContent");
+    assert.match(time, /^2025-01-05 00:40:\d\d UTC$/);
 }
 
 async function triesRefusal() {
@@ -165,7 +166,24 @@ async function triesTones() {
     await key('PageDown');
     assert.equal(await middle(), before + 5 - 50);
     assert.equal(await browser.value("document.getElementById('search').checked"), false);
+    await dragTo(0.5);
+    assert.ok(Math.abs(await middle() - 1900) < 10);
     await press('#search');
+}
+
+/** Drags the lines to a part of the waterfall's width. */
+async function dragTo(part) {
+    const [left, top, width] = await browser.value(`(() => {
+        document.getElementById('waterfall').scrollIntoView();
+        const place = document.getElementById('waterfall').getBoundingClientRect();
+        return [place.left, place.top, place.width];
+    })()`);
+    const mouse = (type, x) => browser.call('Input.dispatchMouseEvent',
+        { type, x: left + x * width, y: top + 20, button: 'left', buttons: 1, clickCount: 1 });
+    await mouse('mousePressed', 0.3);
+    await mouse('mouseMoved', 0.4);
+    await mouse('mouseMoved', part);
+    await mouse('mouseReleased', part);
 }
 
 /** Each thing that can be used has a name that a screen reader says. */

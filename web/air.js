@@ -40,6 +40,13 @@ export class LineSplitter {
     }
 }
 
+/** Lines of a whole text, with what stands behind the last end as one more. */
+export function linesOf(text) {
+    const splitter = new LineSplitter();
+    const lines = splitter.push(text);
+    return splitter.rest === '' ? lines : [...lines, splitter.rest];
+}
+
 /** Gives lines to a receiver, and counts those without effect. */
 export class AirRun {
     #receiver;

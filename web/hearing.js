@@ -1,5 +1,4 @@
 // From samples to the lines of an air file: a demodulator, the spectrum beside it, and the time.
-import { LineSplitter } from './air.js';
 import { Demodulator } from './demodulator.js';
 import { Look } from './look.js';
 import { judged } from './sound/said.js';
@@ -98,11 +97,4 @@ export class Hearing {
         this.#lastMoment = moment;
         return [`T ${moment}`];
     }
-}
-
-/** Lines of a whole text, with what stands behind the last end as one more. */
-export function linesOf(text) {
-    const splitter = new LineSplitter();
-    const lines = splitter.push(text);
-    return splitter.rest === '' ? lines : [...lines, splitter.rest];
 }

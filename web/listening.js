@@ -1,6 +1,6 @@
 // One sound or one file that is being heard, from its beginning to its end.
-import { readLine } from './air.js';
-import { Hearing, linesOf } from './hearing.js';
+import { linesOf, readLine } from './air.js';
+import { Hearing } from './hearing.js';
 import { Look } from './look.js';
 import { Microphone } from './capture.js';
 

@@ -1,152 +1,100 @@
 // The page: joins what is heard, what is kept and what is shown.
-import { readLine } from './air.js';
+import { samplesOf, SoundFault } from './capture.js';
 import { showBoxes } from './choices.js';
-import { jsonOf, momentOf, readLog } from './entries.js';
-import { linesOf } from './hearing.js';
+import { jsonOf } from './entries.js';
+import { Faults, PageFault } from './faults.js';
+import { asText, kindOf, momentSaid, offer } from './files.js';
 import { KeptReceiver } from './kept.js';
 import { Listening } from './listening.js';
-import { FREQUENCIES, countsOf, showMessages, titleOf } from './messages.js';
+import { countsOf, FREQUENCIES, showMessages, titleOf } from './messages.js';
 import { Receiver } from './receiver.js';
-import { SoundFault, samplesOf } from './capture.js';
-import { Store, StoreFault } from './store.js';
-import { Waterfall } from './waterfall.js';
+import { Store } from './store.js';
+import { Tones } from './tones.js';
+import { View } from './view.js';
 
 const TITLE = document.title;
-const LOOKED_AT = 2000; // characters of the text as it arrives
 const IDLE = 'Nothing is being heard.';
-const PROBED = 40;      // lines by which the kind of a file is known
+const LOOKED_AT = 2000; // characters of the text as it arrives
 
 const find = (id) => document.getElementById(id);
 const now = () => Math.floor(Date.now() / 1000);
-
-/** A fault of the user's file or field, with its words. */
-class PageFault extends Error {}
-
-/** The text of a file, or null where it has bytes that no text of ours has. */
-function asText(bytes) {
-    const text = new TextDecoder('latin1').decode(bytes);
-    return /^[\n\r\t -~]*$/.test(text.slice(0, 4096)) ? text : null;
-}
-
-/** What a file is: "air", "log" or "sound". */
-function kindOf(bytes) {
-    const text = asText(bytes);
-    if (bytes.byteLength === 0) throw new PageFault('This file is empty.');
-    if (text === null) return 'sound';
-    if (linesOf(text.slice(0, 514 * PROBED)).slice(0, PROBED).some((line) => readLine(line) !== null)) return 'air';
-    if (readLog(text.slice(0, 4096 * 4)).entries.length > 0) return 'log';
-    throw new PageFault('This text is neither an air file nor a log of navtex.');
-}
-
-/** The moment that stands in a field: null where it is empty. */
-function momentIn(field) {
-    const said = field.value.trim().replace('T', ' ').replace(/Z$/, '');
-    if (said === '') return null;
-    const moment = momentOf(/^\d{4}-\d\d-\d\d \d\d:\d\d$/.test(said) ? `${said}:00` : said);
-    if (moment === null) throw new PageFault('The beginning has to be a time of UTC, as 2025-01-01 00:40.');
-    return moment;
-}
-
-function offer(text, name) {
-    const link = document.createElement('a');
-    link.href = URL.createObjectURL(new Blob([text], { type: 'text/plain' }));
-    link.download = name;
-    link.click();
-    setTimeout(() => URL.revokeObjectURL(link.href), 10000);
-}
 
 function bytesOfModule() {
     return Uint8Array.from(atob(find('module').textContent.trim()), (letter) => letter.charCodeAt(0));
 }
 
 class Page {
-    #store;
-    #kept = null;
+    #faults = new Faults(find('faults'));
+    #store = Store.ofBrowser();
+    #tones;
+    #view;
+    #kept;             // the receiver with its messages
     #listening = null; // the sound or file that is being heard
     #running = null;   // of a file, what is there when it was heard
-    #waterfall;
-    #tuning = { centre: 1000, search: true, exchanged: false };
-    #wake = null;
+    #wake = null;      // what keeps the screen on
 
-    async start() {
-        this.#store = Store.ofBrowser();
-        this.#waterfall = new Waterfall(find('waterfall'),
-            (middle) => this.#choose({ centre: middle, search: false }));
-        this.#takeUpChoices();
-        this.#joinTones();
-        this.#joinView();
+    start() {
+        return this.#faults.try(async () => {
+            this.#joinLooks();
+            await this.#open();
+            this.#joinSounds();
+            this.#joinMessages();
+            this.#showAll();
+            document.body.dataset.ready = 'yes';
+        });
+    }
+
+    async #open() {
         if (typeof WebAssembly === 'undefined' || typeof BigInt === 'undefined') {
             throw new PageFault('This browser lacks WebAssembly, without which there is no receiver. '
                 + 'A current Firefox, Chrome, Edge or Safari has it.');
         }
-        await this.#open();
-        this.#joinFiles();
-        this.#joinMessages();
-        this.#showAll();
-        if (!this.#store.isThere) {
-            this.#fault('This browser keeps nothing for this page: where it is closed, all messages are gone.');
-        }
-        this.#store.onOther(() => this.#fault('Another window of this page receives too, and each writes over what '
-            + 'the other keeps. Close one of them, and reload the other.'));
-        document.body.dataset.ready = 'yes';
-    }
-
-    async #open() {
         const receiver = await Receiver.load(bytesOfModule());
-        this.#kept = new KeptReceiver(receiver, this.#store, now(), ({ message }) => this.#fault(message));
-    }
-
-    /** Does something, and shows the words of its fault. */
-    async #try(action) {
-        try {
-            await action();
-        } catch (fault) {
-            const isOurs = [PageFault, SoundFault, StoreFault].some((kind) => fault instanceof kind);
-            this.#fault(isOurs ? fault.message
-                : `Something went wrong: ${fault.message}. Reload the page; what was received is kept.`);
-            if (!isOurs) console.error(fault);
+        this.#kept = new KeptReceiver(receiver, this.#store, now(), ({ message }) => this.#faults.show(message));
+        if (!this.#store.isThere) {
+            this.#faults.show('This browser keeps nothing for this page: where it is closed, all messages are gone.');
         }
+        this.#store.onOther(() => this.#faults.show('Another window of this page receives too, and each writes '
+            + 'over what the other keeps. Close one of them, and reload the other.'));
     }
 
-    #fault(text) {
-        const told = [...find('faults').querySelectorAll('span')].some((one) => one.textContent === text);
-        if (told) return;
-        const line = document.createElement('p');
-        line.className = 'fault';
-        const words = document.createElement('span');
-        words.textContent = text;
-        const button = document.createElement('button');
-        button.type = 'button';
-        button.textContent = 'Close';
-        button.addEventListener('click', () => line.remove());
-        line.append(words, button);
-        find('faults').append(line);
+    #joinLooks() {
+        let choices = {};
+        this.#faults.try(() => { choices = this.#store.choices(); });
+        this.#tones = new Tones(choices.tuning, (tuning) => {
+            this.#listening?.tune(tuning);
+            this.#keepChoices();
+        });
+        this.#view = new View(choices.view ?? [], (ways) => {
+            this.#tones.isNight = ways.includes('night');
+            this.#keepChoices();
+        });
+    }
+
+    #keepChoices() {
+        if (this.#view === undefined) return;
+        this.#faults.try(() => this.#store.keepChoices({ view: this.#view.ways, tuning: this.#tones.tuning }));
     }
 
     // What is heard.
 
-    #joinFiles() {
-        this.#joinField('file', (one) => this.#openFile(one));
-        this.#joinField('load-log', (one) => this.#openLog(one));
-        find('microphone').addEventListener('click', () => this.#try(() => this.#hearMicrophone()));
-        find('stop').addEventListener('click', () => this.#try(() => this.#stop()));
+    #joinSounds() {
+        this.#joinField('file', (file) => this.#openFile(file));
+        this.#joinButton('microphone', () => this.#hearMicrophone());
+        this.#joinButton('stop', () => this.#stop());
         document.addEventListener('dragover', (event) => {
             event.preventDefault();
             find('drop').classList.add('over');
         });
         document.addEventListener('dragleave', () => find('drop').classList.remove('over'));
         document.addEventListener('drop', (event) => this.#drop(event));
-        find('channel').addEventListener('change', () => this.#showChoices());
         window.addEventListener('beforeunload', (event) => {
             if (this.#listening !== null) event.preventDefault(); // what is being heard would be lost
         });
     }
 
-    #drop(event) {
-        event.preventDefault();
-        find('drop').classList.remove('over');
-        const [file] = event.dataTransfer.files;
-        if (file !== undefined) this.#try(() => this.#openFile(file));
+    #joinButton(id, action) {
+        find(id).addEventListener('click', () => this.#faults.try(action));
     }
 
     #joinField(id, open) {
@@ -154,13 +102,15 @@ class Page {
         field.addEventListener('change', () => {
             const [file] = field.files;
             if (file === undefined) return;
-            this.#try(() => open(file)).finally(() => { field.value = ''; }); // so that it may be chosen again
+            this.#faults.try(() => open(file)).finally(() => { field.value = ''; }); // it may be chosen again
         });
     }
 
-    async #openLog(file) {
-        await this.#stop();
-        this.#loadLog(await file.arrayBuffer(), file.name);
+    #drop(event) {
+        event.preventDefault();
+        find('drop').classList.remove('over');
+        const [file] = event.dataTransfer.files;
+        if (file !== undefined) this.#faults.try(() => this.#openFile(file));
     }
 
     async #openFile(file) {
@@ -172,12 +122,12 @@ class Page {
     }
 
     async #hearFile(kind, bytes, name) {
-        const began = momentIn(find('began'));
+        const began = momentSaid(find('began').value);
         const sound = kind === 'sound' ? await samplesOf(bytes) : null;
         const listening = this.#begin(`Hearing ${name}.`);
         try {
             this.#running = sound === null ? listening.hearAir(asText(bytes), this.#channel)
-                : listening.hearRecording(sound, began, this.#channel, this.#tuning);
+                : listening.hearRecording(sound, began, this.#channel, this.#tones.tuning);
             const said = await this.#running;
             this.#end(said.isStopped ? `${name} was stopped.` : `Heard ${name}.`, said);
         } catch (fault) {
@@ -190,7 +140,8 @@ class Page {
         await this.#stop();
         const listening = this.#begin('Asking for the microphone.');
         try {
-            await listening.hearMicrophone(this.#channel, this.#tuning, () => this.#try(() => this.#lose()));
+            await listening.hearMicrophone(this.#channel, this.#tones.tuning,
+                () => this.#faults.try(() => this.#lose()));
         } catch (fault) {
             if (this.#listening === listening) this.#end(IDLE, null);
             throw fault;
@@ -216,19 +167,17 @@ class Page {
     #begin(text) {
         this.#listening = new Listening(this.#kept, {
             messages: (messages) => this.#announce(messages),
-            text: (text) => this.#showText(text),
-            row: (powerAt) => this.#waterfall.add(powerAt),
-            status: (status) => this.#showStatus(status),
-            broke: (fault) => this.#try(() => {
+            text: (arrived) => this.#showText(arrived),
+            row: (powerAt) => this.#tones.add(powerAt),
+            status: (status) => this.#tones.show(status),
+            progress: (part) => this.#showProgress(part),
+            broke: (fault) => this.#faults.try(() => {
                 this.#end(IDLE, null);
                 throw fault;
             }),
-            progress: (part) => { find('progress').hidden = false; find('progress').value = part; },
         });
         find('look').textContent = '';
-        find('source').textContent = text;
-        find('stop').disabled = false;
-        find('microphone').disabled = true;
+        this.#showSource(text, true);
         return this.#listening;
     }
 
@@ -239,14 +188,11 @@ class Page {
         this.#wake?.release();
         this.#wake = null;
         find('progress').hidden = true;
-        find('stop').disabled = true;
-        find('microphone').disabled = false;
-        find('source').textContent = said?.heard ? `${text} The demodulator ${said.heard}.` : text;
-        find('lock').textContent = 'no lock';
-        find('lock').classList.remove('on');
+        this.#tones.end();
+        this.#showSource(said?.heard ? `${text} The demodulator ${said.heard}.` : text, false);
         if (said?.withoutEffect > 0) {
             const { line, why } = said.first;
-            this.#fault(`Lines without effect: ${said.withoutEffect}. The first is line ${line}: ${why}.`);
+            this.#faults.show(`Lines without effect: ${said.withoutEffect}. The first is line ${line}: ${why}.`);
         }
     }
 
@@ -254,43 +200,15 @@ class Page {
         return Number(find('channel').value);
     }
 
-    // The tones.
-
-    #joinTones() {
-        const middle = find('middle');
-        middle.addEventListener('change', () => {
-            this.#choose({ centre: this.#waterfall.within(Number(middle.value)), search: false });
-        });
-        find('search').addEventListener('change', () => this.#choose({ search: find('search').checked }));
-        find('exchanged').addEventListener('change', () => this.#choose({ exchanged: find('exchanged').checked }));
+    #showSource(text, isHearing) {
+        find('source').textContent = text;
+        find('stop').disabled = !isHearing;
+        find('microphone').disabled = isHearing;
     }
 
-    #choose(changed) {
-        this.#tuning = { ...this.#tuning, ...changed };
-        this.#listening?.tune(this.#tuning);
-        this.#showTuning();
-        this.#keepChoices();
-    }
-
-    #showTuning() {
-        find('search').checked = this.#tuning.search;
-        find('exchanged').checked = this.#tuning.exchanged;
-        this.#showMiddle(this.#tuning.centre);
-    }
-
-    #showMiddle(middle) {
-        this.#waterfall.show(middle);
-        if (document.activeElement !== find('middle')) find('middle').value = Math.round(middle);
-    }
-
-    #showStatus({ middle, level, isLocked }) {
-        find('meter').value = level;
-        find('level').textContent = `${level.toFixed(0)} dB`;
-        const lock = find('lock');
-        const text = isLocked ? 'locked' : 'no lock';
-        if (lock.textContent !== text) lock.textContent = text;
-        lock.classList.toggle('on', isLocked);
-        if (Math.round(middle) !== this.#waterfall.middle) this.#showMiddle(middle);
+    #showProgress(part) {
+        find('progress').hidden = false;
+        find('progress').value = part;
     }
 
     #showText(text) {
@@ -303,12 +221,16 @@ class Page {
     // Messages, and what is refused.
 
     #joinMessages() {
-        find('read-all').addEventListener('click', () => this.#try(() => this.#markRead(this.#kept.messages)));
-        find('save-log').addEventListener('click', () =>
-            offer(this.#kept.messages.map(({ log }) => log).join(''), 'navtex.log'));
-        find('save-json').addEventListener('click', () =>
-            offer(this.#kept.messages.map((message) => `${jsonOf(message)}\n`).join(''), 'navtex.json'));
-        find('anew').addEventListener('click', () => this.#try(() => this.#beginAnew()));
+        this.#joinField('load-log', (file) => this.#openLog(file));
+        this.#joinButton('read-all', () => this.#markRead(this.#kept.messages));
+        this.#joinButton('save-log', () => offer(this.#joined(({ log }) => log), 'navtex.log'));
+        this.#joinButton('save-json', () => offer(this.#joined((one) => `${jsonOf(one)}\n`), 'navtex.json'));
+        this.#joinButton('anew', () => this.#beginAnew());
+        find('channel').addEventListener('change', () => this.#showChoices());
+    }
+
+    #joined(textOf) {
+        return this.#kept.messages.map(textOf).join('');
     }
 
     #markRead(messages) {
@@ -316,12 +238,17 @@ class Page {
         this.#showAll();
     }
 
+    async #openLog(file) {
+        await this.#stop();
+        this.#loadLog(await file.arrayBuffer(), file.name);
+    }
+
     #loadLog(bytes, name) {
         const { found, added, stray } = this.#kept.load(new TextDecoder('latin1').decode(bytes), now());
         if (found === 0) throw new PageFault(`${name} is no log of navtex: it has no message.`);
         find('source').textContent = `${name} has ${found} messages; ${added} of them are new here.`;
         this.#showAll();
-        if (stray !== null) this.#fault(`Line ${stray} of ${name} is of no message, and was passed over.`);
+        if (stray !== null) this.#faults.show(`Line ${stray} of ${name} is of no message, and was passed over.`);
     }
 
     async #beginAnew() {
@@ -341,11 +268,11 @@ class Page {
 
     #showAll() {
         const { messages } = this.#kept;
-        showMessages(find('list'), messages, (message) => this.#try(() => this.#markRead([message])));
-        find('counts').textContent = countsOf(messages);
         const unread = messages.filter(({ isRead }) => !isRead).length;
-        document.title = unread > 0 ? `(${unread}) ${TITLE}` : TITLE;
+        showMessages(find('list'), messages, (message) => this.#faults.try(() => this.#markRead([message])));
+        find('counts').textContent = countsOf(messages);
         find('jump').textContent = unread > 0 ? `Messages: ${unread} new` : 'Messages';
+        document.title = unread > 0 ? `(${unread}) ${TITLE}` : TITLE;
         find('read-all').disabled = unread === 0;
         for (const id of ['save-log', 'save-json']) find(id).disabled = messages.length === 0;
         this.#showChoices();
@@ -355,45 +282,10 @@ class Page {
         const refused = this.#kept.refused[this.#channel];
         find('refused-channel').textContent = FREQUENCIES[this.#channel];
         const change = (kind) => (letter, isRefused) =>
-            this.#try(() => this.#kept.choose(kind, this.#channel, letter, isRefused));
+            this.#faults.try(() => this.#kept.choose(kind, this.#channel, letter, isRefused));
         showBoxes(find('stations'), 'Station', refused.stations, change('Station'));
         showBoxes(find('subjects'), 'Subject', refused.subjects, change('Subject'));
     }
-
-    // How the page looks.
-
-    #joinView() {
-        for (const id of ['night', 'large']) {
-            find(id).addEventListener('click', () => {
-                this.#look(id, !document.documentElement.classList.contains(id));
-                this.#keepChoices();
-            });
-        }
-    }
-
-    #look(id, isOn) {
-        document.documentElement.classList.toggle(id, isOn);
-        find(id).setAttribute('aria-pressed', String(isOn));
-        if (id === 'night') this.#waterfall.isNight = isOn;
-    }
-
-    #takeUpChoices() {
-        this.#try(() => {
-            const { view = [], tuning = {} } = this.#store.choices();
-            for (const id of view) this.#look(id, true);
-            this.#tuning = { ...this.#tuning, ...tuning };
-            this.#showTuning();
-        });
-    }
-
-    #keepChoices() {
-        const view = ['night', 'large'].filter((id) => document.documentElement.classList.contains(id));
-        this.#try(() => this.#store.keepChoices({ view, tuning: this.#tuning }));
-    }
-
-    run() {
-        return this.#try(() => this.start());
-    }
 }
 
-new Page().run();
+new Page().start();

@@ -29,6 +29,8 @@ export class Waterfall {
     #rows = [];        // the brightness of each row that is shown, the newest first
     #dark = null;      // dB, of late
     #isNight = false;
+    #before;           // the middle before the lines were taken
+    isDragged = false;
 
     /** `slider` has the canvas and both lines in it; `onMiddle` gets the middle that was chosen. */
     constructor(slider, onMiddle) {
@@ -39,10 +41,10 @@ export class Waterfall {
         this.#onMiddle = onMiddle;
         slider.setAttribute('aria-valuemin', LOWEST + SHIFT / 2);
         slider.setAttribute('aria-valuemax', HIGHEST - SHIFT / 2);
-        slider.addEventListener('pointerdown', (event) => this.#drag(event));
-        slider.addEventListener('pointermove', (event) => {
-            if (slider.hasPointerCapture(event.pointerId)) this.#moveTo(event);
-        });
+        slider.addEventListener('pointerdown', (event) => this.#take(event));
+        slider.addEventListener('pointermove', (event) => { if (this.isDragged) this.show(this.#at(event)); });
+        slider.addEventListener('pointerup', (event) => this.#leave(this.#at(event)));
+        slider.addEventListener('pointercancel', () => this.#giveUp());
         slider.addEventListener('keydown', (event) => this.#press(event));
     }
 
@@ -87,14 +89,29 @@ export class Waterfall {
         this.#drawing.putImageData(image, 0, y);
     }
 
-    #drag(event) {
+    #take(event) {
         this.#slider.setPointerCapture(event.pointerId);
-        this.#moveTo(event);
+        this.isDragged = true;
+        this.#before = this.middle;
+        this.show(this.#at(event));
     }
 
-    #moveTo(event) {
+    #leave(middle) {
+        if (!this.isDragged) return;
+        this.isDragged = false;
+        this.#onMiddle(middle);
+    }
+
+    #giveUp() {
+        if (!this.isDragged) return;
+        this.isDragged = false;
+        this.show(this.#before);
+    }
+
+    /** The middle to which a pointer points. */
+    #at(event) {
         const { left, width } = this.#canvas.getBoundingClientRect();
-        this.#choose(LOWEST + ((HIGHEST - LOWEST) * (event.clientX - left)) / width);
+        return this.within(LOWEST + ((HIGHEST - LOWEST) * (event.clientX - left)) / width);
     }
 
     #press(event) {
@@ -102,15 +119,11 @@ export class Waterfall {
             PageDown: -STRIDE, PageUp: STRIDE }[event.key];
         if (step === undefined) return;
         event.preventDefault();
-        this.#choose(this.middle + step);
+        this.#onMiddle(this.within(this.middle + step));
     }
 
     /** The nearest middle with both tones in the waterfall. */
     within(pitch) {
         return Math.round(Math.min(Math.max(pitch, LOWEST + SHIFT / 2), HIGHEST - SHIFT / 2));
-    }
-
-    #choose(pitch) {
-        this.#onMiddle(this.within(pitch));
     }
 }
