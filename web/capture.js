@@ -90,7 +90,7 @@ export class Microphone {
         gatherer.port.onmessage = ({ data }) => onSamples(data);
         source.connect(gatherer);
         this.#stream.getAudioTracks()[0].onended = onEnd;
-        await this.#context.resume();
+        this.#context.resume().catch(() => {}); // where there is no sound at all it never answers
     }
 
     /** The stream as a source of sound, at our rate; some browsers give it at its own rate alone. */

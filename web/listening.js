@@ -26,6 +26,7 @@ export class Listening {
     #hearing = null;
     #microphone = null;
     #isStopped = false;
+    hasHeard = false; // whether sound came from the microphone
 
     /** `show` is told what is heard: messages, text, rows of the waterfall, status, progress; and by
      *  `broke` where a microphone's sound can't be heard on. */
@@ -84,6 +85,7 @@ export class Listening {
 
     #hearLive(samples) {
         if (this.#isStopped || this.#microphone === null) return;
+        this.hasHeard = true;
         try {
             this.#hear(samples, false);
         } catch (fault) {

@@ -15,6 +15,7 @@ import { View } from './view.js';
 const TITLE = document.title;
 const IDLE = 'Nothing is being heard.';
 const LOOKED_AT = 2000; // characters of the text as it arrives
+const SILENT = 5000;    // milliseconds in which a microphone has to give something
 
 const find = (id) => document.getElementById(id);
 const now = () => Math.floor(Date.now() / 1000);
@@ -148,7 +149,13 @@ class Page {
         }
         if (this.#listening !== listening) return; // it was stopped while the browser asked
         find('source').textContent = `Hearing the microphone, on ${FREQUENCIES[this.#channel]}.`;
+        setTimeout(() => this.#seeWhether(listening), SILENT);
         this.#wake = await navigator.wakeLock?.request('screen').catch(() => null);
+    }
+
+    #seeWhether(listening) {
+        if (this.#listening !== listening || listening.hasHeard) return;
+        this.#faults.show('No sound comes from the microphone. Does the computer have a sound card in use?');
     }
 
     async #lose() {
