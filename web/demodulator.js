@@ -8,18 +8,18 @@
 //
 // What stands in examples/sound is here:
 // - elements: this file, and sound/said.js
-// - demodulator.py: sound/receiver.js, sound/find.js
+// - demodulator.py: sound/whole.js, sound/find.js
 // - receive.py: sound/rates.js, sound/middle.js, sound/mixer.js, sound/clock.js
 // - sendings.py: sound/sendings.js, and what it needs: sound/loudness.js, sound/cases.js,
 //   sound/likelihood.js, sound/words.js, sound/phase.js, sound/jumps.js, sound/store.js
 // - plain.py: sound/plain.js
 
-import { otherRate } from "./sound/find.js";
-import { mean } from "./sound/numbers.js";
-import { Plain } from "./sound/plain.js";
-import { pieceLength } from "./sound/rates.js";
-import { Receiver } from "./sound/receiver.js";
-import { judged, QUIET, statusLine } from "./sound/said.js";
+import { otherRate } from './sound/find.js';
+import { mean } from './sound/numbers.js';
+import { Plain } from './sound/plain.js';
+import { pieceLength } from './sound/rates.js';
+import { judged, QUIET, statusLine } from './sound/said.js';
+import { Whole } from './sound/whole.js';
 
 const LEAST_SAMPLES = 6000;      // samples a second
 const MOST_SAMPLES = 192000;
@@ -47,7 +47,7 @@ export class Demodulator {
         this.isPlain = plain;
         this.receiver = plain
             ? new Plain({ rate, centre: named, exchanged })
-            : new Receiver({ rate, centre: named, search, exchanged });
+            : new Whole({ rate, centre: named, search, exchanged });
         this.piece = new Float64Array(pieceLength(rate));
         this.filled = 0;                      // samples of the piece so far
         this.level = new Level();
@@ -106,7 +106,7 @@ export class Demodulator {
         return {
             seconds: this.level.samples / this.rate,
             level: this.level.decibels(),
-            middle, sideband: exchanged ? "lower" : "upper", locked, told, phasing, locks, sure, unsure, jumps, single,
+            middle, sideband: exchanged ? 'lower' : 'upper', locked, told, phasing, locks, sure, unsure, jumps, single,
         };
     }
 
@@ -121,7 +121,7 @@ export class Demodulator {
      */
     heard({ isRateSure = false } = {}) {
         if (this.isPlain) {
-            return "";
+            return '';
         }
         const isTried = !isRateSure && this.kept.length > 0 && this.level.loudest >= QUIET ** 2;
         const other = isTried ? otherRate(this.keptSamples(), this.rate) : null;

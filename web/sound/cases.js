@@ -1,6 +1,6 @@
 // What may happen near an element, and what each of the cases explains.
 
-import { logBessel } from "./likelihood.js";
+import { logBessel } from './likelihood.js';
 
 const CHANGE = 0.03;       // how often another case begins at an element
 const CASES = [            // how often; A² of the upper and the lower tone, N of both, as parts of those near

@@ -1,8 +1,8 @@
 // Where elements begin, and what each of the tones is in them.
 
-import { between, clip, listOf, modulo, placeOfGreatest } from "./numbers.js";
-import { AHEAD, INNER_RATE, PER, PIECE, SHIFT } from "./rates.js";
-import { Signal } from "./signal.js";
+import { between, clip, listOf, modulo, placeOfGreatest } from './numbers.js';
+import { AHEAD, INNER_RATE, PER, PIECE, SHIFT } from './rates.js';
+import { Signal } from './signal.js';
 
 const CLOCK_MEMORY = 15;   // pieces that the clock remembers
 const CLOCK_STEP = 100;    // what a step of the clock has to explain: noise gives 80, half an element 450

@@ -1,9 +1,9 @@
 // Where NAVTEX is in a recording, and whether its samples are of another rate.
 
-import { Middle } from "./middle.js";
-import { placeOfGreatest } from "./numbers.js";
-import { pieceLength } from "./rates.js";
-import { Receiver, SEARCHED, THERE } from "./receiver.js";
+import { Middle } from './middle.js';
+import { placeOfGreatest } from './numbers.js';
+import { pieceLength } from './rates.js';
+import { SEARCHED, THERE, Whole } from './whole.js';
 
 const RATES = [48000, 44100, 8000, 16000, 22050, 11025, 12000, 24000, 32000, 96000];
 const EACH_PIECE = 5;        // scores are looked at each so many pieces
@@ -60,7 +60,7 @@ function scoresOf(samples, rate, spectrum) {
 /** What is heard at a place. */
 function tried(samples, rate, centre, clear, seconds) {
     const second = Math.max(0, clear - LEAD);
-    const one = new Receiver({ rate, centre });
+    const one = new Whole({ rate, centre });
     one.hear(samples.subarray(Math.trunc(second * rate), Math.trunc((clear + seconds - LEAD) * rate)));
     one.end();
     return { phasing: one.phasing, locks: one.locks, middle: one.place, exchanged: one.exchanged, second };

@@ -1,8 +1,8 @@
 // Where sound was lost or doubled on its way: words go on some elements earlier or later.
 
-import { logSum } from "./likelihood.js";
-import { clip, modulo } from "./numbers.js";
-import { GAP, pairs, UNHEARD, WORD } from "./words.js";
+import { logSum } from './likelihood.js';
+import { clip, modulo } from './numbers.js';
+import { GAP, pairs, UNHEARD, WORD } from './words.js';
 
 export const TURN = 14;     // elements of two slots
 export const ON = 10;       // positions behind one that are looked at

@@ -1,6 +1,6 @@
 // Likelihoods, as natural logarithms.
 
-import { listOf } from "./numbers.js";
+import { listOf } from './numbers.js';
 
 const BESSEL_END = 40;     // up to here ln I0 is looked up in a table
 const BESSEL_STEPS = 1600;

@@ -1,8 +1,8 @@
 // The loudness of both tones and the noise near each element, and what an element tells by them.
 
-import { Cases } from "./cases.js";
-import { logBessel, probability } from "./likelihood.js";
-import { clip, listOf } from "./numbers.js";
+import { Cases } from './cases.js';
+import { logBessel, probability } from './likelihood.js';
+import { clip, listOf } from './numbers.js';
 
 export const BEFORE = 50;      // elements before one that tell its loudness and noise
 export const BEHIND = 20;      // elements behind it that do
@@ -12,6 +12,7 @@ export const SIZE = 1;         // A / N
 export const RATIO = 2;        // A² / N
 export const LIKELIHOOD = 3;   // its likelihood
 const ROUNDS = 2;              // rounds of expectation and maximisation
+const LEAST_NOISE = 1e-16;     // behind sound that is far too loud, sums lose what silence adds to them
 
 /** Where one of the numbers of a tone stands in the state of an element. */
 export function inState(tone, number) {
@@ -73,7 +74,7 @@ class Near {
         const still = this.sums(sent.map((one) => 1 - one));
         const sentPower = this.sums(power.map((one, place) => sent[place] * one));
         const times = this.sums(sent);
-        const noise = stillPower.map((one, place) => one / still[place]);
+        const noise = stillPower.map((one, place) => Math.max(one / still[place], LEAST_NOISE));
         const loud = sentPower.map((one, place) => Math.max(one / times[place] - noise[place], 0.05 * noise[place]));
         return { loud, noise };
     }

@@ -1,8 +1,8 @@
 // Finds the middle of the two tones.
 
-import { Fourier } from "./fourier.js";
-import { between, joined, listOf, mean, median } from "./numbers.js";
-import { SHIFT } from "./rates.js";
+import { Fourier } from './fourier.js';
+import { between, joined, listOf, mean, median } from './numbers.js';
+import { SHIFT } from './rates.js';
 
 const SPECTRUM_SECONDS = 0.2;   // seconds of sound that one spectrum is made of
 const SPECTRA = 12;             // so many spectra are averaged

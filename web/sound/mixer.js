@@ -1,8 +1,8 @@
 // Samples at any rate, mixed down by a frequency that may change, at 16 samples an element.
 
-import { listOf, median, roundEven } from "./numbers.js";
-import { INNER_RATE } from "./rates.js";
-import { Signal } from "./signal.js";
+import { listOf, median, roundEven } from './numbers.js';
+import { INNER_RATE } from './rates.js';
+import { Signal } from './signal.js';
 
 const LEAST_RATE = 6000;        // samples a second that are left where samples are averaged first
 const FILTER_BAND = 320;        // Hz on each side of the middle that pass the filter

@@ -1,9 +1,9 @@
 // The phase of the tones through a word: a sender changes from tone to tone without a jump.
 
-import { logBessel } from "./likelihood.js";
-import { inState, RATIO, SIZE } from "./loudness.js";
-import { BAUD, SHIFT } from "./rates.js";
-import { PATTERNS, WORD, wordsOf } from "./words.js";
+import { logBessel } from './likelihood.js';
+import { inState, RATIO, SIZE } from './loudness.js';
+import { BAUD, SHIFT } from './rates.js';
+import { PATTERNS, WORD, wordsOf } from './words.js';
 
 export const ELEMENT_SECONDS = 1 / BAUD;
 const ELEMENT_TURNS = SHIFT / 2 / BAUD;   // turns that an element adds or takes: 0.85

@@ -5,7 +5,7 @@
 // slowly, over some seconds and in proportion to what is heard, so that the count of elements goes
 // on through a fade.
 
-import { clip, joined, modulo, roundEven } from "./numbers.js";
+import { clip, joined, modulo, roundEven } from './numbers.js';
 
 const PLAIN_BAUD = 100;       // elements a second
 const PLAIN_REMEMBERED = 2;   // seconds over which beginnings and loudness are averaged
@@ -62,10 +62,10 @@ class Elements {
     told(upper, lower) {
         this.remember(upper, lower);
         const end = -Math.atan2(this.swing.imaginary, this.swing.real) / (2 * Math.PI) * this.length;
-        let bits = "";
+        let bits = '';
         while (roundEven(this.next) < this.heard + upper.length) {
             const here = roundEven(this.next) - this.heard;
-            bits += upper[here] > Math.max(lower[here], FADED * this.loud) ? "1" : "0";
+            bits += upper[here] > Math.max(lower[here], FADED * this.loud) ? '1' : '0';
             const louder = Math.max(upper[here], lower[here]);
             this.loud += (louder - this.loud) / (PLAIN_REMEMBERED * PLAIN_BAUD);
             const late = modulo(end - this.next + this.length / 2, this.length) - this.length / 2;
@@ -114,6 +114,6 @@ export class Plain {
 
     /** Nothing is held back. */
     end() {
-        return { moment: this.elements.heard / this.rate, bits: "" };
+        return { moment: this.elements.heard / this.rate, bits: '' };
     }
 }

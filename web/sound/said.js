@@ -1,6 +1,6 @@
 // What is said of a sound, in the words of examples/sound/elements.
 
-import { THERE } from "./receiver.js";
+import { THERE } from './whole.js';
 
 const SAID_SINGLE = 50;   // locks refused for one tone alone, some 7 s of them, are worth to be said
 export const QUIET = 1e-4;   // of the full scale: what is less loud is silence (-80 dB)
@@ -8,7 +8,7 @@ export const QUIET = 1e-4;   // of the full scale: what is less loud is silence 
 /** How loud, where, locked or not, how many elements and phasings. */
 export function statusLine(status) {
     return `${status.seconds.toFixed(0)} s: ${status.level.toFixed(0)} dB, middle ${status.middle.toFixed(0)} Hz, `
-        + `${status.sideband} tone B, ${status.locked ? "locked" : "no lock"}, ${status.told} elements, `
+        + `${status.sideband} tone B, ${status.locked ? 'locked' : 'no lock'}, ${status.told} elements, `
         + `phasing met ${status.phasing} times, ${status.sure} words sure, ${status.unsure} not`;
 }
 
@@ -17,8 +17,8 @@ export function statusLine(status) {
  * loudest piece, `other` a rate at which there is NAVTEX, if it isn't the one that is named.
  */
 export function judged(one, loudest, other) {
-    const heard = (one.exchanged ? ", the lower tone as B (lower sideband)" : "")
-        + amiss(one).map((text) => `; ${text}`).join("");
+    const heard = (one.exchanged ? ', the lower tone as B (lower sideband)' : '')
+        + amiss(one).map((text) => `; ${text}`).join('');
     if (other !== null) {
         return `heard samples of ${other} a second: name --rate ${other}`;
     }
@@ -29,9 +29,9 @@ export function judged(one, loudest, other) {
         return `heard words of NAVTEX but no phasing, as where a recording begins in the middle${heard}; or try --find`;
     }
     if (!one.told) {
-        return "no sound came: look at what the program before it says";
+        return 'no sound came: look at what the program before it says';
     }
-    return loudest < QUIET ** 2 ? "heard silence" : judgedWithoutWords(one);
+    return loudest < QUIET ** 2 ? 'heard silence' : judgedWithoutWords(one);
 }
 
 /** What was heard where no word was found. */
@@ -43,7 +43,7 @@ function judgedWithoutWords(one) {
     }
     if (one.single > SAID_SINGLE) {
         return `heard words on one tone alone, the other one is missing near ${middle} Hz: `
-            + "look at the filter of the radio";
+            + 'look at the filter of the radio';
     }
     if (one.tone > THERE) {
         return `heard two tones near ${middle} Hz now and then, but no words of NAVTEX; try --find`;
@@ -61,7 +61,7 @@ function amiss(one) {
         said.push(`sound was lost or doubled ${one.jumps} times, look at what the program before it says`);
     }
     if (one.single > SAID_SINGLE) {
-        said.push("one of the two tones was missing for a time");
+        said.push('one of the two tones was missing for a time');
     }
     if (one.aside.score > 0) {
         said.push(`two tones were clearer near ${one.aside.place.toFixed(0)} Hz`);

@@ -1,14 +1,14 @@
 // From the tones of elements to elements: words are decided from both sendings of a position.
 
-import { findJump, ON, TURN } from "./jumps.js";
-import { logAdd, logSum, probability } from "./likelihood.js";
-import { BEFORE, BEHIND, inState, LIKELIHOOD, LOUD, STATE, statesOf } from "./loudness.js";
-import { clip, modulo, placeOfGreatest } from "./numbers.js";
-import { offBySlope, slopeOf, wordsWithPhase } from "./phase.js";
-import { Store } from "./store.js";
+import { findJump, ON, TURN } from './jumps.js';
+import { logAdd, logSum, probability } from './likelihood.js';
+import { BEFORE, BEHIND, inState, LIKELIHOOD, LOUD, STATE, statesOf } from './loudness.js';
+import { clip, modulo, placeOfGreatest } from './numbers.js';
+import { offBySlope, slopeOf, wordsWithPhase } from './phase.js';
+import { Store } from './store.js';
 import {
     asHeard, DX, GAP, pairs, PAIRS, PATTERNS, PHASING_ONE, PHASING_TWO, RX, spoilt, SPOILT_ROW, UNHEARD, WORD, wordsOf,
-} from "./words.js";
+} from './words.js';
 
 const BACK = 14;       // positions before one that tell a lock
 const LOCK = 14;       // evidence for a lock
@@ -69,7 +69,7 @@ export class Sendings {
                 this.stretches.shift();
             }
         }
-        return this.out.rows(first, this.told).join("");
+        return this.out.rows(first, this.told).join('');
     }
 
     /** The element of those heard that is told next. */

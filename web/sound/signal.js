@@ -1,6 +1,6 @@
 // A list of complex numbers: samples that have a phase.
 
-import { joined } from "./numbers.js";
+import { joined } from './numbers.js';
 
 export class Signal {
     constructor(real, imaginary) {

@@ -4,7 +4,7 @@
 // word is named by its number, element 1 in the least place, B as 1. With the tones exchanged it is
 // 127 less its number. Likelihoods are natural logarithms, over that of noise alone.
 
-import { logAdd, logSum } from "./likelihood.js";
+import { logAdd, logSum } from './likelihood.js';
 
 export const WORD = 7;          // elements of a word
 export const GAP = 35;          // elements between both sendings

@@ -7,22 +7,22 @@
 //
 // --at-once N pushes N samples at a time: elements are the same for each.
 
-import { readFileSync } from "node:fs";
-import { parseArgs } from "node:util";
-import { Demodulator } from "../demodulator.js";
+import { readFileSync } from 'node:fs';
+import { parseArgs } from 'node:util';
+import { Demodulator } from '../demodulator.js';
 
 const LINE = 20;   // elements of a line
 
 const { values: given } = parseArgs({
     options: {
-        rate: { type: "string", default: "8000" },
-        centre: { type: "string" },
-        from: { type: "string", default: "0" },
-        "at-once": { type: "string", default: "1600" },
-        search: { type: "boolean" },
-        exchanged: { type: "boolean" },
-        plain: { type: "boolean" },
-        quiet: { type: "boolean" },
+        rate: { type: 'string', default: '8000' },
+        centre: { type: 'string' },
+        from: { type: 'string', default: '0' },
+        'at-once': { type: 'string', default: '1600' },
+        search: { type: 'boolean' },
+        exchanged: { type: 'boolean' },
+        plain: { type: 'boolean' },
+        quiet: { type: 'boolean' },
     },
 });
 
@@ -33,7 +33,7 @@ function samplesOf(bytes) {
 
 /** The lines of an air file: T where the moment is another one, and B. */
 function linesOf(told, start, last) {
-    let lines = "";
+    let lines = '';
     for (const { moment, bits } of told) {
         for (let first = 0; first < bits.length; first += LINE) {
             const now = Math.trunc(start + moment + first / 100);
@@ -51,9 +51,9 @@ const centre = given.centre === undefined ? undefined : Number(given.centre);
 const { search, exchanged, plain } = given;
 const demodulator = new Demodulator({ rate: Number(given.rate), centre, search, exchanged, plain });
 const samples = samplesOf(readFileSync(0));
-const [start, atOnce, last] = [Number(given.from), Number(given["at-once"]), {}];
+const [start, atOnce, last] = [Number(given.from), Number(given['at-once']), {}];
 const begun = performance.now();
-let lines = "";
+let lines = '';
 for (let first = 0; first < samples.length; first += atOnce) {
     lines += linesOf(demodulator.push(samples.subarray(first, first + atOnce)), start, last);
 }

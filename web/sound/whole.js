@@ -1,12 +1,12 @@
-// One channel, from samples to elements some 3.7 s behind; and what it tells of itself.
+// The whole demodulator: samples in, elements out, some 3.7 s behind; and what it tells of itself.
 
-import { Clock } from "./clock.js";
-import { Middle } from "./middle.js";
-import { Mixer } from "./mixer.js";
-import { clip, joined } from "./numbers.js";
-import { AHEAD, INNER_RATE, PIECE, pieceLength, SHIFT } from "./rates.js";
-import { Sendings } from "./sendings.js";
-import { Store } from "./store.js";
+import { Clock } from './clock.js';
+import { Middle } from './middle.js';
+import { Mixer } from './mixer.js';
+import { clip, joined } from './numbers.js';
+import { AHEAD, INNER_RATE, PIECE, pieceLength, SHIFT } from './rates.js';
+import { Sendings } from './sendings.js';
+import { Store } from './store.js';
 
 const NEAR_CENTRE = 100;      // Hz on each side of a named centre in which the middle may be
 const ASIDE = 400;            // Hz on each side in which two tones are seen, so that it can be told
@@ -20,7 +20,7 @@ const LEAP = 20;              // Hz that it moves at most in a lock
 const STILL_BEHIND = 4.6;     // seconds of silence that bring out what is held back
 
 /** Takes samples, and tells elements. */
-export class Receiver {
+export class Whole {
     constructor({ rate, centre, exchanged = false, search = false }) {
         this.reach = search ? SEARCHED : [centre - NEAR_CENTRE, centre + NEAR_CENTRE];
         this.rate = rate;
@@ -74,7 +74,7 @@ export class Receiver {
     hear(samples) {
         this.samples = joined(this.samples, samples);
         this.heard += samples.length;
-        const told = { moment: 0, bits: "" };
+        const told = { moment: 0, bits: '' };
         let used = 0;
         for (; used + this.piece <= this.samples.length; used += this.piece) {
             const { here } = this.sendings;
