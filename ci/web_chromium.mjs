@@ -61,7 +61,13 @@ export class Chromium {
     }
 
     #loaded() {
-        return new Promise((resolve) => { this.#onLoaded = resolve; });
+        return new Promise((resolve, reject) => {
+            const late = setTimeout(() => reject(new Error('the page is not loaded')), PATIENCE);
+            this.#onLoaded = () => {
+                clearTimeout(late);
+                resolve();
+            };
+        });
     }
 
     /** The value of an expression in the page. */

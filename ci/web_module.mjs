@@ -171,6 +171,12 @@ async function triesKeeping() {
     other.beginAnew(now);
     assert.equal(hear(other, example('cut.air')), example('cut.log'));
     assert.deepEqual(faults, []);
+    const damaged = { version: 1, state: 'STATE 2\nC0\n', entries: [{ text: example('ea01.log'), isRead: true }] };
+    const mended = await opened({ getItem: () => JSON.stringify(damaged), setItem: () => {} });
+    assert.equal(hear(mended, example('ea01.air')), '', 'the messages tell what is remembered');
+    const unreadable = { getItem: () => '{', setItem: () => {}, removeItem: () => {} };
+    assert.equal(hear(await opened(unreadable), example('ea01.air')), example('ea01.log'));
+    assert.equal(faults.splice(0).length, 2);
     const full = await opened({ getItem: () => null, setItem: () => { throw new Error('full'); } });
     assert.equal(hear(full, example('ea01.air')), example('ea01.log'));
     assert.equal(faults.length, 1);

@@ -106,6 +106,10 @@ async function triesRecording() {
     assert.match(shown[0], /EB02: station E, B meteorological warning, number 02$/);
     const time = await browser.value("document.querySelector('#list time').textContent");
     assert.match(time, /^2025-01-05 00:40:\d\d UTC$/);
+    await began('2025-01-04 00:40');
+    await expectFault(/^The time of this sound had no effect: the time is before the one in force/,
+        () => hear(`${room}/two-messages.wav`));
+    assert.equal((await titles()).length, 4);
 }
 
 async function triesRefusal() {
@@ -135,6 +139,8 @@ async function triesFaults() {
     await began('yesterday');
     await expectFault(/has to be a time of UTC/, () => browser.giveFiles('#file', path('ea01.air')));
     await began('');
+    await expectFault(/^Another window of this page/, () => browser.value(
+        "window.dispatchEvent(new StorageEvent('storage', { key: 'navtex.received' }))"));
     await expectFault(/has no message/, () => browser.giveFiles('#load-log', `${room}/note.txt`));
 }
 

@@ -1,4 +1,5 @@
 // What the entries of a log say, read from its text; and the same as JSON, as `navtex log` gives it.
+import { MAX_MOMENT } from './receiver.js';
 
 const HEAD = /\[([A-Z])([A-Z])(\d\d)(?:\/([12]))? (\d{4}-\d\d-\d\d \d\d:\d\d:\d\d) (full|cut|long) (\d+)\/(\d+)\]\n/y;
 const TEXT = /^[A-Z0-9 \n*\-?:().,'=+/]*$/;
@@ -25,7 +26,7 @@ export function entryAt(text, at = 0) {
 /** Seconds since 1970 of a time of UTC, as 2025-01-01 00:40:00; null where there is no such time. */
 export function momentOf(civil) {
     const milliseconds = Date.parse(civil.replace(' ', 'T') + 'Z');
-    if (Number.isNaN(milliseconds) || milliseconds < 0) return null;
+    if (!(milliseconds >= 0 && milliseconds <= MAX_MOMENT * 1000)) return null;
     return civilOf(milliseconds / 1000) === civil ? milliseconds / 1000 : null;
 }
 

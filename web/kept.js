@@ -2,6 +2,7 @@
 // After a reload it goes on from there, so that nothing is printed again.
 import { AirRun } from './air.js';
 import { entryAt, readLog } from './entries.js';
+import { ReceiverFault } from './receiver.js';
 import { EMPTY_STATE, readState, stateAt, stateWith } from './state.js';
 import { StoreFault } from './store.js';
 
@@ -99,14 +100,19 @@ export class KeptReceiver {
         });
     }
 
-    /** Opens it from a state, or from what the messages tell where that is none. */
+    /** Opens it from a state, without what a clock far ahead left in it. Where it is no state, it is
+     *  opened from what the messages tell. */
     #open(state, now) {
+        let taken = state;
         try {
-            this.#receiver.openFrom(stateAt(state, now));
+            this.#receiver.openFrom(state);
+            this.#receiver.abandon();
         } catch (fault) {
+            if (!(fault instanceof ReceiverFault)) throw fault;
             this.#onFault(fault);
-            this.#receiver.openFrom(stateAt(stateWith(EMPTY_STATE, this.#messages), now));
+            taken = stateWith(EMPTY_STATE, this.#messages);
         }
+        this.#receiver.openFrom(stateAt(taken, now));
     }
 
     #save() {

@@ -197,10 +197,13 @@ class Page {
         find('progress').hidden = true;
         this.#tones.end();
         this.#showSource(said?.heard ? `${text} The demodulator ${said.heard}.` : text, false);
-        if (said?.withoutEffect > 0) {
-            const { line, why } = said.first;
-            this.#faults.show(`Lines without effect: ${said.withoutEffect}. The first is line ${line}: ${why}.`);
-        }
+        if (said?.withoutEffect > 0) this.#showWithoutEffect(said);
+    }
+
+    #showWithoutEffect({ withoutEffect, first: { line, why }, heard }) {
+        this.#faults.show(heard === null
+            ? `Lines without effect: ${withoutEffect}. The first is line ${line}: ${why}.`
+            : `The time of this sound had no effect: ${why}. Its messages have the time in force.`);
     }
 
     get #channel() {
