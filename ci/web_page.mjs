@@ -82,7 +82,9 @@ async function triesAirFile() {
     assert.equal(await browser.value("document.querySelectorAll('mark.lost').length"), 1);
     assert.match(await browser.value("document.getElementById('look').textContent"), /ZCZC EA01/);
     assert.match(await browser.value("document.getElementById('counts').textContent"), /^2 messages, 2 not read yet$/);
+    await browser.value("document.querySelector('.unread button').focus()");
     await press('.unread button');
+    assert.match(await browser.value("document.activeElement.getAttribute('aria-label')"), /^Mark EA01 as read$/);
     assert.match(await browser.value("document.getElementById('counts').textContent"), /^2 messages, 1 not read yet$/);
 }
 

@@ -1,15 +1,20 @@
 // What is refused: a box for each station and for each subject of the chosen frequency.
 import { isVital, LETTERS, subjectName } from './subjects.js';
 
-/** Shows the boxes of a kind, "Station" or "Subject"; `onChange` gets a letter and whether it is refused. */
-export function showBoxes(place, kind, refused, onChange) {
-    place.replaceChildren(...LETTERS.map((letter) => boxOf(kind, letter, refused.includes(letter), onChange)));
+/** Makes the boxes of a kind, Station or Subject; `onChange` gets a letter and whether it is refused. */
+export function makeBoxes(place, kind, onChange) {
+    place.replaceChildren(...LETTERS.map((letter) => boxOf(kind, letter, onChange)));
 }
 
-function boxOf(kind, letter, isRefused, onChange) {
+/** Shows which letters are refused. */
+export function checkBoxes(place, refused) {
+    for (const box of place.querySelectorAll('input')) box.checked = refused.includes(box.value);
+}
+
+function boxOf(kind, letter, onChange) {
     const box = document.createElement('input');
     box.type = 'checkbox';
-    box.checked = isRefused;
+    box.value = letter;
     box.disabled = kind === 'Subject' && isVital(letter);
     box.addEventListener('change', () => onChange(letter, box.checked));
     const label = document.createElement('label');

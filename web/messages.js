@@ -63,7 +63,16 @@ function addUnread(head, title, message, onRead) {
 
 /** Shows messages in a list; `onRead` gets the one whose button is pressed. */
 export function showMessages(list, messages, onRead) {
+    const focused = list.contains(document.activeElement) ? document.activeElement : null;
     list.replaceChildren(...[...messages].reverse().map((message) => itemOf(message, onRead)));
+    if (focused !== null) refocus(list, focused.getAttribute('aria-label'));
+}
+
+/** Who goes by the keys stays where they were, or comes to the next message that wasn't read. */
+function refocus(list, label) {
+    const buttons = [...list.querySelectorAll('button')];
+    const same = buttons.find((button) => button.getAttribute('aria-label') === label);
+    (same ?? buttons[0] ?? list.closest('section')).focus();
 }
 
 /** How many there are and how many of them are new, in words. */

@@ -1,6 +1,6 @@
 // The page: joins what is heard, what is kept and what is shown.
 import { samplesOf, SoundFault } from './capture.js';
-import { showBoxes } from './choices.js';
+import { checkBoxes, makeBoxes } from './choices.js';
 import { jsonOf } from './entries.js';
 import { Faults, PageFault } from './faults.js';
 import { asText, kindOf, momentSaid, offer } from './files.js';
@@ -89,6 +89,7 @@ class Page {
         });
         document.addEventListener('dragleave', () => find('drop').classList.remove('over'));
         document.addEventListener('drop', (event) => this.#drop(event));
+        document.addEventListener('visibilitychange', () => this.#keepAwake());
         window.addEventListener('beforeunload', (event) => {
             if (this.#listening !== null) event.preventDefault(); // what is being heard would be lost
         });
@@ -150,6 +151,12 @@ class Page {
         if (this.#listening !== listening) return; // it was stopped while the browser asked
         find('source').textContent = `Hearing the microphone, on ${FREQUENCIES[this.#channel]}.`;
         setTimeout(() => this.#seeWhether(listening), SILENT);
+        await this.#keepAwake();
+    }
+
+    /** Keeps the screen of a phone on; a browser ends that where another page is looked at. */
+    async #keepAwake() {
+        if (this.#listening === null || document.hidden) return;
         this.#wake = await navigator.wakeLock?.request('screen').catch(() => null);
     }
 
@@ -237,6 +244,10 @@ class Page {
         this.#joinButton('save-json', () => offer(this.#joined((one) => `${jsonOf(one)}\n`), 'navtex.json'));
         this.#joinButton('anew', () => this.#beginAnew());
         find('channel').addEventListener('change', () => this.#showChoices());
+        for (const [id, kind] of [['stations', 'Station'], ['subjects', 'Subject']]) {
+            makeBoxes(find(id), kind, (letter, isRefused) =>
+                this.#faults.try(() => this.#kept.choose(kind, this.#channel, letter, isRefused)));
+        }
     }
 
     #joined(textOf) {
@@ -291,10 +302,8 @@ class Page {
     #showChoices() {
         const refused = this.#kept.refused[this.#channel];
         find('refused-channel').textContent = FREQUENCIES[this.#channel];
-        const change = (kind) => (letter, isRefused) =>
-            this.#faults.try(() => this.#kept.choose(kind, this.#channel, letter, isRefused));
-        showBoxes(find('stations'), 'Station', refused.stations, change('Station'));
-        showBoxes(find('subjects'), 'Subject', refused.subjects, change('Subject'));
+        checkBoxes(find('stations'), refused.stations);
+        checkBoxes(find('subjects'), refused.subjects);
     }
 }
 
