@@ -7,7 +7,7 @@ import { AirRun, LineSplitter, readLine } from '../web/air.js';
 import { entryAt, isGood, jsonOf, momentOf, readLog } from '../web/entries.js';
 import { KeptReceiver } from '../web/kept.js';
 import { Look } from '../web/look.js';
-import { Receiver, ReceiverFault, Status } from '../web/receiver.js';
+import { MAX_ENTRY, Receiver, ReceiverFault, ROOM, Status } from '../web/receiver.js';
 import { EMPTY_STATE, readState, stateAt, stateWith, writeState } from '../web/state.js';
 import { Store } from '../web/store.js';
 
@@ -112,6 +112,16 @@ function triesStates() {
     assert.equal(stateAt(ahead, 1735692001), ahead.replace('EA02 1735929601\n', ''));
 }
 
+/** The numbers of receiver.js are those of the header. */
+function triesHeader() {
+    const header = readFileSync(new URL('../crates/nx_live/navtex-live.h', import.meta.url), 'utf8');
+    assert.match(header, new RegExp(`#define NX_LIVE_ROOM ${ROOM}$`, 'm'));
+    assert.match(header, new RegExp(`#define NX_LIVE_MAX_ENTRY ${MAX_ENTRY}$`, 'm'));
+    for (const [name, number] of Object.entries(Status)) {
+        assert.match(header, new RegExp(`\\bNX_LIVE_${name} = ${number}\\b`));
+    }
+}
+
 async function triesFaults() {
     const receiver = await Receiver.load(module);
     const faultOf = (call) => {
@@ -179,7 +189,7 @@ async function triesKeeping() {
     assert.equal(faults.splice(0).length, 2);
     const full = await opened({ getItem: () => null, setItem: () => { throw new Error('full'); } });
     assert.equal(hear(full, example('ea01.air')), example('ea01.log'));
-    assert.equal(faults.length, 1);
+    assert.ok(faults.length > 0);
     assert.equal(full.messages.length, 1);
 }
 
@@ -206,6 +216,7 @@ function triesLook() {
     assert.equal(new Look().push(digits), '\nZCZC EA01\nTEST\nNNNN\n\n');
 }
 
+triesHeader();
 triesStates();
 triesLogs();
 triesLook();

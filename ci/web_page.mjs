@@ -212,8 +212,11 @@ async function triesServer() {
     await new Promise((resolve) => server.listen(0, '127.0.0.1', resolve));
     await browser.open(`http://127.0.0.1:${server.address().port}/navtex.html`);
     await ready();
-    await hear(path('ea01.air'));
+    await hear(path('refused.air'));
     assert.equal((await titles()).length, 1);
+    await loadAgain();
+    const refused = "[...document.querySelectorAll('#subjects input:checked')].map((box) => box.value).join()";
+    assert.equal(await browser.value(refused), 'C');
     server.close();
     server.closeAllConnections();
 }

@@ -54,7 +54,9 @@ export class KeptReceiver {
         const state = this.#receiver.save();
         const entries = this.#receiver.close();
         this.#open(state, now);
-        return this.keep(entries);
+        const messages = this.keep(entries);
+        this.#save(); // what was refused meanwhile
+        return messages;
     }
 
     /** Refuses a station or a subject on a channel, or accepts it again. */

@@ -1,12 +1,12 @@
 // One sound or one file that is being heard, from its beginning to its end.
 import { linesOf, readLine } from './air.js';
+import { Microphone } from './capture.js';
 import { Hearing } from './hearing.js';
 import { Look } from './look.js';
-import { Microphone } from './capture.js';
 
 const BUSY = 40;       // milliseconds after which the page may do something else
 const CHUNK = 1;       // seconds of a recording that are heard at a time
-const LONG = 300;      // seconds: of a longer recording only each tenth row is shown
+const LONG = 300;      // seconds: of a longer recording one row a second is shown
 
 const clock = () => Date.now() / 1000;
 
@@ -26,6 +26,7 @@ export class Listening {
     #hearing = null;
     #microphone = null;
     #isStopped = false;
+    #rested = 0;      // when the page could do something else
     hasHeard = false; // whether sound came from the microphone
 
     /** `show` is told what is heard: messages, text, rows of the waterfall, status, progress; and by
@@ -108,8 +109,6 @@ export class Listening {
     *#steps(count, step) {
         for (let at = 0; at < count && !this.#isStopped; at += step) yield at;
     }
-
-    #rested = 0;
 
     async #rest(progress) {
         if (performance.now() - this.#rested < BUSY) return;

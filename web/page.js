@@ -205,6 +205,7 @@ class Page {
         this.#tones.end();
         this.#showSource(said?.heard ? `${text} The demodulator ${said.heard}.` : text, false);
         if (said?.withoutEffect > 0) this.#showWithoutEffect(said);
+        this.#showChoices(); // an air file may refuse too
     }
 
     #showWithoutEffect({ withoutEffect, first: { line, why }, heard }) {
