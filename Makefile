@@ -11,7 +11,7 @@ help:
 	@echo 'make test                 run all tests that need no proof: two to three minutes on two processors'
 	@echo 'make ci                   the merge gate: all proofs, wrong bodies, tests, programs: hours'
 	@echo 'make bench                measure the built program'
-	@echo 'make page                 out/navtex.html, the receiver as a page for any browser; make live builds its module first'
+	@echo 'make page                 out/navtex.html, the receiver as a page for a browser; make live builds its module first'
 	@echo 'make install              put the built program, man pages, completion, the tools for sound, a service and examples below PREFIX ($(PREFIX))'
 	@echo 'make install-lib          put the built library for C, its header and navtex.pc there'
 	@echo 'make uninstall            take them all away, but for the settings in /etc/default'

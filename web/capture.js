@@ -1,6 +1,7 @@
 // Sound from a file or from a microphone, as samples from -1 to 1.
 
 const RATE = 8000; // samples a second that a sound is brought to, where the browser can do that
+const USUAL_RATE = 44100;
 const BLOCK = 800; // samples that the microphone gives at a time
 
 /** Why there is no sound, in words for who uses the page. */
@@ -8,10 +9,7 @@ export class SoundFault extends Error {}
 
 /** The samples of a file that the browser can decode: both sides of a stereo sound are added. */
 export async function samplesOf(bytes) {
-    if (typeof OfflineAudioContext === 'undefined') {
-        throw new SoundFault("This browser can't decode sound. A current Firefox, Chrome, Edge or Safari can.");
-    }
-    const context = new OfflineAudioContext(1, 1, RATE);
+    const context = decoder();
     let sound;
     try {
         sound = await context.decodeAudioData(bytes);
@@ -21,6 +19,19 @@ export async function samplesOf(bytes) {
     return { rate: sound.sampleRate, samples: added(sound) };
 }
 
+/** What decodes a sound, and brings it to our rate where the browser can do that. */
+function decoder() {
+    for (const rate of [RATE, USUAL_RATE]) {
+        try {
+            return new OfflineAudioContext(1, 1, rate);
+        } catch {
+            // the next rate, or none
+        }
+    }
+    throw new SoundFault("This browser can't decode sound. A current Firefox, Chrome, Edge or Safari can.");
+}
+
+/** Both sides of a sound as one. */
 function added(sound) {
     const samples = sound.getChannelData(0).slice();
     for (let channel = 1; channel < sound.numberOfChannels; channel++) {
@@ -86,9 +97,9 @@ export class Microphone {
         this.#stream = await navigator.mediaDevices.getUserMedia({ audio: UNCHANGED });
         const source = this.#join();
         await this.#context.audioWorklet.addModule('data:text/javascript,' + encodeURIComponent(GATHERER));
-        const gatherer = new AudioWorkletNode(this.#context, 'gatherer', { numberOfOutputs: 0 });
+        const gatherer = new AudioWorkletNode(this.#context, 'gatherer');
         gatherer.port.onmessage = ({ data }) => onSamples(data);
-        source.connect(gatherer);
+        source.connect(gatherer).connect(this.#context.destination); // which gets silence
         this.#stream.getAudioTracks()[0].onended = onEnd;
         this.#context.resume().catch(() => {}); // where there is no sound at all it never answers
     }
