@@ -4,19 +4,20 @@ PROGRAM = crates/nx_cli/out/nx_cli
 CRATE =
 MODULE = out/live/navtex32.wasm
 
-.PHONY: help check test ci bench page install install-lib uninstall deb deb-lib clean
+.PHONY: help check test ci bench page install install-lib uninstall deb deb-lib live clean
 
 help:
 	@echo 'make check CRATE=nx_sync  prove one crate, and those below it that have changed'
 	@echo 'make test                 run all tests that need no proof: two to three minutes on two processors'
 	@echo 'make ci                   the merge gate: all proofs, wrong bodies, tests, programs: hours'
 	@echo 'make bench                measure the built program'
-	@echo 'make page                 out/navtex.html, the receiver as a page for a browser; make live builds its module first'
+	@echo 'make page                 out/navtex.html, the receiver as a page for a browser, out of what make live builds'
 	@echo 'make install              put the built program, man pages, completion, the tools for sound, a service and examples below PREFIX ($(PREFIX))'
 	@echo 'make install-lib          put the built library for C, its header and navtex.pc there'
 	@echo 'make uninstall            take them all away, but for the settings in /etc/default'
 	@echo 'make deb                  a Debian package of a static program, out/navtex_VERSION_amd64.deb; it installs nothing'
 	@echo 'make deb-lib              the same of the library for C, out/libnavtex-dev_VERSION_amd64.deb'
+	@echo 'make live                 the receiver without a heap for many machines, in out/live/; ci/live --check tries it'
 	@echo 'make clean                remove what rt keeps and makes in out/'
 	@echo "The program is built by (cd crates/nx_cli && rt run -- code), which proves it first."
 
@@ -65,6 +66,9 @@ deb:
 
 deb-lib:
 	package/deb-library
+
+live:
+	ci/live
 
 clean:
 	rm -rf out crates/*/out

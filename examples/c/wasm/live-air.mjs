@@ -35,11 +35,11 @@ function giveFile(piece) {
 function speed(piece, times) {
   const elements = elementsOf(readFileSync(0, "latin1").replace(/[^01]/g, ""));
   receiver.open(0);
-  const began = process.hrtime.bigint();
+  const began = process.cpuUsage();
   for (let time = 0; time < times; time++)
     for (let at = 0; at < elements.length; at += piece) receiver.hear(0, elements.subarray(at, at + piece));
-  const nanoseconds = Number(process.hrtime.bigint() - began);
-  console.log(`${(nanoseconds / elements.length / times).toFixed(2)} ns an element`);
+  const { user } = process.cpuUsage(began);
+  console.log(`${((user * 1000) / elements.length / times).toFixed(2)} ns an element`);
 }
 
 if (call === "speed") {
