@@ -78,7 +78,7 @@ class Demodulator:
         is_beside = abs(clearest - self.middle) <= NEAR + receive.SHIFT or most >= OTHER * here
         self.sendings.is_tuned = not (is_aside and is_beside)
         if is_aside:
-            self.aside = max(self.aside, (most, clearest))
+            self.aside = max(self.aside, (float(most), float(clearest)))
         if self.locked:
             told = self.sendings.middle
             if told is not None and abs(told - self.middle) > 3:
