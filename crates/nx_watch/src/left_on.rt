@@ -1,6 +1,6 @@
 //! A receiver that is left on.
 
-ghost use Rattle.std.specs.Prelude.{◌≡◌, ◌≤◌, ℕ, List, Err};
+ghost use Rattle.std.specs.Prelude.{◌≡◌, ℕ, List, Err};
 ghost use Rattle.nx_fec.specs.Transfers.{devices};
 ghost use Rattle.nx_kept.specs.Disk.{OnlyReads};
 ghost use Rattle.nx_kept.specs.Kept.{IsDamaged, IsKeptLog};

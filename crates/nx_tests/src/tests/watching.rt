@@ -298,8 +298,7 @@ fn it_is_told_why_a_line_has_no_effect(rt: HostRuntime) {
         input.extend_from_slice(end).expect(&rt, "memory");
         let told = format!(in alloc;
             "navtex: line 1 had no effect: {why}\nnavtex: 1 line had no effect\n"
-        )
-        .expect(&rt, "memory");
+        ).expect(&rt, "memory");
         for length in [1, 600] {
             let seen = watch_pieces(alloc, file_of(&rt, alloc, b""), FIRST, &input, length);
             assert_eq!(&rt; seen.answer, Ok(report(1, 1, Some(1), 0)), "{why}");
