@@ -140,6 +140,8 @@ pub(crate) fn watch_lines<R: Read, D: DiskFile + Drop, W: Write, F: Write>(
     ensures unwritten { IsErrOf result WriteEnd ↔ (writer.new.failures ≡ 1) }
     ensures written_once { writer.new.failures ≤ 1 }
 {
+    // What is held from piece to piece doesn't grow.
+    prove!(size_of::<LineRun>() == size_of::<AnyScanner>() + size_of::<LineEffects>());
     let mut run = LineRun {
         scanner: AnyScanner::new(),
         effects: LineEffects::new(first),
@@ -159,9 +161,6 @@ struct LineRun {
     scanner: AnyScanner,
     effects: LineEffects,
 }
-
-// It holds no more than these.
-const _: () = prove!(size_of::<LineRun>() == size_of::<AnyScanner>() + size_of::<LineEffects>());
 
 impl LineRun {
     /// Reads the input to its end or its limit, or until the run is over.
