@@ -165,9 +165,9 @@ def told_of_start(data):
     """What a start tells of the bytes that it cuts of a log that isn't damaged: how many they are,
     and of each whole entry among them its head."""
     place = len(settled(data)) - 1
-    place += data[place : place + 1] == b" " and len(data) > place + 1
+    place += data[place : place + 1] == b" "
     behind = data[place:]
-    if behind in (b"", b" "):
+    if not behind:
         return []
     lines = [f"navtex: {len(behind)} bytes at line {line_of(data, place)} of the log are no kept "
              "entry, and are cut"]
