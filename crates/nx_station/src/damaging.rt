@@ -1,25 +1,30 @@
 //! Damage of an air file on purpose: the first element of each word that is named is inverted.
-ghost use Rattle.std.specs.Prelude.{◌≡◌, ◌≢◌, ◌+◌, ◌-◌, ◌*◌, ◌^◌, ◌<◌, ◌≤◌, ◌↔◌, ◌⊎◌, ◌++◌, ◌∷◌, [], ℕ, Bool, List, Option, IfNone, IfSome, IsSomeAnd, IsTrue, Some, length, map, min};
+ghost use Rattle.std.specs.Prelude.{◌≡◌, ◌≢◌, ◌+◌, ◌-◌, ◌*◌, ◌^◌, ◌<◌, ◌≤◌, ◌↔◌, ◌⊎◌, ◌++◌, ◌∷◌, [], ℕ, Bool, List, Option, IfNone, IfOk, IfSome, IsSomeAnd, IsTrue, MatchResult, OnOk, Some, length, map, min, take};
+ghost use Rattle.std.specs.Io.KnownBytes.{Appends};
+ghost use Rattle.nx_fec.specs.Transfers.{FailsOnce, Writes, devices};
 ghost use Rattle.nx_fec.specs.air_files.AirFile.{IsLine, Line, element_digit};
 ghost use Rattle.nx_fec.specs.air_files.Channels.{channel_of};
+ghost use Rattle.nx_fec.specs.air_files.LineRuns.{ExplainsLines, HasGiven, HasTaken, HasTakenSome, line_run};
 ghost use Rattle.nx_fec.specs.air_files.Lines.{elements_on, line_bytes};
 ghost use Rattle.nx_fec.specs.declared.air_files.lines.LineKind.TheVariants.{Elements};
 ghost use Rattle.nx_fec.specs.declared.air_files.channel.Channel.{Channel};
 ghost use Rattle.nx_fec.specs.declared.air_files.channel.Channel.TheVariants.{Zero};
-ghost use Rattle.nx_fec.specs.Transfers.{devices};
+ghost use Rattle.nx_fec.specs.private.LineTaking.{IsTaking, inside};
 ghost use Rattle.nx_station.specs.Damage.{Damage, Damages, damaged_elements, damaged_line, inverted_count, inverts};
-ghost use Rattle.nx_station.specs.private.DamageTaker.{AreNamed, HasDigitsFrom, IsAmong, IsAt, line_fault};
+ghost use Rattle.nx_station.specs.private.DamageTaker.{AreNamed, Damager, HasDigitsFrom, IsAmong, IsAt, StandsFrom, damage_taker, first_for, lines_fault};
 ghost use Rattle.nx_station.specs.private.DamageWalk.{IsOnWalk, front, front_count};
 
 use crate::fault::DamageFault;
 use arrayvec::ArrayVec;
 use nx_code::ELEMENTS;
 use nx_fec::{
-    Batch, Channel, Counting, LineFault, LineKind, LineTaker, LinesFault, MAX_ELEMENTS, Scanner,
-    TakeFault, run_lines,
+    Batch, CHUNK, Channel, Counting, LineKind, MAX_ELEMENTS, Piece, Scanner, WriteFault, next_piece,
 };
 use std::io::{Read, Write};
 use std::marker::Model;
+
+/// The most bytes of an air file.
+const AIR_LIMIT: u64 = 268_435_456;
 
 /// How many bytes stand before the digits of a line of elements that names no channel.
 const FRONT_BYTES: usize = 2;
@@ -110,20 +115,42 @@ pub fn damage<R: Read, W: Write>(
     ensures { Damages record { kind = kind; from = from; count = count }
         (devices R.remaining W.contents reader.old reader.new writer.old writer.new) result }
 {
-    let begin = ELEMENTS as u128 * from as u128;
-    let mut damaging = Damaging {
-        kind,
-        begin,
-        end: begin + ELEMENTS as u128 * count as u128,
-        phase: 0,
-        inverted: 0,
-    };
-    match run_lines(reader, writer, &mut damaging) {
-        Ok(_) => Ok(damaging.inverted),
-        Err(LinesFault::Read) => Err(DamageFault::Read),
-        Err(LinesFault::Line(fault)) => Err(damage_fault(fault)),
-        Err(LinesFault::Write(written)) => Err(DamageFault::Write { written }),
-        Err(LinesFault::Refused { .. }) => unreachable!(),
+    let mut damaging = Damaging::new(kind, from, count);
+    let mut buffer = [0; CHUNK];
+    let mut scanner = Scanner::new(AIR_LIMIT);
+    let mut batch = Batch::new();
+    loop {
+        batch.send(writer)?;
+        let end = match next_piece(reader, &mut buffer) {
+            Piece::Bytes(end) => end,
+            Piece::End => break,
+            Piece::Failed => return Err(DamageFault::Read),
+        };
+        if let Err(fault) = damaging.take_piece(&buffer[..end], &mut scanner, writer, &mut batch) {
+            return Err(settle(fault, writer, &mut batch));
+        }
+    }
+    scanner.end()?;
+    Ok(damaging.inverted)
+}
+
+/// Writes what the lines before a fault gave, unless it is that of a write. Answers the fault of
+/// the run.
+fn settle<W: Write>(fault: DamageFault, writer: &mut Counting<W>, batch: &mut Batch) -> DamageFault
+    requires { Writes {N = Unit {0}} writer.old DamageFault.Write (Err fault) }
+    ensures settled { (first now : Damager) (old : Option (List ℕ)) (bytes : List ℕ)
+        → ExplainsLines (line_run damage_taker first now old (W.contents writer.old.inner)) inside
+        (HasGiven old (W.contents writer.old.inner) batch.old) bytes (lines_fault fault)
+        → ExplainsLines (line_run damage_taker first now old (W.contents writer.new.inner)) inside
+        (Appends old (W.contents writer.new.inner)) bytes (lines_fault result) }
+    ensures writes { Writes {N = Unit {0}} writer.new DamageFault.Write (Err result) }
+{
+    if let DamageFault::Write { .. } = fault {
+        return fault;
+    }
+    match batch.send(writer) {
+        Ok(()) => fault,
+        Err(lost) => DamageFault::from(lost),
     }
 }
 
@@ -150,49 +177,110 @@ fn digits_start(kind: Option<LineKind>) -> Option<usize>
     }
 }
 
-/// The fault of damaging that stands for the fault of the air file.
-fn damage_fault(fault: LineFault) -> DamageFault
-    ensures { result ≡ line_fault fault }
-{
-    match fault {
-        LineFault::TooLong => DamageFault::AirTooLong,
-        LineFault::LineLong { line } => DamageFault::LineLong { line },
-        LineFault::LineCut { line } => DamageFault::LineCut { line },
-        LineFault::BadLine { line } => DamageFault::BadLine { line },
+impl Damaging {
+    /// Damages such words of those that no line brought yet.
+    fn new(kind: DamageKind, from: u64, count: u64) -> Damaging
+        ensures { result ≡ first_for record { kind = kind; from = from; count = count } }
+    {
+        let begin = ELEMENTS as u128 * from as u128;
+        Damaging {
+            kind,
+            begin,
+            end: begin + ELEMENTS as u128 * count as u128,
+            phase: 0,
+            inverted: 0,
+        }
     }
-}
 
-impl LineTaker for Damaging {
-    ghost use Rattle.std.specs.Prelude.{◌≡◌};
-    ghost use Rattle.nx_station.specs.Damage.{damaged_file};
-    ghost use Rattle.nx_station.specs.private.DamageTaker.{HasDamaged, damage_of};
+    /// Takes the lines that a piece of the file ends, one after the other.
+    fn take_piece<W: Write>(
+        &mut self,
+        piece: &[u8],
+        scanner: &mut Scanner,
+        writer: &mut Counting<W>,
+        batch: &mut Batch,
+    ) -> Result<(), DamageFault>
+        requires { writer.old.failures ≡ 0 }
+        ensures taken { (first : Damager) (old : Option (List ℕ)) (bytes : List ℕ)
+            → IsTaking StandsFrom first self.old scanner.old old
+            (W.contents writer.old.inner) batch.old bytes
+            → MatchResult result
+            (λ _. IsTaking StandsFrom first self.new scanner.new old
+            (W.contents writer.new.inner) batch.new (bytes ++ piece.now))
+            (λ fault. (more : List ℕ)
+            → ExplainsLines (line_run damage_taker first self.new old
+            (W.contents writer.new.inner)) inside
+            (HasGiven old (W.contents writer.new.inner) batch.new)
+            ((bytes ++ piece.now) ++ more) (lines_fault fault)) }
+        ensures room { OnOk result (scanner.new.room + length piece.now ≡ scanner.old.room) }
+        ensures writes { Writes writer.new DamageFault.Write result }
+    {
+        let mut at = 0;
+        while at < piece.len() {
+            at += self.take_line(&piece[at..], scanner, writer, batch)?;
+        }
+        Ok(())
+    }
 
-    type Refusal = ();
+    /// Scans the bytes of a piece up to and with its first line feed, and takes the line that it
+    /// ends. Answers how many bytes there were.
+    fn take_line<W: Write>(
+        &mut self,
+        piece: &[u8],
+        scanner: &mut Scanner,
+        writer: &mut Counting<W>,
+        batch: &mut Batch,
+    ) -> Result<usize, DamageFault>
+        requires some { 0 < length piece.now }
+        requires writer { writer.old.failures ≡ 0 }
+        ensures taken { (first : Damager) (old : Option (List ℕ)) (bytes : List ℕ)
+            → IsTaking StandsFrom first self.old scanner.old old
+            (W.contents writer.old.inner) batch.old bytes
+            → MatchResult result
+            (λ count. IsTaking StandsFrom first self.new scanner.new old
+            (W.contents writer.new.inner) batch.new (bytes ++ take count piece.now))
+            (λ fault. (more : List ℕ)
+            → ExplainsLines (line_run damage_taker first self.new old
+            (W.contents writer.new.inner)) inside
+            (HasGiven old (W.contents writer.new.inner) batch.new)
+            ((bytes ++ piece.now) ++ more) (lines_fault fault)) }
+        ensures some { IfOk result (λ count. (0 < count) × (count ≤ length piece.now)
+            × (scanner.new.room + count ≡ scanner.old.room)) }
+        ensures writes { Writes writer.new DamageFault.Write result }
+    {
+        let count = scanner.push_line(piece)?;
+        if scanner.latest().is_none() {
+            return Ok(count);
+        }
+        self.give_line(scanner, writer, batch)?;
+        Ok(count)
+    }
 
-    ghost stands = { λ first now lines given. HasDamaged (damage_of first) now lines given };
-
-    ghost begins = { λ first lines given. given ≡ damaged_file (damage_of first) lines };
-
-    ghost refuses = { λ first lines line why. ⊥ };
-
-    fn take<W: Write>(
+    /// Gives the batch the bytes, after the damage, of the line that the scanner's last byte ended.
+    fn give_line<W: Write>(
         &mut self,
         scanner: &Scanner,
         writer: &mut Counting<W>,
         batch: &mut Batch,
-    ) -> Result<(), TakeFault<()>> {
+    ) -> Result<(), WriteFault>
+        requires line { IsSomeAnd scanner.now.latest IsLine }
+        requires none { writer.old.failures ≡ 0 }
+        ensures given { (first : Damager) (old : Option (List ℕ)) (lines : List Line) (line : Line)
+            → scanner.now.latest ≡ Some line
+            → HasTaken StandsFrom first self.old lines
+            (HasGiven old (W.contents writer.old.inner) batch.old)
+            → MatchResult result
+            (λ _. HasTaken StandsFrom first self.new (lines ++ line ∷ [])
+            (HasGiven old (W.contents writer.new.inner) batch.new))
+            (λ fault. HasTakenSome (line_run damage_taker first self.new old
+            (W.contents writer.new.inner)) (lines ++ line ∷ []) fault.written) }
+        ensures counts { FailsOnce writer.new result }
+    {
         let mut bytes = ArrayVec::new();
         self.write_line(scanner, &mut bytes);
-        match batch.give(writer, &bytes) {
-            Ok(()) => Ok(()),
-            Err(fault) => Err(TakeFault::Write(fault.written)),
-        }
+        batch.give(writer, &bytes)
     }
 
-    ghost whole = { λ first now lines given h. h.whole };
-}
-
-impl Damaging {
     /// Writes the bytes, after the damage, of the line that a scanner's last byte ended.
     fn write_line(&mut self, scanner: &Scanner, bytes: &mut ArrayVec<u8, LINE_BYTES>)
         requires line { IsSomeAnd scanner.now.latest IsLine }

@@ -1,6 +1,6 @@
 //! Why messages are not sent, an emission is not read, and an air file is not checked or damaged.
 use nx_envelope::MessageFault;
-use nx_fec::{ReadFault, RunFault, WriteFault};
+use nx_fec::{LineFault, ReadFault, RunFault, WriteFault};
 use std::alloc::AllocError;
 use thiserror::Error;
 
@@ -249,5 +249,34 @@ impl From<WriteFault> for CheckFault {
         CheckFault::Run(RunFault::Write {
             written: fault.written,
         })
+    }
+}
+
+impl From<LineFault> for DamageFault {
+    ghost use Rattle.std.specs.Prelude.{◌≡◌};
+    ghost use Rattle.nx_station.specs.Faults.{line_fault};
+
+    ghost from_gives = { λ fault made. made ≡ line_fault fault };
+
+    fn from(fault: LineFault) -> DamageFault {
+        match fault {
+            LineFault::TooLong => DamageFault::AirTooLong,
+            LineFault::LineLong { line } => DamageFault::LineLong { line },
+            LineFault::LineCut { line } => DamageFault::LineCut { line },
+            LineFault::BadLine { line } => DamageFault::BadLine { line },
+        }
+    }
+}
+
+impl From<WriteFault> for DamageFault {
+    ghost use Rattle.std.specs.Prelude.{◌≡◌};
+    ghost use Rattle.nx_station.specs.declared.fault.DamageFault.TheVariants.{Write};
+
+    ghost from_gives = { λ fault made. made ≡ Write fault.written };
+
+    fn from(fault: WriteFault) -> DamageFault {
+        DamageFault::Write {
+            written: fault.written,
+        }
     }
 }

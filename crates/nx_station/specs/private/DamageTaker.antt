@@ -1,4 +1,4 @@
--- What the taker of lines that damages them holds.
+-- What damages lines holds, and how it stands after them.
 use Rattle.std.specs.Prelude.{◌≡◌, ℕ, ◌+◌, ◌-◌, ◌*◌, ◌/◌, ◌%◌, ◌^◌, ◌<◌, ◌≤◌, ◌↔◌, Bool, IsTrue, List, Option, Some, length, min}
 use Rattle.std.specs.List.{flat_map}
 use Rattle.nx_fec.specs.air_files.AirFile.{Line, mark_bytes}
@@ -8,13 +8,15 @@ use Rattle.nx_fec.specs.declared.air_files.lines.LineKind.{LineKind}
 use Rattle.nx_fec.specs.declared.air_files.lines.LineKind.TheVariants.{Elements}
 use Rattle.nx_fec.specs.declared.air_files.channel.Channel.{Channel}
 use Rattle.nx_fec.specs.declared.air_files.channel.Channel.TheVariants.{Zero}
-use Rattle.nx_fec.specs.declared.fault.LineFault.{LineFault}
+use Rattle.nx_fec.specs.air_files.LineRuns.{Beginning, Refusing, Standing, Taker, taker_of}
+use Rattle.nx_fec.specs.declared.air_files.line_taking.LinesFault.{LinesFault}
+use Rattle.nx_fec.specs.declared.air_files.line_taking.LinesFault.TheVariants as run
 use Rattle.nx_fec.specs.declared.fault.LineFault.TheVariants as file
 use Rattle.nx_station.specs.Damage.{Damage, damaged_file, inverted_count, inverts}
 use Rattle.nx_station.specs.declared.damaging.DamageKind.{DamageKind}
 use Rattle.nx_station.specs.declared.damaging.Named.{Named}
 use Rattle.nx_station.specs.declared.fault.DamageFault.{DamageFault}
-use Rattle.nx_station.specs.declared.fault.DamageFault.TheVariants.{AirTooLong, LineLong, LineCut, BadLine}
+use Rattle.nx_station.specs.declared.fault.DamageFault.TheVariants.{Read, AirTooLong, LineLong, LineCut, BadLine, Write}
 
 -- A taker: its kind; how many elements come before the words that may be damaged, and how many
 -- before their end. Then the place of the next element among those of two words, and how many
@@ -69,9 +71,34 @@ pub record HasDamaged (damage : Damage) (now : Damager) (lines : List Line) (giv
       ≡ min (inverted_count damage 0 (flat_map (elements_on Zero) lines)) (2 ^ 64 - 1)
   pub whole : given ≡ damaged_file damage lines
 
--- the fault of damaging that stands for the fault of an air file
-abbrev pub line_fault : LineFault → DamageFault
-line_fault file.TooLong = AirTooLong
-line_fault (file.LineLong line) = LineLong line
-line_fault (file.LineCut line) = LineCut line
-line_fault (file.BadLine line) = BadLine line
+-- as what takes lines and stood so at first says it of itself; it refuses no line
+abbrev pub StandsFrom : Standing Damager
+StandsFrom first now lines given = HasDamaged (damage_of first) now lines given
+
+abbrev pub BeginsFrom : Beginning Damager
+BeginsFrom first lines given = given ≡ damaged_file (damage_of first) lines
+
+abbrev pub RefusesFrom : Refusing Damager (Unit {0})
+RefusesFrom first lines line why = ⊥
+
+abbrev pub damage_taker : Taker Damager (Unit {0})
+damage_taker = taker_of StandsFrom BeginsFrom RefusesFrom
+
+-- it stands so before the first element, for a damage
+abbrev pub first_for : Damage → Damager
+first_for damage = record {
+  kind = damage.kind;
+  begin = 7 * damage.from;
+  end = 7 * damage.from + 7 * damage.count;
+  phase = 0;
+  inverted = 0;
+}
+
+-- what a fault of damaging is to a run over the lines of an air file
+abbrev pub lines_fault : DamageFault → LinesFault (Unit {0})
+lines_fault Read = run.Read
+lines_fault AirTooLong = run.Line file.TooLong
+lines_fault (LineLong line) = run.Line (file.LineLong line)
+lines_fault (LineCut line) = run.Line (file.LineCut line)
+lines_fault (BadLine line) = run.Line (file.BadLine line)
+lines_fault (Write written) = run.Write written

@@ -2,7 +2,7 @@
 use Rattle.std.proofs.Common.{Bool, drop, map, take, ◌≡◌, ℕ, ◌+◌, ◌-◌, ◌*◌, ◌/◌, ◌^◌, ◌≤◌, List, []}
 use Rattle.std.proofs.Common.{◌∷◌, ◌++◌, length, min, Option, Some, None, Result, Ok, Err}
 use Rattle.std.proofs.Common.{if◌then◌else◌, refl, sym, ap, ◌∙◌, subst, arith, append-nil}
-use Rattle.std.proofs.Common.{length-append}
+use Rattle.std.proofs.Common.{MatchResult, length-append}
 use Rattle.std.specs.List.{flat_map, refill, AllByRecursion}
 use Rattle.std.proofs.Math.Seq.{drop-append_seam, take-append_seam}
 use Rattle.std.specs.Option.{option_map, IsSomeAnd}
@@ -13,9 +13,11 @@ use Rattle.nx_fec.specs.air_files.AirFile.{Line, IsLine, element_digit, mark_byt
 use Rattle.nx_fec.specs.air_files.AirFile.{refuse_station, accept_station, refuse_subject, accept_subject}
 use Rattle.nx_fec.specs.air_files.AirFile.{spelling}
 use Rattle.nx_fec.specs.air_files.Channels.{channel_of, same_channel}
-use Rattle.nx_fec.specs.Transfers.{Contents, Devices, Extent, WroteSome, contents_of}
-use Rattle.nx_fec.specs.air_files.LineRuns.{Beginning, HasTaken, HasTakenAll, HasTakenSome, IsPlaced}
-use Rattle.nx_fec.specs.air_files.LineRuns.{Refusing, RunsLines, Standing, line_run, taker_of}
+use Rattle.nx_fec.specs.Transfers.{Contents, CountedDevice, Devices, Extent, Writes, WroteSome}
+use Rattle.nx_fec.specs.Transfers.{contents_of}
+use Rattle.nx_fec.specs.air_files.LineRuns.{ExplainsLines, HasGiven, HasTaken, HasTakenAll}
+use Rattle.nx_fec.specs.air_files.LineRuns.{HasTakenSome, IsPlaced, LineRun, RunsLines, Waiting}
+use Rattle.nx_fec.specs.air_files.LineRuns.{line_run}
 use Rattle.nx_fec.specs.air_files.Lines.{StopsAt, IsCause, elements_on, file_of, line_bytes}
 use Rattle.nx_fec.specs.air_files.Scanner.{kind_kept, kind_of}
 use Rattle.nx_fec.specs.declared.air_files.lines.LineKind.TheVariants.{Elements}
@@ -23,6 +25,7 @@ use Rattle.nx_fec.specs.declared.air_files.channel.Channel.{Channel}
 use Rattle.nx_fec.specs.declared.air_files.channel.Channel.TheVariants.{Zero, One, Two}
 use Rattle.nx_fec.specs.declared.fault.LineFault.{LineFault}
 use Rattle.nx_fec.specs.declared.fault.LineFault.TheVariants as file
+use Rattle.nx_fec.specs.declared.fault.WriteFault.{WriteFault}
 use Rattle.nx_fec.specs.declared.air_files.line_taking.LinesFault.{LinesFault}
 use Rattle.nx_fec.specs.declared.air_files.line_taking.LinesFault.TheVariants as run
 use Rattle.nx_fec.specs.declared.air_files.line_taking.LinesRead.{LinesRead}
@@ -32,33 +35,17 @@ use Rattle.nx_fec.proofs.lemmas.devices.TransferLaws.{Ok-not_err, Reads-on}
 use Rattle.nx_station.specs.Damage.{Damage, Damages, ExplainsDamaging, IsDamaged, damaged_elements}
 use Rattle.nx_station.specs.Damage.{damaged_file, damaged_line, damaged_lines, damaged_on}
 use Rattle.nx_station.specs.Damage.{inverted_count}
+use Rattle.nx_station.specs.Faults.{line_fault}
 use Rattle.nx_station.specs.private.DamageTaker.{Damager, HasDamaged, HasDigitsFrom, IsAt}
-use Rattle.nx_station.specs.private.DamageTaker.{damage_of, line_fault}
+use Rattle.nx_station.specs.private.DamageTaker.{StandsFrom, damage_of, damage_taker, first_for}
+use Rattle.nx_station.specs.private.DamageTaker.{lines_fault}
 use Rattle.nx_station.specs.declared.fault.DamageFault.{DamageFault}
-use Rattle.nx_station.specs.declared.fault.DamageFault.TheVariants.{Read, Write}
+use Rattle.nx_station.specs.declared.fault.DamageFault.TheVariants.{Read, AirTooLong, LineLong, LineCut}
+use Rattle.nx_station.specs.declared.fault.DamageFault.TheVariants.{BadLine, Write}
 use Rattle.nx_station.proofs.lemmas.damage.Damage.{inverted-append, inverted-le, length-damaged, length-on}
 use Rattle.nx_station.proofs.lemmas.damage.Damage.{lines-append, lines-twice}
 
-abbrev pub stands : Standing Damager
-stands first now lines given = HasDamaged (damage_of first) now lines given
-
-abbrev pub begins : Beginning Damager
-begins first lines given = given ≡ damaged_file (damage_of first) lines
-
-abbrev pub refuses : Refusing Damager (Unit {0})
-refuses first lines line why = ⊥
-
 -- ---- where it begins, and one line more
-
--- a taker before the first element, for a damage
-abbrev pub first_for : Damage → Damager
-first_for damage = record {
-  kind = damage.kind;
-  begin = 7 * damage.from;
-  end = 7 * damage.from + 7 * damage.count;
-  phase = 0;
-  inverted = 0;
-}
 
 damage-first : (damage : Damage) → damage_of (first_for damage) ≡ damage
 damage-first damage =
@@ -116,6 +103,21 @@ taken-more damage old new lines line given bytes h written moved counted =
       whole = ap (λ l. l ++ bytes) h.whole
           ∙ ap (λ l. damaged_file damage lines ++ l) (written (length bits) h.at) ∙ sym file;
     }
+
+-- what was given for one line more waits, or a write failed
+pub gave : (first now : Damager) (lines : List Line) (line : Line) (old new : Option (List ℕ))
+    (batch : Waiting) (given bytes : List ℕ) (outcome : Result (Unit {0}) WriteFault)
+    → HasDamaged (damage_of first) now (lines ++ (line ∷ [])) (given ++ bytes)
+    → MatchResult outcome (λ _. HasGiven old new batch (given ++ bytes))
+    (λ fault. WroteSome old new (given ++ bytes) fault.written)
+    → MatchResult outcome
+    (λ _. HasTaken StandsFrom first now (lines ++ (line ∷ [])) (HasGiven old new batch))
+    (λ fault. HasTakenSome (line_run damage_taker first now old new) (lines ++ (line ∷ []))
+    fault.written)
+gave first now lines line old new batch given bytes (Ok done) stood h =
+    record { given = given ++ bytes; stood = stood; here = h }
+gave first now lines line old new batch given bytes (Err fault) stood h =
+    record { given = given ++ bytes; begun = stood.whole; some = h }
 
 -- the text of a line that was ended has at most 514 bytes
 pub text-short : (latest : Option Line) (text : Option (List ℕ)) (bytes : List ℕ)
@@ -310,12 +312,12 @@ elements-few (line ∷ lines) =
     line-few (accept_subject mark letter) = omega arith
 
 taken-appends : (first now : Damager) (lines : List Line) (old new : Option (List ℕ))
-    → HasTaken stands first now lines (Appends old new)
+    → HasTaken StandsFrom first now lines (Appends old new)
     → Appends old new (damaged_file (damage_of first) lines)
 taken-appends first now lines old new h = subst (Appends old new) h.stood.whole h.here
 
 some-damaged : (first now : Damager) (lines : List Line) (old new : Option (List ℕ)) (written : ℕ)
-    → HasTakenSome (line_run (taker_of stands begins refuses) first now old new) lines written
+    → HasTakenSome (line_run damage_taker first now old new) lines written
     → WroteSome old new (damaged_file (damage_of first) lines) written
 some-damaged first now lines old new written h =
     subst (λ l. WroteSome old new l written) h.begun h.some
@@ -324,13 +326,7 @@ some-damaged first now lines old new written h =
 
 abbrev pub Ran : {R W : Type 0} → Damager → Damager → Devices R W
     → Result LinesRead (LinesFault (Unit {0})) → Type 0
-Ran first now d outcome = RunsLines (taker_of stands begins refuses) first now d outcome
-
-pub refused-none : {R W : Type 0} (d : Devices R W) (first now : Damager) (line : ℕ)
-    (why : Unit {0}) (fault : LinesFault (Unit {0})) → fault ≡ run.Refused line why
-    → Ran first now d (Err fault) → ⊥
-refused-none d first now line why fault is h =
-    (subst (λ f. Ran first now d (Err f)) is h).reads.answer.here.0.refused
+Ran first now d outcome = RunsLines damage_taker first now d outcome
 
 line-read : (why : LineFault) → ◌≡◌ {A = Result ℕ DamageFault} (Err (line_fault why)) (Err Read) → ⊥
 line-read file.TooLong e = cc
@@ -372,7 +368,7 @@ write-read written e = cc
 
 whole-damaged : (first now : Damager) (old new : Option (List ℕ)) (bytes : List ℕ)
     (read : LinesRead)
-    → HasTakenAll (line_run (taker_of stands begins refuses) first now old new) bytes read
+    → HasTakenAll (line_run damage_taker first now old new) bytes read
     → (text : List ℕ) × IsDamaged (damage_of first) 268435456 bytes text now.inverted
     × Appends old new text
 whole-damaged first now old new bytes read h =
@@ -453,7 +449,7 @@ stopped : (extent : Extent) (first now : Damager) (contents : Contents) (bytes :
     (why : LineFault)
     → IsPlaced extent.at_end why × StopsAt bytes
     (λ lines rest more. IsCause 268435456 (length (file_of lines ++ rest)) lines rest more why
-    × HasTaken stands first now lines (Appends contents.before contents.after))
+    × HasTaken StandsFrom first now lines (Appends contents.before contents.after))
     → ExplainsDamaging extent (damage_of first) bytes contents (line_fault why)
 stopped extent first now contents bytes file.TooLong k = (
   k.0,
@@ -502,28 +498,67 @@ pub ok-of : {R W : Type 0} (damage : Damage) (d : Devices R W) (now : Damager) (
     → Ran (first_for damage) now d (Ok read) → Damages damage d (Ok now.inverted)
 ok-of damage d now read h = for-damage damage d _ (damaged-ok d (first_for damage) now read h)
 
-pub read-of : {R W : Type 0} (damage : Damage) (d : Devices R W) (now : Damager)
-    (fault : LinesFault (Unit {0})) → fault ≡ run.Read → Ran (first_for damage) now d (Err fault)
-    → Damages damage d (Err Read)
-read-of damage d now fault is h =
-    for-damage damage d _ (damaged-read d (first_for damage) now
-    (subst (λ f. Ran (first_for damage) now d (Err f)) is h))
-
-pub write-of : {R W : Type 0} (damage : Damage) (d : Devices R W) (now : Damager)
-    (fault : LinesFault (Unit {0})) (written : ℕ) → fault ≡ run.Write written
-    → Ran (first_for damage) now d (Err fault) → Damages damage d (Err (Write written))
-write-of damage d now fault written is h =
-    for-damage damage d _ (damaged-write d (first_for damage) now written
-    (subst (λ f. Ran (first_for damage) now d (Err f)) is h))
+pub fault-of : {R W : Type 0} (damage : Damage) (d : Devices R W) (now : Damager)
+    (fault : DamageFault) → Ran (first_for damage) now d (Err (lines_fault fault))
+    → Damages damage d (Err fault)
+fault-of damage d now Read h = for-damage damage d _ (damaged-read d (first_for damage) now h)
+fault-of damage d now AirTooLong h =
+    for-damage damage d _ (damaged-line d (first_for damage) now file.TooLong h)
+fault-of damage d now (LineLong line) h =
+    for-damage damage d _ (damaged-line d (first_for damage) now (file.LineLong line) h)
+fault-of damage d now (LineCut line) h =
+    for-damage damage d _ (damaged-line d (first_for damage) now (file.LineCut line) h)
+fault-of damage d now (BadLine line) h =
+    for-damage damage d _ (damaged-line d (first_for damage) now (file.BadLine line) h)
+fault-of damage d now (Write written) h =
+    for-damage damage d _ (damaged-write d (first_for damage) now written h)
 
 pub line-of : {R W : Type 0} (damage : Damage) (d : Devices R W) (now : Damager)
-    (fault : LinesFault (Unit {0})) (why : LineFault) (made : DamageFault) → fault ≡ run.Line why
-    → made ≡ line_fault why → Ran (first_for damage) now d (Err fault)
-    → Damages damage d (Err made)
-line-of damage d now fault why made is e h =
-    subst (λ m. Damages damage d (Err m)) (sym e)
-    (for-damage damage d _ (damaged-line d (first_for damage) now why
-    (subst (λ f. Ran (first_for damage) now d (Err f)) is h)))
+    (why : LineFault) → Ran (first_for damage) now d (Err (run.Line why))
+    → Damages damage d (Err (line_fault why))
+line-of damage d now why h = for-damage damage d _ (damaged-line d (first_for damage) now why h)
+
+-- ---- its faults, and those of a run over lines
+
+line-again : (why : LineFault) → run.Line why ≡ lines_fault (line_fault why)
+line-again file.TooLong = refl
+line-again (file.LineLong line) = refl
+line-again (file.LineCut line) = refl
+line-again (file.BadLine line) = refl
+
+pub explains-line : (r : LineRun Damager (Unit {0})) (extent : Extent) (wrote : List ℕ → Type 0)
+    (bytes : List ℕ) (why : LineFault) → ExplainsLines r extent wrote bytes (run.Line why)
+    → ExplainsLines r extent wrote bytes (lines_fault (line_fault why))
+explains-line r extent wrote bytes why h =
+    subst (ExplainsLines r extent wrote bytes) (line-again why) h
+
+pub lines-write : (fault : DamageFault) (written : ℕ) → lines_fault fault ≡ run.Write written
+    → fault ≡ Write written
+lines-write Read written e = cc
+lines-write AirTooLong written e = cc
+lines-write (LineLong line) written e = cc
+lines-write (LineCut line) written e = cc
+lines-write (BadLine line) written e = cc
+lines-write (Write count) written e = cc
+
+pub err-is : {N : Type 0} (a b : DamageFault) → ◌≡◌ {A = Result N DamageFault} (Err a) (Err b)
+    → a ≡ b
+err-is a b e = cc
+
+lines-err : {N : Type 0} (a b : LinesFault (Unit {0}))
+    → ◌≡◌ {A = Result N (LinesFault (Unit {0}))} (Err a) (Err b) → a ≡ b
+lines-err a b e = cc
+
+pub lines-writes : {W : Type 0} (new : CountedDevice W) (fault : DamageFault)
+    → Writes {N = Unit {0}} new (λ written. Write written) (Err fault)
+    → Writes {N = LinesRead} new (λ written. run.Write written) (Err (lines_fault fault))
+lines-writes new fault h = record {
+  failed = (
+    λ w. h.failed.0 (w.0, ap Err (lines-write fault w.0 (lines-err _ _ w.1))),
+    λ one. let w = h.failed.1 one in (w.0, ap (λ f. Err (lines_fault f)) (err-is _ _ w.1)),
+  );
+  once = h.once;
+}
 
 -- ---- twice
 
