@@ -1,24 +1,25 @@
 //! What takes the lines of an air file and shows the locks in their elements of channel 0.
 
-ghost use Rattle.std.specs.Prelude.{◌≡◌, ◌↔◌, ◌≤◌, ℕ, false, Option, List, [], ◌∷◌, ◌++◌, length, IfOk, IsErr, MatchResult, OnErr, OnOk};
-ghost use Rattle.nx_fec.specs.air_files.AirFile.{Line};
+ghost use Rattle.std.specs.Prelude.{◌≡◌, ◌↔◌, ◌≤◌, ℕ, false, Option, Some, List, [], ◌∷◌, ◌++◌, length, IfOk, IsErr, IsSomeAnd, MatchResult, OnErr, OnOk};
+ghost use Rattle.nx_fec.specs.air_files.AirFile.{IsLine, Line};
 ghost use Rattle.nx_fec.specs.air_files.AirFile as line;
 ghost use Rattle.nx_fec.specs.air_files.Channels.{channel_of, same_channel};
 ghost use Rattle.nx_fec.specs.declared.air_files.channel.Channel.{Channel};
 ghost use Rattle.nx_fec.specs.declared.air_files.channel.Channel.TheVariants.{Zero};
 ghost use Rattle.nx_fec.specs.Transfers.{HasWritten};
-ghost use Rattle.nx_fec.specs.air_files.LineRuns.{ExplainsTaking, HasGiven, HasTaken, line_run};
+ghost use Rattle.nx_fec.specs.air_files.LineRuns.{HasGiven, HasTaken, line_run};
+ghost use Rattle.nx_fec.specs.air_files.Scanner.{elements_kept};
 ghost use Rattle.nx_fec.specs.Transfers.{Writes};
 ghost use Rattle.nx_memory.specs.Selection.{is_vital};
-ghost use Rattle.nx_locks.specs.private.ReportWriter.{HasClosed, HasClosedSome, IsShowing, RefusesLine, StandsFrom, report_taker};
+ghost use Rattle.nx_locks.specs.private.ReportWriter.{ExplainsLine, HasClosed, HasClosedSome, IsShowing, RefusesLine, StandsFrom, report_taker};
 ghost use Rattle.nx_locks.specs.private.Showing.{EndsShown, HearsAll, Showing};
 
 use crate::lock_report::LocksReport;
 use crate::taker::LockTaker;
 use nx_envelope::Letter;
 use nx_fec::{
-    Batch, Channel, Counting, LineKind, LineTaker, LinesRead, PackedElements, Scanner, TakeFault,
-    WriteFault, taking_of, write_on,
+    Batch, Channel, Counting, LineKind, LinesFault, LinesRead, PackedElements, Scanner, WriteFault,
+    write_on,
 };
 use nx_memory::Selection;
 use nx_receiver::{LineRefusal, check_moment};
@@ -90,39 +91,83 @@ impl ReportWriter {
         Ok(())
     }
 
-    /// Takes the elements of a line that names this channel, or none. Gives what they show where
-    /// they are of channel 0, and skips those of other channels.
+    /// Takes the line that the scanner's last byte ended, and gives the batch what it brings. A
+    /// line that is refused changes nothing.
+    pub(crate) fn take<W: Write>(
+        &mut self,
+        scanner: &Scanner,
+        writer: &mut Counting<W>,
+        batch: &mut Batch,
+    ) -> Result<(), LinesFault<ReportRefusal>>
+        requires line { IsSomeAnd scanner.now.latest IsLine }
+        requires none { writer.old.failures ≡ 0 }
+        ensures taken { (first : Showing) (old : Option (List ℕ)) (lines : List Line) (line : Line)
+            → scanner.now.latest ≡ Some line
+            → HasTaken StandsFrom first self.old lines
+            (HasGiven old (W.contents writer.old.inner) batch.old)
+            → MatchResult result
+            (λ _. HasTaken StandsFrom first self.new (lines ++ line ∷ [])
+            (HasGiven old (W.contents writer.new.inner) batch.new))
+            (λ fault. ExplainsLine (line_run report_taker first self.new old
+            (W.contents writer.new.inner)) batch.new lines line scanner.now.lines fault) }
+        ensures writes { Writes writer.new LinesFault.Write result }
+    {
+        let Some(kind) = scanner.latest() else {
+            return Ok(());
+        };
+        match kind {
+            LineKind::Moment(moment) => refused_at(scanner.lines(), self.take_moment(moment)),
+            LineKind::Elements(mark) => self.take_elements(mark, scanner, writer, batch),
+            LineKind::RefuseSubject(_, byte) => {
+                refused_at(scanner.lines(), check_subject(Letter::of_capital(byte)))
+            }
+            // What is selected changes nothing here.
+            LineKind::RefuseStation(_, _)
+            | LineKind::AcceptStation(_, _)
+            | LineKind::AcceptSubject(_, _) => Ok(()),
+        }
+    }
+
+    /// Takes the elements of the line that the scanner's last byte ended, which names this channel,
+    /// or none. Gives what they show where they are of channel 0, and skips those of other
+    /// channels.
     fn take_elements<W: Write>(
         &mut self,
         mark: Option<Channel>,
-        elements: &PackedElements,
+        scanner: &Scanner,
         writer: &mut Counting<W>,
         batch: &mut Batch,
-    ) -> Result<(), TakeFault<ReportRefusal>>
+    ) -> Result<(), LinesFault<ReportRefusal>>
         requires none { writer.old.failures ≡ 0 }
-        requires few { length elements.now ≤ 512 }
+        requires few { length (elements_kept scanner.now.latest) ≤ 512 }
         ensures taken { (first : Showing) (old : Option (List ℕ)) (lines : List Line)
             → HasTaken StandsFrom first self.old lines
             (HasGiven old (W.contents writer.old.inner) batch.old) → MatchResult result
-            (λ _. HasTaken StandsFrom first self.new (lines ++ line.elements mark elements.now ∷ [])
+            (λ _. HasTaken StandsFrom first self.new
+            (lines ++ line.elements mark (elements_kept scanner.now.latest) ∷ [])
             (HasGiven old (W.contents writer.new.inner) batch.new))
-            (λ fault. ExplainsTaking (line_run report_taker first self.new old
-            (W.contents writer.new.inner)) batch.new lines (line.elements mark elements.now) fault) }
-        ensures writes { Writes writer.new TakeFault.Write result }
+            (λ fault. ExplainsLine (line_run report_taker first self.new old
+            (W.contents writer.new.inner)) batch.new lines
+            (line.elements mark (elements_kept scanner.now.latest)) scanner.now.lines fault) }
+        ensures writes { Writes writer.new LinesFault.Write result }
     {
+        let elements = scanner.elements();
+        let line = scanner.lines();
         if !self.has_moment {
-            return Err(TakeFault::Refused(ReportRefusal::Line(LineRefusal::NoMoment)));
+            let why = ReportRefusal::Line(LineRefusal::NoMoment);
+            return Err(LinesFault::Refused { line, why });
         }
         // Only the locks of channel 0 are shown.
         if !is_on_0(mark) {
             return Ok(());
         }
         if elements.len() as u64 > u64::MAX - self.taker.elements() {
-            return Err(TakeFault::Refused(ReportRefusal::TooMany));
+            let why = ReportRefusal::TooMany;
+            return Err(LinesFault::Refused { line, why });
         }
         self.hear(elements);
         if let Err(fault) = batch.give(writer, self.taker.shown()) {
-            return Err(TakeFault::Write(fault.written));
+            return Err(LinesFault::Write(fault.written));
         }
         Ok(())
     }
@@ -180,43 +225,6 @@ impl ReportWriter {
     }
 }
 
-impl LineTaker for ReportWriter {
-    ghost use Rattle.nx_locks.specs.private.ReportWriter.{BeginsFrom, RefusesFrom, StandsFrom};
-    ghost use Rattle.nx_locks.specs.private.ReportWriterBegins.{begins-report};
-
-    type Refusal = ReportRefusal;
-
-    ghost stands = { StandsFrom };
-
-    ghost begins = { BeginsFrom };
-
-    ghost refuses = { RefusesFrom };
-
-    fn take<W: Write>(
-        &mut self,
-        scanner: &Scanner,
-        writer: &mut Counting<W>,
-        batch: &mut Batch,
-    ) -> Result<(), TakeFault<ReportRefusal>> {
-        let Some(kind) = scanner.latest() else {
-            return Ok(());
-        };
-        match kind {
-            LineKind::Moment(moment) => taking_of_line(self.take_moment(moment)),
-            LineKind::Elements(mark) => self.take_elements(mark, scanner.elements(), writer, batch),
-            LineKind::RefuseSubject(_, byte) => {
-                taking_of_line(check_subject(Letter::of_capital(byte)))
-            }
-            // What is selected changes nothing here.
-            LineKind::RefuseStation(_, _)
-            | LineKind::AcceptStation(_, _)
-            | LineKind::AcceptSubject(_, _) => Ok(()),
-        }
-    }
-
-    ghost whole = { λ first now lines given h. begins-report now lines given h };
-}
-
 /// Whether a line that names this channel, or none, is of channel 0.
 fn is_on_0(mark: Option<Channel>) -> bool
     ensures { result ≡ same_channel (channel_of mark) Zero }
@@ -235,10 +243,16 @@ fn check_subject(subject: Letter) -> Result<(), LineRefusal>
     Ok(())
 }
 
-/// What came of taking a line that gives nothing, and that every run may refuse.
-fn taking_of_line(taken: Result<(), LineRefusal>) -> Result<(), TakeFault<ReportRefusal>>
+/// What came of taking this line, which brings nothing and which every run may refuse.
+fn refused_at(line: u64, taken: Result<(), LineRefusal>) -> Result<(), LinesFault<ReportRefusal>>
     ensures { MatchResult taken (λ _. result ≡ Ok tt)
-        (λ why. result ≡ Err (TakeFault.Refused (ReportRefusal.Line why))) }
+        (λ why. result ≡ Err (LinesFault.Refused line (ReportRefusal.Line why))) }
 {
-    taking_of(taken.map_err(ReportRefusal::Line))
+    match taken {
+        Ok(()) => Ok(()),
+        Err(refusal) => {
+            let why = ReportRefusal::Line(refusal);
+            Err(LinesFault::Refused { line, why })
+        }
+    }
 }

@@ -1,18 +1,24 @@
 -- What a line does to a taker of lines.
-use Rattle.std.proofs.Common.{◌≡◌, ℕ, ◌+◌, ◌^◌, ◌<◌, ◌≤◌, Option, Result, Ok, Err, MatchResult}
+use Rattle.std.proofs.Common.{◌≡◌, ℕ, ◌+◌, ◌^◌, ◌<◌, ◌≤◌, Option, None, Some, IfSome, Result, Ok, Err}
+use Rattle.std.proofs.Common.{MatchResult, option_to_list, take}
 use Rattle.std.proofs.Common.{OnErr, Bool, true, false, arith, List, [], ◌∷◌, ◌++◌, map, length}
 use Rattle.std.proofs.Common.{refl, sym, ap, ◌∙◌, subst, subst₂, append-nil}
 use Rattle.std.specs.Prelude.{if◌then◌else◌}
 use Rattle.std.proofs.lemmas.List.{map-append}
 use Rattle.nx_envelope.specs.Moment.{last_moment}
-use Rattle.nx_fec.specs.air_files.AirFile.{Line, moment, elements, refuse_station, accept_station}
+use Rattle.nx_fec.specs.air_files.AirFile.{IsLine, Line, moment, elements, refuse_station, accept_station}
 use Rattle.nx_fec.specs.air_files.AirFile.{refuse_subject, accept_subject}
 use Rattle.nx_fec.specs.air_files.Channels.{channel_of, same_channel}
-use Rattle.nx_fec.specs.air_files.LineRuns.{ExplainsTaking, HasGiven, HasTaken, Waiting, line_run}
+use Rattle.nx_fec.specs.air_files.LineRuns.{ExplainsLines, HasGiven, HasTaken, Waiting}
+use Rattle.nx_fec.specs.air_files.LineRuns.{line_run}
+use Rattle.nx_fec.specs.air_files.Lines.{Scanning, Scans, air_limit}
+use Rattle.nx_fec.specs.air_files.Scanner.{kind_kept}
+use Rattle.nx_fec.specs.private.LineTaking.{inside}
+use Rattle.nx_fec.proofs.lemmas.line_runs.LineRun.{explains-refused, explains-write}
 use Rattle.nx_fec.specs.declared.air_files.channel.Channel.{Channel}
 use Rattle.nx_fec.specs.declared.air_files.channel.Channel.TheVariants.{Zero, One, Two}
-use Rattle.nx_fec.specs.declared.air_files.line_taking.TakeFault.{TakeFault}
-use Rattle.nx_fec.specs.declared.air_files.line_taking.TakeFault.TheVariants as take
+use Rattle.nx_fec.specs.declared.air_files.line_taking.LinesFault.{LinesFault}
+use Rattle.nx_fec.specs.declared.air_files.line_taking.LinesFault.TheVariants as run
 use Rattle.nx_memory.specs.Selection.{is_vital}
 use Rattle.nx_receiver.specs.Events as events
 use Rattle.nx_receiver.specs.Events.{Command, Event, Setting, command, elements_among, element}
@@ -27,7 +33,8 @@ use Rattle.nx_receiver.proofs.lemmas.listening.Listener.{given_by-one, moment-on
 use Rattle.nx_receiver.proofs.lemmas.listening.Listener.{taken-one}
 use Rattle.nx_receiver.proofs.lemmas.receiver.Logged.{bits_of-append, settings-append}
 use Rattle.nx_locks.specs.Run.{elements_on_0, ending_of, moments_on_0}
-use Rattle.nx_locks.specs.private.ReportWriter.{IsShowing, RefusesLine, StandsFrom, report_taker}
+use Rattle.nx_locks.specs.private.ReportWriter.{ExplainsLine, IsShowing, RefusesLine, StandsFrom}
+use Rattle.nx_locks.specs.private.ReportWriter.{BeginsFrom, RefusesFrom, report_taker}
 use Rattle.nx_locks.specs.private.Showing.{HearsAll, Showing, ShowsSoFar}
 use Rattle.nx_locks.specs.declared.report_writer.ReportRefusal.{ReportRefusal}
 use Rattle.nx_locks.specs.declared.report_writer.ReportRefusal.TheVariants as refusal
@@ -227,37 +234,38 @@ refuse_subject_line now lines mark letter given allowed h =
 
 -- a line that may be refused
 pub taken-line : (first before after : Showing) (old new : Option (List ℕ)) (batch : Waiting)
-    (lines : List Line) (line is : Line)
-    (taken : Result (Unit {0}) LineRefusal) (result : Result (Unit {0}) (TakeFault ReportRefusal))
-    → line ≡ is
+    (lines : List Line) (line is : Line) (number found : ℕ)
+    (taken : Result (Unit {0}) LineRefusal) (result : Result (Unit {0}) (LinesFault ReportRefusal))
+    → line ≡ is → found ≡ number
     → HasTaken StandsFrom first before lines (HasGiven old new batch)
     → MatchResult taken (λ _. result ≡ Ok tt)
-    (λ why. result ≡ Err (take.Refused (refusal.Line why)))
+    (λ why. result ≡ Err (run.Refused found (refusal.Line why)))
     → ((given : List ℕ) → IsShowing before lines given
     → MatchResult taken (λ _. IsShowing after (lines ++ is ∷ []) given)
     (λ why. RefusesLine lines is (refusal.Line why)))
     → OnErr taken (after ≡ before)
     → MatchResult result (λ _. HasTaken StandsFrom first after (lines ++ line ∷ [])
     (HasGiven old new batch))
-    (λ fault. ExplainsTaking (line_run report_taker first after old new) batch lines line
+    (λ fault. ExplainsLine (line_run report_taker first after old new) batch lines line number
     fault)
-taken-line first before after old new batch lines line is (Ok x) result same h answer takes
-    unchanged =
+taken-line first before after old new batch lines line is number found (Ok x) result same e h
+    answer takes unchanged =
     subst (λ r. MatchResult r
     (λ _. HasTaken StandsFrom first after (lines ++ line ∷ []) (HasGiven old new batch))
-    (λ fault. ExplainsTaking (line_run report_taker first after old new) batch lines line
+    (λ fault. ExplainsLine (line_run report_taker first after old new) batch lines line number
     fault)) (sym answer) (record {
       given = h.given;
       stood = subst (λ l. IsShowing after (lines ++ l ∷ []) h.given) (sym same)
           (takes h.given h.stood);
       here = h.here;
     })
-taken-line first before after old new batch lines line is (Err why) result same h answer takes
-    unchanged =
+taken-line first before after old new batch lines line is number found (Err why) result same e h
+    answer takes unchanged =
     subst (λ r. MatchResult r
     (λ _. HasTaken StandsFrom first after (lines ++ line ∷ []) (HasGiven old new batch))
-    (λ fault. ExplainsTaking (line_run report_taker first after old new) batch lines line
+    (λ fault. ExplainsLine (line_run report_taker first after old new) batch lines line number
     fault)) (sym answer) (
+      e,
       subst (λ l. RefusesLine lines l (refusal.Line why)) (sym same) (takes h.given h.stood),
       record {
         given = h.given;
@@ -266,6 +274,31 @@ taken-line first before after old new batch lines line is (Err why) result same 
         here = h.here;
       },
     )
+
+-- what a fault of taking a line says of the file
+pub explains-taken : (first now : Showing) (s : Scanning) (old new : Option (List ℕ))
+    (batch : Waiting) (bytes piece : List ℕ) (count : ℕ) (lines : List Line) (latest : Option Line)
+    (fault : LinesFault ReportRefusal) → (kind_kept latest ≡ None → ⊥) → IfSome latest IsLine
+    → Scans air_limit s (bytes ++ take count piece) (lines ++ option_to_list latest)
+    → ((line : Line) → latest ≡ Some line
+    → ExplainsLine (line_run report_taker first now old new) batch lines line s.lines fault)
+    → (more : List ℕ) → ExplainsLines (line_run report_taker first now old new) inside
+    (HasGiven old new batch) ((bytes ++ piece) ++ more) fault
+explains-taken first now s old new batch bytes piece count lines None fault some good scans h more =
+    absurd (some refl)
+explains-taken first now s old new batch bytes piece count lines (Some line) run.Read some good
+    scans h more = absurd (h line refl)
+explains-taken first now s old new batch bytes piece count lines (Some line) (run.Line why) some
+    good scans h more = absurd (h line refl)
+explains-taken first now s old new batch bytes piece count lines (Some line)
+    (run.Refused number why) some good scans h more =
+    explains-refused StandsFrom BeginsFrom RefusesFrom first now s old new batch bytes piece count
+    number why lines (Some line) some good (h line refl).0 scans
+    (λ l is. ((h l is).1, (h l is).2)) more
+explains-taken first now s old new batch bytes piece count lines (Some line) (run.Write written)
+    some good scans h more =
+    explains-write StandsFrom BeginsFrom RefusesFrom first now s old new (HasGiven old new batch)
+    bytes piece count written lines (Some line) some scans h more
 
 -- a line that is taken always
 pub taken-always : (first now : Showing) (old new : Option (List ℕ)) (batch : Waiting)

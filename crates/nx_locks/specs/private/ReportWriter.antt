@@ -1,8 +1,9 @@
 -- How the taker of lines behind a run that shows locks stands after lines (this profile).
-use Rattle.std.specs.Prelude.{◌≡◌, ℕ, ◌+◌, ◌^◌, ◌≤◌, List, length, Option}
+use Rattle.std.specs.Prelude.{◌≡◌, ℕ, ◌+◌, ◌^◌, ◌≤◌, List, [], ◌∷◌, ◌++◌, length, Option}
 use Rattle.std.specs.Io.KnownBytes.{Appends}
 use Rattle.nx_fec.specs.air_files.AirFile.{Line, elements}
-use Rattle.nx_fec.specs.air_files.LineRuns.{Taker, taker_of}
+use Rattle.nx_fec.specs.air_files.LineRuns.{HasGiven, HasRunOver, HasTakenSome, LineRun, Taker, Waiting}
+use Rattle.nx_fec.specs.air_files.LineRuns.{taker_of}
 use Rattle.nx_fec.specs.Transfers.{WroteSome}
 use Rattle.nx_fec.specs.declared.fault.LineFault.TheVariants as file
 use Rattle.nx_fec.specs.declared.air_files.line_taking.LinesFault.{LinesFault}
@@ -48,6 +49,17 @@ RefusesFrom first lines line why = RefusesLine lines line why
 
 abbrev pub report_taker : Taker Showing ReportRefusal
 report_taker = taker_of StandsFrom BeginsFrom RefusesFrom
+
+-- What a fault of taking the next line, the one of this number, says: it is refused, and nothing
+-- changed, so that what the lines before it gave is written, or waits; or a write failed.
+abbrev pub ExplainsLine : LineRun Showing ReportRefusal → Waiting → List Line → Line → ℕ
+    → LinesFault ReportRefusal → Type 0
+ExplainsLine r batch lines line number (run.Refused refused why) =
+    (refused ≡ number) × r.taker.refuses r.first lines line why
+    × HasRunOver r (HasGiven r.writer_first r.writer_now batch) lines
+ExplainsLine r batch lines line number (run.Write written) =
+    HasTakenSome r (lines ++ line ∷ []) written
+ExplainsLine r batch lines line number _ = ⊥
 
 -- the report of the elements of these lines was ended and written, and the answer counts
 pub record HasClosed (old new : Option (List ℕ)) (lines : List Line) (answer : LocksReport)

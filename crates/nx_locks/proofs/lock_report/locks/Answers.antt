@@ -16,10 +16,10 @@ returns-in_err-report_writer-clause-shows g c =
 pub returns-in-Err-clause-shows : goal.returns-in-Err-clause-shows
 returns-in-Err-clause-shows g c =
     let first = c.in_ok-report_writer.report_writer in
-    let d = devices g.R.Read.remaining g.W.Write.contents c.args.reader.now c.run_lines.new.reader
-    c.args.writer.now c.run_lines.new.writer in
+    let d = devices g.R.Read.remaining g.W.Write.contents c.args.reader.now c.show_lines.new.reader
+    c.args.writer.now c.show_lines.new.writer in
     subst (λ fault. ShowsLocks d (Err fault)) (sym c.run_fault.ensures)
-    (shows-fault first c.run_lines.new.taker d c.in-Err.fault
+    (shows-fault first c.show_lines.new.report_writer d c.in-Err.fault
     (c.in-Err.ensures first c.in_ok-report_writer.ensures))
 
 pub close-requires : goal.close-requires
@@ -32,13 +32,13 @@ pub returns-in_err-report-clause-shows : goal.returns-in_err-report-clause-shows
 returns-in_err-report-clause-shows g c =
     let first = c.in_ok-report_writer.report_writer in
     let contents = g.W.Write.contents in
-    let d = devices g.R.Read.remaining contents c.args.reader.now c.run_lines.new.reader
+    let d = devices g.R.Read.remaining contents c.args.reader.now c.show_lines.new.reader
     c.args.writer.now c.close.new.writer in
     subst (ShowsLocks d) (sym
     (err-is c.from_residual-in_err-report.result _ c.from_residual-in_err-report.ensures.0
     c.from_residual-in_err-report.ensures.1))
-    (shows-part g.R.Read.remaining contents first c.run_lines.new.taker c.args.reader.now
-    c.run_lines.new.reader c.args.writer.now c.run_lines.new.writer c.close.new.writer
+    (shows-part g.R.Read.remaining contents first c.show_lines.new.report_writer c.args.reader.now
+    c.show_lines.new.reader c.args.writer.now c.show_lines.new.writer c.close.new.writer
     c.in-Ok.read c.in_err-report.field-0.0.written
     (c.in-Ok.ensures first c.in_ok-report_writer.ensures)
     (λ lines given h w. c.in_err-report.ensures.closed (contents c.args.writer.now.inner) lines
@@ -48,8 +48,8 @@ pub returns-clause-shows : goal.returns-clause-shows
 returns-clause-shows g c =
     let first = c.in_ok-report_writer.report_writer in
     let contents = g.W.Write.contents in
-    shows-ok g.R.Read.remaining contents first c.run_lines.new.taker c.args.reader.now
-    c.run_lines.new.reader c.args.writer.now c.run_lines.new.writer c.close.new.writer
+    shows-ok g.R.Read.remaining contents first c.show_lines.new.report_writer c.args.reader.now
+    c.show_lines.new.reader c.args.writer.now c.show_lines.new.writer c.close.new.writer
     c.in-Ok.read c.in_ok-report.report (c.in-Ok.ensures first c.in_ok-report_writer.ensures)
     (λ lines given h w. c.in_ok-report.ensures.closed (contents c.args.writer.now.inner) lines given
     h w) c.in_ok-report.ensures.lines c.in_ok-report.ensures.none
