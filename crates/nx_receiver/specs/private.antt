@@ -3,6 +3,7 @@ pub mod CopyHearer
 pub mod CopyTaker
 pub mod CopyTakerLaws
 pub mod Heads
+pub mod ListenFaults
 pub mod Listener
 pub mod ListenerBegins
 pub mod LockReader

@@ -1,6 +1,7 @@
 -- Air files, from their lines to the log.
 pub mod ElementLines
 pub mod Ends
+pub mod Faults
 pub mod From
 pub mod Lines
 pub mod Listener

@@ -82,7 +82,7 @@ impl ListenFault {
     ghost use Rattle.nx_receiver.specs.air_file_runs.Listen.{refusal_fault};
 
     /// The fault of a line that isn't taken.
-    fn of_refusal(line: u64, why: LineRefusal) -> ListenFault
+    pub(crate) fn of_refusal(line: u64, why: LineRefusal) -> ListenFault
         ensures { result ≡ refusal_fault line why }
     {
         match why {

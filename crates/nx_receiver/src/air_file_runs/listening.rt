@@ -1,14 +1,14 @@
 //! Listening to an air file: the log of its lines, written while it is read. What a line does that
 //! sets something is inlined always, since its answer would go through memory otherwise.
 
-ghost use Rattle.std.specs.Prelude.{◌≡◌, ◌+◌, ◌-◌, ◌^◌, ◌<◌, ◌≤◌, ℕ, Bool, false, List, [], ◌∷◌, ◌++◌, length, map, take, drop, Option, Some, IfOk, IfSome, MatchResult, OnOk};
+ghost use Rattle.std.specs.Prelude.{◌≡◌, ◌+◌, ◌-◌, ◌^◌, ◌<◌, ◌≤◌, ℕ, Bool, true, false, List, [], ◌∷◌, ◌++◌, length, map, take, drop, Option, Some, IfOk, IfSome, MatchResult, OnOk};
 ghost use Rattle.nx_code.specs.Reading.{IsCapital};
 ghost use Rattle.nx_envelope.specs.Moment.{last_moment};
 ghost use Rattle.nx_fec.specs.air_files.AirFile.{IsLine, Line};
 ghost use Rattle.nx_fec.specs.air_files.AirFile as line;
 ghost use Rattle.nx_fec.specs.air_files.Scanner.{kind_of, line_with};
-ghost use Rattle.nx_fec.specs.Transfers.{FailsOnce, HasWritten, WroteSome, Writes, devices, count_of};
-ghost use Rattle.nx_fec.specs.air_files.LineRuns.{ExplainsTaking, HasGiven, HasTaken, line_run};
+ghost use Rattle.nx_fec.specs.Transfers.{FailsOnce, HasWritten, WroteSome, devices, count_of};
+ghost use Rattle.nx_fec.specs.air_files.LineRuns.{HasGiven, HasTaken, HasTakenSome, line_run};
 ghost use Rattle.nx_memory.specs.Selection.{is_vital};
 ghost use Rattle.nx_receiver.specs.Events.{command};
 ghost use Rattle.nx_receiver.specs.Events as events;
@@ -22,6 +22,7 @@ ghost use Rattle.nx_receiver.specs.Listener.{Listening, content, receiver_on, st
 ghost use Rattle.nx_receiver.specs.private.Listener.{HasClosed, HasClosedSome, HeardSome, HearsLog, IsHearing, IsListening, RefusesLine, StandsFrom, listener_taker};
 ghost use Rattle.nx_receiver.specs.declared.air_file_runs.listen_fault.ListenFault.TheVariants.{Memory};
 
+mod logged;
 mod unlogged;
 
 use crate::air_file_runs::listen_fault::{LineRefusal, ListenFault};
@@ -29,15 +30,16 @@ use crate::copy_taker::Over;
 use crate::entry::Entry;
 use crate::listener::Listener;
 use crate::writing::entry_bytes;
+use logged::listen_lines;
 use nx_envelope::Letter;
-use nx_fec::{
-    Batch, Channel, Counting, LineKind, LineTaker, LinesRead, PackedElements, Scanner, TakeFault,
-    WriteFault, run_lines, taking_of, write_on,
-};
+use nx_fec::{Batch, Channel, Counting, LineKind, LinesRead, PackedElements, WriteFault, write_on};
 use nx_memory::SavedSet;
 use std::alloc::{AllocError, Global};
 use std::io::{Read, Write};
 pub(crate) use unlogged::listen_unlogged;
+
+/// The most bytes of an air file.
+const AIR_LIMIT: u64 = 268_435_456;
 
 /// What a run that listened to an air file read and printed.
 #[derive(Clone, Copy, Debug, Drop, PartialEq, Eq)]
@@ -111,10 +113,7 @@ pub fn listen_from<R: Read, W: Write>(
         → (reader.new ≡ reader.old) × (writer.new ≡ writer.old) }
 {
     let mut listener = line_listener(alloc, saved)?;
-    let read = match run_lines(reader, writer, &mut listener) {
-        Ok(read) => read,
-        Err(fault) => return Err(ListenFault::from(fault)),
-    };
+    let read = listen_lines(reader, writer, &mut listener)?;
     // Before the end: the copy that the end closes is cut, and makes no entry.
     let left = listener.saved();
     let report = listener.close_log(writer, read)?;
@@ -259,34 +258,30 @@ impl Listener {
     }
 
     /// Takes the elements of a line, for the channel that it names: hears them, and gives the
-    /// entries of the copies that they end.
+    /// entries of the copies that they end. There was a moment before them.
     fn take_elements<W: Write>(
         &mut self,
         mark: Option<Channel>,
         packed: &PackedElements,
         writer: &mut Counting<W>,
         batch: &mut Batch,
-    ) -> Result<(), TakeFault<LineRefusal>>
-        requires { writer.old.failures ≡ 0 }
+    ) -> Result<(), WriteFault>
+        requires moment { self.old.has_moment ≡ true }
+        requires none { writer.old.failures ≡ 0 }
         ensures taken { (first : Listening) (old : Option (List ℕ)) (lines : List Line)
             → HasTaken StandsFrom first self.old lines
             (HasGiven old (W.contents writer.old.inner) batch.old) → MatchResult result
             (λ _. HasTaken StandsFrom first self.new (lines ++ line.elements mark packed.now ∷ [])
             (HasGiven old (W.contents writer.new.inner) batch.new))
-            (λ fault. ExplainsTaking (line_run listener_taker first self.new old
-            (W.contents writer.new.inner)) batch.new lines (line.elements mark packed.now) fault) }
-        ensures writes { Writes writer.new TakeFault.Write result }
+            (λ fault. HasTakenSome (line_run listener_taker first self.new old
+            (W.contents writer.new.inner)) (lines ++ line.elements mark packed.now ∷ [])
+            fault.written) }
+        ensures counts { FailsOnce writer.new result }
     {
-        if !self.has_moment {
-            return Err(TakeFault::Refused(LineRefusal::NoMoment));
-        }
         let channel = Channel::of(mark);
         let mut at = 0;
         while at < packed.len() {
-            match self.hear_next(channel, packed, at, writer, batch) {
-                Ok(count) => at += count,
-                Err(fault) => return Err(TakeFault::Write(fault.written)),
-            }
+            at += self.hear_next(channel, packed, at, writer, batch)?;
         }
         Ok(())
     }
@@ -368,36 +363,4 @@ impl Ending {
             entries: self.entries.saturating_add(1),
         })
     }
-}
-
-impl LineTaker for Listener {
-    ghost use Rattle.nx_receiver.specs.Listener.{starts_of};
-    ghost use Rattle.nx_receiver.specs.private.Listener.{BeginsFrom, RefusesFrom, StandsFrom};
-    ghost use Rattle.nx_receiver.specs.private.ListenerBegins.{begins-listening};
-
-    type Refusal = LineRefusal;
-
-    ghost stands = { StandsFrom };
-
-    ghost begins = { BeginsFrom };
-
-    ghost refuses = { RefusesFrom };
-
-    fn take<W: Write>(
-        &mut self,
-        scanner: &Scanner,
-        writer: &mut Counting<W>,
-        batch: &mut Batch,
-    ) -> Result<(), TakeFault<LineRefusal>> {
-        let Some(kind) = scanner.latest() else {
-            return Ok(());
-        };
-        match kind {
-            LineKind::Elements(mark) => self.take_elements(mark, scanner.elements(), writer, batch),
-            _ => taking_of(self.take_setting(kind)),
-        }
-    }
-
-    ghost whole = { λ first now lines bytes h.
-        begins-listening (starts_of first) now lines bytes h };
 }

@@ -1,31 +1,32 @@
 -- What the taking of a line by a listener answers, by what the line says.
 use Rattle.std.proofs.Common.{◌≡◌, ℕ, List, [], ◌∷◌, ◌++◌, Option, Some, Result, Ok, Err}
-use Rattle.std.proofs.Common.{Bool, IfOk, MatchResult, OnOk, false, true, refl, sym, ap, ◌∙◌, subst}
+use Rattle.std.proofs.Common.{Bool, IfOk, MatchResult, OnOk, false, true, inl, refl, sym, ap, ◌∙◌}
+use Rattle.std.proofs.Common.{subst}
 use Rattle.nx_fec.specs.air_files.AirFile.{Line, moment, elements, refuse_station, accept_station}
 use Rattle.nx_fec.specs.air_files.AirFile.{refuse_subject, accept_subject}
-use Rattle.nx_fec.specs.air_files.LineRuns.{ExplainsTaking, HasGiven, HasTaken, Waiting, line_run}
+use Rattle.nx_fec.specs.air_files.LineRuns.{HasGiven, HasTaken, Waiting}
 use Rattle.nx_fec.specs.air_files.Lines.{elements_of}
 use Rattle.nx_fec.specs.air_files.Channels.{channel_of}
 use Rattle.nx_fec.specs.air_files.Scanner.{elements_kept, kind_kept, kind_of, line_with}
 use Rattle.nx_fec.specs.declared.air_files.lines.LineKind.{LineKind}
 use Rattle.nx_fec.specs.declared.air_files.lines.LineKind.TheVariants.{Elements}
-use Rattle.nx_fec.specs.declared.air_files.line_taking.TakeFault.{TakeFault}
-use Rattle.nx_fec.specs.declared.air_files.line_taking.TakeFault.TheVariants as take
 use Rattle.nx_fec.specs.declared.air_files.channel.Channel.{Channel}
 use Rattle.nx_memory.specs.Selection.{is_vital}
 use Rattle.nx_receiver.specs.Events.{command}
 use Rattle.nx_receiver.specs.Events as fed
-use Rattle.nx_receiver.specs.air_file_runs.Listen.{given_by, given_of}
+use Rattle.nx_receiver.specs.air_file_runs.Listen.{given_by, given_of, refusal_fault}
 use Rattle.nx_receiver.specs.Receiver.{TakesEvent}
 use Rattle.nx_receiver.specs.copies.Shares.{Given, Starts, to_one}
 use Rattle.nx_receiver.specs.Listener.{Listening}
-use Rattle.nx_receiver.specs.private.Listener.{IsListening, listener_taker}
+use Rattle.nx_receiver.specs.private.Listener.{IsListening}
 use Rattle.nx_receiver.specs.Listener.{content, receiver_on}
 use Rattle.nx_receiver.specs.private.Listener.{RefusesLine, StandsFrom}
 use Rattle.nx_receiver.specs.Listener.{starts_of, then_elements, with_receiver}
+use Rattle.nx_receiver.specs.private.ListenFaults.{StopsAtLine}
 use Rattle.nx_receiver.specs.private.Unlogged.{HasHeard, HasHeardGiven}
 use Rattle.nx_receiver.specs.declared.air_file_runs.listen_fault.LineRefusal.{LineRefusal}
 use Rattle.nx_receiver.specs.declared.air_file_runs.listen_fault.LineRefusal.TheVariants.{NoMoment}
+use Rattle.nx_receiver.specs.declared.air_file_runs.listen_fault.ListenFault.{ListenFault}
 use Rattle.nx_receiver.proofs.lemmas.listening.Listener.{commanded-on, heard-line, none-heard}
 
 line-is : (line : Line) → line ≡ line_with (kind_of line) (elements_of line)
@@ -62,38 +63,39 @@ said-elements latest found kind mark bits line e f g h same =
     said latest found kind (Elements mark) line e f g h
     ∙ ap (λ (bits : List Bool). elements mark bits) (sym (same ∙ ap elements_kept e))
 
--- a line that may be refused
+-- a line that sets something is taken, and prints nothing
 pub taken-line : (first before after : Listening) (old new : Option (List ℕ)) (batch : Waiting)
     (lines : List Line) (line : Line)
-    (taken : Result (Unit {0}) LineRefusal) (result : Result (Unit {0}) (TakeFault LineRefusal))
     → HasTaken StandsFrom first before lines (HasGiven old new batch)
-    → MatchResult taken (λ _. result ≡ Ok tt) (λ why. result ≡ Err (take.Refused why))
     → ((bytes : List ℕ) → IsListening (starts_of first) before lines bytes
-    → MatchResult taken (λ _. IsListening (starts_of first) after (lines ++ line ∷ []) bytes)
-    (λ why. RefusesLine (starts_of first) lines line why × (after ≡ before)))
-    → MatchResult result (λ _. HasTaken StandsFrom first after (lines ++ line ∷ [])
-    (HasGiven old new batch))
-    (λ fault. ExplainsTaking (line_run listener_taker first after old new) batch lines line
-    fault)
-taken-line first before after old new batch lines line (Ok x) result h answer takes =
-    subst (λ r. MatchResult r
-    (λ _. HasTaken StandsFrom first after (lines ++ line ∷ []) (HasGiven old new batch))
-    (λ fault. ExplainsTaking (line_run listener_taker first after old new) batch lines line
-    fault)) (sym answer)
-    (record { given = h.given; stood = takes h.given h.stood; here = h.here })
-taken-line first before after old new batch lines line (Err why) result h answer takes =
-    let refused = takes h.given h.stood in
-    subst (λ r. MatchResult r
-    (λ _. HasTaken StandsFrom first after (lines ++ line ∷ []) (HasGiven old new batch))
-    (λ fault. ExplainsTaking (line_run listener_taker first after old new) batch lines line
-    fault)) (sym answer) (
-      refused.0,
-      record {
-        given = h.given;
-        stood = subst (λ n. IsListening (starts_of first) n lines h.given) (sym refused.1) h.stood;
-        here = h.here;
-      },
-    )
+    → IsListening (starts_of first) after (lines ++ line ∷ []) bytes)
+    → HasTaken StandsFrom first after (lines ++ line ∷ []) (HasGiven old new batch)
+taken-line first before after old new batch lines line h takes =
+    record { given = h.given; stood = takes h.given h.stood; here = h.here }
+
+-- or it is refused
+pub refused-line : (first before after : Listening) (old new : Option (List ℕ)) (batch : Waiting)
+    (lines : List Line) (line : Line) (number : ℕ) (why : LineRefusal) (fault : ListenFault)
+    → fault ≡ refusal_fault number why
+    → HasTaken StandsFrom first before lines (HasGiven old new batch)
+    → ((bytes : List ℕ) → IsListening (starts_of first) before lines bytes
+    → RefusesLine (starts_of first) lines line why × (after ≡ before))
+    → StopsAtLine first after old new batch lines line number fault
+refused-line first before after old new batch lines line number why fault is h refuses =
+    let refused = refuses h.given h.stood in
+    inl (record {
+      why = why;
+      is = is;
+      explained = (
+        refused.0,
+        record {
+          given = h.given;
+          stood = subst (λ n. IsListening (starts_of first) n lines h.given) (sym refused.1)
+              h.stood;
+          here = h.here;
+        },
+      );
+    })
 
 -- a line for which nothing is given: there is a log
 pub heard-same : (starts : Starts) (old new : Listening) (lines : List Line) (line is : Line)

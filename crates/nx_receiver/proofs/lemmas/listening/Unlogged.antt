@@ -1,6 +1,6 @@
 -- What a run over lines says of a listener that gives nothing for them.
 use Rattle.std.proofs.Common.{◌≡◌, ℕ, List, [], Option, None, Result, Ok, Err, refl, ap, sym, subst}
-use Rattle.std.proofs.Common.{◌∷◌, ◌++◌, IfSome, MatchResult, Some, length, arith}
+use Rattle.std.proofs.Common.{IfSome, Some, length, arith}
 use Rattle.std.specs.Prelude.{⊤}
 use Rattle.std.specs.Io.KnownBytes.{Appends}
 use Rattle.std.specs.declared.alloc.AllocError.{AllocError}
@@ -35,17 +35,14 @@ use Rattle.nx_receiver.proofs.lemmas.listening.From.{gone}
 use Rattle.nx_receiver.proofs.lemmas.listening.Runs.{as-err, err-of, explains, listened, memory-read}
 use Rattle.nx_receiver.proofs.lemmas.listening.Runs.{read-back}
 
--- a line for which nothing is given, which may be refused
-pub heard-line : (first before after : Listening) (lines : List Line) (line : Line)
-    (taken : Result (Unit {0}) LineRefusal) → HasHeard (starts_of first) before lines
-    → MatchResult taken (λ _. HasHeard (starts_of first) after (lines ++ line ∷ []))
-    (λ why. RefusesLine (starts_of first) lines line why × (after ≡ before))
-    → MatchResult taken (λ _. StandsUnlogged first after (lines ++ line ∷ []))
-    (λ why. RefusesFrom first lines line why × StandsUnlogged first after lines)
-heard-line first before after lines line (Ok x) h takes = takes
-heard-line first before after lines line (Err why) h takes = (
-  takes.0,
-  subst (λ (l : Listening). HasHeard (starts_of first) l lines) (sym takes.1) h,
+-- a line that is refused changes nothing
+pub refused-kept : (first before after : Listening) (lines : List Line) (line : Line)
+    (why : LineRefusal) → HasHeard (starts_of first) before lines
+    → RefusesLine (starts_of first) lines line why × (after ≡ before)
+    → RefusesFrom first lines line why × StandsUnlogged first after lines
+refused-kept first before after lines line why h refused = (
+  refused.0,
+  subst (λ (l : Listening). HasHeard (starts_of first) l lines) (sym refused.1) h,
 )
 
 -- there is a log, and whatever a writer has that tells nothing

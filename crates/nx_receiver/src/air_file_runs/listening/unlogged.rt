@@ -1,23 +1,24 @@
 //! Listening where the log isn't wanted: lines are heard, and nothing is given for them.
 
-ghost use Rattle.std.specs.Prelude.{◌≡◌, ◌+◌, ◌<◌, ◌≤◌, ℕ, Bool, true, false, List, [], ◌∷◌, ◌++◌, drop, length, take, Some, None, Err, IfOk, IsSomeAnd, MatchResult};
+ghost use Rattle.std.specs.Prelude.{◌≡◌, ◌+◌, ◌<◌, ◌≤◌, ℕ, Bool, true, false, List, [], ◌∷◌, ◌++◌, drop, length, take, Some, None, Err, IfOk, IfSome, MatchResult, OnOk};
 ghost use Rattle.nx_fec.specs.air_files.AirFile.{IsLine, Line};
+ghost use Rattle.nx_fec.specs.air_files.LineRuns.{HearsLines, StopsLines};
+ghost use Rattle.nx_fec.specs.air_files.Scanner.{kind_kept};
+ghost use Rattle.nx_fec.specs.private.LineTaking.{IsHearing, inside};
+ghost use Rattle.nx_fec.specs.Transfers.{input};
 ghost use Rattle.nx_receiver.specs.copies.Shares.{Given, Starts};
-ghost use Rattle.nx_receiver.specs.air_file_runs.Listen.{lines_fault};
 ghost use Rattle.nx_receiver.specs.private.Awaiting.{HandsOut};
-ghost use Rattle.nx_receiver.specs.Listener.{content, receiver_on, then_elements, with_receiver};
-ghost use Rattle.nx_receiver.specs.private.Listener.{HasClosed, RefusesLine};
-ghost use Rattle.nx_receiver.specs.private.Unlogged.{HasHeard, HasHeardGiven, ListensUnlogged, as_run_fault};
+ghost use Rattle.nx_receiver.specs.Listener.{Listening, content, receiver_on, then_elements, with_receiver};
+ghost use Rattle.nx_receiver.specs.private.Listener.{HasClosed, RefusesFrom, RefusesLine};
+ghost use Rattle.nx_receiver.specs.private.ListenFaults.{StandsFor, hearing_fault};
+ghost use Rattle.nx_receiver.specs.private.Unlogged.{HasHeard, HasHeardGiven, ListensUnlogged, StandsUnlogged};
 ghost use Rattle.nx_receiver.specs.declared.air_file_runs.listen_fault.ListenFault.TheVariants.{Memory};
 
 use crate::air_file_runs::listen_fault::{LineRefusal, ListenFault};
-use crate::air_file_runs::listening::{Report, line_listener};
+use crate::air_file_runs::listening::{AIR_LIMIT, Report, line_listener};
 use crate::copy_taker::Over;
 use crate::listener::Listener;
-use nx_fec::{
-    Channel, Counting, HearFault, LineHearer, LineKind, LinesFault, PackedElements, Scanner,
-    hear_lines,
-};
+use nx_fec::{CHUNK, Channel, Counting, LineKind, PackedElements, Piece, Scanner, next_piece};
 use nx_memory::SavedSet;
 use std::alloc::{AllocError, Global};
 use std::io::Read;
@@ -36,53 +37,95 @@ pub(crate) fn listen_unlogged<R: Read>(
         → reader.new ≡ reader.old }
 {
     let mut listener = line_listener(alloc, saved)?;
-    let lines = match hear_lines(reader, &mut listener) {
-        Ok(lines) => lines,
-        Err(fault) => return Err(unlogged_fault(fault)),
-    };
+    let lines = hear_lines(reader, &mut listener)?;
     // Before the end: the copy that the end closes is cut, and makes no entry.
     let left = listener.saved();
     Ok((listener.close_unlogged(lines), left))
 }
 
-/// The fault of the run that stands for one of its lines.
-fn unlogged_fault(fault: HearFault<LineRefusal>) -> ListenFault
-    ensures { result ≡ lines_fault (as_run_fault fault) }
+/// Reads an air file to its end, and gives each of its lines to the listener. Answers how many
+/// there were. It has no writer, and takes no memory.
+///
+/// The first fault in the order of the bytes ends the run; the whole lines before it were taken.
+fn hear_lines<R: Read>(
+    reader: &mut Counting<R>,
+    listener: &mut Listener,
+) -> Result<u64, ListenFault>
+    requires { reader.old.failures ≡ 0 }
+    ensures { (first : Listening) → StandsUnlogged first listener.old [] → MatchResult result
+        (λ count. HearsLines (RefusesFrom first) (StandsUnlogged first listener.new)
+        (input R.remaining reader.old reader.new) (Ok count))
+        (StandsFor hearing_fault (λ why. HearsLines (RefusesFrom first)
+        (StandsUnlogged first listener.new) (input R.remaining reader.old reader.new)
+        (Err why))) }
 {
-    ListenFault::from(match fault {
-        HearFault::Read => LinesFault::Read,
-        HearFault::Line(why) => LinesFault::Line(why),
-        HearFault::Refused { line, why } => LinesFault::Refused { line, why },
-    })
-}
-
-impl LineHearer for Listener {
-    ghost use Rattle.nx_receiver.specs.private.Listener.{RefusesFrom};
-    ghost use Rattle.nx_receiver.specs.private.Unlogged.{StandsUnlogged};
-
-    type Refusal = LineRefusal;
-
-    ghost stands = { StandsUnlogged };
-
-    ghost refuses = { RefusesFrom };
-
-    fn hear(&mut self, scanner: &Scanner) -> Result<(), LineRefusal> {
-        self.take_unlogged(scanner)
+    let mut buffer = [0; CHUNK];
+    let mut scanner = Scanner::new(AIR_LIMIT);
+    loop {
+        match next_piece(reader, &mut buffer) {
+            Piece::Bytes(count) => listener.hear_piece(&buffer[..count], &mut scanner)?,
+            Piece::End => break,
+            Piece::Failed => return Err(ListenFault::Read),
+        }
     }
+    scanner.end()?;
+    Ok(scanner.lines())
 }
 
 impl Listener {
-    /// Takes the line that the scanner's last byte ended.
-    fn take_unlogged(&mut self, scanner: &Scanner) -> Result<(), LineRefusal>
-        requires { IsSomeAnd scanner.now.latest IsLine }
+    /// Takes the lines that a piece of the file ends.
+    fn hear_piece(&mut self, piece: &[u8], scanner: &mut Scanner) -> Result<(), ListenFault>
+        ensures heard { (first : Listening) (bytes : List ℕ)
+            → IsHearing (StandsUnlogged first self.old) scanner.old bytes
+            → MatchResult result
+            (λ _. IsHearing (StandsUnlogged first self.new) scanner.new (bytes ++ piece.now))
+            (λ fault. (more : List ℕ) → StandsFor hearing_fault
+            (StopsLines (RefusesFrom first) (StandsUnlogged first self.new) inside
+            ((bytes ++ piece.now) ++ more)) fault) }
+        ensures room { OnOk result (scanner.new.room + length piece.now ≡ scanner.old.room) }
+    {
+        let mut at = 0;
+        while at < piece.len() {
+            at += self.hear_line(&piece[at..], scanner)?;
+        }
+        Ok(())
+    }
+
+    /// Scans the bytes of a piece up to and with its first line feed, and takes the line that it
+    /// ends. Answers how many bytes there were.
+    fn hear_line(&mut self, piece: &[u8], scanner: &mut Scanner) -> Result<usize, ListenFault>
+        requires { 0 < length piece.now }
+        ensures heard { (first : Listening) (bytes : List ℕ)
+            → IsHearing (StandsUnlogged first self.old) scanner.old bytes
+            → MatchResult result
+            (λ count. IsHearing (StandsUnlogged first self.new) scanner.new
+            (bytes ++ take count piece.now))
+            (λ fault. (more : List ℕ) → StandsFor hearing_fault
+            (StopsLines (RefusesFrom first) (StandsUnlogged first self.new) inside
+            ((bytes ++ piece.now) ++ more)) fault) }
+        ensures some { IfOk result (λ count. (0 < count) × (count ≤ length piece.now)
+            × (scanner.new.room + count ≡ scanner.old.room)) }
+    {
+        let count = scanner.push_line(piece)?;
+        let Some(kind) = scanner.latest() else {
+            return Ok(count);
+        };
+        match self.take_unlogged(kind, scanner) {
+            Ok(()) => Ok(count),
+            Err(why) => Err(ListenFault::of_refusal(scanner.lines(), why)),
+        }
+    }
+
+    /// Takes the line that the scanner's last byte ended, which says this. A line that is refused
+    /// changes nothing.
+    fn take_unlogged(&mut self, kind: LineKind, scanner: &Scanner) -> Result<(), LineRefusal>
+        requires kind { kind_kept scanner.now.latest ≡ Some kind }
+        requires line { IfSome scanner.now.latest IsLine }
         ensures { (starts : Starts) (lines : List Line) (line : Line)
             → scanner.now.latest ≡ Some line → HasHeard starts self.old lines
             → MatchResult result (λ _. HasHeard starts self.new (lines ++ line ∷ []))
             (λ why. RefusesLine starts lines line why × (self.new ≡ self.old)) }
     {
-        let Some(kind) = scanner.latest() else {
-            return Ok(());
-        };
         match kind {
             LineKind::Elements(mark) => self.hear_unlogged(Channel::of(mark), scanner.elements()),
             _ => self.take_setting(kind),

@@ -1,4 +1,5 @@
-use Rattle.std.proofs.Common.{Err, [], refl, subst, sym}
+use Rattle.std.proofs.Common.{◌∙◌, Err, [], refl, subst, sym}
+use Rattle.std.proofs.lemmas.Result.{err_from_is_err_and}
 use Rattle.nx_fec.specs.Transfers.{devices}
 use Rattle.nx_fec.proofs.lemmas.devices.TransferLaws.{Ok-not_err, Writes-sound}
 use Rattle.nx_receiver.specs.air_file_runs.Listen.{Listens, given_by}
@@ -7,7 +8,8 @@ use Rattle.nx_receiver.specs.Listener.{starts_of}
 use Rattle.nx_receiver.specs.private.Listener.{StandsFrom, IsListening}
 use Rattle.nx_receiver.specs.declared.air_file_runs.listen_fault.ListenFault.TheVariants.{Write}
 use Rattle.nx_receiver.proofs.lemmas.listening.From.{err-is, goes-nowhere, goes-on}
-use Rattle.nx_receiver.proofs.lemmas.listening.Runs.{listens-fault, listens-memory, listens-part}
+use Rattle.nx_receiver.proofs.lemmas.listening.Faults.{not-memory}
+use Rattle.nx_receiver.proofs.lemmas.listening.Runs.{err-of, listens-fault, listens-memory, listens-part}
 use Rattle.nx_receiver.proofs.air_file_runs.listening.listen_from.Goals as goal
 
 pub returns-in_err-listener-clause-listens : goal.returns-in_err-listener-clause-listens
@@ -20,19 +22,33 @@ returns-in_err-listener-clause-listens g c =
     c.args.reader.now c.args.writer.now c.in_err-listener.field-0.0 c.requires.reader
     c.requires.writer)
 
-pub returns-in-Err-clause-listens : goal.returns-in-Err-clause-listens
-returns-in-Err-clause-listens g c =
+pub returns-in_err-read-clause-listens : goal.returns-in_err-read-clause-listens
+returns-in_err-read-clause-listens g c =
     let first = c.in_ok-listener.listener in
-    let d = devices g.R.Read.remaining g.W.Write.contents c.args.reader.now c.run_lines.new.reader
-    c.args.writer.now c.run_lines.new.writer in
+    let d = devices g.R.Read.remaining g.W.Write.contents c.args.reader.now
+    c.listen_lines.new.reader c.args.writer.now c.listen_lines.new.writer in
     let begun : StandsFrom first first [] [] =
     subst (λ (starts : Starts). IsListening starts first [] [])
     (sym c.in_ok-listener.ensures.start) c.in_ok-listener.ensures.listens in
-    goes-nowhere c.args.saved.now d (Err c.from.result) c.from.result refl refl
-    (subst (λ (starts : Starts). Listens starts d (Err c.from.result))
-    c.in_ok-listener.ensures.start
-    (subst (λ fault. Listens (starts_of first) d (Err fault)) (sym c.from.ensures)
-    (listens-fault first c.run_lines.new.taker d c.in-Err.fault (c.in-Err.ensures first begun))))
+    let ran = c.in_err-read.ensures first begun in
+    let fault = c.in_err-read.field-0.0 in
+    let made = c.from_residual-in_err-read in
+    goes-nowhere c.args.saved.now d made.result fault made.ensures.0
+    (err-is made.result fault made.ensures.0 made.ensures.1)
+    (subst (λ (starts : Starts). Listens starts d (Err fault)) c.in_ok-listener.ensures.start
+    (subst (λ why. Listens (starts_of first) d (Err why)) (sym ran.is)
+    (listens-fault first c.listen_lines.new.listener d ran.why ran.explained)))
+
+pub returns-in_err-read-clause-memory : goal.returns-in_err-read-clause-memory
+returns-in_err-read-clause-memory g c = λ error e.
+    let first = c.in_ok-listener.listener in
+    let begun : StandsFrom first first [] [] =
+    subst (λ (starts : Starts). IsListening starts first [] [])
+    (sym c.in_ok-listener.ensures.start) c.in_ok-listener.ensures.listens in
+    let ran = c.in_err-read.ensures first begun in
+    let made = c.from_residual-in_err-read in
+    let p = err_from_is_err_and made.result made.ensures.1 in
+    absurd (not-memory ran.why error (sym ran.is ∙ sym p.2 ∙ err-of _ _ (sym p.1 ∙ e)))
 
 pub close_log-requires : goal.close_log-requires
 close_log-requires g c =
@@ -40,13 +56,13 @@ close_log-requires g c =
     let begun : StandsFrom first first [] [] =
     subst (λ (starts : Starts). IsListening starts first [] [])
     (sym c.in_ok-listener.ensures.start) c.in_ok-listener.ensures.listens in
-    Writes-sound _ _ _ (λ written. Ok-not_err _ _) (c.in-Ok.ensures first begun).writes
+    Writes-sound _ _ _ (λ written. Ok-not_err _ _) (c.in_ok-read.ensures first begun).writes
 
 pub returns-in_err-report-clause-listens : goal.returns-in_err-report-clause-listens
 returns-in_err-report-clause-listens g c =
     let first = c.in_ok-listener.listener in
     let contents = g.W.Write.contents in
-    let d = devices g.R.Read.remaining contents c.args.reader.now c.run_lines.new.reader
+    let d = devices g.R.Read.remaining contents c.args.reader.now c.listen_lines.new.reader
     c.args.writer.now c.close_log.new.writer in
     let begun : StandsFrom first first [] [] =
     subst (λ (starts : Starts). IsListening starts first [] [])
@@ -57,9 +73,9 @@ returns-in_err-report-clause-listens g c =
     c.from_residual-in_err-report.ensures.1)
     (subst (λ (starts : Starts). Listens starts d
     (Err (Write c.in_err-report.field-0.0.written))) c.in_ok-listener.ensures.start
-    (listens-part g.R.Read.remaining contents first c.run_lines.new.taker c.args.reader.now
-    c.run_lines.new.reader c.args.writer.now c.run_lines.new.writer c.close_log.new.writer
-    c.in-Ok.read c.in_err-report.field-0.0.written (c.in-Ok.ensures first begun)
+    (listens-part g.R.Read.remaining contents first c.listen_lines.new.listener c.args.reader.now
+    c.listen_lines.new.reader c.args.writer.now c.listen_lines.new.writer c.close_log.new.writer
+    c.in_ok-read.read c.in_err-report.field-0.0.written (c.in_ok-read.ensures first begun)
     (λ lines given h w. c.in_err-report.ensures.closed _ (contents c.args.writer.now.inner)
     (given_by lines) given h.hears w) (c.in_err-report.ensures.counts.failed.0 refl)))
 
@@ -71,9 +87,10 @@ returns-clause-listens g c =
     subst (λ (starts : Starts). IsListening starts first [] [])
     (sym c.in_ok-listener.ensures.start) c.in_ok-listener.ensures.listens in
     goes-on g.R.Read.remaining contents c.args.saved.now c.saved-left.result first
-    c.run_lines.new.taker c.args.reader.now c.run_lines.new.reader c.args.writer.now
-    c.run_lines.new.writer c.close_log.new.writer
-    c.in-Ok.read c.in_ok-report.report c.in_ok-listener.ensures.start (c.in-Ok.ensures first begun)
+    c.listen_lines.new.listener c.args.reader.now c.listen_lines.new.reader c.args.writer.now
+    c.listen_lines.new.writer c.close_log.new.writer
+    c.in_ok-read.read c.in_ok-report.report c.in_ok-listener.ensures.start
+    (c.in_ok-read.ensures first begun)
     (λ lines given h w. c.in_ok-report.ensures.closed _ (contents c.args.writer.now.inner)
     (given_by lines) given h.hears w)
     (λ lines given h. c.saved-left.ensures (starts_of first) (given_by lines) h.hears.log

@@ -1,10 +1,12 @@
-use Rattle.std.proofs.Common.{[], Err, subst, sym}
+use Rattle.std.proofs.Common.{◌∙◌, [], Err, subst, sym}
 use Rattle.nx_receiver.specs.air_file_runs.Listen.{given_by}
 use Rattle.nx_receiver.specs.Listener.{starts_of}
 use Rattle.nx_receiver.specs.private.Listener.{IsListening}
-use Rattle.nx_receiver.specs.private.Unlogged.{ListensUnlogged, StandsUnlogged}
+use Rattle.nx_receiver.specs.private.Unlogged.{ListensUnlogged, StandsUnlogged, as_run_fault}
 use Rattle.nx_receiver.specs.copies.Shares.{Starts}
 use Rattle.std.proofs.lemmas.Result.{err_from_is_err_and}
+use Rattle.nx_receiver.proofs.lemmas.listening.Faults.{not-memory}
+use Rattle.nx_receiver.proofs.lemmas.listening.Runs.{err-of}
 use Rattle.nx_receiver.proofs.lemmas.listening.Unlogged.{unlogged-fault, unlogged-memory, unlogged-ok}
 use Rattle.nx_receiver.proofs.air_file_runs.listening.unlogged.listen_unlogged.Goals as goal
 
@@ -14,18 +16,35 @@ returns-in_err-listener-clause-listens g c =
     rw p.1 (rw p.2 (unlogged-memory c.args.saved.now g.R.Read.remaining c.args.reader.now
     c.in_err-listener.field-0.0 c.requires))
 
-pub returns-in-Err-clause-listens : goal.returns-in-Err-clause-listens
-returns-in-Err-clause-listens g c =
+pub returns-in_err-lines-clause-listens : goal.returns-in_err-lines-clause-listens
+returns-in_err-lines-clause-listens g c =
     let first = c.in_ok-listener.listener in
     let begun : StandsUnlogged first first [] = (
       [],
       subst (λ (starts : Starts). IsListening starts first [] [])
           (sym c.in_ok-listener.ensures.start) c.in_ok-listener.ensures.listens,
     ) in
-    subst (λ fault. ListensUnlogged c.args.saved.now g.R.Read.remaining c.args.reader.now
-    c.hear_lines.new.reader (Err fault)) (sym c.unlogged_fault.ensures)
-    (unlogged-fault c.args.saved.now first c.hear_lines.new.taker _ _ _ c.in-Err.fault
-    c.in_ok-listener.ensures.start (c.in-Err.ensures first begun))
+    let ran = c.in_err-lines.ensures first begun in
+    let p = err_from_is_err_and c.from_residual-in_err-lines.result
+    c.from_residual-in_err-lines.ensures.1 in
+    rw p.1 (rw p.2 (subst (λ fault. ListensUnlogged c.args.saved.now g.R.Read.remaining
+    c.args.reader.now c.hear_lines.new.reader (Err fault)) (sym ran.is)
+    (unlogged-fault c.args.saved.now first c.hear_lines.new.listener _ _ _ ran.why
+    c.in_ok-listener.ensures.start ran.explained)))
+
+pub returns-in_err-lines-clause-memory : goal.returns-in_err-lines-clause-memory
+returns-in_err-lines-clause-memory g c = λ error e.
+    let first = c.in_ok-listener.listener in
+    let begun : StandsUnlogged first first [] = (
+      [],
+      subst (λ (starts : Starts). IsListening starts first [] [])
+          (sym c.in_ok-listener.ensures.start) c.in_ok-listener.ensures.listens,
+    ) in
+    let ran = c.in_err-lines.ensures first begun in
+    let made = c.from_residual-in_err-lines in
+    let p = err_from_is_err_and made.result made.ensures.1 in
+    absurd (not-memory (as_run_fault ran.why) error
+    (sym ran.is ∙ sym p.2 ∙ err-of _ _ (sym p.1 ∙ e)))
 
 pub returns-clause-listens : goal.returns-clause-listens
 returns-clause-listens g c =
@@ -35,9 +54,9 @@ returns-clause-listens g c =
       subst (λ (starts : Starts). IsListening starts first [] [])
           (sym c.in_ok-listener.ensures.start) c.in_ok-listener.ensures.listens,
     ) in
-    unlogged-ok c.args.saved.now c.saved-left.result first c.hear_lines.new.taker _ _ _
-    c.in-Ok.lines c.close_unlogged.result c.in_ok-listener.ensures.start
-    (c.in-Ok.ensures first begun)
+    unlogged-ok c.args.saved.now c.saved-left.result first c.hear_lines.new.listener _ _ _
+    c.in_ok-lines.lines c.close_unlogged.result c.in_ok-listener.ensures.start
+    (c.in_ok-lines.ensures first begun)
     (λ lines given h. c.close_unlogged.ensures.closed _ _ (given, h.hears))
     (λ lines given h. c.saved-left.ensures (starts_of first) (given_by lines) h.hears.log
     h.hears.hears)
