@@ -1,4 +1,4 @@
--- A run over the lines of any bytes, for a taker of those that act (this profile).
+-- A run over the lines of any bytes, of which those that act are taken (this profile).
 use Rattle.std.specs.Prelude.{◌≡◌, ◌⊎◌, ℕ, ◌+◌, ◌<◌, ◌≤◌, Bool, true, false, List, [], ◌∷◌, ◌++◌}
 use Rattle.std.specs.Prelude.{length, map, take, Option, Some, Result, Ok, Err, ⊤}
 use Rattle.std.specs.Io.KnownBytes.{Appends}
@@ -17,13 +17,9 @@ use Rattle.nx_watch.specs.declared.lines.line_run.LinesWatched.{LinesWatched}
 use Rattle.nx_watch.specs.declared.lines.line_run.WatchEnd.{WatchEnd}
 use Rattle.nx_watch.specs.declared.lines.line_run.WatchEnd.TheVariants.{Read, Back, Write}
 
--- A taker of lines that act stood so at first and stands so now, after these lines.
+-- What takes the lines that act stood so at first and stands so now, after these lines.
 abbrev pub Standing : Type 0 → Type 1
 Standing T = T → T → List Line → Type 0
-
--- the same of a taker that gave these bytes for the lines
-abbrev pub Giving : Type 0 → Type 1
-Giving T = T → T → List Line → List ℕ → Type 0
 
 -- the moment in force behind lines that act
 abbrev pub force_behind : ℕ → List Line → ℕ
@@ -61,21 +57,6 @@ pub record WereGiven {W : Type 0} (contents : W → Option (List ℕ)) (old new 
   pub written : HasTold (contents old.inner) (contents new.inner) new.failures bytes
   pub uncalled : bytes ≡ [] → new ≡ old
 
--- a taker, and the writer that it gives its bytes to
-pub record WithWriter (T W : Type 0) : Type 0 where
-  pub taker : T
-  pub writer : CountedDevice W
-
-abbrev pub with_writer : {T W : Type 0} → T → CountedDevice W → WithWriter T W
-with_writer taker writer = record { taker = taker; writer = writer }
-
--- a taker stands so after these lines, and its writer was given the bytes for them
-abbrev pub StandsWith : {T W : Type 0} → Giving T → (W → Option (List ℕ))
-    → Standing (WithWriter T W)
-StandsWith stands contents start now lines =
-    (given : List ℕ) × stands start.taker now.taker lines given
-    × WereGiven contents start.writer now.writer given
-
 -- None of these lines ended the watch, and those that act were taken.
 pub record HasTaken {T : Type 0} (stands : Standing T) (start now : T) (first : StartMoments)
     (lines : List (Option Line)) : Type 0 where
@@ -100,9 +81,9 @@ pub record StopsBehind (first : StartMoments) (bytes : List ℕ) (lines : List (
   pub are : AreLines front (lines ++ Some last ∷ []) []
   pub on : goes_on first lines ≡ true
 
--- A run over lines: how its taker stands, at first and now, and with which moments it starts. With
--- it stands what holds where the input ended, or the limit was reached, and what holds of the lines
--- that it tells of.
+-- A run over lines: how what takes them stands, at first and now, and with which moments it starts.
+-- With it stands what holds where the input ended, or the limit was reached, and what holds of the
+-- lines that it tells of.
 pub record RunOverLines (T : Type 0) : Type 1 where
   pub stands : Standing T
   pub start : T

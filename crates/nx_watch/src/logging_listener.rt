@@ -1,31 +1,30 @@
 //! The receivers of a watch, and the log in which it keeps what they print.
 
-ghost use Rattle.std.specs.Prelude.{◌≡◌, ◌+◌, ◌<◌, ◌≤◌, ℕ, Bool, List, [], ◌∷◌, ◌++◌, Option, length, take, drop, true, false, ◌&&◌, not};
+ghost use Rattle.std.specs.Prelude.{◌≡◌, ◌+◌, ◌<◌, ◌≤◌, ℕ, Bool, List, [], ◌∷◌, ◌++◌, Option, Some, IsSomeAnd, length, take, drop, true, false, ◌&&◌, not};
 ghost use Rattle.std.specs.List.{All, AllZip};
 ghost use Rattle.nx_envelope.specs.Moment.{last_moment};
-ghost use Rattle.nx_fec.specs.air_files.AirFile.{Line, elements};
+ghost use Rattle.nx_fec.specs.air_files.AirFile.{IsLine, Line, elements, moment};
 ghost use Rattle.nx_fec.specs.Transfers.{CountedDevice, FailsOnce, devices};
 ghost use Rattle.nx_log.specs.Logged.{IsLoggedAs};
 ghost use Rattle.nx_memory.specs.Selection.{is_vital};
 ghost use Rattle.nx_receiver.specs.Events as events;
 ghost use Rattle.nx_receiver.specs.copies.InTurn.{PrintAllToEnd};
 ghost use Rattle.nx_receiver.specs.air_file_runs.Listen.{given_by};
-ghost use Rattle.nx_receiver.specs.Listener.{HearsGiven, last_copies, moment_in_force, starts_of, then_command, then_elements, then_moment};
+ghost use Rattle.nx_receiver.specs.Listener.{HearsGiven, last_copies, starts_of, then_command, then_elements};
 ghost use Rattle.nx_receiver.specs.copies.Shares.{Given, MarkedCopy, Starts};
-ghost use Rattle.nx_watch.specs.LineRun.{StandsWith, WithWriter, with_writer};
 ghost use Rattle.nx_watch.specs.declared.kept_log.keeper.Keeper.{Keeper as TheKeeper};
 ghost use Rattle.nx_watch.specs.declared.logging_listener.LoggingListener.{LoggingListener as TheLoggingListener};
 ghost use Rattle.nx_watch.specs.CutTold.{TellsOfSomeCut};
-ghost use Rattle.nx_watch.specs.LineRun.{HasTold, TellsOfLines};
+ghost use Rattle.nx_watch.specs.LineRun.{HasTold, MayAct, TellsOfLines};
 ghost use Rattle.nx_watch.specs.LinesTold.{put_told};
 ghost use Rattle.nx_watch.specs.Stamps.{IsFresh, counted_of, stamps_of};
 ghost use Rattle.nx_watch.specs.private.Keeping.{HasKept, KeepsWith};
-ghost use Rattle.nx_watch.specs.private.LoggingListener.{HasClosed, HasRun, IsCopyInRange, IsLineInRange, KeepsHeard, KeepsLines};
+ghost use Rattle.nx_watch.specs.private.LoggingListener.{HasClosed, HasRun, IsCopyInRange, IsLineInRange, KeepsHeard, KeepsLines, LoggingTo, TakesLines, logging_to};
 
 use crate::kept_log::keeper::Keeper;
 use crate::lines::any_scanner::MOST_BYTES;
 use crate::lines::line_effects::StartMoments;
-use crate::lines::line_run::{ActingTaker, WatchEnd, WriteFailed, watch_lines};
+use crate::lines::line_run::{WatchEnd, WriteFailed, watch_lines};
 use crate::lines::telling::tell_failed_put;
 use crate::stamped::StampedReader;
 use crate::watch_fault::WatchFault;
@@ -47,15 +46,60 @@ pub(crate) struct LoggingListener<D> {
 }
 
 impl<D: DiskFile + Drop> LoggingListener<D> {
-    /// Sets the moment of all channels. One that is out of range, or goes back, doesn't act.
-    fn set_moment(&mut self, moment: u64)
-        ensures heard { (starts : Starts) (given : List Given) (copies : List MarkedCopy)
-            → moment_in_force starts.moment given ≤ moment → moment ≤ last_moment
-            → HearsGiven starts self.old.listener given copies
-            → HearsGiven starts self.new.listener (then_moment given moment) copies }
-        ensures keeper { self.new.keeper ≡ self.old.keeper }
+    /// Sets the moment of all channels, as a line does that says it. A watch sets one by itself
+    /// before the first elements, where no line said one.
+    pub(crate) fn set_moment(&mut self, given: u64)
+        ensures set { (start : TheLoggingListener D) (lines : List Line) (bytes : List ℕ)
+            → MayAct (starts_of start.listener).moment lines (moment given)
+            → KeepsLines D.DiskFile start self.old lines bytes
+            → KeepsLines D.DiskFile start self.new (lines ++ moment given ∷ []) bytes }
+        ensures failed { self.old.keeper.has_failed ≡ true → self.new.keeper.has_failed ≡ true }
     {
-        let _ = self.listener.set_moment(moment);
+        let _ = self.listener.set_moment(given);
+    }
+
+    /// Takes the line that the scanner's last byte ended, which acts, and keeps the entries that it
+    /// prints. It takes the whole line also where a write fails, after which it doesn't call the
+    /// writer.
+    pub(crate) fn take<W: Write>(
+        &mut self,
+        scanner: &Scanner,
+        writer: &mut Counting<W>,
+    ) -> Result<(), WriteFailed>
+        requires line { IsSomeAnd scanner.now.latest IsLine }
+        requires none { writer.old.failures ≡ 0 }
+        ensures taken { (start : LoggingTo D W) (lines : List Line) (line : Line)
+            → scanner.now.latest ≡ Some line
+            → MayAct (starts_of start.logging.listener).moment lines line
+            → TakesLines D.DiskFile W.contents start (logging_to self.old writer.old) lines
+            → TakesLines D.DiskFile W.contents start (logging_to self.new writer.new)
+            (lines ++ line ∷ []) }
+        ensures counts { FailsOnce writer.new result }
+        ensures failed { self.old.keeper.has_failed ≡ true → self.new.keeper.has_failed ≡ true }
+    {
+        let Some(kind) = scanner.latest() else {
+            unreachable!()
+        };
+        match kind {
+            LineKind::Elements(mark) => return self.hear(mark, scanner.elements(), writer),
+            LineKind::Moment(moment) => self.set_moment(moment),
+            LineKind::RefuseStation(mark, byte) => {
+                self.listener
+                    .refuse_station(Channel::of(mark), Letter::of_capital(byte));
+            }
+            LineKind::AcceptStation(mark, byte) => {
+                self.listener
+                    .accept_station(Channel::of(mark), Letter::of_capital(byte));
+            }
+            LineKind::RefuseSubject(mark, byte) => {
+                self.refuse_subject(Channel::of(mark), Letter::of_capital(byte));
+            }
+            LineKind::AcceptSubject(mark, byte) => {
+                self.listener
+                    .accept_subject(Channel::of(mark), Letter::of_capital(byte));
+            }
+        }
+        Ok(())
     }
 
     /// Refuses the subject on a channel. The refusal of a vital one doesn't act.
@@ -111,11 +155,10 @@ impl<D: DiskFile + Drop> LoggingListener<D> {
         writer: &mut Counting<W>,
     ) -> Result<(), WriteFailed>
         requires { writer.old.failures ≡ 0 }
-        ensures taken { (start : WithWriter (TheLoggingListener D) W) (lines : List Line)
-            → StandsWith (KeepsLines D.DiskFile) W.contents start
-            (with_writer self.old writer.old) lines
-            → StandsWith (KeepsLines D.DiskFile) W.contents start
-            (with_writer self.new writer.new) (lines ++ elements mark packed.now ∷ []) }
+        ensures taken { (start : LoggingTo D W) (lines : List Line)
+            → TakesLines D.DiskFile W.contents start (logging_to self.old writer.old) lines
+            → TakesLines D.DiskFile W.contents start (logging_to self.new writer.new)
+            (lines ++ elements mark packed.now ∷ []) }
         ensures counts { FailsOnce writer.new result }
         ensures failed { self.old.keeper.has_failed ≡ true → self.new.keeper.has_failed ≡ true }
     {
@@ -134,11 +177,10 @@ impl<D: DiskFile + Drop> LoggingListener<D> {
     /// Closes the channels 0, 1 and 2, and keeps the entries of the copies that stood open.
     pub(crate) fn close<W: Write>(self, writer: &mut Counting<W>) -> Keeper<D>
         requires { writer.old.failures ≤ 1 }
-        ensures closed { (start : WithWriter (TheLoggingListener D) W) (lines : List Line)
-            → StandsWith (KeepsLines D.DiskFile) W.contents start
-            (with_writer self writer.old) lines
-            → HasClosed D.DiskFile W.contents (starts_of start.taker.listener)
-            start.taker.keeper result start.writer writer.new lines }
+        ensures closed { (start : LoggingTo D W) (lines : List Line)
+            → TakesLines D.DiskFile W.contents start (logging_to self writer.old) lines
+            → HasClosed D.DiskFile W.contents (starts_of start.logging.listener)
+            start.logging.keeper result start.writer writer.new lines }
         ensures once { writer.new.failures ≤ 1 }
         ensures failed { self.keeper.has_failed ≡ true → result.has_failed ≡ true }
     {
@@ -157,11 +199,10 @@ impl<D: DiskFile + Drop> LoggingListener<D> {
         notices: &mut Counting<F>,
     ) -> Keeper<D>
         requires { writer.old.failures ≤ 1 }
-        ensures closed { (start : WithWriter (TheLoggingListener D) W) (lines : List Line)
-            → StandsWith (KeepsLines D.DiskFile) W.contents start
-            (with_writer self writer.old) lines
-            → HasClosed D.DiskFile W.contents (starts_of start.taker.listener)
-            start.taker.keeper result start.writer writer.new lines }
+        ensures closed { (start : LoggingTo D W) (lines : List Line)
+            → TakesLines D.DiskFile W.contents start (logging_to self writer.old) lines
+            → HasClosed D.DiskFile W.contents (starts_of start.logging.listener)
+            start.logging.keeper result start.writer writer.new lines }
         ensures once { writer.new.failures ≤ 1 }
         ensures failed { self.keeper.has_failed ≡ true → result.has_failed ≡ true }
         ensures told { (old : Option (List ℕ)) (text : List ℕ)
@@ -269,50 +310,5 @@ fn keep_last<D: DiskFile + Drop, W: Write>(
             return keeper;
         };
         keeper.keep(&entry_bytes(&entry, channel), writer);
-    }
-}
-
-impl<D: DiskFile + Drop> ActingTaker for LoggingListener<D> {
-    ghost use Rattle.nx_receiver.specs.Listener.{starts_of};
-    ghost use Rattle.nx_watch.specs.private.LoggingListener.{KeepsLines};
-
-    ghost first_moment = { λ logging. (starts_of logging.listener).moment };
-
-    ghost stands = { KeepsLines D.DiskFile };
-
-    ghost has_failed = { λ logging. logging.keeper.has_failed };
-
-    fn set_moment(&mut self, given: u64) {
-        LoggingListener::set_moment(self, given);
-    }
-
-    fn take<W: Write>(
-        &mut self,
-        scanner: &Scanner,
-        writer: &mut Counting<W>,
-    ) -> Result<(), WriteFailed> {
-        let Some(kind) = scanner.latest() else {
-            unreachable!()
-        };
-        match kind {
-            LineKind::Elements(mark) => return self.hear(mark, scanner.elements(), writer),
-            LineKind::Moment(moment) => self.set_moment(moment),
-            LineKind::RefuseStation(mark, byte) => {
-                self.listener
-                    .refuse_station(Channel::of(mark), Letter::of_capital(byte));
-            }
-            LineKind::AcceptStation(mark, byte) => {
-                self.listener
-                    .accept_station(Channel::of(mark), Letter::of_capital(byte));
-            }
-            LineKind::RefuseSubject(mark, byte) => {
-                self.refuse_subject(Channel::of(mark), Letter::of_capital(byte));
-            }
-            LineKind::AcceptSubject(mark, byte) => {
-                self.listener
-                    .accept_subject(Channel::of(mark), Letter::of_capital(byte));
-            }
-        }
-        Ok(())
     }
 }

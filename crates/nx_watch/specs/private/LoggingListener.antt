@@ -10,6 +10,7 @@ use Rattle.nx_receiver.specs.air_file_runs.Listen.{given_by}
 use Rattle.nx_receiver.specs.Listener.{HearsGiven, starts_of}
 use Rattle.nx_receiver.specs.copies.InTurn.{PrintAllToEnd}
 use Rattle.nx_receiver.specs.copies.Shares.{Given, MarkedCopy, Starts}
+use Rattle.nx_watch.specs.LineRun.{Standing, WereGiven}
 use Rattle.nx_watch.specs.Watch.{AnswersOver, FailsWithin, HasCause, TellsOfCut, WatchDevices}
 use Rattle.nx_watch.specs.declared.kept_log.keeper.Keeper.{Keeper}
 use Rattle.nx_watch.specs.declared.watch_fault.WatchFault.{WatchFault}
@@ -26,6 +27,14 @@ IsLineInRange line = ⊤
 abbrev pub IsCopyInRange : MarkedCopy → Type 0
 IsCopyInRange one = one.copy.moment ≤ last_moment
 
+-- the receivers of a watch, and the writer that has what their disk didn't take
+pub record LoggingTo (D W : Type 0) : Type 0 where
+  pub logging : LoggingListener D
+  pub writer : CountedDevice W
+
+abbrev pub logging_to : {D W : Type 0} → LoggingListener D → CountedDevice W → LoggingTo D W
+logging_to logging writer = record { logging = logging; writer = writer }
+
 module _ {D : Type 0} (disk : TellsOfDisk D) where
   -- Since start it took these lines: it printed copies of them, and kept their entries, and gave
   -- these bytes to a writer.
@@ -38,6 +47,12 @@ module _ {D : Type 0} (disk : TellsOfDisk D) where
     pub texts : List (List ℕ)
     pub each : AllZip IsLoggedAs copies texts
     pub kept : HasKept disk start.keeper now.keeper texts given
+
+  -- Since start they took these lines, and their writer was given the bytes.
+  abbrev pub TakesLines : {W : Type 0} → (W → Option (List ℕ)) → Standing (LoggingTo D W)
+  TakesLines contents start now lines =
+      (given : List ℕ) × KeepsLines start.logging now.logging lines given
+      × WereGiven contents start.writer now.writer given
 
   -- Since start it was given this, and its writer bytes: it printed copies, and kept their entries.
   pub record KeepsHeard {W : Type 0} (contents : W → Option (List ℕ))

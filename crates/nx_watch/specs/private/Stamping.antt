@@ -6,13 +6,12 @@ use Rattle.nx_fec.specs.Transfers.{CountedDevice}
 use Rattle.nx_kept.specs.declared.disk.DiskFile.{Ghosts as TellsOfDisk}
 use Rattle.nx_watch.specs.Acting.{acting_lines, goes_on}
 use Rattle.nx_watch.specs.AnyLines.{AreLines}
-use Rattle.nx_watch.specs.LineRun.{StandsWith, WithWriter, with_writer}
 use Rattle.nx_watch.specs.LinesTold.{IsToldByRead}
 use Rattle.nx_watch.specs.Stamp.{Stamp}
 use Rattle.nx_watch.specs.declared.lines.line_effects.StartMoments.{StartMoments}
 use Rattle.nx_watch.specs.declared.logging_listener.LoggingListener.{LoggingListener}
 use Rattle.nx_watch.specs.private.Keeping.{keeper_since}
-use Rattle.nx_watch.specs.private.LoggingListener.{KeepsLines}
+use Rattle.nx_watch.specs.private.LoggingListener.{LoggingTo, TakesLines, logging_to}
 use Rattle.nx_watch.specs.private.Running.{HasToldSo, ToldBefore}
 
 -- one that began like this one, and to which the other's log, of so many texts, was given
@@ -41,9 +40,8 @@ module _ {D W N : Type 0} (tells : Telling D W N) where
   -- What stood at a read of a run, of these bytes: the lines that were whole, of which this holds,
   -- had been taken; the first of them without effect had been told, and a put that had failed.
   -- Where none had, the run went on so from what was kept then.
-  pub record WasRunning (start : WithWriter (LoggingListener D) W) (first : StartMoments)
-      (bytes : List ℕ) (Behind : List (Option Line) → Type 0)
-      (WentOn : WithWriter (LoggingListener D) W → Type 0)
+  pub record WasRunning (start : LoggingTo D W) (first : StartMoments) (bytes : List ℕ)
+      (Behind : List (Option Line) → Type 0) (WentOn : LoggingTo D W → Type 0)
       (at : Stamp D (CountedDevice W) (CountedDevice N))
       : Type 0 where
     pub within : at.read ≤ length bytes
@@ -54,19 +52,18 @@ module _ {D W N : Type 0} (tells : Telling D W N) where
     pub past : LoggingListener D
     pub device : at.disk ≡ past.keeper.log.device
     pub on : goes_on first lines ≡ true
-    pub stood : StandsWith (KeepsLines tells.disk) tells.contents start
-        (with_writer past at.writer) (acting_lines first lines)
+    pub stood : TakesLines tells.disk tells.contents start (logging_to past at.writer)
+        (acting_lines first lines)
     pub told : HasToldSo tells.old (tells.told at.notices.inner) at.notices.failures
         (IsToldByRead first (take at.read bytes) lines past.keeper.has_failed)
     pub well : at.writer.failures ≡ 0
     pub went_on : past.keeper.has_failed ≡ false
-        → WentOn (with_writer (logging_since start.taker past (length stood.1.texts)) at.writer)
+        → WentOn (logging_to (logging_since start.logging past (length stood.1.texts)) at.writer)
 
   -- A run went on so from its start, and from each of these reads, at which at most so many lines
   -- were whole.
   pub record RunsStamped (first : StartMoments) (bytes : List ℕ) (most : ℕ)
-      (start : WithWriter (LoggingListener D) W)
-      (WentOn : WithWriter (LoggingListener D) W → Type 0)
+      (start : LoggingTo D W) (WentOn : LoggingTo D W → Type 0)
       (stamps : List (Stamp D (CountedDevice W) (CountedDevice N)))
       : Type 0 where
     pub from_start : WentOn start
@@ -77,9 +74,9 @@ module _ {D W N : Type 0} (tells : Telling D W N) where
   -- of them, and it stands so from what was kept then.
   pub record StandsStamped (first : StartMoments) (bytes : List ℕ)
       (stamps : List (Stamp D (CountedDevice W) (CountedDevice N)))
-      (start now : WithWriter (LoggingListener D) W) (lines : List Line)
+      (start now : LoggingTo D W) (lines : List Line)
       : Type 0 where
-    pub stands : StandsWith (KeepsLines tells.disk) tells.contents start now lines
+    pub stands : TakesLines tells.disk tells.contents start now lines
     pub at_reads : All (WasRunning start first bytes
         (λ whole. (later : List Line) × (lines ≡ acting_lines first whole ++ later))
-        (λ since. StandsWith (KeepsLines tells.disk) tells.contents since now lines)) stamps
+        (λ since. TakesLines tells.disk tells.contents since now lines)) stamps

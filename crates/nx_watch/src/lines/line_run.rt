@@ -3,16 +3,15 @@
 
 ghost use Rattle.std.specs.Prelude.{◌≡◌, ◌+◌, ◌<◌, ◌≤◌, ◌↔◌, ◌⊎◌, ℕ, Bool, true, false, List, [], ◌∷◌, ◌++◌, Option, IsErrOf, IsSomeAnd, IfErr, IfOk, OnOk, MatchResult, None, Some, length, take, ◌^◌};
 ghost use Rattle.std.specs.Io.KnownBytes.{Consumes, IsAtEnd};
-ghost use Rattle.nx_fec.specs.air_files.AirFile.{IsLine, Line, moment};
-ghost use Rattle.nx_fec.specs.Transfers.{FailsOnce};
+ghost use Rattle.nx_fec.specs.air_files.AirFile.{IsLine, Line};
 ghost use Rattle.nx_watch.specs.Acting.{most_bytes};
 ghost use Rattle.nx_watch.specs.AnyLines.{AreLines};
-ghost use Rattle.nx_watch.specs.LineRun.{AnswersRun, AreCounted, HasTaken, HasTold, MayAct, StandsWith, WithWriter, with_writer};
+ghost use Rattle.nx_watch.specs.LineRun.{AnswersRun, AreCounted, HasTaken, HasTold, MayAct};
 ghost use Rattle.nx_watch.specs.LinesTold.{IsReason};
 ghost use Rattle.nx_watch.specs.private.Running.{EndsInput, EndsRun, HasToldLines, HasToldSo, IsBeside, IsRunning, IsToldByEnd, TellsFirst, ToldBefore, ToldBeside, beside};
 ghost use Rattle.nx_receiver.specs.Listener.{starts_of};
 ghost use Rattle.nx_watch.specs.Stamps.{IsFresh, counted_of, stamps_of};
-ghost use Rattle.nx_watch.specs.private.LoggingListener.{KeepsLines};
+ghost use Rattle.nx_watch.specs.private.LoggingListener.{KeepsLines, LoggingTo, TakesLines, logging_to};
 ghost use Rattle.nx_watch.specs.private.Scanning.{IsScanning};
 ghost use Rattle.nx_watch.specs.private.Stamping.{RunsStamped, StandsStamped, telling};
 ghost use Rattle.nx_watch.specs.declared.lines.line_effects.StartMoments.{StartMoments as TheStart};
@@ -25,7 +24,7 @@ use crate::lines::no_effect::NoEffect;
 use crate::lines::telling::{tell_failed_put, tell_first, tell_number};
 use crate::logging_listener::LoggingListener;
 use crate::stamped::StampedReader;
-use nx_fec::{CHUNK, Counting, Piece, Scanner};
+use nx_fec::{CHUNK, Counting, Piece};
 use nx_kept::DiskFile;
 use std::io::{Read, Write};
 use thiserror::Error;
@@ -34,45 +33,6 @@ use thiserror::Error;
 #[derive(Clone, Copy, Debug, Drop, PartialEq, Eq, Error)]
 #[error("a write failed")]
 pub struct WriteFailed;
-
-/// Takes the lines of an air file that act on a watch, one after the other, and may give bytes to a
-/// writer for them.
-pub trait ActingTaker: Drop {
-    /// The moment in force at first.
-    ghost first_moment: { Self → ℕ };
-
-    /// What stood so at first stands so now, after these lines, for which these bytes were given.
-    ghost stands: { Self → Self → List Line → List ℕ → Type 0 };
-
-    /// Whether what it keeps can't be kept any more.
-    ghost has_failed: { Self → Bool };
-
-    /// Sets the moment in force, as a line does that says it. It comes before the first elements,
-    /// where no line said one.
-    fn set_moment(&mut self, given: u64)
-        ensures set { (start : Self) (lines : List Line) (bytes : List ℕ)
-            → MayAct (first_moment start) lines (moment given)
-            → stands start self.old lines bytes
-            → stands start self.new (lines ++ moment given ∷ []) bytes }
-        ensures failed { has_failed self.old ≡ true → has_failed self.new ≡ true };
-
-    /// Takes the line that the scanner's last byte ended, and gives the writer its bytes. It takes
-    /// the whole line also where a write fails, after which it doesn't call the writer.
-    fn take<W: Write>(
-        &mut self,
-        scanner: &Scanner,
-        writer: &mut Counting<W>,
-    ) -> Result<(), WriteFailed>
-        requires line { IsSomeAnd scanner.now.latest IsLine }
-        requires none { writer.old.failures ≡ 0 }
-        ensures taken { (start : WithWriter Self W) (lines : List Line) (line : Line)
-            → scanner.now.latest ≡ Some line → MayAct (first_moment start.taker) lines line
-            → StandsWith stands W.contents start (with_writer self.old writer.old) lines
-            → StandsWith stands W.contents start (with_writer self.new writer.new)
-            (lines ++ line ∷ []) }
-        ensures counts { FailsOnce writer.new result }
-        ensures failed { has_failed self.old ≡ true → has_failed self.new ≡ true };
-}
 
 /// What a run over lines read.
 #[derive(Clone, Copy, Debug, PartialEq, Eq)]
@@ -128,8 +88,8 @@ pub(crate) fn watch_lines<R: Read, D: DiskFile + Drop, W: Write, F: Write>(
           stands = StandsStamped
               (telling D.DiskFile W.contents F.contents old) first bytes
               (stamps_of reader.new);
-          start = with_writer start writer.old;
-          now = with_writer logging.new writer.new;
+          start = logging_to start writer.old;
+          now = logging_to logging.new writer.new;
           first = first;
           AtEnd = IsAtEnd (R.remaining (counted_of reader.new).inner) ⊎ (length bytes ≡ limit);
           tells = λ lines. HasToldSo old (F.contents notices.new.inner) notices.new.failures
@@ -163,7 +123,8 @@ struct LineRun {
 }
 
 impl LineRun {
-    /// Reads the input to its end or its limit, or until the run is over.
+    /// Reads the input to its end or its limit, or until the run is over: asks for a piece, takes
+    /// its lines, and only then asks for more.
     fn read_lines<R: Read, D: DiskFile + Drop, W: Write, F: Write>(
         &mut self,
         reader: &mut StampedReader<R, D, Counting<W>, Counting<F>>,
@@ -178,12 +139,11 @@ impl LineRun {
         requires room { self.old.scanner.scanner.room ≡ most_bytes }
         requires lines { self.old.effects.lines ≡ 0 }
         requires fewer { self.old.effects.without_effect ≡ 0 }
-        ensures read { (start : WithWriter (TheLoggingListener D) W) (first : TheStart)
-            (old : ToldBefore)
-            → (starts_of start.taker.listener).moment ≡ first.newest
+        ensures read { (start : LoggingTo D W) (first : TheStart) (old : ToldBefore)
+            → (starts_of start.logging.listener).moment ≡ first.newest
             → logging.old.keeper.has_failed ≡ false
-            → IsRunning (StandsWith (KeepsLines D.DiskFile) W.contents) start
-            (with_writer logging.old writer.old) first self.old (beside old)
+            → IsRunning (TakesLines D.DiskFile W.contents) start
+            (logging_to logging.old writer.old) first self.old (beside old)
             (F.contents notices.old.inner) notices.old.failures []
             → (bytes : List ℕ)
             × Consumes (R.remaining (counted_of reader.old).inner)
@@ -194,13 +154,13 @@ impl LineRun {
             (λ _. (IsAtEnd (R.remaining (counted_of reader.new).inner) ⊎ (length bytes ≡ limit))
             × RunsStamped (telling D.DiskFile W.contents F.contents old) first bytes
             self.new.effects.lines start
-            (λ since. IsRunning (StandsWith (KeepsLines D.DiskFile) W.contents) since
-            (with_writer logging.new writer.new) first self.new told
+            (λ since. IsRunning (TakesLines D.DiskFile W.contents) since
+            (logging_to logging.new writer.new) first self.new told
             (F.contents notices.new.inner) notices.new.failures bytes) (stamps_of reader.new))
             (λ end. RunsStamped (telling D.DiskFile W.contents F.contents old) first bytes
             self.new.effects.lines start
-            (λ since. EndsRun (StandsWith (KeepsLines D.DiskFile) W.contents) since
-            (with_writer logging.new writer.new) first self.new.effects told
+            (λ since. EndsRun (TakesLines D.DiskFile W.contents) since
+            (logging_to logging.new writer.new) first self.new.effects told
             (F.contents notices.new.inner) notices.new.failures end bytes)
             (stamps_of reader.new)) }
         ensures few { OnOk result (self.new.effects.lines < 2 ^ 63) }
@@ -220,7 +180,7 @@ impl LineRun {
                 Piece::End => return Ok(()),
                 Piece::Failed => return Err(WatchEnd::Read),
             };
-            if let Err(end) = self.keep_piece(&buffer[..count], writer, notices, logging) {
+            if let Err(end) = self.take_piece(&buffer[..count], writer, notices, logging) {
                 return Err(end);
             }
             room -= count as u64;
@@ -228,8 +188,8 @@ impl LineRun {
         Ok(())
     }
 
-    /// Takes the lines that a piece ends, and tells of a put that failed at one of them.
-    fn keep_piece<D: DiskFile + Drop, W: Write, F: Write>(
+    /// Takes the lines of a piece, and tells of a put that failed at one of them.
+    fn take_piece<D: DiskFile + Drop, W: Write, F: Write>(
         &mut self,
         piece: &[u8],
         writer: &mut Counting<W>,
@@ -245,18 +205,18 @@ impl LineRun {
         ensures taken { (base : ToldBefore) (old : ToldBeside)
             → IsBeside base logging.old.keeper.has_failed old
             → (told : ToldBeside) × IsBeside base logging.new.keeper.has_failed told
-            × ((start : WithWriter (TheLoggingListener D) W) (first : TheStart) (bytes : List ℕ)
-            → (starts_of start.taker.listener).moment ≡ first.newest
-            → IsRunning (StandsWith (KeepsLines D.DiskFile) W.contents) start
-            (with_writer logging.old writer.old) first self.old old
+            × ((start : LoggingTo D W) (first : TheStart) (bytes : List ℕ)
+            → (starts_of start.logging.listener).moment ≡ first.newest
+            → IsRunning (TakesLines D.DiskFile W.contents) start
+            (logging_to logging.old writer.old) first self.old old
             (F.contents notices.old.inner) notices.old.failures bytes
             → MatchResult result
-            (λ _. IsRunning (StandsWith (KeepsLines D.DiskFile) W.contents) start
-            (with_writer logging.new writer.new) first self.new told
+            (λ _. IsRunning (TakesLines D.DiskFile W.contents) start
+            (logging_to logging.new writer.new) first self.new told
             (F.contents notices.new.inner) notices.new.failures (bytes ++ piece.now))
-            (λ end. (more : List ℕ) → EndsRun (StandsWith (KeepsLines D.DiskFile) W.contents) start
-            (with_writer logging.new writer.new) first
-            self.new.effects told (F.contents notices.new.inner) notices.new.failures end
+            (λ end. (more : List ℕ) → EndsRun (TakesLines D.DiskFile W.contents) start
+            (logging_to logging.new writer.new) first self.new.effects told
+            (F.contents notices.new.inner) notices.new.failures end
             ((bytes ++ piece.now) ++ more))) }
         ensures room { OnOk result
             (self.old.scanner.scanner.room ≤ self.new.scanner.scanner.room + length piece.now) }
@@ -271,18 +231,18 @@ impl LineRun {
         ensures written_once { writer.new.failures ≤ 1 }
     {
         let had_failed = logging.keeper.has_failed;
-        let taken = self.take_piece(piece, writer, notices, logging);
+        let taken = self.take_lines(piece, writer, notices, logging);
         tell_failed_put(had_failed, logging.keeper.has_failed, notices);
         taken
     }
 
-    /// Takes the lines that a piece ends.
-    fn take_piece<W: Write, F: Write, T: ActingTaker>(
+    /// Takes the lines that a piece ends, one after the other.
+    fn take_lines<D: DiskFile + Drop, W: Write, F: Write>(
         &mut self,
         piece: &[u8],
         writer: &mut Counting<W>,
         notices: &mut Counting<F>,
-        taker: &mut T,
+        logging: &mut LoggingListener<D>,
     ) -> Result<(), WatchEnd>
         requires short { length piece.now ≤ CHUNK }
         requires writer { writer.old.failures ≡ 0 }
@@ -290,19 +250,18 @@ impl LineRun {
         requires within { self.old.scanner.scanner.room ≤ most_bytes }
         requires few { self.old.effects.lines + length piece.now ≤ most_bytes }
         requires fewer { self.old.effects.without_effect ≤ self.old.effects.lines }
-        ensures taken { (start : WithWriter T W) (first : TheStart) (old : ToldBeside)
+        ensures taken { (start : LoggingTo D W) (first : TheStart) (old : ToldBeside)
             (bytes : List ℕ)
-            → T.first_moment start.taker ≡ first.newest
-            → IsRunning (StandsWith T.stands W.contents) start (with_writer taker.old writer.old)
-            first self.old old
-            (F.contents notices.old.inner) notices.old.failures bytes
+            → (starts_of start.logging.listener).moment ≡ first.newest
+            → IsRunning (TakesLines D.DiskFile W.contents) start (logging_to logging.old writer.old)
+            first self.old old (F.contents notices.old.inner) notices.old.failures bytes
             → MatchResult result
-            (λ _. IsRunning (StandsWith T.stands W.contents) start
-            (with_writer taker.new writer.new) first self.new old
+            (λ _. IsRunning (TakesLines D.DiskFile W.contents) start
+            (logging_to logging.new writer.new) first self.new old
             (F.contents notices.new.inner) notices.new.failures (bytes ++ piece.now))
-            (λ end. (more : List ℕ) → EndsRun (StandsWith T.stands W.contents) start
-            (with_writer taker.new writer.new) first
-            self.new.effects old (F.contents notices.new.inner) notices.new.failures end
+            (λ end. (more : List ℕ) → EndsRun (TakesLines D.DiskFile W.contents) start
+            (logging_to logging.new writer.new) first self.new.effects old
+            (F.contents notices.new.inner) notices.new.failures end
             ((bytes ++ piece.now) ++ more)) }
         ensures room { OnOk result
             (self.old.scanner.scanner.room ≤ self.new.scanner.scanner.room + length piece.now) }
@@ -315,11 +274,12 @@ impl LineRun {
         ensures open { OnOk result (writer.new.failures ≡ 0) }
         ensures unwritten { IsErrOf result WriteEnd ↔ (writer.new.failures ≡ 1) }
         ensures written_once { writer.new.failures ≤ 1 }
-        ensures failed { T.has_failed taker.old ≡ true → T.has_failed taker.new ≡ true }
+        ensures failed { logging.old.keeper.has_failed ≡ true
+            → logging.new.keeper.has_failed ≡ true }
     {
         let mut at = 0;
         while at < piece.len() {
-            match self.take_line(&piece[at..], writer, notices, taker) {
+            match self.take_line(&piece[at..], writer, notices, logging) {
                 Ok(count) => at += count,
                 Err(end) => return Err(end),
             }
@@ -329,12 +289,12 @@ impl LineRun {
 
     /// Takes the bytes of a piece up to and with its first line feed, and the line that it ends.
     /// Answers how many bytes there were.
-    fn take_line<W: Write, F: Write, T: ActingTaker>(
+    fn take_line<D: DiskFile + Drop, W: Write, F: Write>(
         &mut self,
         piece: &[u8],
         writer: &mut Counting<W>,
         notices: &mut Counting<F>,
-        taker: &mut T,
+        logging: &mut LoggingListener<D>,
     ) -> Result<usize, WatchEnd>
         requires some { 0 < length piece.now }
         requires short { length piece.now ≤ CHUNK }
@@ -343,19 +303,18 @@ impl LineRun {
         requires within { self.old.scanner.scanner.room ≤ most_bytes }
         requires few { self.old.effects.lines + length piece.now ≤ most_bytes }
         requires fewer { self.old.effects.without_effect ≤ self.old.effects.lines }
-        ensures taken { (start : WithWriter T W) (first : TheStart) (old : ToldBeside)
+        ensures taken { (start : LoggingTo D W) (first : TheStart) (old : ToldBeside)
             (bytes : List ℕ)
-            → T.first_moment start.taker ≡ first.newest
-            → IsRunning (StandsWith T.stands W.contents) start (with_writer taker.old writer.old)
-            first self.old old
-            (F.contents notices.old.inner) notices.old.failures bytes
+            → (starts_of start.logging.listener).moment ≡ first.newest
+            → IsRunning (TakesLines D.DiskFile W.contents) start (logging_to logging.old writer.old)
+            first self.old old (F.contents notices.old.inner) notices.old.failures bytes
             → MatchResult result
-            (λ count. IsRunning (StandsWith T.stands W.contents) start
-            (with_writer taker.new writer.new) first self.new old
+            (λ count. IsRunning (TakesLines D.DiskFile W.contents) start
+            (logging_to logging.new writer.new) first self.new old
             (F.contents notices.new.inner) notices.new.failures (bytes ++ take count piece.now))
-            (λ end. (more : List ℕ) → EndsRun (StandsWith T.stands W.contents) start
-            (with_writer taker.new writer.new) first
-            self.new.effects old (F.contents notices.new.inner) notices.new.failures end
+            (λ end. (more : List ℕ) → EndsRun (TakesLines D.DiskFile W.contents) start
+            (logging_to logging.new writer.new) first self.new.effects old
+            (F.contents notices.new.inner) notices.new.failures end
             ((bytes ++ piece.now) ++ more)) }
         ensures some { IfOk result (λ count. 0 < count) }
         ensures all { IfOk result (λ count. count ≤ length piece.now) }
@@ -370,7 +329,8 @@ impl LineRun {
         ensures open { OnOk result (writer.new.failures ≡ 0) }
         ensures unwritten { IsErrOf result WriteEnd ↔ (writer.new.failures ≡ 1) }
         ensures written_once { writer.new.failures ≤ 1 }
-        ensures failed { T.has_failed taker.old ≡ true → T.has_failed taker.new ≡ true }
+        ensures failed { logging.old.keeper.has_failed ≡ true
+            → logging.new.keeper.has_failed ≡ true }
     {
         let (count, ended) = self.scanner.take(piece);
         match ended {
@@ -379,7 +339,7 @@ impl LineRun {
                 self.pass_line(why, notices);
                 Ok(count)
             }
-            Ended::Line => match self.take_known(writer, notices, taker) {
+            Ended::Line => match self.take_known(writer, notices, logging) {
                 Ok(()) => Ok(count),
                 Err(end) => Err(end),
             },
@@ -446,64 +406,66 @@ impl LineRun {
         tell_first(before, self.effects.lines(), why, notices);
     }
 
-    /// Gives the taker the line that the last byte ended, which acts.
+    /// Gives the receivers the line that the last byte ended, which acts.
     #[inline(always)]
-    fn take_acting<W: Write, T: ActingTaker>(
+    fn give_line<D: DiskFile + Drop, W: Write>(
         &self,
         writer: &mut Counting<W>,
-        taker: &mut T,
+        logging: &mut LoggingListener<D>,
     ) -> Result<(), WatchEnd>
         requires line { IsSomeAnd self.now.scanner.scanner.latest IsLine }
         requires writer { writer.old.failures ≡ 0 }
-        ensures taken { (start : WithWriter T W) (lines : List Line) (line : Line)
+        ensures taken { (start : LoggingTo D W) (lines : List Line) (line : Line)
             → self.now.scanner.scanner.latest ≡ Some line
-            → MayAct (T.first_moment start.taker) lines line
-            → StandsWith T.stands W.contents start (with_writer taker.old writer.old) lines
-            → StandsWith T.stands W.contents start (with_writer taker.new writer.new)
+            → MayAct (starts_of start.logging.listener).moment lines line
+            → TakesLines D.DiskFile W.contents start (logging_to logging.old writer.old) lines
+            → TakesLines D.DiskFile W.contents start (logging_to logging.new writer.new)
             (lines ++ line ∷ []) }
         ensures ended { IfErr result (λ end. end ≡ WriteEnd) }
         ensures unread { IsErrOf result ReadFailed → ⊥ }
         ensures open { OnOk result (writer.new.failures ≡ 0) }
         ensures unwritten { IsErrOf result WriteEnd ↔ (writer.new.failures ≡ 1) }
         ensures written_once { writer.new.failures ≤ 1 }
-        ensures failed { T.has_failed taker.old ≡ true → T.has_failed taker.new ≡ true }
+        ensures failed { logging.old.keeper.has_failed ≡ true
+            → logging.new.keeper.has_failed ≡ true }
     {
-        match taker.take(&self.scanner.scanner, writer) {
+        match logging.take(&self.scanner.scanner, writer) {
             Ok(()) => Ok(()),
             Err(WriteFailed) => Err(WatchEnd::Write),
         }
     }
 
-    /// Takes the line of an air file that the last byte ended.
+    /// Takes the line of an air file that the last byte ended: gives it to the receivers where it
+    /// acts, and tells why not where it is the first without effect.
     #[inline(always)]
-    fn take_known<W: Write, F: Write, T: ActingTaker>(
+    fn take_known<D: DiskFile + Drop, W: Write, F: Write>(
         &mut self,
         writer: &mut Counting<W>,
         notices: &mut Counting<F>,
-        taker: &mut T,
+        logging: &mut LoggingListener<D>,
     ) -> Result<(), WatchEnd>
         requires line { IsSomeAnd self.old.scanner.scanner.latest IsLine }
         requires writer { writer.old.failures ≡ 0 }
         requires few { self.old.effects.lines < 2 ^ 63 }
         requires fewer { self.old.effects.without_effect ≤ self.old.effects.lines }
-        ensures taken { (start : WithWriter T W) (first : TheStart) (old : ToldBeside)
+        ensures taken { (start : LoggingTo D W) (first : TheStart) (old : ToldBeside)
             (bytes : List ℕ) (lines : List (Option Line)) (line : Line)
-            → T.first_moment start.taker ≡ first.newest
+            → (starts_of start.logging.listener).moment ≡ first.newest
             → self.old.scanner.scanner.latest ≡ Some line
-            → HasTaken (StandsWith T.stands W.contents) start (with_writer taker.old writer.old)
+            → HasTaken (TakesLines D.DiskFile W.contents) start (logging_to logging.old writer.old)
             first lines
             → TellsFirst first self.old.effects old (F.contents notices.old.inner)
             notices.old.failures bytes lines
             → MatchResult result
-            (λ _. HasTaken (StandsWith T.stands W.contents) start (with_writer taker.new writer.new)
-            first (lines ++ Some line ∷ [])
+            (λ _. HasTaken (TakesLines D.DiskFile W.contents) start
+            (logging_to logging.new writer.new) first (lines ++ Some line ∷ [])
             × TellsFirst first self.new.effects old (F.contents notices.new.inner)
             notices.new.failures bytes (lines ++ Some line ∷ []))
             (λ end. (front : List ℕ) → AreLines front (lines ++ Some line ∷ []) []
             → (more : List ℕ) → bytes ≡ front ++ more
-            → EndsRun (StandsWith T.stands W.contents) start (with_writer taker.new writer.new)
-            first self.new.effects old
-            (F.contents notices.new.inner) notices.new.failures end bytes) }
+            → EndsRun (TakesLines D.DiskFile W.contents) start (logging_to logging.new writer.new)
+            first self.new.effects old (F.contents notices.new.inner) notices.new.failures end
+            bytes) }
         ensures scanner { self.new.scanner ≡ self.old.scanner }
         ensures lines { self.new.effects.lines ≡ self.old.effects.lines + 1 }
         ensures fewer { self.new.effects.without_effect ≤ self.new.effects.lines }
@@ -511,17 +473,18 @@ impl LineRun {
         ensures open { OnOk result (writer.new.failures ≡ 0) }
         ensures unwritten { IsErrOf result WriteEnd ↔ (writer.new.failures ≡ 1) }
         ensures written_once { writer.new.failures ≤ 1 }
-        ensures failed { T.has_failed taker.old ≡ true → T.has_failed taker.new ≡ true }
+        ensures failed { logging.old.keeper.has_failed ≡ true
+            → logging.new.keeper.has_failed ≡ true }
     {
         let Some(kind) = self.scanner.scanner.latest() else {
             unreachable!()
         };
         let before = self.effects.first_without();
         match self.effects.line(kind) {
-            Effect::Acts => self.take_acting(writer, taker),
+            Effect::Acts => self.give_line(writer, logging),
             Effect::Sets(given) => {
-                taker.set_moment(given);
-                self.take_acting(writer, taker)
+                logging.set_moment(given);
+                self.give_line(writer, logging)
             }
             Effect::Nothing(why) => {
                 tell_first(before, self.effects.lines(), why, notices);

@@ -22,9 +22,10 @@ use Rattle.nx_watch.specs.Acting.{moments_said, went_far_back, with_start}
 use Rattle.nx_watch.specs.declared.lines.line_effects.StartMoments.{StartMoments}
 use Rattle.nx_watch.specs.AnyLines.{AreLines, cut_line}
 use Rattle.nx_watch.specs.LineRun.{AnswersRun, AreCounted, HasTaken, HasTold, MayAct, RunOverLines}
-use Rattle.nx_watch.specs.LineRun.{Giving, Standing, StandsWith}
-use Rattle.nx_watch.specs.LineRun.{with_writer}
+use Rattle.nx_watch.specs.LineRun.{Standing}
 use Rattle.nx_fec.specs.Transfers.{CountedDevice}
+use Rattle.nx_kept.specs.declared.disk.DiskFile.{Ghosts as TellsOfDisk}
+use Rattle.nx_watch.specs.declared.logging_listener.LoggingListener.{LoggingListener}
 use Rattle.nx_watch.specs.LinesTold.{IsFirstTold, IsReason}
 use Rattle.nx_watch.specs.declared.lines.no_effect.NoEffect.TheVariants.{GoesBack}
 use Rattle.nx_watch.specs.declared.lines.line_run.LinesWatched.{LinesWatched}
@@ -36,6 +37,7 @@ use Rattle.nx_watch.specs.declared.lines.line_effects.LineEffects.{LineEffects}
 use Rattle.nx_watch.specs.declared.lines.line_run.LineRun.{LineRun}
 use Rattle.nx_watch.specs.private.Running.{EndsInput, EndsRun, HasToldLines, IsRunning, TellsFirst, ToldBefore, ToldBeside, beside}
 use Rattle.nx_watch.specs.private.Scanning.{IsScanning, lines_ended}
+use Rattle.nx_watch.specs.private.LoggingListener.{KeepsLines, TakesLines, logging_to}
 use Rattle.nx_watch.proofs.lemmas.lines.Acting.{both, idle-unset, not_second}
 use Rattle.nx_watch.proofs.lemmas.lines.Starting.{is-setting, set-before, set_line, unset-behind}
 
@@ -435,12 +437,12 @@ pub nothing : (contents : Option (List ℕ)) → Appends contents contents []
 nothing None = tt
 nothing (Some bytes) = sym (append-nil bytes)
 
--- a taker and a writer before the first line
-pub stands-with : {T W : Type 0} (stands : Giving T) (contents : W → Option (List ℕ))
-    (start now : T)
-    (writer : CountedDevice W) → stands start now [] [] → writer.failures ≡ 0
-    → StandsWith stands contents (with_writer start writer) (with_writer now writer) []
-stands-with stands contents start now writer stood none = (
+-- the receivers and a writer before the first line
+pub none-taken : {D W : Type 0} (disk : TellsOfDisk D) (contents : W → Option (List ℕ))
+    (start now : LoggingListener D) (writer : CountedDevice W)
+    → KeepsLines disk start now [] [] → writer.failures ≡ 0
+    → TakesLines disk contents (logging_to start writer) (logging_to now writer) []
+none-taken disk contents start now writer stood none = (
   [],
   stood,
   record {

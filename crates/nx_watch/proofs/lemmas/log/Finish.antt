@@ -27,7 +27,7 @@ use Rattle.nx_watch.specs.Acting.{acting_lines, goes_on, most_bytes}
 use Rattle.nx_watch.specs.declared.lines.line_effects.StartMoments.{StartMoments}
 use Rattle.nx_watch.specs.Watch.{AnswersOver, AnswersStop, FailsWithin, FailsWrites, HadFailed, HadKept, HadWritten, HasCause, HasRead, HasWatchedOver, KeepsAll, KeepsSome, LeavesAtAnyMoment, StoodOver, TellsOfCut}
 use Rattle.nx_watch.specs.Watch.{PrintsUntil, StandsForEntries, Stop, WatchDevices, at_end, back, moments_at, unread, unwritten}
-use Rattle.nx_watch.specs.LineRun.{HasTold, StandsWith, WereGiven, WithWriter, with_writer}
+use Rattle.nx_watch.specs.LineRun.{HasTold, WereGiven}
 use Rattle.nx_watch.specs.Stamp.{Stamp}
 use Rattle.nx_watch.specs.declared.kept_log.keeper.Keeper.{Keeper}
 use Rattle.nx_watch.specs.declared.watch_report.WatchReport.{WatchReport}
@@ -37,7 +37,7 @@ use Rattle.nx_watch.specs.private.Keeping.{AllKept, HasKept, HasKeptSo, KeepsTex
 use Rattle.nx_watch.specs.LinesTold.{IsToldAtEnd, IsToldByRead}
 use Rattle.nx_watch.specs.private.Running.{HasToldSo, ToldBefore}
 use Rattle.nx_watch.specs.private.Stamping.{StandsStamped, WasRunning, telling}
-use Rattle.nx_watch.specs.private.LoggingListener.{HasClosed, HasRun, IsLineInRange, KeepsLines}
+use Rattle.nx_watch.specs.private.LoggingListener.{HasClosed, HasRun, IsLineInRange, KeepsLines, LoggingTo, TakesLines, logging_to}
 use Rattle.nx_watch.specs.declared.logging_listener.LoggingListener.{LoggingListener}
 use Rattle.nx_watch.proofs.lemmas.log.Keeping.{all-new, keeps-stands}
 use Rattle.nx_watch.proofs.lemmas.log.LoggingListener.{log-of}
@@ -329,20 +329,20 @@ stop-cause disk old new first unwritten lines copies (Err fault.Disk) h well =
 
 -- From this start on the keeper was given the texts of these copies.
 pub record KeepsOn {D W : Type 0} (disk : TellsOfDisk D) (now : Keeper D) (copies : List MarkedCopy)
-    (since : WithWriter (LoggingListener D) W)
+    (since : LoggingTo D W)
     : Type 0 where
   pub texts : List (List ℕ)
   pub each : AllZip IsLoggedAs copies texts
   pub given : List ℕ
-  pub kept : HasKept disk since.taker.keeper now texts given
+  pub kept : HasKept disk since.logging.keeper now texts given
 
 -- where the end closed what stood open, from there on too
 pub closed-on : {D W : Type 0} (disk : TellsOfDisk D) (contents : W → Option (List ℕ))
-    (starts : Starts) (since : WithWriter (LoggingListener D) W) (now : Keeper D)
-    (writer : CountedDevice W) (lines : List Line) (copies : List MarkedCopy)
-    → starts_of since.taker.listener ≡ starts → PrintAllToEnd starts (given_by lines) copies
-    → HasClosed disk contents (starts_of since.taker.listener) since.taker.keeper now since.writer
-    writer lines
+    (starts : Starts) (since : LoggingTo D W) (now : Keeper D) (writer : CountedDevice W)
+    (lines : List Line) (copies : List MarkedCopy)
+    → starts_of since.logging.listener ≡ starts → PrintAllToEnd starts (given_by lines) copies
+    → HasClosed disk contents (starts_of since.logging.listener) since.logging.keeper now
+    since.writer writer lines
     → KeepsOn disk now copies since
 closed-on disk contents starts since now writer lines copies is printed h = record {
   texts = h.texts;
@@ -355,10 +355,10 @@ closed-on disk contents starts since now writer lines copies is printed h = reco
 
 -- and where it didn't
 pub heard-on : {D W : Type 0} (disk : TellsOfDisk D) (contents : W → Option (List ℕ))
-    (starts : Starts) (since now : WithWriter (LoggingListener D) W) (keeper : Keeper D)
-    (lines : List Line) (copies : List MarkedCopy)
-    → starts_of since.taker.listener ≡ starts → PrintsInTurn starts (given_by lines) copies
-    → keeper ≡ now.taker.keeper → StandsWith (KeepsLines disk) contents since now lines
+    (starts : Starts) (since now : LoggingTo D W) (keeper : Keeper D) (lines : List Line)
+    (copies : List MarkedCopy)
+    → starts_of since.logging.listener ≡ starts → PrintsInTurn starts (given_by lines) copies
+    → keeper ≡ now.logging.keeper → TakesLines disk contents since now lines
     → KeepsOn disk keeper copies since
 heard-on disk contents starts since now keeper lines copies is printed same h = record {
   texts = h.1.texts;
@@ -367,17 +367,17 @@ heard-on disk contents starts since now keeper lines copies is printed same h = 
       (subst (λ s. PrintsInTurn s (given_by lines) h.1.copies) is h.1.heard.in_turn) printed)
       h.1.each;
   given = h.0;
-  kept = subst (λ k. HasKept disk since.taker.keeper k h.1.texts h.0) (sym same) h.1.kept;
+  kept = subst (λ k. HasKept disk since.logging.keeper k h.1.texts h.0) (sym same) h.1.kept;
 }
 
 -- what stood at the reads of a run that stands so now, and of which the copies were kept so
 pub stamps-keep : {D W N : Type 0} (disk : TellsOfDisk D) (contents : W → Option (List ℕ))
     (told : N → Option (List ℕ)) (old : ToldBefore) (first : StartMoments)
-    (start now : WithWriter (LoggingListener D) W) (bytes : List ℕ) (keeper : Keeper D)
+    (start now : LoggingTo D W) (bytes : List ℕ) (keeper : Keeper D)
     (acting all : List Line) (copies : List MarkedCopy)
     (stamps : List (Stamp D (CountedDevice W) (CountedDevice N))) → all ≡ acting
-    → ((since : WithWriter (LoggingListener D) W) → since.taker.listener ≡ start.taker.listener
-    → StandsWith (KeepsLines disk) contents since now acting → KeepsOn disk keeper copies since)
+    → ((since : LoggingTo D W) → since.logging.listener ≡ start.logging.listener
+    → TakesLines disk contents since now acting → KeepsOn disk keeper copies since)
     → StandsStamped (telling disk contents told old) first bytes stamps start now acting
     → All (WasRunning (telling disk contents told old) start first bytes
     (λ whole. (later : List Line) × (all ≡ acting_lines first whole ++ later))
@@ -386,7 +386,7 @@ stamps-keep disk contents told old first start now bytes keeper acting all copie
     says-too disk contents told old first start bytes
     (λ whole. (later : List Line) × (acting ≡ acting_lines first whole ++ later))
     (λ whole. (later : List Line) × (all ≡ acting_lines first whole ++ later))
-    (λ since. StandsWith (KeepsLines disk) contents since now acting)
+    (λ since. TakesLines disk contents since now acting)
     (KeepsOn disk keeper copies) (λ at w. (w.behind.0, is ∙ w.behind.1)) step stamps h.at_reads
 
 moments-since : {D : Type 0} (disk : TellsOfDisk D) (content : List ℕ) (start now : Keeper D)
@@ -476,7 +476,7 @@ module _ {D R W E : Type 0} (disk : TellsOfDisk D) (logging : LoggingListener D)
       pub failed_read : (stop ≡ unread) ↔ (reader_after.failures ≡ 1)
       pub failed_write : FailsWrites stop writer_after.failures
       pub stamped : All (WasRunning (telling disk contents told before)
-          (with_writer logging writer) first bytes
+          (logging_to logging writer) first bytes
           (λ whole. (later : List Line)
           × (acting_lines first lines ≡ acting_lines first whole ++ later))
           (KeepsOn disk now copies)) stamps
@@ -505,7 +505,7 @@ module _ {D R W E : Type 0} (disk : TellsOfDisk D) (logging : LoggingListener D)
         → AllZip IsLoggedAs entries texts → KeepsTexts disk content texts logging.keeper
         → (at : Stamp D (CountedDevice W) (CountedDevice E))
         → WasRunning (telling disk contents told before)
-        (with_writer logging writer) first h.bytes
+        (logging_to logging writer) first h.bytes
         (λ whole. (later : List Line)
         × (acting_lines first h.lines ≡ acting_lines first whole ++ later))
         (KeepsOn disk now h.copies) at

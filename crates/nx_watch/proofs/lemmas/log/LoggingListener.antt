@@ -34,9 +34,8 @@ use Rattle.nx_receiver.specs.declared.fault.MomentFault.TheVariants.{Back, Range
 use Rattle.nx_receiver.proofs.lemmas.listening.Listener.{given_by-one}
 use Rattle.nx_watch.proofs.lemmas.log.Heard.{none-heard}
 use Rattle.nx_watch.specs.Acting.{in_force, moments_said}
-use Rattle.nx_watch.specs.LineRun.{StandsWith, WithWriter, with_writer}
 use Rattle.nx_watch.specs.private.Keeping.{HasKept, KeepsWith}
-use Rattle.nx_watch.specs.private.LoggingListener.{IsCopyInRange, IsLineInRange, KeepsHeard, KeepsLines}
+use Rattle.nx_watch.specs.private.LoggingListener.{IsCopyInRange, IsLineInRange, KeepsHeard, KeepsLines, LoggingTo, TakesLines, logging_to}
 use Rattle.nx_watch.specs.declared.logging_listener.LoggingListener.{LoggingListener}
 
 -- the same, with another listener inside
@@ -193,48 +192,48 @@ line-kept disk start old new lines given line same within step s = record {
 
 module _ {D W : Type 0} (disk : TellsOfDisk D) (contents : W → Option (List ℕ)) where
   -- the same beside a writer
-  pub next-line : (start : WithWriter (LoggingListener D) W) (old new : LoggingListener D)
+  pub next-line : (start : LoggingTo D W) (old new : LoggingListener D)
       (writer : CountedDevice W) (lines : List Line) (line : Line)
       → new.keeper ≡ old.keeper → IsLineInRange line
       → ((copies : List MarkedCopy)
-      → HearsGiven (starts_of start.taker.listener) old.listener (given_by lines) copies
-      → HearsGiven (starts_of start.taker.listener) new.listener
+      → HearsGiven (starts_of start.logging.listener) old.listener (given_by lines) copies
+      → HearsGiven (starts_of start.logging.listener) new.listener
       (given_by lines ++ given_of line ∷ []) copies)
-      → StandsWith (KeepsLines disk) contents start (with_writer old writer) lines
-      → StandsWith (KeepsLines disk) contents start (with_writer new writer) (lines ++ line ∷ [])
+      → TakesLines disk contents start (logging_to old writer) lines
+      → TakesLines disk contents start (logging_to new writer) (lines ++ line ∷ [])
   next-line start old new writer lines line same within step h =
-      (h.0, line-kept disk start.taker old new lines h.0 line same within step h.1, h.2)
+      (h.0, line-kept disk start.logging old new lines h.0 line same within step h.1, h.2)
 
   -- the same of a line that says a command, which was taken for its channel and its letter
-  pub next-command : (start : WithWriter (LoggingListener D) W) (old new : LoggingListener D)
+  pub next-command : (start : LoggingTo D W) (old new : LoggingListener D)
       (writer : CountedDevice W) (lines : List Line) (line is : Line) (make : ℕ → Command)
       (mark : Option Channel) (letter : ℕ) {channel : Channel} {byte : ℕ}
       → given_of is ≡ to_one (channel_of mark) (command (make letter) ∷ []) → IsLineInRange is
       → line ≡ is → channel ≡ channel_of mark → byte ≡ letter → new.keeper ≡ old.keeper
       → ((copies : List MarkedCopy)
-      → HearsGiven (starts_of start.taker.listener) old.listener (given_by lines) copies
-      → HearsGiven (starts_of start.taker.listener) new.listener
+      → HearsGiven (starts_of start.logging.listener) old.listener (given_by lines) copies
+      → HearsGiven (starts_of start.logging.listener) new.listener
       (given_by lines ++ to_one channel (command (make byte) ∷ []) ∷ []) copies)
-      → StandsWith (KeepsLines disk) contents start (with_writer old writer) lines
-      → StandsWith (KeepsLines disk) contents start (with_writer new writer) (lines ++ line ∷ [])
+      → TakesLines disk contents start (logging_to old writer) lines
+      → TakesLines disk contents start (logging_to new writer) (lines ++ line ∷ [])
   next-command start old new writer lines line is make mark letter gives within said at same kept
       step h =
-      subst (λ l. StandsWith (KeepsLines disk) contents start (with_writer new writer)
+      subst (λ l. TakesLines disk contents start (logging_to new writer)
       (lines ++ l ∷ [])) (sym said) (next-line start old new writer lines is kept within
-      (λ copies heard. subst (λ one. HearsGiven (starts_of start.taker.listener) new.listener
+      (λ copies heard. subst (λ one. HearsGiven (starts_of start.logging.listener) new.listener
       (given_by lines ++ one ∷ []) copies)
       (ap₂ (λ to b. to_one to (command (make b) ∷ [])) at same ∙ sym gives) (step copies heard)) h)
 
   -- a line of elements, of which nothing was heard yet
-  pub none-yet : (start : WithWriter (LoggingListener D) W) (now : LoggingListener D)
+  pub none-yet : (start : LoggingTo D W) (now : LoggingListener D)
       (writer : CountedDevice W) (lines : List Line) (channel : Channel)
-      → StandsWith (KeepsLines disk) contents start (with_writer now writer) lines
-      → KeepsHeard disk contents start.taker now start.writer writer
+      → TakesLines disk contents start (logging_to now writer) lines
+      → KeepsHeard disk contents start.logging now start.writer writer
       (then_elements (given_by lines) channel [])
   none-yet start now writer lines channel h =
       let s = h.1 in record {
         copies = s.copies;
-        heard = none-heard (starts_of start.taker.listener) now.listener (given_by lines) channel
+        heard = none-heard (starts_of start.logging.listener) now.listener (given_by lines) channel
             s.copies s.heard;
         texts = s.texts;
         each = s.each;
@@ -242,13 +241,13 @@ module _ {D W : Type 0} (disk : TellsOfDisk D) (contents : W → Option (List �
       }
 
   -- all of it was heard
-  pub line-heard : (start : WithWriter (LoggingListener D) W) (old now : LoggingListener D)
+  pub line-heard : (start : LoggingTo D W) (old now : LoggingListener D)
       (before writer : CountedDevice W) (lines : List Line) (mark : Option Channel)
       (channel : Channel) (bits : List Bool) → channel ≡ channel_of mark
-      → StandsWith (KeepsLines disk) contents start (with_writer old before) lines
-      → KeepsHeard disk contents start.taker now start.writer writer
+      → TakesLines disk contents start (logging_to old before) lines
+      → KeepsHeard disk contents start.logging now start.writer writer
       (then_elements (given_by lines) channel bits)
-      → StandsWith (KeepsLines disk) contents start (with_writer now writer)
+      → TakesLines disk contents start (logging_to now writer)
       (lines ++ elements mark bits ∷ [])
   line-heard start old now before writer lines mark channel bits is h k =
       let s = h.1 in
@@ -259,7 +258,7 @@ module _ {D W : Type 0} (disk : TellsOfDisk D) (contents : W → Option (List �
           in_range = All-append IsLineInRange lines (line ∷ []) s.in_range
               (All-cons IsLineInRange line [] tt (All-nil IsLineInRange));
           copies = k.copies;
-          heard = subst (λ g. HearsGiven (starts_of start.taker.listener) now.listener g k.copies)
+          heard = subst (λ g. HearsGiven (starts_of start.logging.listener) now.listener g k.copies)
               (ap (λ (c : Channel). then_elements (given_by lines) c bits) is
               ∙ sym (given_by-one lines line)) k.heard;
           texts = k.texts;

@@ -14,7 +14,7 @@ use Rattle.nx_kept.specs.declared.disk.DiskFile.{Ghosts as TellsOfDisk}
 use Rattle.nx_watch.specs.Acting.{acting_behind, acting_lines, acts, moment_said, moments_behind}
 use Rattle.nx_watch.specs.Acting.{with_start}
 use Rattle.nx_watch.specs.AnyLines.{AreLines, Says, ended}
-use Rattle.nx_watch.specs.LineRun.{HasTaken, StandsWith, WithWriter, with_writer}
+use Rattle.nx_watch.specs.LineRun.{HasTaken}
 use Rattle.nx_watch.specs.Stamp.{Stamp, stamp}
 use Rattle.nx_watch.specs.declared.lines.line_effects.LineEffects.{LineEffects}
 use Rattle.nx_watch.specs.declared.lines.line_effects.StartMoments.{StartMoments}
@@ -22,7 +22,7 @@ use Rattle.nx_watch.specs.declared.lines.line_run.LineRun.{LineRun}
 use Rattle.nx_watch.specs.declared.lines.line_run.WatchEnd.{WatchEnd}
 use Rattle.nx_watch.specs.declared.lines.line_run.WatchEnd.TheVariants.{Read, Back, Write}
 use Rattle.nx_watch.specs.declared.logging_listener.LoggingListener.{LoggingListener}
-use Rattle.nx_watch.specs.private.LoggingListener.{KeepsLines}
+use Rattle.nx_watch.specs.private.LoggingListener.{LoggingTo, TakesLines, logging_to}
 use Rattle.nx_watch.specs.LinesTold.{IsToldByRead}
 use Rattle.nx_watch.specs.private.Running.{EndsRun, HasToldSo, IsBeside, IsRunning, ToldBefore}
 use Rattle.nx_watch.specs.private.Running.{ToldBeside}
@@ -139,17 +139,17 @@ cut-last a b x e =
 
 module _ {D W N : Type 0} (disk : TellsOfDisk D) (contents : W → Option (List ℕ))
     (told : N → Option (List ℕ)) (old : ToldBefore) (first : StartMoments)
-    (start : WithWriter (LoggingListener D) W)
+    (start : LoggingTo D W)
   where
     abbrev AStamp : Type 0
     AStamp = Stamp D (CountedDevice W) (CountedDevice N)
 
-    abbrev Stands : WithWriter (LoggingListener D) W → WithWriter (LoggingListener D) W
+    abbrev Stands : LoggingTo D W → LoggingTo D W
         → List Line → Type 0
-    Stands = StandsWith (KeepsLines disk) contents
+    Stands = TakesLines disk contents
 
     abbrev pub Was : List ℕ → (List (Option Line) → Type 0)
-        → (WithWriter (LoggingListener D) W → Type 0) → AStamp → Type 0
+        → (LoggingTo D W → Type 0) → AStamp → Type 0
     Was = WasRunning (telling disk contents told old) start first
 
     -- at most so many lines
@@ -161,8 +161,8 @@ module _ {D W N : Type 0} (disk : TellsOfDisk D) (contents : W → Option (List 
     Begin all lines = (later : List Line) × (all ≡ acting_lines first lines ++ later)
 
     -- the start of a run is that of one that began at a read
-    abbrev pub IsSince : WithWriter (LoggingListener D) W → Type 0
-    IsSince since = since.taker.listener ≡ start.taker.listener
+    abbrev pub IsSince : LoggingTo D W → Type 0
+    IsSince since = since.logging.listener ≡ start.logging.listener
 
     -- what it had taken by then is behind it
     stands-since : (now : LoggingListener D) (writer : CountedDevice W) (lines : List Line)
@@ -170,9 +170,9 @@ module _ {D W N : Type 0} (disk : TellsOfDisk D) (contents : W → Option (List 
         → ((content file : List ℕ)
         → disk.left_since content now.keeper.log.device (disk.moment now.keeper.log.device) file
         → disk.may_leave content now.keeper.log.device file)
-        → (s : Stands start (with_writer now writer) lines)
-        → Stands (with_writer (logging_since start.taker now (length s.1.texts)) writer)
-        (with_writer now writer) lines
+        → (s : Stands start (logging_to now writer) lines)
+        → Stands (logging_to (logging_since start.logging now (length s.1.texts)) writer)
+        (logging_to now writer) lines
     stands-since now writer lines well none only_now s = (
       [],
       record {
@@ -182,7 +182,7 @@ module _ {D W N : Type 0} (disk : TellsOfDisk D) (contents : W → Option (List 
         heard = s.1.heard;
         texts = s.1.texts;
         each = s.1.each;
-        kept = kept-since disk start.taker.keeper now.keeper s.1.texts s.0 well only_now s.1.kept;
+        kept = kept-since disk start.logging.keeper now.keeper s.1.texts s.0 well only_now s.1.kept;
       },
       record {
         written = inl (none, nothing (contents writer.inner));
@@ -198,10 +198,10 @@ module _ {D W N : Type 0} (disk : TellsOfDisk D) (contents : W → Option (List 
         → ((content file : List ℕ)
         → disk.left_since content now.keeper.log.device (disk.moment now.keeper.log.device) file
         → disk.may_leave content now.keeper.log.device file)
-        → IsRunning Stands start (with_writer now writer) first run beside (told notices.inner)
+        → IsRunning Stands start (logging_to now writer) first run beside (told notices.inner)
         notices.failures bytes
         → Was bytes (λ lines. length lines ≤ run.effects.lines)
-        (λ since. IsRunning Stands since (with_writer now writer) first run beside
+        (λ since. IsRunning Stands since (logging_to now writer) first run beside
         (told notices.inner) notices.failures bytes)
         (stamp read now.keeper.log.device writer notices)
     stamp-now now writer notices run beside bytes read sides is none only_now h = record {
@@ -236,9 +236,9 @@ module _ {D W N : Type 0} (disk : TellsOfDisk D) (contents : W → Option (List 
 
     -- with more bytes the run went on from there
     pub later-bytes : (bytes piece : List ℕ) (Behind Later : List (Option Line) → Type 0)
-        (Then Now : WithWriter (LoggingListener D) W → Type 0)
+        (Then Now : LoggingTo D W → Type 0)
         → ((lines : List (Option Line)) → Behind lines → Later lines)
-        → ((since : WithWriter (LoggingListener D) W) → IsSince since → Then since → Now since)
+        → ((since : LoggingTo D W) → IsSince since → Then since → Now since)
         → (stamps : List AStamp) → All (Was bytes Behind Then) stamps
         → All (Was (bytes ++ piece) Later Now) stamps
     later-bytes bytes piece Behind Later Then Now behind step stamps all =
@@ -265,9 +265,9 @@ module _ {D W N : Type 0} (disk : TellsOfDisk D) (contents : W → Option (List 
 
     -- of the same bytes it says this too
     pub says-too : (bytes : List ℕ) (Behind Later : List (Option Line) → Type 0)
-        (Then Now : WithWriter (LoggingListener D) W → Type 0)
+        (Then Now : LoggingTo D W → Type 0)
         → ((at : AStamp) → (h : Was bytes Behind Then at) → Later h.lines)
-        → ((since : WithWriter (LoggingListener D) W) → IsSince since → Then since → Now since)
+        → ((since : LoggingTo D W) → IsSince since → Then since → Now since)
         → (stamps : List AStamp) → All (Was bytes Behind Then) stamps
         → All (Was bytes Later Now) stamps
     says-too bytes Behind Later Then Now later step stamps all =
@@ -291,7 +291,7 @@ module _ {D W N : Type 0} (disk : TellsOfDisk D) (contents : W → Option (List 
 
     -- at one read more this stood too
     pub stamped-now : (bytes : List ℕ) (Behind : List (Option Line) → Type 0)
-        (Then : WithWriter (LoggingListener D) W → Type 0) (at : AStamp)
+        (Then : LoggingTo D W → Type 0) (at : AStamp)
         (stamps made : List AStamp) → made ≡ at ∷ stamps → Was bytes Behind Then at
         → All (Was bytes Behind Then) stamps → All (Was bytes Behind Then) made
     stamped-now bytes Behind Then at stamps made is now all =
@@ -300,14 +300,14 @@ module _ {D W N : Type 0} (disk : TellsOfDisk D) (contents : W → Option (List 
 
     -- before the first read
     pub none-stamped : (bytes : List ℕ) (Behind : List (Option Line) → Type 0)
-        (Then : WithWriter (LoggingListener D) W → Type 0) (made : List AStamp) → made ≡ []
+        (Then : LoggingTo D W → Type 0) (made : List AStamp) → made ≡ []
         → All (Was bytes Behind Then) made
     none-stamped bytes Behind Then made is =
         subst (All (Was bytes Behind Then)) (sym is) (All-nil (Was bytes Behind Then))
 
     -- the lines at a read begin those of a run that went on to these
     begins : (bytes front more : List ℕ) (all : List (Option Line)) (rest : List ℕ) (most : ℕ)
-        (Then : WithWriter (LoggingListener D) W → Type 0) → AreLines front all rest
+        (Then : LoggingTo D W → Type 0) → AreLines front all rest
         → bytes ≡ front ++ more → most ≡ length all
         → (at : AStamp) → (h : Was bytes (AtMost most) Then at)
         → Begin (acting_lines first all) h.lines
@@ -318,7 +318,7 @@ module _ {D W N : Type 0} (disk : TellsOfDisk D) (contents : W → Option (List 
         acting-first first h.lines longer.0 all longer.1
 
     -- the input ended, or the limit was reached
-    pub running-stamped : (now : WithWriter (LoggingListener D) W) (run : LineRun)
+    pub running-stamped : (now : LoggingTo D W) (run : LineRun)
         (beside : ToldBeside) (new : Option (List ℕ)) (failures : ℕ) (bytes : List ℕ)
         (stamps : List AStamp)
         → (h : RunsStamped (telling disk contents told old) first bytes run.effects.lines start
@@ -348,14 +348,14 @@ module _ {D W N : Type 0} (disk : TellsOfDisk D) (contents : W → Option (List 
           };
         }
       where
-        lines-of : (s : WithWriter (LoggingListener D) W)
+        lines-of : (s : LoggingTo D W)
             → (k : IsRunning Stands s now first run beside new failures bytes)
             → AreLines bytes k.lines (run.scanner.scanner.part ++ k.scans.passed)
         lines-of s k = Parts-lines run.scanner bytes k.lines k.scans.passed
             (parts run.scanner bytes k.lines k.scans)
 
     -- the run was over before
-    pub ends-stamped : (now : WithWriter (LoggingListener D) W) (kept : LineEffects)
+    pub ends-stamped : (now : LoggingTo D W) (kept : LineEffects)
         (beside : ToldBeside) (new : Option (List ℕ)) (failures : ℕ) (end : WatchEnd)
         (bytes : List ℕ) (stamps : List AStamp)
         → RunsStamped (telling disk contents told old) first bytes kept.lines start

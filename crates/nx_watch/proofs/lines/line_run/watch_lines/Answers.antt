@@ -1,12 +1,11 @@
 use Rattle.std.proofs.Common.{◌≡◌, ◌⊎◌, ◌++◌, [], append-nil, subst, length}
 use Rattle.std.specs.Io.KnownBytes.{IsAtEnd}
-use Rattle.nx_watch.specs.LineRun.{StandsWith, with_writer}
 use Rattle.nx_watch.specs.Stamps.{counted_of, stamps_of}
-use Rattle.nx_watch.specs.private.LoggingListener.{KeepsLines}
+use Rattle.nx_watch.specs.private.LoggingListener.{TakesLines, logging_to}
 use Rattle.nx_watch.specs.AnyLines.{cut_line}
 use Rattle.nx_watch.specs.private.Running.{HasToldSo, IsToldByEnd, TellsFirst}
 use Rattle.nx_watch.specs.private.Stamping.{StandsStamped, telling}
-use Rattle.nx_watch.proofs.lemmas.lines.Run.{answers-told, run-starts, stands-with}
+use Rattle.nx_watch.proofs.lemmas.lines.Run.{answers-told, none-taken, run-starts}
 use Rattle.nx_watch.proofs.lemmas.lines.Told.{by-end}
 use Rattle.nx_watch.proofs.lemmas.log.Stamping.{ends-stamped, running-stamped}
 use Rattle.nx_watch.proofs.lines.line_run.watch_lines.Goals as goal
@@ -14,17 +13,17 @@ use Rattle.nx_watch.proofs.lines.line_run.watch_lines.Goals as goal
 pub returns-in-Ok-clause-watched : goal.returns-in-Ok-clause-watched
 returns-in-Ok-clause-watched g c = λ start old force well stood told.
     let disk = g.D.DiskFile in
-    let stands = StandsWith (KeepsLines disk) g.W.Write.contents in
-    let before = with_writer start c.args.writer.now in
+    let stands = TakesLines disk g.W.Write.contents in
+    let before = logging_to start c.args.writer.now in
     let r = c.in-Ok.ensures.read before c.args.first old force well
-    (run-starts stands before (with_writer c.args.logging.now c.args.writer.now) c.args.first _ old
+    (run-starts stands before (logging_to c.args.logging.now c.args.writer.now) c.args.first _ old
     (g.F.Write.contents c.args.notices.now.inner) c.args.notices.now.failures
     c.new.ensures.stands c.new-2.ensures
-    (stands-with (KeepsLines disk) g.W.Write.contents start c.args.logging.now
+    (none-taken disk g.W.Write.contents start c.args.logging.now
     c.args.writer.now stood c.requires.writer) told) in
     let run = r.5.1.from_start in
     let taken = running-stamped disk g.W.Write.contents g.F.Write.contents old c.args.first before
-    (with_writer c.read_lines.new.logging c.read_lines.new.writer) c.read_lines.new.self r.3
+    (logging_to c.read_lines.new.logging c.read_lines.new.writer) c.read_lines.new.self r.3
     (g.F.Write.contents c.read_lines.new.notices.inner) c.read_lines.new.notices.failures r.0
     (stamps_of c.read_lines.new.reader) r.5.1 in
     let e = c.end.ensures c.args.first r.3 r.0 run.lines run.scans
@@ -50,17 +49,17 @@ returns-in-Ok-clause-watched g c = λ start old force well stood told.
 pub returns-in-Err-clause-watched : goal.returns-in-Err-clause-watched
 returns-in-Err-clause-watched g c = λ start old force well stood told.
     let disk = g.D.DiskFile in
-    let stands = StandsWith (KeepsLines disk) g.W.Write.contents in
-    let before = with_writer start c.args.writer.now in
+    let stands = TakesLines disk g.W.Write.contents in
+    let before = logging_to start c.args.writer.now in
     let stamps = stamps_of c.read_lines.new.reader in
-    let now = with_writer c.read_lines.new.logging c.read_lines.new.writer in
+    let now = logging_to c.read_lines.new.logging c.read_lines.new.writer in
     let now_told = g.F.Write.contents c.read_lines.new.notices.inner in
     let failures = c.read_lines.new.notices.failures in
     let r = c.in-Err.ensures.read before c.args.first old force well
-    (run-starts stands before (with_writer c.args.logging.now c.args.writer.now) c.args.first _ old
+    (run-starts stands before (logging_to c.args.logging.now c.args.writer.now) c.args.first _ old
     (g.F.Write.contents c.args.notices.now.inner) c.args.notices.now.failures
     c.new.ensures.stands c.new-2.ensures
-    (stands-with (KeepsLines disk) g.W.Write.contents start c.args.logging.now
+    (none-taken disk g.W.Write.contents start c.args.logging.now
     c.args.writer.now stood c.requires.writer) told) in (
       r.0,
       r.1,

@@ -11,7 +11,7 @@ keep_last-requires-clause-range g c =
 pub returns-clause-closed : goal.returns-clause-closed
 returns-clause-closed g c = λ start lines h.
     let s = h.1 in
-    let starts = starts_of start.taker.listener in
-    c.keep_last.ensures.closed starts start.taker.keeper start.writer lines s.copies s.texts s.first
-    s.in_range (c.close.ensures.printed starts (given_by lines) s.copies s.heard) s.each
+    let starts = starts_of start.logging.listener in
+    c.keep_last.ensures.closed starts start.logging.keeper start.writer lines s.copies s.texts
+    s.first s.in_range (c.close.ensures.printed starts (given_by lines) s.copies s.heard) s.each
     (h.0, s.kept, h.2)

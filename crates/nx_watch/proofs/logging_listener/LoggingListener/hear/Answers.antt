@@ -28,11 +28,11 @@ loop-at-preserved g c =
       within = omega (arith, c.hear_next-at.ensures.within);
       failed = λ h. c.hear_next-at.ensures.failed (c.loop-at.invariant.failed h);
       heard = λ start lines h.
-          subst (λ bs. KeepsHeard disk g.W.Write.contents start.taker c.hear_next-at.new.self
+          subst (λ bs. KeepsHeard disk g.W.Write.contents start.logging c.hear_next-at.new.self
           start.writer c.hear_next-at.new.writer
           (then_elements (given_by lines) c.of-channel.result bs))
           (elements-next bits c.loop-at.at c.hear_next-at.result)
-          (c.hear_next-at.ensures.heard start.taker start.writer lines (take c.loop-at.at bits)
+          (c.hear_next-at.ensures.heard start.logging start.writer lines (take c.loop-at.at bits)
           h.1.first h.1.in_range (c.loop-at.invariant.heard start lines h));
     }
 
@@ -43,7 +43,7 @@ returns-then-failures-gt0-clause-taken g c = λ start lines h.
     let all : take c.loop-at.at bits ≡ bits = take_all c.loop-at.at bits (search rules) in
     line-heard disk g.W.Write.contents start c.args.self.now c.loop-at.self c.args.writer.now
     c.loop-at.writer lines c.args.mark c.of-channel.result bits c.of-channel.ensures h
-    (subst (λ bs. KeepsHeard disk g.W.Write.contents start.taker c.loop-at.self start.writer
+    (subst (λ bs. KeepsHeard disk g.W.Write.contents start.logging c.loop-at.self start.writer
     c.loop-at.writer (then_elements (given_by lines) c.of-channel.result bs)) all
     (c.loop-at.invariant.heard start lines h))
 
@@ -54,6 +54,6 @@ returns-else-failures-gt0-clause-taken g c = λ start lines h.
     let all : take c.loop-at.at bits ≡ bits = take_all c.loop-at.at bits (search rules) in
     line-heard disk g.W.Write.contents start c.args.self.now c.loop-at.self c.args.writer.now
     c.loop-at.writer lines c.args.mark c.of-channel.result bits c.of-channel.ensures h
-    (subst (λ bs. KeepsHeard disk g.W.Write.contents start.taker c.loop-at.self start.writer
+    (subst (λ bs. KeepsHeard disk g.W.Write.contents start.logging c.loop-at.self start.writer
     c.loop-at.writer (then_elements (given_by lines) c.of-channel.result bs)) all
     (c.loop-at.invariant.heard start lines h))

@@ -2,8 +2,7 @@ use Rattle.std.proofs.Common.{◌≡◌, ◌-◌, ◌≤◌, true, List, length,
 use Rattle.nx_fec.specs.air_files.AirFile.{Line}
 use Rattle.nx_receiver.specs.air_file_runs.Listen.{given_by}
 use Rattle.nx_receiver.specs.Listener.{then_elements}
-use Rattle.nx_watch.specs.LineRun.{StandsWith, WithWriter, with_writer}
-use Rattle.nx_watch.specs.private.LoggingListener.{KeepsHeard, KeepsLines}
+use Rattle.nx_watch.specs.private.LoggingListener.{KeepsHeard, LoggingTo, TakesLines, logging_to}
 use Rattle.nx_watch.specs.declared.logging_listener.LoggingListener.{LoggingListener}
 use Rattle.nx_watch.proofs.logging_listener.LoggingListener.hear.Given as goal
 
@@ -13,10 +12,10 @@ invariant-loop-at g l = record {
   once : l.writer.failures ≤ 1;
   within : l.at ≤ length l.packed;
   failed : l.fn.self.keeper.has_failed ≡ true → l.self.keeper.has_failed ≡ true;
-  heard : (start : WithWriter (LoggingListener g.row.D.Denot) g.row.W.Denot) (lines : List Line)
-      → StandsWith (KeepsLines g.D.DiskFile) g.W.Write.contents start
-      (with_writer l.fn.self l.fn.writer) lines
-      → KeepsHeard g.D.DiskFile g.W.Write.contents start.taker l.self start.writer l.writer
+  heard : (start : LoggingTo g.row.D.Denot g.row.W.Denot) (lines : List Line)
+      → TakesLines g.D.DiskFile g.W.Write.contents start
+      (logging_to l.fn.self l.fn.writer) lines
+      → KeepsHeard g.D.DiskFile g.W.Write.contents start.logging l.self start.writer l.writer
       (then_elements (given_by lines) l.channel (take l.at l.packed));
 }
 

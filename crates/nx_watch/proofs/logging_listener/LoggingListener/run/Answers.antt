@@ -9,7 +9,7 @@ use Rattle.nx_receiver.specs.Listener.{HearsGiven, Listening, starts_of}
 use Rattle.nx_watch.specs.Acting.{acting_lines, moments_behind, most_bytes}
 use Rattle.nx_watch.specs.AnyLines.{cut_line}
 use Rattle.nx_watch.specs.Watch.{AnswersStop, at_end, back, unread, unwritten}
-use Rattle.nx_watch.specs.LineRun.{AnswersRun, HasTold, RunOverLines, TellsOfLines, with_writer}
+use Rattle.nx_watch.specs.LineRun.{AnswersRun, HasTold, RunOverLines, TellsOfLines}
 use Rattle.nx_watch.specs.Stamps.{counted_of, stamps_of}
 use Rattle.nx_watch.specs.CutTold.{TellsOfSomeCut}
 use Rattle.nx_watch.specs.LinesTold.{IsToldAtEnd}
@@ -20,6 +20,7 @@ use Rattle.nx_watch.specs.declared.lines.line_run.LinesWatched.{LinesWatched}
 use Rattle.nx_watch.specs.declared.lines.line_run.WatchEnd.{WatchEnd}
 use Rattle.nx_watch.specs.declared.lines.line_run.WatchEnd.TheVariants.{Read, Back, Write}
 use Rattle.nx_watch.specs.private.Keeping.{HasKept}
+use Rattle.nx_watch.specs.private.LoggingListener.{logging_to}
 use Rattle.nx_watch.proofs.lemmas.log.Finish.{back-apart, closed-on, end-apart, has-run, heard-on, none-failed, none-yet-failed, stamps-keep, stands-first, unwritten-apart, wrote-some, zip-length}
 use Rattle.nx_watch.proofs.lemmas.lines.Run.{acting-cut, acting-idle, ends-idle, tells-some}
 use Rattle.nx_watch.proofs.lemmas.lines.Told.{at-end, at-finish}
@@ -53,7 +54,7 @@ pub returns-in-Ok-clause-runs : goal.returns-in-Ok-clause-runs
 returns-in-Ok-clause-runs g c = λ notices cut told is none range heard kept.
     let disk = g.D.DiskFile in
     let self = c.args.self in
-    let start = with_writer self c.args.writer.now in
+    let start = logging_to self c.args.writer.now in
     let before = behind g.F.Write.contents notices cut in
     let w = c.in-Ok.ensures.watched self before (sym is)
     (none-yet-failed disk self.keeper kept)
@@ -84,7 +85,7 @@ returns-in-Ok-clause-runs g c = λ notices cut told is none range heard kept.
       );
       failed_write = c.finish.ensures.once;
       stamped = stamps-keep disk g.W.Write.contents g.F.Write.contents before c.args.first start
-          (with_writer c.watch_lines.new.logging c.watch_lines.new.writer) w.0 c.finish.result
+          (logging_to c.watch_lines.new.logging c.watch_lines.new.writer) w.0 c.finish.result
           acting (acting_lines c.args.first (w.3.1 ++ cut_line w.3.2)) closed.copies
           (stamps_of c.watch_lines.new.reader) (acting-cut c.args.first w.3.1 w.3.2)
           (λ since same k. closed-on disk g.W.Write.contents (starts_of self.listener) since
@@ -112,7 +113,7 @@ pub returns-in-Back-clause-runs : goal.returns-in-Back-clause-runs
 returns-in-Back-clause-runs g c = λ notices cut told is none range heard kept.
     let disk = g.D.DiskFile in
     let self = c.args.self in
-    let start = with_writer self c.args.writer.now in
+    let start = logging_to self c.args.writer.now in
     let before = behind g.F.Write.contents notices cut in
     let lines-read = c.watch_lines.new in
     let w = c.in-Err.ensures.watched self before (sym is)
@@ -122,7 +123,7 @@ returns-in-Back-clause-runs g c = λ notices cut told is none range heard kept.
       stands = StandsStamped (telling disk g.W.Write.contents g.F.Write.contents before)
           c.args.first w.0 (stamps_of lines-read.reader);
       start = start;
-      now = with_writer lines-read.logging lines-read.writer;
+      now = logging_to lines-read.logging lines-read.writer;
       first = c.args.first;
       AtEnd = IsAtEnd (g.R.Read.remaining (counted_of lines-read.reader).inner) ⊎
           (length w.0 ≡ most_bytes);
@@ -170,7 +171,7 @@ returns-in-Back-clause-runs g c = λ notices cut told is none range heard kept.
       );
       failed_write = c.finish-in-Back.ensures.once;
       stamped = stamps-keep disk g.W.Write.contents g.F.Write.contents before c.args.first start
-          (with_writer lines-read.logging lines-read.writer) w.0 c.finish-in-Back.result acting
+          (logging_to lines-read.logging lines-read.writer) w.0 c.finish-in-Back.result acting
           (acting_lines c.args.first lines) closed.copies
           (stamps_of lines-read.reader) (acting-idle c.args.first ended.0 (moment c.in-Back.given)
           (ends-idle c.args.first.newest (moments_behind c.args.first ended.0) c.in-Back.given
@@ -192,7 +193,7 @@ pub returns-in-Read-clause-runs : goal.returns-in-Read-clause-runs
 returns-in-Read-clause-runs g c = λ notices cut told is none range heard kept.
     let disk = g.D.DiskFile in
     let self = c.args.self in
-    let start = with_writer self c.args.writer.now in
+    let start = logging_to self c.args.writer.now in
     let before = behind g.F.Write.contents notices cut in
     let lines-read = c.watch_lines.new in
     let w = c.in-Err.ensures.watched self before (sym is)
@@ -202,7 +203,7 @@ returns-in-Read-clause-runs g c = λ notices cut told is none range heard kept.
       stands = StandsStamped (telling disk g.W.Write.contents g.F.Write.contents before)
           c.args.first w.0 (stamps_of lines-read.reader);
       start = start;
-      now = with_writer lines-read.logging lines-read.writer;
+      now = logging_to lines-read.logging lines-read.writer;
       first = c.args.first;
       AtEnd = IsAtEnd (g.R.Read.remaining (counted_of lines-read.reader).inner) ⊎
           (length w.0 ≡ most_bytes);
@@ -235,11 +236,11 @@ returns-in-Read-clause-runs g c = λ notices cut told is none range heard kept.
           (λ f. absurd (apart-Written (sym (c.in-Err.is ∙ ap Err c.in-Read.is)
           ∙ c.watch_lines.ensures.unwritten.1 f)));
       stamped = stamps-keep disk g.W.Write.contents g.F.Write.contents before c.args.first start
-          (with_writer lines-read.logging lines-read.writer) w.0 c.into_keeper.result
+          (logging_to lines-read.logging lines-read.writer) w.0 c.into_keeper.result
           (acting_lines c.args.first ended.0) (acting_lines c.args.first ended.0) stood.1.copies
           (stamps_of lines-read.reader) refl
           (λ since same k. heard-on disk g.W.Write.contents (starts_of self.listener) since
-          (with_writer lines-read.logging lines-read.writer) c.into_keeper.result
+          (logging_to lines-read.logging lines-read.writer) c.into_keeper.result
           (acting_lines c.args.first ended.0) stood.1.copies
           (ap (λ (l : Listening). starts_of l) same) stood.1.heard.in_turn c.into_keeper.ensures k)
           ended.3.stood;
@@ -257,7 +258,7 @@ pub returns-in-Write-clause-runs : goal.returns-in-Write-clause-runs
 returns-in-Write-clause-runs g c = λ notices cut told is none range heard kept.
     let disk = g.D.DiskFile in
     let self = c.args.self in
-    let start = with_writer self c.args.writer.now in
+    let start = logging_to self c.args.writer.now in
     let before = behind g.F.Write.contents notices cut in
     let lines-read = c.watch_lines.new in
     let w = c.in-Err.ensures.watched self before (sym is)
@@ -267,7 +268,7 @@ returns-in-Write-clause-runs g c = λ notices cut told is none range heard kept.
       stands = StandsStamped (telling disk g.W.Write.contents g.F.Write.contents before)
           c.args.first w.0 (stamps_of lines-read.reader);
       start = start;
-      now = with_writer lines-read.logging lines-read.writer;
+      now = logging_to lines-read.logging lines-read.writer;
       first = c.args.first;
       AtEnd = IsAtEnd (g.R.Read.remaining (counted_of lines-read.reader).inner) ⊎
           (length w.0 ≡ most_bytes);
@@ -303,12 +304,12 @@ returns-in-Write-clause-runs g c = λ notices cut told is none range heard kept.
       );
       failed_write = unwritten_one;
       stamped = stamps-keep disk g.W.Write.contents g.F.Write.contents before c.args.first start
-          (with_writer lines-read.logging lines-read.writer) w.0 keeper
+          (logging_to lines-read.logging lines-read.writer) w.0 keeper
           (acting_lines c.args.first (ended.0 ++ Some ended.1 ∷ []))
           (acting_lines c.args.first (ended.0 ++ Some ended.1 ∷ [])) stood.1.copies
           (stamps_of lines-read.reader) refl
           (λ since same k. heard-on disk g.W.Write.contents (starts_of self.listener) since
-          (with_writer lines-read.logging lines-read.writer) keeper
+          (logging_to lines-read.logging lines-read.writer) keeper
           (acting_lines c.args.first (ended.0 ++ Some ended.1 ∷ [])) stood.1.copies
           (ap (λ (l : Listening). starts_of l) same) stood.1.heard.in_turn
           c.into_keeper-in-Write.ensures k) ended.3.stood;
@@ -345,8 +346,8 @@ told-lines g c before said is range heard kept =
     let r : RunOverLines _ = record {
       stands = StandsStamped (telling disk g.W.Write.contents g.F.Write.contents before)
           c.args.first w.0 (stamps_of lines-read.reader);
-      start = with_writer c.args.self c.args.writer.now;
-      now = with_writer lines-read.logging lines-read.writer;
+      start = logging_to c.args.self c.args.writer.now;
+      now = logging_to lines-read.logging lines-read.writer;
       first = c.args.first;
       AtEnd = IsAtEnd (g.R.Read.remaining (counted_of lines-read.reader).inner) ⊎
           (length w.0 ≡ most_bytes);

@@ -5,10 +5,10 @@ use Rattle.std.proofs.KnownBytes.{Consumes-kept, Consumes-nil, Consumes-trans}
 use Rattle.std.proofs.lemmas.List.{length-take-le, take-append-le}
 use Rattle.std.specs.Io.KnownBytes.{Consumes}
 use Rattle.nx_receiver.specs.Listener.{Listening, starts_of}
-use Rattle.nx_watch.specs.LineRun.{Standing, StandsWith, WithWriter, with_writer}
+use Rattle.nx_watch.specs.LineRun.{Standing}
 use Rattle.nx_watch.specs.Stamp.{stamp}
 use Rattle.nx_watch.specs.Stamps.{bytes_given, counted_of, stamps_of}
-use Rattle.nx_watch.specs.private.LoggingListener.{KeepsLines}
+use Rattle.nx_watch.specs.private.LoggingListener.{LoggingTo, TakesLines, logging_to}
 use Rattle.nx_watch.specs.private.Running.{EndsRun, IsRunning, TellsFirst, ToldBefore, ToldBeside, beside}
 use Rattle.nx_watch.specs.private.Stamping.{WasRunning, telling}
 use Rattle.nx_watch.specs.declared.logging_listener.LoggingListener.{LoggingListener}
@@ -23,17 +23,17 @@ use Rattle.nx_watch.proofs.lines.line_run.LineRun.read_lines.Goals.{After-next_p
 
 -- all that stood at the reads, and at the one that is made now
 stamped : (g : _) → (c : After-next_piece g)
-    → (start : WithWriter (LoggingListener g.row.D.Denot) g.row.W.Denot) (first : StartMoments)
-    (old : ToldBefore) (force : (starts_of start.taker.listener).moment ≡ first.newest)
+    → (start : LoggingTo g.row.D.Denot g.row.W.Denot) (first : StartMoments)
+    (old : ToldBefore) (force : (starts_of start.logging.listener).moment ≡ first.newest)
     (well : c.args.logging.now.keeper.has_failed ≡ false)
-    → (h : IsRunning (StandsWith (KeepsLines g.D.DiskFile) g.W.Write.contents) start
-    (with_writer c.args.logging.now c.args.writer.now) first c.args.self.now (beside old)
+    → (h : IsRunning (TakesLines g.D.DiskFile g.W.Write.contents) start
+    (logging_to c.args.logging.now c.args.writer.now) first c.args.self.now (beside old)
     (g.F.Write.contents c.args.notices.now.inner) c.args.notices.now.failures [])
     → All (WasRunning (telling g.D.DiskFile g.W.Write.contents g.F.Write.contents old) start first
     (c.loop-room.invariant.read start first old force well h).0
     (λ lines. length lines ≤ c.loop-room.self.effects.lines)
-    (λ since. IsRunning (StandsWith (KeepsLines g.D.DiskFile) g.W.Write.contents) since
-    (with_writer c.loop-room.logging c.loop-room.writer) first c.loop-room.self
+    (λ since. IsRunning (TakesLines g.D.DiskFile g.W.Write.contents) since
+    (logging_to c.loop-room.logging c.loop-room.writer) first c.loop-room.self
     (c.loop-room.invariant.read start first old force well h).3
     (g.F.Write.contents c.loop-room.notices.inner) c.loop-room.notices.failures
     (c.loop-room.invariant.read start first old force well h).0))
@@ -45,8 +45,8 @@ stamped g c start first old force well h =
     let device = c.loop-room.logging.keeper.log.device in
     stamped-now g.D.DiskFile g.W.Write.contents g.F.Write.contents old first start r.0
     (λ lines. length lines ≤ c.loop-room.self.effects.lines)
-    (λ since. IsRunning (StandsWith (KeepsLines g.D.DiskFile) g.W.Write.contents) since
-    (with_writer c.loop-room.logging c.loop-room.writer) first c.loop-room.self r.3
+    (λ since. IsRunning (TakesLines g.D.DiskFile g.W.Write.contents) since
+    (logging_to c.loop-room.logging c.loop-room.writer) first c.loop-room.self r.3
     (g.F.Write.contents c.loop-room.notices.inner) c.loop-room.notices.failures r.0)
     (stamp at device c.loop-room.writer c.loop-room.notices) (stamps_of c.loop-room.reader)
     (stamps_of c.next_piece.new.self) c.next_piece.ensures.stamped
@@ -91,8 +91,8 @@ loop-room-init g c = record {
       from_start = h;
       from_reads = none-stamped g.D.DiskFile g.W.Write.contents g.F.Write.contents old first start
           [] (λ lines. length lines ≤ c.args.self.now.effects.lines)
-          (λ since. IsRunning (StandsWith (KeepsLines g.D.DiskFile) g.W.Write.contents) since
-          (with_writer c.args.logging.now c.args.writer.now) first c.args.self.now (beside old)
+          (λ since. IsRunning (TakesLines g.D.DiskFile g.W.Write.contents) since
+          (logging_to c.args.logging.now c.args.writer.now) first c.args.self.now (beside old)
           (g.F.Write.contents c.args.notices.now.inner) c.args.notices.now.failures [])
           (stamps_of c.args.reader.now) c.requires.reader.none_made;
     },
@@ -122,8 +122,8 @@ returns-in-Failed-clause-read g c = λ start first old force well h.
     let disk = g.D.DiskFile in
     let contents = g.W.Write.contents in
     let told = g.F.Write.contents in
-    let stands = StandsWith (KeepsLines disk) contents in
-    let now = with_writer c.loop-room.logging c.loop-room.writer in
+    let stands = TakesLines disk contents in
+    let now = logging_to c.loop-room.logging c.loop-room.writer in
     let notices = c.loop-room.notices in
     let self = c.loop-room.self in
     let r = c.loop-room.invariant.read start first old force well h in (
@@ -170,15 +170,15 @@ returns-in-Err-clause-read g c = λ start first old force well h.
     (g.R.Read.remaining (counted_of c.next_piece.new.self).inner)) (sym front)
     c.in-Bytes.ensures.piece.2 in
     let t = c.in-Err.ensures.taken old r.3 r.4 in
-    let ends = λ (since : WithWriter (LoggingListener g.row.D.Denot) g.row.W.Denot)
-    (same : (starts_of since.taker.listener).moment ≡ first.newest)
-    (k : IsRunning (StandsWith (KeepsLines disk) contents) since
-    (with_writer c.loop-room.logging c.loop-room.writer) first c.loop-room.self r.3
+    let ends = λ (since : LoggingTo g.row.D.Denot g.row.W.Denot)
+    (same : (starts_of since.logging.listener).moment ≡ first.newest)
+    (k : IsRunning (TakesLines disk contents) since
+    (logging_to c.loop-room.logging c.loop-room.writer) first c.loop-room.self r.3
     (told c.loop-room.notices.inner) c.loop-room.notices.failures r.0).
-    subst (λ l. EndsRun (StandsWith (KeepsLines disk) contents) since
-    (with_writer c.keep_piece.new.logging c.keep_piece.new.writer) first
-    c.keep_piece.new.self.effects t.0
-    (told c.keep_piece.new.notices.inner) c.keep_piece.new.notices.failures
+    subst (λ l. EndsRun (TakesLines disk contents) since
+    (logging_to c.take_piece.new.logging c.take_piece.new.writer) first
+    c.take_piece.new.self.effects t.0
+    (told c.take_piece.new.notices.inner) c.take_piece.new.notices.failures
     c.in-Err.end l) (append-nil (r.0 ++ piece))
     (t.2 since first r.0 same k []) in (
       r.0 ++ piece,
@@ -198,16 +198,16 @@ returns-in-Err-clause-read g c = λ start first old force well h.
         from_start = ends start force r.5.from_start;
         from_reads = later-bytes disk contents told old first start r.0 piece
             (λ lines. length lines ≤ c.loop-room.self.effects.lines)
-            (λ lines. length lines ≤ c.keep_piece.new.self.effects.lines)
-            (λ since. IsRunning (StandsWith (KeepsLines disk) contents) since
-            (with_writer c.loop-room.logging c.loop-room.writer) first c.loop-room.self r.3
+            (λ lines. length lines ≤ c.take_piece.new.self.effects.lines)
+            (λ since. IsRunning (TakesLines disk contents) since
+            (logging_to c.loop-room.logging c.loop-room.writer) first c.loop-room.self r.3
             (told c.loop-room.notices.inner) c.loop-room.notices.failures r.0)
-            (λ since. EndsRun (StandsWith (KeepsLines disk) contents) since
-            (with_writer c.keep_piece.new.logging c.keep_piece.new.writer) first
-            c.keep_piece.new.self.effects t.0
-            (told c.keep_piece.new.notices.inner) c.keep_piece.new.notices.failures
+            (λ since. EndsRun (TakesLines disk contents) since
+            (logging_to c.take_piece.new.logging c.take_piece.new.writer) first
+            c.take_piece.new.self.effects t.0
+            (told c.take_piece.new.notices.inner) c.take_piece.new.notices.failures
             c.in-Err.end (r.0 ++ piece))
-            (λ lines few. omega (arith, few, c.keep_piece.ensures.grows))
+            (λ lines few. omega (arith, few, c.take_piece.ensures.grows))
             (λ since is k. ends since
             (ap (λ (l : Listening). (starts_of l).moment) is ∙ force) k)
             (stamps_of c.next_piece.new.self)
@@ -266,16 +266,16 @@ loop-room-preserved g c =
               from_start = t.2 start first r.0 force r.5.from_start;
               from_reads = later-bytes disk contents told old first start r.0 piece
                   (λ lines. length lines ≤ c.loop-room.self.effects.lines)
-                  (λ lines. length lines ≤ c.keep_piece.new.self.effects.lines)
-                  (λ since. IsRunning (StandsWith (KeepsLines disk) contents) since
-                  (with_writer c.loop-room.logging c.loop-room.writer) first c.loop-room.self r.3
+                  (λ lines. length lines ≤ c.take_piece.new.self.effects.lines)
+                  (λ since. IsRunning (TakesLines disk contents) since
+                  (logging_to c.loop-room.logging c.loop-room.writer) first c.loop-room.self r.3
                   (told c.loop-room.notices.inner) c.loop-room.notices.failures r.0)
-                  (λ since. IsRunning (StandsWith (KeepsLines disk) contents) since
-                  (with_writer c.keep_piece.new.logging c.keep_piece.new.writer) first
-                  c.keep_piece.new.self t.0
-                  (told c.keep_piece.new.notices.inner) c.keep_piece.new.notices.failures
+                  (λ since. IsRunning (TakesLines disk contents) since
+                  (logging_to c.take_piece.new.logging c.take_piece.new.writer) first
+                  c.take_piece.new.self t.0
+                  (told c.take_piece.new.notices.inner) c.take_piece.new.notices.failures
                   (r.0 ++ piece))
-                  (λ lines few. omega (arith, few, c.keep_piece.ensures.grows))
+                  (λ lines few. omega (arith, few, c.take_piece.ensures.grows))
                   (λ since is k. t.2 since first r.0
                   (ap (λ (l : Listening). (starts_of l).moment) is ∙ force) k)
                   (stamps_of c.next_piece.new.self)

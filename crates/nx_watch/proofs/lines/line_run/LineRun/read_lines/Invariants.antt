@@ -2,9 +2,8 @@ use Rattle.std.proofs.Common.{◌≡◌, false, ◌+◌, ◌≤◌, ℕ, List, [
 use Rattle.std.specs.Io.KnownBytes.{Consumes}
 use Rattle.nx_receiver.specs.Listener.{starts_of}
 use Rattle.nx_watch.specs.Acting.{most_bytes}
-use Rattle.nx_watch.specs.LineRun.{StandsWith, WithWriter, with_writer}
 use Rattle.nx_watch.specs.Stamps.{bytes_given, counted_of, stamps_of}
-use Rattle.nx_watch.specs.private.LoggingListener.{KeepsLines}
+use Rattle.nx_watch.specs.private.LoggingListener.{LoggingTo, TakesLines, logging_to}
 use Rattle.nx_watch.specs.declared.lines.line_effects.StartMoments.{StartMoments}
 use Rattle.nx_watch.specs.private.Running.{IsBeside, IsRunning, ToldBefore, ToldBeside, beside}
 use Rattle.nx_watch.specs.private.Stamping.{RunsStamped, telling}
@@ -23,12 +22,12 @@ invariant-loop-room g l = record {
   within : l.self.scanner.scanner.room ≤ most_bytes;
   few : l.self.effects.lines + l.room ≤ l.limit;
   fewer : l.self.effects.without_effect ≤ l.self.effects.lines;
-  read : (start : WithWriter (LoggingListener g.row.D.Denot) g.row.W.Denot) (first : StartMoments)
+  read : (start : LoggingTo g.row.D.Denot g.row.W.Denot) (first : StartMoments)
       (old : ToldBefore)
-      → (starts_of start.taker.listener).moment ≡ first.newest
+      → (starts_of start.logging.listener).moment ≡ first.newest
       → l.fn.logging.keeper.has_failed ≡ false
-      → IsRunning (StandsWith (KeepsLines g.D.DiskFile) g.W.Write.contents) start
-      (with_writer l.fn.logging l.fn.writer) first l.fn.self (beside old)
+      → IsRunning (TakesLines g.D.DiskFile g.W.Write.contents) start
+      (logging_to l.fn.logging l.fn.writer) first l.fn.self (beside old)
       (g.F.Write.contents l.fn.notices.inner) l.fn.notices.failures []
       → (bytes : List ℕ)
       × Consumes (g.R.Read.remaining (counted_of l.fn.reader).inner)
@@ -37,8 +36,8 @@ invariant-loop-room g l = record {
       × (told : ToldBeside) × IsBeside old l.logging.keeper.has_failed told
       × RunsStamped (telling g.D.DiskFile g.W.Write.contents g.F.Write.contents old) first bytes
       l.self.effects.lines start
-      (λ since. IsRunning (StandsWith (KeepsLines g.D.DiskFile) g.W.Write.contents) since
-      (with_writer l.logging l.writer) first l.self told
+      (λ since. IsRunning (TakesLines g.D.DiskFile g.W.Write.contents) since
+      (logging_to l.logging l.writer) first l.self told
       (g.F.Write.contents l.notices.inner) l.notices.failures bytes) (stamps_of l.reader);
 }
 

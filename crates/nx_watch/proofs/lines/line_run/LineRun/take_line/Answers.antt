@@ -2,8 +2,8 @@ use Rattle.std.proofs.Common.{◌∙◌, ◌++◌, ◌∷◌, [], ℕ, List, Som
 use Rattle.std.proofs.Common.{subst, take}
 use Rattle.std.specs.Prelude.{IsSomeAnd}
 use Rattle.nx_fec.specs.air_files.AirFile.{IsLine}
-use Rattle.nx_watch.specs.LineRun.{StandsWith, with_writer}
 use Rattle.nx_watch.specs.private.Scanning.{IsScanning, OnLine, OnUnknown, lines_ended}
+use Rattle.nx_watch.specs.private.LoggingListener.{TakesLines, logging_to}
 use Rattle.nx_watch.proofs.lemmas.lines.Run.{run-of, some-line, taken-idle, whole-behind}
 use Rattle.nx_watch.proofs.lemmas.lines.Told.{tells-on}
 use Rattle.nx_watch.proofs.lemmas.lines.Scanning.{parts}
@@ -25,16 +25,16 @@ returns-in-Nothing-clause-taken g c = λ start first old bytes force r.
 
 pub returns-in-Unknown-clause-taken : goal.returns-in-Unknown-clause-taken
 returns-in-Unknown-clause-taken g c = λ start first old bytes force r.
-    let stands = (StandsWith g.T.ActingTaker.stands g.W.Write.contents) in
+    let stands = (TakesLines g.D.DiskFile g.W.Write.contents) in
     let latest = c.take-count.new.self.scanner.latest in
     let scans = c.take-count.ensures.scans bytes r.lines r.scans in
-    run-of stands start (with_writer c.args.taker.now c.args.writer.now) first c.pass_line.new.self
+    run-of stands start (logging_to c.args.logging.now c.args.writer.now) first c.pass_line.new.self
     old
     (g.F.Write.contents c.pass_line.new.notices.inner) c.pass_line.new.notices.failures _ r.lines
     (None ∷ []) c.take-count.result.1 latest (ap (λ e. lines_ended e latest) c.in-Unknown.is)
     (subst (λ s. IsScanning s (bytes ++ take c.take-count.result.0 c.args.piece.now)
     (r.lines ++ lines_ended c.take-count.result.1 latest)) (sym c.pass_line.ensures.scanner) scans)
-    (taken-idle stands start (with_writer c.args.taker.now c.args.writer.now) first r.lines None
+    (taken-idle stands start (logging_to c.args.logging.now c.args.writer.now) first r.lines None
     r.taken refl refl)
     (λ behind. c.pass_line.ensures.tells first old
     ((bytes ++ take c.take-count.result.0 c.args.piece.now) ++ behind) r.lines
@@ -46,7 +46,7 @@ returns-in-Unknown-clause-taken g c = λ start first old bytes force r.
 
 pub returns-in-Ok-clause-taken : goal.returns-in-Ok-clause-taken
 returns-in-Ok-clause-taken g c = λ start first old bytes force r.
-    let stands = (StandsWith g.T.ActingTaker.stands g.W.Write.contents) in
+    let stands = (TakesLines g.D.DiskFile g.W.Write.contents) in
     let latest = c.take-count.new.self.scanner.latest in
     let scans = c.take-count.ensures.scans bytes r.lines r.scans in
     let one = some-line latest
@@ -56,7 +56,7 @@ returns-in-Ok-clause-taken g c = λ start first old bytes force r.
     one.0 force one.1 r.taken (tells-on first c.args.self.now.effects old
     (g.F.Write.contents c.args.notices.now.inner) c.args.notices.now.failures bytes
     (take c.take-count.result.0 c.args.piece.now) behind r.lines r.tells) in
-    run-of stands start (with_writer c.take_known.new.taker c.take_known.new.writer) first
+    run-of stands start (logging_to c.take_known.new.logging c.take_known.new.writer) first
     c.take_known.new.self old
     (g.F.Write.contents c.take_known.new.notices.inner) c.take_known.new.notices.failures _ r.lines
     (Some one.0 ∷ []) c.take-count.result.1 latest

@@ -1,9 +1,10 @@
 use Rattle.std.proofs.Common.{true, ◌≡◌, ◌+◌, ◌-◌, ◌≤◌, ℕ, List, ◌++◌, length, take}
+use Rattle.nx_receiver.specs.Listener.{starts_of}
 use Rattle.nx_watch.specs.Acting.{most_bytes}
-use Rattle.nx_watch.specs.LineRun.{StandsWith, WithWriter, with_writer}
 use Rattle.nx_watch.specs.declared.lines.line_effects.StartMoments.{StartMoments}
 use Rattle.nx_watch.specs.private.Running.{IsRunning, ToldBeside}
-use Rattle.nx_watch.proofs.lines.line_run.LineRun.take_piece.Given as goal
+use Rattle.nx_watch.specs.private.LoggingListener.{LoggingTo, TakesLines, logging_to}
+use Rattle.nx_watch.proofs.lines.line_run.LineRun.take_lines.Given as goal
 
 -- the lines that the bytes so far ended were taken
 abbrev pub invariant-loop-at : goal.invariant-loop-at
@@ -15,16 +16,15 @@ invariant-loop-at g l = record {
   grows : l.fn.self.effects.lines ≤ l.self.effects.lines;
   few : l.self.effects.lines ≤ l.fn.self.effects.lines + l.at;
   fewer : l.self.effects.without_effect ≤ l.self.effects.lines;
-  failed : g.T.ActingTaker.has_failed l.fn.taker ≡ true
-      → g.T.ActingTaker.has_failed l.taker ≡ true;
-  taken : (start : WithWriter g.row.T.Denot g.row.W.Denot) (first : StartMoments)
-      (old : ToldBeside) (bytes : List ℕ)
-      → g.T.ActingTaker.first_moment start.taker ≡ first.newest
-      → IsRunning (StandsWith g.T.ActingTaker.stands g.W.Write.contents) start
-      (with_writer l.fn.taker l.fn.writer) first l.fn.self old
+  failed : l.fn.logging.keeper.has_failed ≡ true → l.logging.keeper.has_failed ≡ true;
+  taken : (start : LoggingTo g.row.D.Denot g.row.W.Denot) (first : StartMoments) (old : ToldBeside)
+      (bytes : List ℕ)
+      → (starts_of start.logging.listener).moment ≡ first.newest
+      → IsRunning (TakesLines g.D.DiskFile g.W.Write.contents) start
+      (logging_to l.fn.logging l.fn.writer) first l.fn.self old
       (g.F.Write.contents l.fn.notices.inner) l.fn.notices.failures bytes
-      → IsRunning (StandsWith g.T.ActingTaker.stands g.W.Write.contents) start
-      (with_writer l.taker l.writer) first l.self old
+      → IsRunning (TakesLines g.D.DiskFile g.W.Write.contents) start
+      (logging_to l.logging l.writer) first l.self old
       (g.F.Write.contents l.notices.inner) l.notices.failures (bytes ++ take l.at l.piece);
 }
 
