@@ -1,7 +1,7 @@
 //! A run over the lines of any bytes, which goes on behind those that aren't understood. What runs
 //! for each line is inlined always; what is done for one that isn't understood never is.
 
-ghost use Rattle.std.specs.Prelude.{◌≡◌, ◌+◌, ◌<◌, ◌≤◌, ◌↔◌, ◌⊎◌, ℕ, Bool, true, false, List, [], ◌∷◌, ◌++◌, Option, IsErrOf, IsSomeAnd, IfErr, IfOk, OnOk, MatchResult, None, Some, length, take, ◌^◌};
+ghost use Rattle.std.specs.Prelude.{◌≡◌, ◌+◌, ◌<◌, ◌≤◌, ◌↔◌, ◌⊎◌, ℕ, true, false, List, [], ◌∷◌, ◌++◌, Option, IsErrOf, IsSomeAnd, IfErr, IfOk, OnOk, MatchResult, None, Some, length, take, ◌^◌};
 ghost use Rattle.std.specs.Io.KnownBytes.{Consumes, IsAtEnd};
 ghost use Rattle.nx_fec.specs.air_files.AirFile.{IsLine, Line};
 ghost use Rattle.nx_watch.specs.Acting.{most_bytes};

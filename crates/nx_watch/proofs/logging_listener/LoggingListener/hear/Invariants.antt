@@ -3,7 +3,6 @@ use Rattle.nx_fec.specs.air_files.AirFile.{Line}
 use Rattle.nx_receiver.specs.air_file_runs.Listen.{given_by}
 use Rattle.nx_receiver.specs.Listener.{then_elements}
 use Rattle.nx_watch.specs.private.LoggingListener.{KeepsHeard, LoggingTo, TakesLines, logging_to}
-use Rattle.nx_watch.specs.declared.logging_listener.LoggingListener.{LoggingListener}
 use Rattle.nx_watch.proofs.logging_listener.LoggingListener.hear.Given as goal
 
 -- the first elements were heard

@@ -11,7 +11,6 @@ use Rattle.nx_watch.specs.Stamps.{bytes_given, counted_of, stamps_of}
 use Rattle.nx_watch.specs.private.LoggingListener.{LoggingTo, TakesLines, logging_to}
 use Rattle.nx_watch.specs.private.Running.{EndsRun, IsRunning, TellsFirst, ToldBefore, ToldBeside, beside}
 use Rattle.nx_watch.specs.private.Stamping.{WasRunning, telling}
-use Rattle.nx_watch.specs.declared.logging_listener.LoggingListener.{LoggingListener}
 use Rattle.nx_watch.specs.declared.lines.line_run.LineRun.{LineRun}
 use Rattle.nx_watch.specs.declared.lines.line_run.WatchEnd.TheVariants.{Read}
 use Rattle.nx_watch.proofs.lemmas.lines.Scanning.{Parts-lines, parts}
