@@ -1,10 +1,9 @@
-//! An air file: its lines and channels, their elements packed, and who takes or hears its lines.
+//! An air file: its lines and channels, their elements packed, and what runs over its lines share.
 
 pub(crate) mod bounded_bytes;
 pub(crate) mod channel;
 pub(crate) mod line_feeds;
-pub(crate) mod line_hearing;
-pub(crate) mod line_taking;
+pub(crate) mod line_runs;
 pub(crate) mod lines;
 pub(crate) mod packed;
 pub(crate) mod reading;

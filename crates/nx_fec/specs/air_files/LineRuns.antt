@@ -1,6 +1,6 @@
 -- A run over the lines of an air file: one that writes nothing, and one that writes while it reads
 -- (this profile).
-use Rattle.std.specs.Prelude.{◌≡◌, ℕ, ◌≤◌, List, [], ◌∷◌, ◌++◌, length, Option, Result, Ok, Err, ⊤}
+use Rattle.std.specs.Prelude.{◌≡◌, ℕ, ◌≤◌, List, ◌++◌, length, Option, Result, Ok, Err, ⊤}
 use Rattle.std.specs.Io.KnownBytes.{Appends}
 use Rattle.nx_fec.specs.air_files.AirFile.{Line}
 use Rattle.nx_fec.specs.air_files.Lines.{IsAirFile, IsCause, IsLineRefused, StopsAt, air_limit, file_of}
@@ -8,13 +8,11 @@ use Rattle.nx_fec.specs.Transfers.{Devices, Extent, HasWritten, Input, Reads, Tr
 use Rattle.nx_fec.specs.Transfers.{line_by_line}
 use Rattle.nx_fec.specs.declared.fault.LineFault.{LineFault}
 use Rattle.nx_fec.specs.declared.fault.LineFault.TheVariants.{TooLong, LineLong, LineCut, BadLine}
-use Rattle.nx_fec.specs.declared.air_files.line_hearing.HearFault.{HearFault}
-use Rattle.nx_fec.specs.declared.air_files.line_hearing.HearFault.TheVariants as hear
-use Rattle.nx_fec.specs.declared.air_files.line_taking.LinesFault.{LinesFault}
-use Rattle.nx_fec.specs.declared.air_files.line_taking.LinesFault.TheVariants as run
-use Rattle.nx_fec.specs.declared.air_files.line_taking.TakeFault.{TakeFault}
-use Rattle.nx_fec.specs.declared.air_files.line_taking.TakeFault.TheVariants as take
-use Rattle.nx_fec.specs.declared.air_files.line_taking.LinesRead.{LinesRead}
+use Rattle.nx_fec.specs.air_files.HearFault.{HearFault}
+use Rattle.nx_fec.specs.air_files.HearFault as hear
+use Rattle.nx_fec.specs.declared.air_files.line_runs.LinesFault.{LinesFault}
+use Rattle.nx_fec.specs.declared.air_files.line_runs.LinesFault.TheVariants as run
+use Rattle.nx_fec.specs.declared.air_files.line_runs.LinesRead.{LinesRead}
 
 -- a cut line is a fault only where `AtEnd` holds, and each other fault may come anywhere
 abbrev pub IsPlaced : Type 0 → LineFault → Type 0
@@ -144,15 +142,6 @@ pub record HasTakenSome {T F : Type 0} (r : LineRun T F) (lines : List Line)
   pub given : List ℕ
   pub begun : r.taker.begins r.first lines given
   pub some : WroteSome r.writer_first r.writer_now given written
-
--- What a fault of taking the next line says: it is refused, and nothing changed, so that what the
--- lines before it gave is written, or waits; or a write failed.
-abbrev pub ExplainsTaking : {T F : Type 0} → LineRun T F → Waiting → List Line → Line → TakeFault F
-    → Type 0
-ExplainsTaking r batch lines line (take.Refused why) =
-    r.taker.refuses r.first lines line why
-    × HasRunOver r (HasGiven r.writer_first r.writer_now batch) lines
-ExplainsTaking r batch lines line (take.Write written) = HasTakenSome r (lines ++ line ∷ []) written
 
 -- What a fault of a run over lines that writes says of bytes of this extent. It is one of the
 -- lines, and `wrote` holds of what the whole lines before it gave; or a write failed, with a

@@ -1,6 +1,5 @@
--- What the takers of the pieces of a file hold, and what they say of the bytes so far.
+-- What is held of an air file that is read to its end, and what a fault says of the bytes so far.
 use Rattle.std.specs.Prelude.{◌≡◌, ℕ, Bool, List, ◌++◌}
-use Rattle.std.specs.Global.{Vec}
 use Rattle.std.specs.List.{flat_map}
 use Rattle.nx_fec.specs.air_files.AirFile.{Line}
 use Rattle.nx_fec.specs.private.LineTaking.{inside}
@@ -8,16 +7,6 @@ use Rattle.nx_fec.specs.air_files.Lines.{IsFaultless, Scanning, Scans, elements_
 use Rattle.nx_fec.specs.Runs.{ExplainsReading, IsOutside}
 use Rattle.nx_fec.specs.declared.air_files.channel.Channel.TheVariants.{Zero}
 use Rattle.nx_fec.specs.declared.fault.RunFault.{RunFault}
-
--- the scanner of an air file, and the elements of the lines that it ended
-pub record TakenElements : Type 0 where
-  pub scanner : Scanning
-  pub bits : Vec Bool
-
--- the bytes of a file, and how many more it may have
-pub record TakenBytes : Type 0 where
-  pub bytes : Vec ℕ
-  pub room : ℕ
 
 -- What a fault in a piece of an air file says of all bytes up to the end of the piece. It stands
 -- whatever comes after them, and it is of memory only where no fault of the file stands in them.

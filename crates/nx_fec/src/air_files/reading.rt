@@ -1,25 +1,23 @@
 //! Reading the elements of an air file, or a text whole, from a reader.
-ghost use Rattle.std.specs.Prelude.{◌≡◌, ◌+◌, ◌<◌, ◌≤◌, ℕ, List, ◌++◌, take, length, IfSome, IfOk, OnOk, IsErrOf, IsErrAnd, MatchResult, ◌⊎◌, Bool, vec_len, option_to_list};
+ghost use Rattle.std.specs.Prelude.{◌≡◌, ◌+◌, ◌<◌, ◌≤◌, ℕ, List, ◌++◌, take, length, IfErr, IfSome, IfOk, OnOk, IsErrOf, IsErrAnd, MatchResult, ◌⊎◌, Bool, vec_len, option_to_list};
 ghost use Rattle.std.specs.List.{flat_map};
 ghost use Rattle.nx_fec.specs.air_files.AirFile.{Line};
 ghost use Rattle.nx_fec.specs.air_files.Lines.{IsBitFile, HasFault, Scans, elements_on};
 ghost use Rattle.nx_fec.specs.air_files.Scanner.{elements_kept};
 ghost use Rattle.nx_fec.specs.declared.air_files.channel.Channel.TheVariants.{Zero};
 ghost use Rattle.nx_fec.specs.declared.fault.LineFault.{LineFault};
-ghost use Rattle.nx_fec.specs.Runs.{IsOutside, ReadsElements, ReadsWhole, file_limit, run_fault};
+ghost use Rattle.nx_fec.specs.Runs.{ExplainsWhole, IsOutside, IsOutsideWhole, IsWithin, ReadsElements, ReadsWhole, file_limit, run_fault};
 ghost use Rattle.nx_fec.specs.private.Takers.{ExplainsPiece, HasRead};
 
 use crate::air_files::channel::Channel;
 use crate::air_files::lines::LineKind;
 use crate::air_files::scanner::Scanner;
 use crate::devices::counting::Counting;
-use crate::devices::pieces::{CHUNK, PieceTaker, read_pieces};
+use crate::devices::pieces::{CHUNK, Piece, next_piece};
 use crate::fault::{ReadFault, RunFault};
 use arrayvec::ArrayVec;
 use std::alloc::{AllocError, Global};
 use std::io::Read;
-use std::marker::Model;
-use std::mem::size_of;
 
 /// The most bytes of a text, and of an air file that is read to its end before it is used.
 const FILE_LIMIT: u64 = 1_048_576;
@@ -59,13 +57,15 @@ fn read_through<R: Read>(
     requires room { 0 < length buffer.old }
     ensures { ReadsElements R.remaining reader.old reader.new result }
 {
-    prove!(size_of::<BitFile>() == 664);
-    let mut file = BitFile {
-        scanner: Scanner::new(FILE_LIMIT),
-        bits: Vec::new(alloc),
-    };
-    read_pieces(reader, buffer, &mut file)?;
-    let BitFile { scanner, bits } = file;
+    let mut scanner = Scanner::new(FILE_LIMIT);
+    let mut bits = Vec::new(alloc);
+    loop {
+        match next_piece(reader, buffer) {
+            Piece::Bytes(count) => scan_piece(&buffer[..count], &mut scanner, &mut bits)?,
+            Piece::End => break,
+            Piece::Failed => return Err(RunFault::Read),
+        }
+    }
     scanner.end()?;
     Ok(bits)
 }
@@ -81,13 +81,33 @@ pub fn read_whole<R: Read>(alloc: Global, reader: &mut Counting<R>) -> Result<Ve
     ensures { ReadsWhole R.remaining reader.old reader.new result }
 {
     let mut space = blank(alloc, CHUNK)?;
-    prove!(size_of::<WholeFile>() == 32);
-    let mut file = WholeFile {
-        bytes: Vec::new(alloc),
-        room: FILE_LIMIT,
-    };
-    read_pieces(reader, space.as_mut_slice(), &mut file)?;
-    Ok(file.bytes)
+    let buffer = space.as_mut_slice();
+    let mut bytes = Vec::new(alloc);
+    loop {
+        match next_piece(reader, buffer) {
+            Piece::Bytes(count) => append_within(&buffer[..count], &mut bytes)?,
+            Piece::End => return Ok(bytes),
+            Piece::Failed => return Err(ReadFault::Read),
+        }
+    }
+}
+
+/// Appends the next bytes of a file. `FileTooLong` where it then has more than its limit.
+fn append_within(piece: &[u8], bytes: &mut Vec<u8>) -> Result<(), ReadFault>
+    requires { vec_len bytes.old ≤ file_limit }
+    ensures appended { OnOk result ((bytes.new.items ≡ bytes.old.items ++ piece.now)
+        × (vec_len bytes.new ≤ file_limit)) }
+    ensures explained { IfErr result (λ fault.
+        (IsOutsideWhole fault → IsWithin file_limit (bytes.old.items ++ piece.now))
+        × ((more : List ℕ)
+        → ExplainsWhole file_limit ((bytes.old.items ++ piece.now) ++ more) fault)) }
+    ensures no_read { IsErrOf result ReadFault.Read → ⊥ }
+{
+    if piece.len() > FILE_LIMIT as usize - bytes.len() {
+        return Err(ReadFault::FileTooLong);
+    }
+    bytes.extend_from_slice(piece)?;
+    Ok(())
 }
 
 /// A buffer of this many bytes.
@@ -95,123 +115,6 @@ fn blank(alloc: Global, length: usize) -> Result<Vec<u8>, AllocError>
     ensures { IfOk result (λ buffer. vec_len buffer ≡ length) }
 {
     vec![in alloc; 0; length]
-}
-
-/// The elements of the lines of an air file, of which the pieces come one after the other.
-#[derive(Drop)]
-struct BitFile {
-    scanner: Scanner,
-    bits: Vec<bool>,
-}
-
-impl Model for BitFile {
-    ghost use Rattle.std.specs.Coded.{codes};
-    ghost use Rattle.nx_fec.specs.private.Takers.{TakenElements};
-
-    ghost Value = { TakenElements };
-
-    ghost coded = { Prim.hlevel (codes) };
-
-    ghost view = { λ file. record { scanner = file.scanner; bits = file.bits } };
-
-    ghost inverse = { λ v. record { scanner = v.scanner; bits = v.bits } };
-}
-
-impl PieceTaker for BitFile {
-    ghost use Rattle.std.proofs.Common.{arith};
-    ghost use Rattle.nx_fec.specs.air_files.Lines.{IsFaultless};
-    ghost use Rattle.nx_fec.specs.Runs.{ExplainsReading, IsOutside, file_limit};
-    ghost use Rattle.nx_fec.specs.private.LineTaking.{inside};
-    ghost use Rattle.nx_fec.specs.private.Takers.{HasRead};
-    ghost use Rattle.nx_fec.specs.declared.fault.RunFault.TheVariants.{Read};
-
-    type Fault = RunFault;
-
-    ghost stands = { λ file bytes. HasRead file_limit file.scanner file.bits.items bytes };
-
-    ghost explains = { λ bytes fault. ExplainsReading inside file_limit bytes fault };
-
-    ghost faultless = { λ bytes. IsFaultless file_limit bytes };
-
-    ghost room = { λ file. file.scanner.room };
-
-    ghost outside = { λ fault. IsOutside fault };
-
-    ghost UNREAD = { Read };
-
-    const UNREAD: RunFault = RunFault::Read;
-
-    fn take(&mut self, piece: &[u8]) -> Result<(), RunFault> {
-        scan_piece(piece, &mut self.scanner, &mut self.bits)
-    }
-
-    ghost unread = { λ bytes. tt };
-
-    ghost clean = { λ file bytes h. record {
-      lines = h.lines;
-      rest = file.scanner.part;
-      splits = h.scans.splits;
-      within = omega (arith, h.scans.room);
-    } };
-}
-
-/// The bytes of a file, of which the pieces come one after the other, and how many more it may
-/// have.
-#[derive(Drop)]
-struct WholeFile {
-    bytes: Vec<u8>,
-    room: u64,
-}
-
-impl Model for WholeFile {
-    ghost use Rattle.std.specs.Coded.{codes};
-    ghost use Rattle.nx_fec.specs.private.Takers.{TakenBytes};
-
-    ghost Value = { TakenBytes };
-
-    ghost coded = { Prim.hlevel (codes) };
-
-    ghost view = { λ file. record { bytes = file.bytes; room = file.room } };
-
-    ghost inverse = { λ v. record { bytes = v.bytes; room = v.room } };
-}
-
-impl PieceTaker for WholeFile {
-    ghost use Rattle.std.specs.Prelude.{◌≡◌, ◌+◌, length};
-    ghost use Rattle.std.proofs.Common.{arith};
-    ghost use Rattle.nx_fec.specs.Runs.{ExplainsWhole, IsOutsideWhole, IsWithin, file_limit};
-    ghost use Rattle.nx_fec.specs.declared.fault.ReadFault.TheVariants.{Read};
-
-    type Fault = ReadFault;
-
-    ghost stands = { λ file bytes. (file.room + length bytes ≡ file_limit)
-        × (file.bytes.items ≡ bytes) };
-
-    ghost explains = { λ bytes fault. ExplainsWhole file_limit bytes fault };
-
-    ghost faultless = { λ bytes. IsWithin file_limit bytes };
-
-    ghost room = { λ file. file.room };
-
-    ghost outside = { λ fault. IsOutsideWhole fault };
-
-    ghost UNREAD = { Read };
-
-    const UNREAD: ReadFault = ReadFault::Read;
-
-    fn take(&mut self, piece: &[u8]) -> Result<(), ReadFault> {
-        let count = piece.len() as u64;
-        if count > self.room {
-            return Err(ReadFault::FileTooLong);
-        }
-        self.bytes.extend_from_slice(piece)?;
-        self.room -= count;
-        Ok(())
-    }
-
-    ghost unread = { λ bytes. tt };
-
-    ghost clean = { λ file bytes h. omega (arith, h.0) };
 }
 
 /// Scans the next bytes of a file, and appends the elements of the lines that they end.

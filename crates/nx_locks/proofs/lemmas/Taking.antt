@@ -17,8 +17,8 @@ use Rattle.nx_fec.specs.private.LineTaking.{inside}
 use Rattle.nx_fec.proofs.lemmas.line_runs.LineRun.{explains-refused, explains-write}
 use Rattle.nx_fec.specs.declared.air_files.channel.Channel.{Channel}
 use Rattle.nx_fec.specs.declared.air_files.channel.Channel.TheVariants.{Zero, One, Two}
-use Rattle.nx_fec.specs.declared.air_files.line_taking.LinesFault.{LinesFault}
-use Rattle.nx_fec.specs.declared.air_files.line_taking.LinesFault.TheVariants as run
+use Rattle.nx_fec.specs.declared.air_files.line_runs.LinesFault.{LinesFault}
+use Rattle.nx_fec.specs.declared.air_files.line_runs.LinesFault.TheVariants as run
 use Rattle.nx_memory.specs.Selection.{is_vital}
 use Rattle.nx_receiver.specs.Events as events
 use Rattle.nx_receiver.specs.Events.{Command, Event, Setting, command, elements_among, element}

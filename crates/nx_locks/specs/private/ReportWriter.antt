@@ -6,8 +6,8 @@ use Rattle.nx_fec.specs.air_files.LineRuns.{HasGiven, HasRunOver, HasTakenSome, 
 use Rattle.nx_fec.specs.air_files.LineRuns.{taker_of}
 use Rattle.nx_fec.specs.Transfers.{WroteSome}
 use Rattle.nx_fec.specs.declared.fault.LineFault.TheVariants as file
-use Rattle.nx_fec.specs.declared.air_files.line_taking.LinesFault.{LinesFault}
-use Rattle.nx_fec.specs.declared.air_files.line_taking.LinesFault.TheVariants as run
+use Rattle.nx_fec.specs.declared.air_files.line_runs.LinesFault.{LinesFault}
+use Rattle.nx_fec.specs.declared.air_files.line_runs.LinesFault.TheVariants as run
 use Rattle.nx_receiver.specs.air_file_runs.Listen.{AreTaken, has_moment}
 use Rattle.nx_receiver.specs.copies.Shares.{all_at_zero}
 use Rattle.nx_receiver.specs.private.Listener as any_run

@@ -13,8 +13,8 @@ use Rattle.nx_fec.specs.Transfers.{Contents, Devices, Extent, WroteSome, as_read
 use Rattle.nx_fec.specs.Transfers.{whole_input}
 use Rattle.nx_fec.specs.air_files.LineRuns.{HasFaultAfter, HasReadFault}
 use Rattle.nx_fec.specs.air_files.Lines.{StopsAt, air_limit, IsAirFile, IsLineRefused, elements_of}
-use Rattle.nx_fec.specs.declared.air_files.line_taking.LinesFault.{LinesFault}
-use Rattle.nx_fec.specs.declared.air_files.line_taking.LinesFault.TheVariants as run
+use Rattle.nx_fec.specs.declared.air_files.line_runs.LinesFault.{LinesFault}
+use Rattle.nx_fec.specs.declared.air_files.line_runs.LinesFault.TheVariants as run
 use Rattle.nx_fec.specs.declared.fault.LineFault.{LineFault}
 use Rattle.nx_fec.specs.declared.fault.LineFault.TheVariants as file
 use Rattle.nx_memory.specs.Selection.{is_vital}

@@ -2,7 +2,7 @@
 use Rattle.std.specs.Prelude.{◌≡◌, ◌⊎◌, ℕ, List, [], ◌∷◌, ◌++◌, Option}
 use Rattle.nx_fec.specs.air_files.AirFile.{Line}
 use Rattle.nx_fec.specs.air_files.LineRuns.{HasGiven, HasTaken, HasTakenSome, Waiting, line_run}
-use Rattle.nx_fec.specs.declared.air_files.line_hearing.HearFault.{HearFault}
+use Rattle.nx_fec.specs.air_files.HearFault.{HearFault}
 use Rattle.nx_receiver.specs.air_file_runs.Listen.{lines_fault, refusal_fault}
 use Rattle.nx_receiver.specs.declared.air_file_runs.listen_fault.LineRefusal.{LineRefusal}
 use Rattle.nx_receiver.specs.declared.air_file_runs.listen_fault.ListenFault.{ListenFault}

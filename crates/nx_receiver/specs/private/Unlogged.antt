@@ -3,10 +3,10 @@
 use Rattle.std.specs.Prelude.{ℕ, List, Option, Result, IfOk, ⊤}
 use Rattle.nx_fec.specs.air_files.AirFile.{Line}
 use Rattle.nx_fec.specs.Transfers.{CountedDevice, Extent, Reads, input}
-use Rattle.nx_fec.specs.declared.air_files.line_hearing.HearFault.{HearFault}
-use Rattle.nx_fec.specs.declared.air_files.line_hearing.HearFault.TheVariants as hear
-use Rattle.nx_fec.specs.declared.air_files.line_taking.LinesFault.{LinesFault}
-use Rattle.nx_fec.specs.declared.air_files.line_taking.LinesFault.TheVariants as run
+use Rattle.nx_fec.specs.air_files.HearFault.{HearFault}
+use Rattle.nx_fec.specs.air_files.HearFault as hear
+use Rattle.nx_fec.specs.declared.air_files.line_runs.LinesFault.{LinesFault}
+use Rattle.nx_fec.specs.declared.air_files.line_runs.LinesFault.TheVariants as run
 use Rattle.nx_memory.specs.Saved.{SavedStates}
 use Rattle.nx_receiver.specs.air_file_runs.Chain.{HasGoneOn}
 use Rattle.nx_receiver.specs.air_file_runs.Listen.{AnswersUnlogged, unknown_contents}

@@ -6,7 +6,6 @@ mod devices;
 mod emissions;
 mod faults;
 mod laws;
-mod line_taking;
 mod lines;
 mod packing;
 mod scanning;

@@ -6,8 +6,8 @@ use Rattle.nx_fec.specs.air_files.AirFile.{Line}
 use Rattle.nx_fec.specs.air_files.LineRuns.{AnswersHearing, HasHeardAll, HearsLines}
 use Rattle.nx_fec.specs.Transfers.{Input, read_from, read_to, whole_input}
 use Rattle.nx_fec.specs.declared.fault.LineFault.{LineFault}
-use Rattle.nx_fec.specs.declared.air_files.line_hearing.HearFault.{HearFault}
-use Rattle.nx_fec.specs.declared.air_files.line_hearing.HearFault.TheVariants as hear
+use Rattle.nx_fec.specs.air_files.HearFault.{HearFault}
+use Rattle.nx_fec.specs.air_files.HearFault as hear
 use Rattle.nx_fec.proofs.lemmas.line_runs.LineRun.{StopsLines-whole}
 use Rattle.nx_fec.proofs.lemmas.lines.ReadingLaws.{IfErr-always}
 

@@ -23,11 +23,11 @@ use Rattle.nx_fec.specs.air_files.Scanner.{kind_kept}
 use Rattle.nx_fec.specs.declared.air_files.lines.LineKind.{LineKind}
 use Rattle.nx_fec.specs.declared.fault.LineFault.{LineFault}
 use Rattle.nx_fec.specs.declared.fault.LineFault.TheVariants.{TooLong, LineLong, LineCut, BadLine}
-use Rattle.nx_fec.specs.declared.air_files.line_hearing.HearFault.{HearFault}
-use Rattle.nx_fec.specs.declared.air_files.line_hearing.HearFault.TheVariants as hear
-use Rattle.nx_fec.specs.declared.air_files.line_taking.LinesFault.{LinesFault}
-use Rattle.nx_fec.specs.declared.air_files.line_taking.LinesFault.TheVariants as run
-use Rattle.nx_fec.specs.declared.air_files.line_taking.LinesRead.{LinesRead}
+use Rattle.nx_fec.specs.air_files.HearFault.{HearFault}
+use Rattle.nx_fec.specs.air_files.HearFault as hear
+use Rattle.nx_fec.specs.declared.air_files.line_runs.LinesFault.{LinesFault}
+use Rattle.nx_fec.specs.declared.air_files.line_runs.LinesFault.TheVariants as run
+use Rattle.nx_fec.specs.declared.air_files.line_runs.LinesRead.{LinesRead}
 use Rattle.nx_fec.proofs.lemmas.lines.LineLaws.{spelling-IsBeginning}
 use Rattle.nx_fec.proofs.lemmas.devices.Piece.{piece-parts}
 use Rattle.nx_fec.proofs.lemmas.lines.ReadingLaws.{IfErr-always, IsCause-more}

@@ -11,8 +11,8 @@ use Rattle.nx_fec.specs.private.LineTaking.{inside}
 use Rattle.nx_fec.specs.Transfers.{CountedDevice, Writes}
 use Rattle.nx_fec.specs.declared.fault.LineFault.{LineFault}
 use Rattle.nx_fec.specs.declared.fault.LineFault.TheVariants as file
-use Rattle.nx_fec.specs.declared.air_files.line_taking.LinesFault.{LinesFault}
-use Rattle.nx_fec.specs.declared.air_files.line_taking.LinesFault.TheVariants as run
+use Rattle.nx_fec.specs.declared.air_files.line_runs.LinesFault.{LinesFault}
+use Rattle.nx_fec.specs.declared.air_files.line_runs.LinesFault.TheVariants as run
 use Rattle.nx_fec.proofs.lemmas.line_runs.LineRun.{explains-refused, explains-write}
 use Rattle.nx_receiver.specs.air_file_runs.Listen.{file_fault, lines_fault, refusal_fault}
 use Rattle.nx_receiver.specs.Listener.{Listening}

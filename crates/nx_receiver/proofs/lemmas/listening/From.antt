@@ -6,9 +6,9 @@ use Rattle.nx_fec.specs.air_files.AirFile.{Line}
 use Rattle.nx_fec.specs.Transfers.{CountedDevice, Devices, Extent, HasWritten, Reads}
 use Rattle.nx_fec.specs.Transfers.{contents_of, devices, input}
 use Rattle.nx_fec.proofs.lemmas.devices.TransferLaws.{Ok-not_err, Reads-on, Writes-none}
-use Rattle.nx_fec.specs.declared.air_files.line_taking.LinesFault.TheVariants as run
+use Rattle.nx_fec.specs.declared.air_files.line_runs.LinesFault.TheVariants as run
 use Rattle.nx_fec.specs.air_files.LineRuns.{HasTakenAll, RunsLines, line_run}
-use Rattle.nx_fec.specs.declared.air_files.line_taking.LinesRead.{LinesRead}
+use Rattle.nx_fec.specs.declared.air_files.line_runs.LinesRead.{LinesRead}
 use Rattle.nx_memory.specs.Saved.{SavedStates}
 use Rattle.nx_receiver.specs.air_file_runs.Chain.{HasGoneOn}
 use Rattle.nx_receiver.specs.air_file_runs.Listen.{AnswersListening, IsLogOfFile, Listens, given_by}

@@ -11,8 +11,8 @@ use Rattle.nx_fec.specs.air_files.Lines.{IsLineRefused, StopsAt, air_limit, HasF
 use Rattle.nx_fec.specs.air_files.Lines.{file_of, line_bytes}
 use Rattle.nx_fec.specs.declared.fault.LineFault.{LineFault}
 use Rattle.nx_fec.specs.declared.fault.LineFault.TheVariants as file
-use Rattle.nx_fec.specs.declared.air_files.line_taking.LinesFault.{LinesFault}
-use Rattle.nx_fec.specs.declared.air_files.line_taking.LinesFault.TheVariants as run
+use Rattle.nx_fec.specs.declared.air_files.line_runs.LinesFault.{LinesFault}
+use Rattle.nx_fec.specs.declared.air_files.line_runs.LinesFault.TheVariants as run
 use Rattle.nx_fec.proofs.lemmas.lines.LineLaws.{HasFault-unique, IsAirFile-good, NoFeed, first_feed, no_feed-not}
 use Rattle.nx_fec.proofs.lemmas.lines.LineLaws.{reading-unique, regroup, spelling-IsBeginning}
 use Rattle.nx_fec.proofs.lemmas.lines.LineLaws.{spelling-injective, split}

@@ -15,9 +15,9 @@ use Rattle.nx_fec.specs.Transfers.{devices, input, input_of}
 use Rattle.nx_fec.specs.air_files.LineRuns.{ExplainsLines, HasTaken, HasTakenAll, RunsLines, line_run}
 use Rattle.nx_fec.specs.air_files.Lines.{IsLineRefused, air_limit, elements_of, file_of, line_bytes}
 use Rattle.nx_fec.specs.declared.fault.LineFault.TheVariants as file
-use Rattle.nx_fec.specs.declared.air_files.line_taking.LinesFault.{LinesFault}
-use Rattle.nx_fec.specs.declared.air_files.line_taking.LinesFault.TheVariants as run
-use Rattle.nx_fec.specs.declared.air_files.line_taking.LinesRead.{LinesRead}
+use Rattle.nx_fec.specs.declared.air_files.line_runs.LinesFault.{LinesFault}
+use Rattle.nx_fec.specs.declared.air_files.line_runs.LinesFault.TheVariants as run
+use Rattle.nx_fec.specs.declared.air_files.line_runs.LinesRead.{LinesRead}
 use Rattle.nx_fec.proofs.lemmas.line_runs.LineRun.{StopsAt-map}
 use Rattle.nx_fec.proofs.lemmas.devices.TransferLaws.{Ok-not_err, Reads-on, Writes-none, read_failed-none}
 use Rattle.nx_receiver.specs.Events.{elements_among}

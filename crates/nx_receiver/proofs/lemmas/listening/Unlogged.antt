@@ -8,12 +8,12 @@ use Rattle.std.proofs.KnownBytes.{Consumes-nil}
 use Rattle.nx_fec.specs.air_files.AirFile.{Line}
 use Rattle.nx_fec.specs.air_files.LineRuns.{ExplainsLines, HasHeardAll, HasTaken, HasTakenAll, HearsLines}
 use Rattle.nx_fec.specs.air_files.LineRuns.{StopsLines, line_run}
-use Rattle.nx_fec.specs.declared.air_files.line_hearing.HearFault.{HearFault}
-use Rattle.nx_fec.specs.declared.air_files.line_hearing.HearFault.TheVariants as hear
+use Rattle.nx_fec.specs.air_files.HearFault.{HearFault}
+use Rattle.nx_fec.specs.air_files.HearFault as hear
 use Rattle.nx_fec.specs.Transfers.{CountedDevice, Extent, input, count_of}
 use Rattle.nx_fec.specs.declared.fault.LineFault.TheVariants as file
-use Rattle.nx_fec.specs.declared.air_files.line_taking.LinesFault.TheVariants as run
-use Rattle.nx_fec.specs.declared.air_files.line_taking.LinesRead.{LinesRead}
+use Rattle.nx_fec.specs.declared.air_files.line_runs.LinesFault.TheVariants as run
+use Rattle.nx_fec.specs.declared.air_files.line_runs.LinesRead.{LinesRead}
 use Rattle.nx_fec.proofs.lemmas.line_runs.LineRun.{StopsLines-map}
 use Rattle.nx_fec.proofs.lemmas.devices.TransferLaws.{Ok-not_err, Reads-on, read_failed-none}
 use Rattle.nx_memory.specs.Saved.{SavedStates}

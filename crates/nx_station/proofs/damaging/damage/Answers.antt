@@ -12,7 +12,7 @@ use Rattle.nx_fec.proofs.lemmas.line_runs.LineRun.{HasGiven-empty, HasGiven-writ
 use Rattle.nx_fec.proofs.lemmas.line_runs.LineRun.{IsPlaced-end, IsTaking-sent, Line-read, Line-write}
 use Rattle.nx_fec.proofs.lemmas.line_runs.LineRun.{Read-other, RunsLines-of, StopsAt-end, Write-other}
 use Rattle.nx_fec.proofs.lemmas.line_runs.LineRun.{scanned-within, taken-some}
-use Rattle.nx_fec.specs.declared.air_files.line_taking.LinesRead.{LinesRead}
+use Rattle.nx_fec.specs.declared.air_files.line_runs.LinesRead.{LinesRead}
 use Rattle.nx_station.specs.Damage.{Damage}
 use Rattle.nx_station.specs.private.DamageTaker.{BeginsFrom, RefusesFrom, StandsFrom, damage_taker}
 use Rattle.nx_station.specs.private.DamageTaker.{first_for, lines_fault}

@@ -26,9 +26,9 @@ use Rattle.nx_fec.specs.declared.air_files.channel.Channel.TheVariants.{Zero, On
 use Rattle.nx_fec.specs.declared.fault.LineFault.{LineFault}
 use Rattle.nx_fec.specs.declared.fault.LineFault.TheVariants as file
 use Rattle.nx_fec.specs.declared.fault.WriteFault.{WriteFault}
-use Rattle.nx_fec.specs.declared.air_files.line_taking.LinesFault.{LinesFault}
-use Rattle.nx_fec.specs.declared.air_files.line_taking.LinesFault.TheVariants as run
-use Rattle.nx_fec.specs.declared.air_files.line_taking.LinesRead.{LinesRead}
+use Rattle.nx_fec.specs.declared.air_files.line_runs.LinesFault.{LinesFault}
+use Rattle.nx_fec.specs.declared.air_files.line_runs.LinesFault.TheVariants as run
+use Rattle.nx_fec.specs.declared.air_files.line_runs.LinesRead.{LinesRead}
 use Rattle.nx_fec.proofs.lemmas.lines.LineLaws.{IsAirFile-unique, spelling-IsBeginning}
 use Rattle.nx_fec.proofs.lemmas.line_runs.LineRun.{StopsAt-map}
 use Rattle.nx_fec.proofs.lemmas.devices.TransferLaws.{Ok-not_err, Reads-on}

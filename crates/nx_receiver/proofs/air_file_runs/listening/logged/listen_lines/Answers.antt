@@ -5,7 +5,7 @@ use Rattle.std.proofs.lemmas.Result.{err_from_is_err_and}
 use Rattle.nx_fec.specs.air_files.Lines.{IsCause}
 use Rattle.nx_fec.specs.private.LineTaking.{inside}
 use Rattle.nx_fec.specs.air_files.LineRuns.{ExplainsLines, HasGiven, HasTakenSome, line_run}
-use Rattle.nx_fec.specs.declared.air_files.line_taking.LinesFault.TheVariants as run
+use Rattle.nx_fec.specs.declared.air_files.line_runs.LinesFault.TheVariants as run
 use Rattle.nx_fec.proofs.lemmas.line_runs.LineRun.{ExplainsLines-not_read, ExplainsLines-piece, HasGiven-empty}
 use Rattle.nx_fec.proofs.lemmas.line_runs.LineRun.{HasGiven-written, HasTaken-map, IsPlaced-end, IsTaking-sent}
 use Rattle.nx_fec.proofs.lemmas.line_runs.LineRun.{Line-read, Line-write, Read-other, RunsLines-of}

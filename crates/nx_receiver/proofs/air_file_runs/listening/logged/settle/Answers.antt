@@ -1,7 +1,7 @@
 use Rattle.std.proofs.Common.{◌∙◌, ap, refl}
 use Rattle.std.specs.Io.KnownBytes.{Appends}
 use Rattle.nx_fec.specs.air_files.LineRuns.{HasGiven}
-use Rattle.nx_fec.specs.declared.air_files.line_taking.LinesFault.TheVariants as run
+use Rattle.nx_fec.specs.declared.air_files.line_runs.LinesFault.TheVariants as run
 use Rattle.nx_fec.proofs.lemmas.devices.TransferLaws.{Writes-none}
 use Rattle.nx_fec.proofs.lemmas.line_runs.LineRun.{HasGiven-empty, settled, settled-lost}
 use Rattle.nx_receiver.specs.air_file_runs.Listen.{lines_fault}

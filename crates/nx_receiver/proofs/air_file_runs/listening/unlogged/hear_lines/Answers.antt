@@ -4,7 +4,7 @@ use Rattle.std.proofs.KnownBytes.{Consumes-trans, Consumes-kept}
 use Rattle.nx_fec.specs.air_files.Lines.{IsCause}
 use Rattle.nx_fec.specs.private.LineTaking.{inside}
 use Rattle.nx_fec.specs.air_files.LineRuns.{StopsLines}
-use Rattle.nx_fec.specs.declared.air_files.line_hearing.HearFault.TheVariants as hear
+use Rattle.nx_fec.specs.air_files.HearFault as hear
 use Rattle.nx_fec.proofs.lemmas.line_runs.Hearing.{HearsLines-of, Line-unread}
 use Rattle.nx_fec.proofs.lemmas.line_runs.LineRun.{IsPlaced-end, StopsAt-end, StopsLines-not_read}
 use Rattle.nx_fec.proofs.lemmas.line_runs.LineRun.{StopsLines-piece, scanned-within}

@@ -3,7 +3,7 @@ use Rattle.std.specs.Option.{is_some}
 use Rattle.std.proofs.lemmas.Result.{err_from_is_err_and}
 use Rattle.nx_fec.specs.air_files.LineRuns.{HasTaken, HasGiven}
 use Rattle.nx_fec.specs.air_files.Lines.{air_limit}
-use Rattle.nx_fec.specs.declared.air_files.line_taking.LinesFault.TheVariants as run
+use Rattle.nx_fec.specs.declared.air_files.line_runs.LinesFault.TheVariants as run
 use Rattle.nx_fec.proofs.lemmas.devices.TransferLaws.{Writes-none}
 use Rattle.nx_fec.proofs.lemmas.line_runs.LineRun.{IsPlaced-at_byte, StopsAt-cause, no-kind}
 use Rattle.nx_fec.proofs.lemmas.line_runs.LineRun.{some-kind, taking-ended, taking-open}

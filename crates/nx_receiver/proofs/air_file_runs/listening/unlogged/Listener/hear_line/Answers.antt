@@ -2,7 +2,7 @@ use Rattle.std.proofs.Common.{ap, refl}
 use Rattle.std.specs.Option.{is_some}
 use Rattle.std.proofs.lemmas.Result.{err_from_is_err_and}
 use Rattle.nx_fec.specs.air_files.Lines.{air_limit}
-use Rattle.nx_fec.specs.declared.air_files.line_hearing.HearFault.TheVariants as hear
+use Rattle.nx_fec.specs.air_files.HearFault as hear
 use Rattle.nx_fec.proofs.lemmas.line_runs.LineRun.{IsPlaced-at_byte, StopsAt-cause, StopsLines-refused}
 use Rattle.nx_fec.proofs.lemmas.line_runs.LineRun.{hearing-ended, hearing-open, no-kind, some-kind}
 use Rattle.nx_receiver.specs.Listener.{starts_of}
