@@ -8,6 +8,7 @@ pub mod Notices
 pub mod Query
 pub mod Reading
 pub mod Runs
+pub mod Salvage
 pub mod Starts
 pub mod Times
 pub mod View

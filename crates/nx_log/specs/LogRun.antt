@@ -1,5 +1,5 @@
 -- A run over a log: what it reads, what it writes of it, and what it answers (this profile).
-use Rattle.std.specs.Prelude.{◌≡◌, ◌⊎◌, ◌↔◌, ℕ, ◌-◌, ◌^◌, ◌≤◌, List, [], ◌++◌, length}
+use Rattle.std.specs.Prelude.{◌≡◌, ◌⊎◌, ◌↔◌, ℕ, ◌-◌, ◌^◌, ◌≤◌, List, [], ◌++◌, length, Some}
 use Rattle.std.specs.Prelude.{Result, Ok, Err, IsErrOf}
 use Rattle.std.specs.List.{AllZip, concat}
 use Rattle.std.specs.Io.KnownBytes.{Appends, Consumes}
@@ -8,8 +8,11 @@ use Rattle.nx_receiver.specs.copies.Shares.{MarkedCopy}
 use Rattle.nx_log.specs.Json.{IsJsonLine}
 use Rattle.nx_log.specs.Logged.{IsLoggedAs}
 use Rattle.nx_log.specs.Query.{admitted}
-use Rattle.nx_log.specs.Notices.{HaveToldTorn, Notices}
+use Rattle.nx_log.specs.Notices.{HaveToldAll, HaveToldTorn, Notice, Notices}
 use Rattle.nx_log.specs.Reading.{HoldEntries, HoldEntriesToEnd, StopAtLine}
+use Rattle.nx_log.specs.Salvage.{Salvage, SalvageToEnd, Stretch, first_line}
+use Rattle.nx_log.specs.declared.damage.Damaged.{Damaged}
+use Rattle.nx_log.specs.declared.damage.Damaged.TheVariants.{PassedOver, Refused}
 use Rattle.nx_log.specs.declared.writing.form.Form.{Form}
 use Rattle.nx_log.specs.declared.writing.form.Form.TheVariants.{Log, Json}
 use Rattle.nx_log.specs.declared.log_fault.LogFault.{LogFault}
@@ -39,6 +42,14 @@ pub record BeginWithEntries (bytes : List ℕ) (entries : List MarkedCopy) (torn
   pub more : List ℕ
   pub split : bytes ≡ front ++ more
   pub hold : HoldEntries front entries torn
+
+-- some first of the bytes are salvaged so
+pub record BeginSalvage (stretches : List Stretch) (bytes : List ℕ) (entries : List MarkedCopy)
+    (told : List Notice) : Type 0 where
+  pub front : List ℕ
+  pub more : List ℕ
+  pub split : bytes ≡ front ++ more
+  pub salvage : Salvage stretches front entries told
 
 -- the output of these entries, for this query and in this form, was written
 pub record WroteOutput (query : Query) (form : Form) (contents : Contents)
@@ -86,15 +97,41 @@ module _ {R W : Type 0} (query : Query) (form : Form) (d : Devices R W) (n : Not
       (bytes ≡ []) × (d.reader_after ≡ d.reader) × (d.writer_after ≡ d.writer)
       × HaveToldTorn n []
 
+  -- The same where it passes over what is not of a log. Where the bytes are a log it answers as
+  -- above. Else it reads them all, and answers at their end: `BadLog` has the first line that isn't
+  -- of a log, the output of all entries that were salvaged was written, and each stretch and each
+  -- torn entry was told. After a failed read or write that is said of what was read by then.
+  abbrev pub AnswersSalvage : Result ℕ LogFault → List ℕ → Type 0
+  AnswersSalvage (Ok count) bytes = AnswersLogRun (Ok count) bytes
+  AnswersSalvage (Err Read) bytes =
+      (stretches : List Stretch) × (entries : List MarkedCopy) × (told : List Notice)
+      × Salvage stretches bytes entries told × WroteOutput query form (contents_of d) entries
+      × HaveToldAll n told
+  AnswersSalvage (Err (BadLog line)) bytes =
+      AreAll bytes × (stretches : List Stretch) × (entries : List MarkedCopy)
+      × (told : List Notice) × SalvageToEnd stretches bytes entries told
+      × WroteOutput query form (contents_of d) entries × HaveToldAll n told
+      × (first_line stretches ≡ Some line)
+  AnswersSalvage (Err (Write written)) bytes =
+      (stretches : List Stretch) × (entries : List MarkedCopy) × (told : List Notice)
+      × BeginSalvage stretches bytes entries told
+      × WrotePart query form (contents_of d) entries written × HaveToldAll n told
+  AnswersSalvage (Err (Memory error)) bytes = AnswersLogRun (Err (Memory error)) bytes
+
+  -- what is not of a log is refused, or passed over
+  abbrev pub AnswersRun : Damaged → Result ℕ LogFault → List ℕ → Type 0
+  AnswersRun Refused outcome bytes = AnswersLogRun outcome bytes
+  AnswersRun PassedOver outcome bytes = AnswersSalvage outcome bytes
+
 -- A run over a log. It answers so to the bytes that it read, at most 2^63 - 1, however they came. A
 -- read failed, at most one, exactly where the outcome is `Read`, and a write of the output where it
 -- is `Write`.
-pub record RunsOverLog {R W : Type 0} (query : Query) (form : Form) (d : Devices R W)
-    (n : Notices) (outcome : Result ℕ LogFault) : Type 0 where
+pub record RunsOverLog {R W : Type 0} (query : Query) (form : Form) (damaged : Damaged)
+    (d : Devices R W) (n : Notices) (outcome : Result ℕ LogFault) : Type 0 where
   pub bytes : List ℕ
   pub consumed : Consumes (d.remaining d.reader.inner) (d.remaining d.reader_after.inner) bytes
   pub within : length bytes ≤ most_read
-  pub answer : AnswersLogRun query form d n outcome bytes
+  pub answer : AnswersRun query form d n damaged outcome bytes
   pub unread : IsErrOf outcome Read ↔ (d.reader_after.failures ≡ 1)
   pub read_once : d.reader_after.failures ≤ 1
   pub unwritten : ((written : ℕ) × (outcome ≡ Err (Write written)))

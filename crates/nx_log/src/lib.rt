@@ -1,6 +1,7 @@
 //! The log read back: its entries, what they remember, and those that a query admits.
 #![tactic(auto)]
 
+mod damage;
 mod entries;
 mod kept;
 pub mod laws;
@@ -9,6 +10,7 @@ mod log_runs;
 mod queries;
 mod writing;
 
+pub use damage::Damaged;
 pub use entries::entry::{EntryView, MAX_LOGGED, entry_at};
 pub use entries::head::LoggedHead;
 pub use entries::moment::moment_of;

@@ -1,23 +1,31 @@
 //! A run over a log: from what is read to the entries that a query admits.
 
-ghost use Rattle.std.specs.Prelude.{◌≡◌, ◌<◌, ◌≤◌, ◌↔◌, ◌⊎◌, ℕ, List, [], ◌++◌, length, take, Option, IsErrOf, IfOk, OnOk, MatchResult};
+ghost use Rattle.std.specs.Prelude.{◌≡◌, ◌<◌, ◌≤◌, ◌↔◌, ◌⊎◌, ◌+◌, ◌-◌, ◌^◌, ℕ, List, [], ◌∷◌, ◌++◌, length, take, drop, min, false, true, Option, Result, IsErrOf, IfOk, OnOk, MatchResult};
+ghost use Rattle.std.specs.List.{All};
 ghost use Rattle.std.specs.Io.KnownBytes.{Consumes, IsAtEnd};
 ghost use Rattle.nx_fec.specs.Transfers.{Writes, devices};
-ghost use Rattle.nx_log.specs.LogReader.{IsAt};
+ghost use Rattle.nx_log.specs.LogReader.{IsAt, most_lines};
 ghost use Rattle.nx_log.specs.LogRun.{RunsOverLog, most_read};
-ghost use Rattle.nx_log.specs.Notices.{HaveToldTorn, notices_of};
+ghost use Rattle.nx_log.specs.Notices.{HaveToldAll, Notice, damaged_at, notices_of};
+ghost use Rattle.nx_log.specs.Reading.{IsNoBracket};
+ghost use Rattle.nx_log.specs.Salvage.{BeginsAnew, Stretch, bytes_in, first_of, lines_in, told_of};
 ghost use Rattle.nx_receiver.specs.copies.Shares.{MarkedCopy};
-ghost use Rattle.nx_log.specs.private.LogRunning.{EndsRun, EndsTold, HasRunOver, IsReading, IsRunning};
+ghost use Rattle.nx_log.specs.private.LogRunning.{EndsAll, EndsRun, EndsTold, IsReading, IsRunning};
+ghost use Rattle.nx_log.specs.declared.damage.Damaged.{Damaged as WithDamaged};
+ghost use Rattle.nx_log.specs.declared.damage.Damaged.TheVariants as damage;
 ghost use Rattle.nx_log.specs.declared.writing.form.Form.{Form as TheForm};
+ghost use Rattle.nx_log.specs.declared.log_fault.LogFault.{LogFault as TheFault};
 ghost use Rattle.nx_log.specs.declared.log_fault.LogFault.TheVariants.{Read as ReadFailed};
 ghost use Rattle.nx_log.specs.declared.queries.query.Query.{Query as TheQuery};
 
-use crate::entries::reader::{BadLine, LogReader, Pushed, TornLine};
+use crate::damage::Damaged;
+use crate::entries::reader::{BadLine, LogReader, Pushed, TornLine, line_feeds};
 use crate::log_fault::LogFault;
 use crate::queries::query::Query;
 use crate::writing::form::Form;
-use crate::writing::notices::tell_torn;
+use crate::writing::notices::{tell_damage, tell_torn};
 use crate::writing::output::Output;
+use memchr::memchr;
 use nx_fec::{CHUNK, Counting, Piece, next_piece};
 use std::alloc::Global;
 use std::io::{Read, Write};
@@ -38,6 +46,10 @@ const MAX_READ: u64 = 9_223_372_036_854_775_807;
 /// called. `Memory` comes before the first read. That each entry is written before the next read is
 /// said by the answer `Read`. A run can't know which read will fail, and after each that fails all
 /// whole entries of what was read are written.
+///
+/// With `Damaged::PassedOver` the run goes on where the bytes stop being a log: they are passed
+/// over up to the next bracket, and told by that line, as torn entries are. Then `BadLog`, with the
+/// first such line, comes at the end, after all else was written and told.
 pub fn log_run<R: Read, W: Write, N: Write>(
     alloc: Global,
     reader: &mut Counting<R>,
@@ -45,20 +57,18 @@ pub fn log_run<R: Read, W: Write, N: Write>(
     notices: &mut Counting<N>,
     query: &Query,
     form: Form,
+    damaged: Damaged,
 ) -> Result<u64, LogFault>
     requires reader { reader.old.failures ≡ 0 }
     requires writer { writer.old.failures ≡ 0 }
     requires notices { notices.old.failures ≡ 0 }
-    ensures { RunsOverLog query.now form
+    ensures { RunsOverLog query.now form damaged
         (devices R.remaining W.contents reader.old reader.new writer.old writer.new)
         (notices_of (N.contents notices.old.inner) (N.contents notices.new.inner)
         notices.new.failures) result }
 {
     let mut buffer = vec![in alloc; 0; CHUNK]?;
-    let mut run = LogRun {
-        log: LogReader::new(),
-        output: Output::new(),
-    };
+    let mut run = LogRun::new(damaged);
     run.read_log(reader, writer, notices, query, form, &mut buffer)?;
     run.end(writer, notices)
 }
@@ -66,11 +76,38 @@ pub fn log_run<R: Read, W: Write, N: Write>(
 /// What a run holds of the bytes so far.
 #[derive(Drop)]
 struct LogRun {
+    /// What is done with bytes that are not of a log.
+    damaged: Damaged,
+    /// The reader of the bytes behind those that were passed over last.
     log: LogReader,
+    /// How many lines ended before the bytes that the reader was given.
+    ended: u64,
+    /// Whether bytes are passed over up to the next bracket. Then the reader was given none.
+    is_passing: bool,
+    /// The first line that is not of a log.
+    first_bad: Option<u64>,
     output: Output,
 }
 
 impl LogRun {
+    /// A run that read nothing yet.
+    fn new(damaged: Damaged) -> LogRun
+        ensures running { (query : TheQuery) (form : TheForm) (old told : Option (List ℕ))
+            (failures : ℕ) → failures ≡ 0
+            → IsRunning query form damaged old result old (notices_of told told failures) [] }
+        ensures mode { result.damaged ≡ damaged }
+        ensures reading { IsReading result.log }
+    {
+        LogRun {
+            damaged,
+            log: LogReader::new(),
+            ended: 0,
+            is_passing: false,
+            first_bad: None,
+            output: Output::new(),
+        }
+    }
+
     /// Reads the input to its end or its limit, or until the run is over.
     fn read_log<R: Read, W: Write, N: Write>(
         &mut self,
@@ -84,20 +121,18 @@ impl LogRun {
         requires reader { reader.old.failures ≡ 0 }
         requires writer { writer.old.failures ≡ 0 }
         requires room { length buffer.old ≡ CHUNK }
-        requires started { IsAt self.old.log [] [] [] }
-        ensures read { (old told : Option (List ℕ))
-            → IsRunning query.now form old self.old.log (W.contents writer.old.inner)
-            self.old.output
+        requires reading { IsReading self.old.log }
+        ensures read { (damaged : WithDamaged) (old told : Option (List ℕ))
+            → IsRunning query.now form damaged old self.old (W.contents writer.old.inner)
             (notices_of told (N.contents notices.old.inner) notices.old.failures) []
             → (bytes : List ℕ)
             × Consumes (R.remaining reader.old.inner) (R.remaining reader.new.inner) bytes
             × (length bytes ≤ most_read)
             × MatchResult result
             (λ _. (IsAtEnd (R.remaining reader.new.inner) ⊎ (length bytes ≡ most_read))
-            × IsRunning query.now form old self.new.log (W.contents writer.new.inner)
-            self.new.output
+            × IsRunning query.now form damaged old self.new (W.contents writer.new.inner)
             (notices_of told (N.contents notices.new.inner) notices.new.failures) bytes)
-            (λ fault. EndsRun query.now form
+            (λ fault. EndsRun query.now form damaged
             (record { before = old; after = W.contents writer.new.inner })
             (notices_of told (N.contents notices.new.inner) notices.new.failures) bytes fault) }
         ensures unread { IsErrOf result ReadFailed ↔ (reader.new.failures ≡ 1) }
@@ -119,7 +154,8 @@ impl LogRun {
         Ok(())
     }
 
-    /// Takes a piece, gives the entries that end in it, and tells of the torn ones.
+    /// Takes a piece, gives the entries that end in it, and tells of the torn ones, and of what is
+    /// passed over.
     fn take_piece<W: Write, N: Write>(
         &mut self,
         piece: &[u8],
@@ -130,17 +166,15 @@ impl LogRun {
     ) -> Result<(), LogFault>
         requires writer { writer.old.failures ≡ 0 }
         requires reading { IsReading self.old.log }
-        ensures taken { (old told : Option (List ℕ)) (bytes : List ℕ)
+        ensures taken { (damaged : WithDamaged) (old told : Option (List ℕ)) (bytes : List ℕ)
             → length (bytes ++ piece.now) ≤ most_read
-            → IsRunning query.now form old self.old.log (W.contents writer.old.inner)
-            self.old.output
+            → IsRunning query.now form damaged old self.old (W.contents writer.old.inner)
             (notices_of told (N.contents notices.old.inner) notices.old.failures) bytes
             → MatchResult result
-            (λ _. IsRunning query.now form old self.new.log (W.contents writer.new.inner)
-            self.new.output
+            (λ _. IsRunning query.now form damaged old self.new (W.contents writer.new.inner)
             (notices_of told (N.contents notices.new.inner) notices.new.failures)
             (bytes ++ piece.now))
-            (λ fault. EndsRun query.now form
+            (λ fault. EndsRun query.now form damaged
             (record { before = old; after = W.contents writer.new.inner })
             (notices_of told (N.contents notices.new.inner) notices.new.failures)
             (bytes ++ piece.now) fault) }
@@ -150,14 +184,14 @@ impl LogRun {
     {
         let mut at = 0;
         while at < piece.len() {
-            at += self.take_entry(&piece[at..], writer, notices, query, form)?;
+            at += self.take_front(&piece[at..], writer, notices, query, form)?;
         }
         Ok(())
     }
 
-    /// Takes the bytes of a piece up to the end of the first entry that ends in it, or of a torn
-    /// one, or all, and gives this entry, or tells of it. Answers how many bytes it took.
-    fn take_entry<W: Write, N: Write>(
+    /// Takes some first bytes of a piece: passes over those up to the next bracket, or takes what
+    /// `take_entry` does. Answers how many bytes it took.
+    fn take_front<W: Write, N: Write>(
         &mut self,
         piece: &[u8],
         writer: &mut Counting<W>,
@@ -168,17 +202,15 @@ impl LogRun {
         requires some { 0 < length piece.now }
         requires writer { writer.old.failures ≡ 0 }
         requires reading { IsReading self.old.log }
-        ensures taken { (old told : Option (List ℕ)) (bytes : List ℕ)
+        ensures taken { (damaged : WithDamaged) (old told : Option (List ℕ)) (bytes : List ℕ)
             → length (bytes ++ piece.now) ≤ most_read
-            → IsRunning query.now form old self.old.log (W.contents writer.old.inner)
-            self.old.output
+            → IsRunning query.now form damaged old self.old (W.contents writer.old.inner)
             (notices_of told (N.contents notices.old.inner) notices.old.failures) bytes
             → MatchResult result
-            (λ count. IsRunning query.now form old self.new.log (W.contents writer.new.inner)
-            self.new.output
+            (λ count. IsRunning query.now form damaged old self.new (W.contents writer.new.inner)
             (notices_of told (N.contents notices.new.inner) notices.new.failures)
             (bytes ++ take count piece.now))
-            (λ fault. EndsRun query.now form
+            (λ fault. EndsRun query.now form damaged
             (record { before = old; after = W.contents writer.new.inner })
             (notices_of told (N.contents notices.new.inner) notices.new.failures)
             (bytes ++ piece.now) fault) }
@@ -188,64 +220,191 @@ impl LogRun {
         ensures unread { IsErrOf result ReadFailed → ⊥ }
         ensures writes { Writes writer.new LogFault.Write result }
     {
-        match self.log.push(piece) {
+        let passed = self.passed_in(piece);
+        if passed > 0 {
+            self.ended = self
+                .ended
+                .saturating_add(line_feeds(&piece[..passed]) as u64);
+            return Ok(passed);
+        }
+        let count = self.part_of(piece);
+        self.take_entry(&piece[..count], writer, notices, query, form)
+    }
+
+    /// How many first bytes of a piece are passed over: those up to the next bracket, where bytes
+    /// are being passed over.
+    fn passed_in(&self, piece: &[u8]) -> usize
+        requires { 0 < length piece.now }
+        ensures within { result ≤ length piece.now }
+        ensures passed { 0 < result → (self.now.is_passing ≡ true)
+            × All IsNoBracket (take result piece.now) }
+        ensures none { result ≡ 0 → self.now.is_passing ≡ true → BeginsAnew piece.now }
+    {
+        if self.is_passing {
+            return before_bracket(piece);
+        }
+        0
+    }
+
+    /// How many first bytes of a piece the reader is given at once. Where bytes can be passed over,
+    /// they are those before the next bracket behind the first byte. So none stands behind the byte
+    /// with which they stop being a log.
+    fn part_of(&self, piece: &[u8]) -> usize
+        requires { 0 < length piece.now }
+        ensures some { 0 < result }
+        ensures within { result ≤ length piece.now }
+        ensures one { self.now.damaged ≡ damage.PassedOver
+            → All IsNoBracket (drop 1 (take result piece.now)) }
+    {
+        match self.damaged {
+            Damaged::Refused => piece.len(),
+            Damaged::PassedOver => 1 + before_bracket(&piece[1..]),
+        }
+    }
+
+    /// Takes the bytes of a part of a piece up to the end of the first entry that ends in it, or of
+    /// a torn one, or all, and gives this entry, or tells of it. Where the bytes stop being a log
+    /// in it, the run ends, or they are passed over. Answers how many bytes it took.
+    fn take_entry<W: Write, N: Write>(
+        &mut self,
+        part: &[u8],
+        writer: &mut Counting<W>,
+        notices: &mut Counting<N>,
+        query: &Query,
+        form: Form,
+    ) -> Result<usize, LogFault>
+        requires some { 0 < length part.now }
+        requires writer { writer.old.failures ≡ 0 }
+        requires reading { IsReading self.old.log }
+        requires one { self.old.damaged ≡ damage.PassedOver → All IsNoBracket (drop 1 part.now) }
+        requires begins { self.old.is_passing ≡ true → BeginsAnew part.now }
+        ensures taken { (damaged : WithDamaged) (old told : Option (List ℕ)) (bytes : List ℕ)
+            → length (bytes ++ part.now) ≤ most_read
+            → IsRunning query.now form damaged old self.old (W.contents writer.old.inner)
+            (notices_of told (N.contents notices.old.inner) notices.old.failures) bytes
+            → MatchResult result
+            (λ count. IsRunning query.now form damaged old self.new (W.contents writer.new.inner)
+            (notices_of told (N.contents notices.new.inner) notices.new.failures)
+            (bytes ++ take count part.now))
+            (λ fault. EndsRun query.now form damaged
+            (record { before = old; after = W.contents writer.new.inner })
+            (notices_of told (N.contents notices.new.inner) notices.new.failures)
+            (bytes ++ part.now) fault) }
+        ensures some { IfOk result (λ count. 0 < count) }
+        ensures within { IfOk result (λ count. count ≤ length part.now) }
+        ensures reading { OnOk result (IsReading self.new.log) }
+        ensures unread { IsErrOf result ReadFailed → ⊥ }
+        ensures writes { Writes writer.new LogFault.Write result }
+    {
+        let from = self.log.line();
+        self.is_passing = false;
+        match self.log.push(part) {
             Pushed::Entry { taken } => {
                 self.output
                     .give(self.log.entry_bytes(), query, form, writer)?;
                 Ok(taken)
             }
             Pushed::Torn { taken, at } => {
-                tell_torn(at.line, notices);
+                tell_torn(self.ended.saturating_add(at.line), notices);
                 Ok(taken)
             }
-            Pushed::All => Ok(piece.len()),
-            Pushed::Bad(BadLine { line }) => {
-                self.output.send(writer)?;
-                Err(LogFault::BadLog { line })
-            }
+            Pushed::All => Ok(part.len()),
+            Pushed::Bad(BadLine { line }) => match self.damaged {
+                Damaged::Refused => {
+                    self.output.send(writer)?;
+                    Err(LogFault::BadLog { line })
+                }
+                Damaged::PassedOver => {
+                    self.pass_over(line, from, part, notices);
+                    Ok(part.len())
+                }
+            },
         }
     }
 
+    /// Passes over what the reader was given and this part, which begins on the reader's line
+    /// `from`, since they stop being a log at its line `line`. Tells that, and begins anew.
+    fn pass_over<N: Write>(&mut self, line: u64, from: u64, part: &[u8], notices: &mut Counting<N>)
+        ensures mode { self.new.damaged ≡ self.old.damaged }
+        ensures output { self.new.output ≡ self.old.output }
+        ensures passing { self.new.is_passing ≡ true }
+        ensures log { IsAt self.new.log [] [] [] }
+        ensures ended { length part.now ≤ most_read → self.new.ended
+            ≡ min (self.old.ended + (from - 1) + lines_in part.now) most_lines }
+        ensures first { self.new.first_bad
+            ≡ first_of self.old.first_bad (min (self.old.ended + line) most_lines) }
+        ensures told { (old : Option (List ℕ)) (before : List Notice)
+            → HaveToldAll (notices_of old (N.contents notices.old.inner) notices.old.failures)
+            before
+            → HaveToldAll (notices_of old (N.contents notices.new.inner) notices.new.failures)
+            (before ++ damaged_at (min (self.old.ended + line) most_lines) ∷ []) }
+    {
+        let bad = self.ended.saturating_add(line);
+        tell_damage(bad, notices);
+        if self.first_bad.is_none() {
+            self.first_bad = Some(bad);
+        }
+        let lines = from
+            .saturating_sub(1)
+            .saturating_add(line_feeds(part) as u64);
+        self.ended = self.ended.saturating_add(lines);
+        self.log = LogReader::new();
+        self.is_passing = true;
+    }
+
     /// Ends the input: writes what waits, tells of a torn entry at the end, and answers how many
-    /// entries were admitted.
+    /// entries were admitted, or which line is the first that is not of a log.
     fn end<W: Write, N: Write>(
         &mut self,
         writer: &mut Counting<W>,
         notices: &mut Counting<N>,
     ) -> Result<u64, LogFault>
         requires writer { writer.old.failures ≡ 0 }
-        ensures ended { (query : TheQuery) (form : TheForm) (old told : Option (List ℕ))
-            (bytes : List ℕ)
+        ensures ended { (query : TheQuery) (form : TheForm) (damaged : WithDamaged)
+            (old told : Option (List ℕ)) (bytes : List ℕ)
             → length bytes ≤ most_read
-            → IsRunning query form old self.old.log (W.contents writer.old.inner) self.old.output
+            → IsRunning query form damaged old self.old (W.contents writer.old.inner)
             (notices_of told (N.contents notices.old.inner) notices.old.failures) bytes
-            → MatchResult result
-            (λ count. HasRunOver query form
+            → EndsAll query form damaged
             (record { before = old; after = W.contents writer.new.inner })
-            (notices_of told (N.contents notices.new.inner) notices.new.failures) bytes count)
-            (λ fault. EndsRun query form
-            (record { before = old; after = W.contents writer.new.inner })
-            (notices_of told (N.contents notices.new.inner) notices.new.failures) bytes fault) }
+            (notices_of told (N.contents notices.new.inner) notices.new.failures) bytes result }
         ensures unread { IsErrOf result ReadFailed → ⊥ }
         ensures writes { Writes writer.new LogFault.Write result }
     {
         self.output.send(writer)?;
         self.tell_last(notices);
-        Ok(self.output.admitted())
+        match self.first_bad {
+            Some(line) => Err(LogFault::BadLog { line }),
+            None => Ok(self.output.admitted()),
+        }
     }
 
     /// Tells of the torn entry with which the input ends, if it ends with one.
     fn tell_last<N: Write>(&self, notices: &mut Counting<N>)
-        ensures { (told : Option (List ℕ)) (bytes : List ℕ) (entries : List MarkedCopy)
-            (torn : List ℕ) → length bytes ≤ most_read → IsAt self.now.log bytes entries torn
-            → HaveToldTorn (notices_of told (N.contents notices.old.inner) notices.old.failures)
-            torn
-            → EndsTold (notices_of told (N.contents notices.new.inner) notices.new.failures) bytes
-            entries }
+        ensures { (told : Option (List ℕ)) (stretches : List Stretch) (rest : List ℕ)
+            (last : List MarkedCopy) (torn : List ℕ)
+            → length (bytes_in stretches ++ rest) ≤ most_read
+            → self.now.ended ≡ lines_in (bytes_in stretches) → IsAt self.now.log rest last torn
+            → HaveToldAll (notices_of told (N.contents notices.old.inner) notices.old.failures)
+            (told_of stretches torn)
+            → EndsTold (notices_of told (N.contents notices.new.inner) notices.new.failures)
+            stretches rest last }
     {
         match self.log.finish() {
-            Some(TornLine { line }) => tell_torn(line, notices),
+            Some(TornLine { line }) => tell_torn(self.ended.saturating_add(line), notices),
             None => {}
         }
+    }
+}
+
+/// How many bytes stand before the first bracket, which are all where there is none.
+fn before_bracket(bytes: &[u8]) -> usize
+    ensures within { result ≤ length bytes.now }
+    ensures none { All IsNoBracket (take result bytes.now) }
+    ensures first { result ≡ 0 → 0 < length bytes.now → BeginsAnew bytes.now }
+{
+    match memchr(b'[', bytes) {
+        Some(place) => place,
+        None => bytes.len(),
     }
 }

@@ -11,6 +11,8 @@ use Rattle.nx_fec.specs.air_files.Channels.{channel_number}
 use Rattle.nx_fec.specs.declared.air_files.channel.Channel.{Channel}
 use Rattle.nx_log.specs.Query.{AreLetters, IsSetOf}
 use Rattle.nx_log.specs.Times.{IsSince, IsUntil}
+use Rattle.nx_log.specs.declared.damage.Damaged.{Damaged}
+use Rattle.nx_log.specs.declared.damage.Damaged.TheVariants as damage
 use Rattle.nx_log.specs.declared.writing.form.Form.{Form}
 use Rattle.nx_log.specs.declared.writing.form.Form.TheVariants as form
 use Rattle.nx_log.specs.declared.queries.query.Query.{Query}
@@ -44,7 +46,8 @@ option_rule option =
 abbrev pub flag_rule : Text → Rule
 flag_rule name = record (new_rule name) { long = Some name; action = Some SetTrue }
 
--- a command that takes the options of a query and of a form, in the order in which help lists them
+-- a command that takes the options of a query, of a form and of what is done with damaged bytes, in
+-- the order in which help lists them
 abbrev pub log_tree : Text → App
 log_tree name =
     let with_station = with_rule (new_app name) (option_rule Station) in
@@ -53,7 +56,8 @@ log_tree name =
     let with_since = with_rule with_channel (option_rule Since) in
     let with_until = with_rule with_since (option_rule Until) in
     let with_good = with_rule with_until (flag_rule (codes "good")) in
-    with_rule with_good (flag_rule (codes "json"))
+    let with_json = with_rule with_good (flag_rule (codes "json")) in
+    with_rule with_json (flag_rule (codes "salvage"))
 
 -- the text names these letters and no others
 abbrev pub NamesLetters : Text → set.FinSet nat_cmp → Type 0
@@ -105,6 +109,14 @@ form_of false = form.Log
 
 abbrev pub IsForm : List Row → Form → Type 0
 IsForm values form = form ≡ form_of (has_flag (codes "json") values)
+
+-- what they ask to do with bytes that are not of a log
+abbrev pub damaged_of : Bool → Damaged
+damaged_of true = damage.PassedOver
+damaged_of false = damage.Refused
+
+abbrev pub IsDamaged : List Row → Damaged → Type 0
+IsDamaged values damaged = damaged ≡ damaged_of (has_flag (codes "salvage") values)
 
 -- as the value of this option, the text names nothing
 abbrev pub NamesNothing : LogOption → Text → Type 0

@@ -15,6 +15,7 @@ use Rattle.nx_locks.specs.Run.{ShowsLocks}
 use Rattle.nx_memory.specs.Saved.{SavedStates}
 use Rattle.nx_log.specs.LogRun.{RunsOverLog}
 use Rattle.nx_log.specs.Notices.{Notices}
+use Rattle.nx_log.specs.declared.damage.Damaged.{Damaged}
 use Rattle.nx_log.specs.declared.log_fault.LogFault.{LogFault}
 use Rattle.nx_log.specs.declared.queries.query.Query.{Query}
 use Rattle.nx_log.specs.declared.writing.form.Form.{Form}
@@ -146,7 +147,7 @@ PerformsOnStreams (Slots station moment) d outcome =
 PerformsOnStreams (Damage kind from count) d outcome =
     Tells (λ why. call.Damage why)
     (Damages (record { kind = kind; from = from; count = count }) d) outcome
-PerformsOnStreams (LogCall query form) d outcome = ⊥
+PerformsOnStreams (LogCall query form damaged) d outcome = ⊥
 PerformsOnStreams (Watch name moment) d outcome = ⊥
 
 -- the arguments name a call, which had this outcome
@@ -215,27 +216,29 @@ abbrev pub log_outcome : Result ℕ LogFault → Result (Unit {0}) Fault
 log_outcome (Ok count) = Ok tt
 log_outcome (Err why) = Err (fault.Call (call.Log why))
 
--- a run over a log by this query, in this form, which told this, had an outcome of its own, and the
--- program tells it so
-abbrev pub EndsLog : {R W : Type 0} → Query → Form → Devices R W → Notices
+-- a run over a log by this query, in this form, which did this with damaged bytes, and told this,
+-- had an outcome of its own, and the program tells it so
+abbrev pub EndsLog : {R W : Type 0} → Query → Form → Damaged → Devices R W → Notices
     → Result (Unit {0}) Fault → Type 0
-EndsLog query form d n outcome =
-    (own : Result ℕ LogFault) × RunsOverLog query form d n own × (outcome ≡ log_outcome own)
+EndsLog query form damaged d n outcome =
+    (own : Result ℕ LogFault) × RunsOverLog query form damaged d n own
+    × (outcome ≡ log_outcome own)
 
 -- the same, with what was told on standard error; no file was opened
-abbrev pub ReadsLog : {R W F D E : Type 0} → Query → Form → Devices R W → Beside F D W E
-    → Result (Unit {0}) Fault → Type 0
-ReadsLog query form d b outcome =
+abbrev pub ReadsLog : {R W F D E : Type 0} → Query → Form → Damaged → Devices R W
+    → Beside F D W E → Result (Unit {0}) Fault → Type 0
+ReadsLog query form damaged d b outcome =
     OpensNoFile b
-    × EndsLog query form d (notices_between b.contents b.faults b.faults_after) outcome
+    × EndsLog query form damaged d (notices_between b.contents b.faults b.faults_after) outcome
 
 -- the arguments name a run over a log, which had this outcome
 pub record RunsLog {R W F D E : Type 0} (arguments : List Text) (d : Devices R W)
     (b : Beside F D W E) (outcome : Result (Unit {0}) Fault) : Type 0 where
   pub query : Query
   pub form : Form
-  pub named : Names arguments (LogCall query form)
-  pub read : ReadsLog query form d b outcome
+  pub damaged : Damaged
+  pub named : Names arguments (LogCall query form damaged)
+  pub read : ReadsLog query form damaged d b outcome
 
 -- how the program ends: as a watch, as a run over a log, or with no file and nothing told on
 -- standard error
@@ -251,7 +254,7 @@ EndsRun arguments d b outcome =
 abbrev pub Performs : {R W F D E : Type 0} → Call → Devices R W → Beside F D W E
     → Result (Unit {0}) Fault → Type 0
 Performs (Watch name moment) d b outcome = WatchesLog d b name moment outcome
-Performs (LogCall query form) d b outcome = ReadsLog query form d b outcome
+Performs (LogCall query form damaged) d b outcome = ReadsLog query form damaged d b outcome
 Performs call d b (Ok done) = IsUnused b × PerformsOnStreams call d (Ok done)
 Performs call d b (Err (fault.Call why)) = IsUnused b × PerformsOnStreams call d (Err why)
 Performs call d b (Err _) = ⊥
@@ -274,7 +277,9 @@ NamesWatch arguments = (name : Text) × (moment : ℕ) × Names arguments (Watch
 
 -- the arguments name a run over a log
 abbrev pub NamesLog : List Text → Type 0
-NamesLog arguments = (query : Query) × (form : Form) × Names arguments (LogCall query form)
+NamesLog arguments =
+    (query : Query) × (form : Form) × (damaged : Damaged)
+    × Names arguments (LogCall query form damaged)
 
 -- the arguments name a call that tells on standard error more than a fault
 abbrev pub NamesTelling : List Text → Type 0

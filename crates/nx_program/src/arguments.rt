@@ -18,11 +18,11 @@ ghost use Rattle.nx_envelope.specs.declared.letter.Letter.{Letter};
 
 use crate::commands::navtex_command;
 use crate::file_name::FileName;
-use crate::log_arguments::{form_in, query_in, unfit_report};
+use crate::log_arguments::{damaged_in, form_in, query_in, unfit_report};
 use clap::ArgMatches;
 use clap::error::ErrorKind;
 use nx_envelope::{LAST_MOMENT, Letter};
-use nx_log::{Form, Query};
+use nx_log::{Damaged, Form, Query};
 use nx_station::DamageKind;
 use std::alloc::{AllocError, Global};
 use std::convert::AsStr;
@@ -84,6 +84,8 @@ pub enum Call<'a> {
         query: Query,
         /// How they are printed.
         form: Form,
+        /// What is done with bytes that are not of a log.
+        damaged: Damaged,
     },
 }
 
@@ -180,6 +182,7 @@ fn log_call<'a>(alloc: Global, values: &ArgMatches) -> Result<Call<'a>, Argument
         Ok(query) => Ok(Call::Log {
             query,
             form: form_in(values),
+            damaged: damaged_in(values),
         }),
         Err(option) => Err(ArgumentsFault::Value(unfit_report(alloc, values, option)?)),
     }

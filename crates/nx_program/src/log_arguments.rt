@@ -3,7 +3,7 @@
 ghost use Rattle.std.specs.Prelude.{◌≡◌, IfErr, IfNone, IfOk, IfSome, option_map, string_bytes};
 ghost use Rattle.clap.specs.Words.{found_of, rows_of};
 ghost use Rattle.nx_log.specs.Times.{IsSince, IsUntil};
-ghost use Rattle.nx_program.specs.LogArguments.{Asks, IsForm, IsQuery, IsReported, NamesChannel, NamesLetters};
+ghost use Rattle.nx_program.specs.LogArguments.{Asks, IsDamaged, IsForm, IsQuery, IsReported, NamesChannel, NamesLetters};
 ghost use Rattle.nx_program.specs.LogArguments.{given_to, has_flag, option_name};
 ghost use Rattle.nx_program.specs.LogArguments.{value_name as the_value_name, value_report as the_report};
 ghost use Rattle.nx_program.specs.private.LogReading.{IsUnfitAs, IsWrong};
@@ -12,7 +12,7 @@ ghost use Rattle.nx_program.specs.declared.log_arguments.LogOption.TheVariants a
 
 use clap::ArgMatches;
 use nx_fec::Channel;
-use nx_log::{Form, Letters, Query, since_of, until_of};
+use nx_log::{Damaged, Form, Letters, Query, since_of, until_of};
 use std::alloc::{AllocError, Global};
 
 /// An option of `log` that has a value.
@@ -199,6 +199,17 @@ pub fn form_in(values: &ArgMatches) -> Form
         Form::Json
     } else {
         Form::Log
+    }
+}
+
+/// What is done with bytes that are not of a log, as the options ask for.
+pub fn damaged_in(values: &ArgMatches) -> Damaged
+    ensures { IsDamaged (rows_of (found_of values.now)) result }
+{
+    if is_flagged(values, "salvage") {
+        Damaged::PassedOver
+    } else {
+        Damaged::Refused
     }
 }
 

@@ -45,7 +45,9 @@ end (full, cut or long), errors, moment, number, station, subject, text and
 time.
 
 Where the bytes stop being a log, the entries before were written, and the line
-is told.";
+is told. With --salvage they are passed over up to the next [, and it goes on
+there: each such place is told by its line, at once, and the first one again at
+the end, with status 2.";
 
 /// What stands at the end of long help.
 pub const LOG_EXAMPLE: &str = "Example:
@@ -57,6 +59,9 @@ pub const LOG_EXAMPLE: &str = "Example:
   $ navtex log --until 2024-12-31 < ea.log
   $ navtex log --json < ea.log | cut -c1-41
   {\"channel\":0,\"characters\":5,\"end\":\"full\",";
+
+/// What help says of `--salvage`.
+const SALVAGE_HELP: &str = "Pass over what is not of a log, and go on behind it";
 
 /// The command with an option that has a value.
 fn with_option<'a>(
@@ -104,5 +109,6 @@ pub fn log_command<'a>(alloc: Global, name: &'a str) -> Result<Command<'a>, Allo
     let with_since = with_option(alloc, with_channel, LogOption::Since)?;
     let with_until = with_option(alloc, with_since, LogOption::Until)?;
     let with_good = with_flag(alloc, with_until, "good", "Good entries alone")?;
-    with_flag(alloc, with_good, "json", "Each entry as a line of JSON")
+    let with_json = with_flag(alloc, with_good, "json", "Each entry as a line of JSON")?;
+    with_flag(alloc, with_json, "salvage", SALVAGE_HELP)
 }

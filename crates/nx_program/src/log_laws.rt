@@ -3,6 +3,7 @@
 ghost use Rattle.std.specs.Prelude.{List, [], ◌∷◌, codes, Some, true};
 ghost use Rattle.clap.specs.Words.{Text};
 ghost use Rattle.nx_fec.specs.declared.air_files.channel.Channel.TheVariants.{One};
+ghost use Rattle.nx_log.specs.declared.damage.Damaged.TheVariants as damage;
 ghost use Rattle.nx_log.specs.declared.writing.form.Form.TheVariants as form;
 ghost use Rattle.nx_program.specs.LogArguments.{all_entries, value_report};
 ghost use Rattle.nx_program.specs.Arguments.{IsRefusedByClap, LacksValue, Names};
@@ -11,21 +12,25 @@ ghost use Rattle.nx_program.specs.declared.arguments.Call.TheVariants.{Log};
 
 /// What some arguments of `log` are read as, whatever the program's name.
 pub fn log_in_examples()
-    ensures all { (program : Text) → Names (program ∷ codes "log" ∷ []) (Log all_entries form.Log) }
+    ensures all { (program : Text) → Names (program ∷ codes "log" ∷ [])
+        (Log all_entries form.Log damage.Refused) }
     ensures flags { (program : Text)
         → Names (program ∷ codes "log" ∷ codes "--json" ∷ codes "--good" ∷ [])
-        (Log (record all_entries { good = true }) form.Json) }
+        (Log (record all_entries { good = true }) form.Json damage.Refused) }
+    ensures salvage { (program : Text)
+        → Names (program ∷ codes "log" ∷ codes "--salvage" ∷ [])
+        (Log all_entries form.Log damage.PassedOver) }
     ensures channel { (program : Text) → Names (program ∷ codes "log" ∷ codes "--channel=1" ∷ [])
-        (Log (record all_entries { channel = Some One }) form.Log) }
+        (Log (record all_entries { channel = Some One }) form.Log damage.Refused) }
     ensures since { (program : Text)
         → Names (program ∷ codes "log" ∷ codes "--since" ∷ codes "2025-01-01" ∷ [])
-        (Log (record all_entries { since = Some 1735689600 }) form.Log) }
+        (Log (record all_entries { since = Some 1735689600 }) form.Log damage.Refused) }
     ensures until { (program : Text)
         → Names (program ∷ codes "log" ∷ codes "--until" ∷ codes "2025-01-01" ∷ [])
-        (Log (record all_entries { until = Some 1735775999 }) form.Log) }
+        (Log (record all_entries { until = Some 1735775999 }) form.Log damage.Refused) }
     ensures minute { (program : Text)
         → Names (program ∷ codes "log" ∷ codes "--until" ∷ codes "2025-01-01 00:40" ∷ [])
-        (Log (record all_entries { until = Some 1735692059 }) form.Log) }
+        (Log (record all_entries { until = Some 1735692059 }) form.Log damage.Refused) }
     ensures no_year { (program : Text)
         → LacksValue (program ∷ codes "log" ∷ codes "--since" ∷ codes "2025" ∷ [])
         (value_report Since (codes "2025")) }

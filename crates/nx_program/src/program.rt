@@ -26,7 +26,7 @@ use nx_disk::Noted;
 use nx_fec::{Counting, RunFault, decode_run, encode_run, show_run, write_out, write_table};
 use nx_kept::DiskFile;
 use nx_locks::locks;
-use nx_log::{Form, Query, log_run};
+use nx_log::{Damaged, Form, Query, log_run};
 use nx_receiver::{Want, listen, resume};
 use nx_station::{check_run, damage, send};
 use nx_watch::StampedReader;
@@ -199,7 +199,13 @@ fn obey<'a, S: AsStr, R: Read, W: Write, E: Write, F: LogFiles + Drop>(
         Ok(Call::Watch { file, moment }) => {
             watch_input(alloc, file, moment, files, input, writer, faults)
         }
-        Ok(Call::Log { query, form }) => log_input(alloc, &query, form, input, writer, faults),
+        Ok(
+            Call::Log {
+                query,
+                form,
+                damaged,
+            },
+        ) => log_input(alloc, &query, form, damaged, input, writer, faults),
         Ok(call) => obey_unstamped(alloc, Ok(call), input, writer),
         Err(why) => obey_unstamped(alloc, Err(why), input, writer),
     }
@@ -233,12 +239,13 @@ fn watch_input<'a, R: Read, W: Write, E: Write, F: LogFiles + Drop>(
     }
 }
 
-/// Prints the entries of the log on the input that the query admits, and tells of torn ones. Its
-/// reads need no stamps.
+/// Prints the entries of the log on the input that the query admits, and tells of torn ones
+/// and of what is passed over. Its reads need no stamps.
 fn log_input<R: Read, D, W: Write, E: Write>(
     alloc: Global,
     query: &Query,
     form: Form,
+    damaged: Damaged,
     input: Input<R, D, W, E>,
     writer: &mut Counting<W>,
     faults: &mut Counting<E>,
@@ -246,7 +253,7 @@ fn log_input<R: Read, D, W: Write, E: Write>(
     requires input { IsFresh input }
     requires writer { writer.old.failures ≡ 0 }
     requires faults { faults.old.failures ≡ 0 }
-    ensures ended { EndsLog query.now form
+    ensures ended { EndsLog query.now form damaged
         (devices R.remaining W.contents (counted_of input) (counted_of result.input) writer.old
         writer.new)
         (notices_between E.contents faults.old faults.new)
@@ -255,7 +262,7 @@ fn log_input<R: Read, D, W: Write, E: Write>(
     ensures unstamped { stamps_of result.input ≡ [] }
 {
     let mut reader = input.into_inner();
-    let outcome = print_log(alloc, query, form, &mut reader, writer, faults);
+    let outcome = print_log(alloc, query, form, damaged, &mut reader, writer, faults);
     Obeyed {
         outcome,
         input: StampedReader::new(reader),
@@ -263,11 +270,13 @@ fn log_input<R: Read, D, W: Write, E: Write>(
     }
 }
 
-/// Prints the entries of a log that the query admits, and tells of torn ones.
+/// Prints the entries of a log that the query admits, and tells of torn ones and of what is passed
+/// over.
 fn print_log<R: Read, W: Write, E: Write>(
     alloc: Global,
     query: &Query,
     form: Form,
+    damaged: Damaged,
     reader: &mut Counting<R>,
     writer: &mut Counting<W>,
     faults: &mut Counting<E>,
@@ -275,12 +284,12 @@ fn print_log<R: Read, W: Write, E: Write>(
     requires reader { reader.old.failures ≡ 0 }
     requires writer { writer.old.failures ≡ 0 }
     requires faults { faults.old.failures ≡ 0 }
-    ensures { EndsLog query.now form
+    ensures { EndsLog query.now form damaged
         (devices R.remaining W.contents reader.old reader.new writer.old writer.new)
         (notices_between E.contents faults.old faults.new)
         result }
 {
-    match log_run(alloc, reader, writer, faults, query, form) {
+    match log_run(alloc, reader, writer, faults, query, form, damaged) {
         Ok(_printed) => Ok(()),
         Err(why) => Err(Fault::Call(CallFault::Log(why))),
     }

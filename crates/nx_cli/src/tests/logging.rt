@@ -108,3 +108,27 @@ fn goes_on_behind_a_torn_entry(rt: HostRuntime) {
     let ended = run_on(rt.alloc(), &["navtex", "log"], &refused);
     ended.expect(&rt, "log-torn, and no log", 2, &both, lines);
 }
+
+#[test]
+fn salvages(rt: HostRuntime) {
+    let damaged = join(&rt, rt.alloc(), &[b"TEST\n", FIRST, b"[BB08 zz\n", SECOND]);
+    let arguments = ["navtex", "log", "--salvage"];
+    let lines = b"navtex: line 1 is not of a log, and was passed over\n\
+        navtex: line 5 is not of a log, and was passed over\n\
+        navtex: line 1 is not of a log\n";
+    let ended = run_on(rt.alloc(), &arguments, &damaged);
+    ended.expect(&rt, "two places", 2, BOTH, lines);
+    let first = join(
+        &rt,
+        rt.alloc(),
+        &[FIRST, b"[EA01 2025-01-01 00:40:00 full 0/5]\nTE\0T\n\n"],
+    );
+    let lines =
+        b"navtex: line 5 is not of a log, and was passed over\nnavtex: line 5 is not of a log\n";
+    let ended = run_on(rt.alloc(), &arguments, &first);
+    ended.expect(&rt, "a damaged byte at the end", 2, FIRST, lines);
+    let torn = join(&rt, rt.alloc(), &[FIRST, b"[BB08 2026-\n", SECOND]);
+    let line = b"navtex: line 4: a torn entry was passed over\n";
+    let ended = run_on(rt.alloc(), &arguments, &torn);
+    ended.expect(&rt, "an entry that was torn", 0, BOTH, line);
+}

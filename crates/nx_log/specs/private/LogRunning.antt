@@ -1,14 +1,19 @@
 -- How a run over a log stands, and how it ends.
-use Rattle.std.specs.Prelude.{◌≡◌, ℕ, ◌-◌, ◌^◌, List, length, min, Option}
+use Rattle.std.specs.Prelude.{◌≡◌, ◌≢◌, ⊤, ℕ, ◌-◌, ◌^◌, Bool, true, false, List, [], ◌++◌, length, min, Option, None, Some}
+use Rattle.std.specs.Prelude.{Result, Ok, Err}
 use Rattle.nx_fec.specs.Transfers.{Contents}
 use Rattle.nx_fec.specs.air_files.LineRuns.{HasGiven}
 use Rattle.nx_receiver.specs.copies.Shares.{MarkedCopy}
 use Rattle.nx_log.specs.LogReading.{LogReading}
 use Rattle.nx_log.specs.LogReader.{IsAt, StopAt}
-use Rattle.nx_log.specs.LogRun.{BeginWithEntries, IsOutput, WroteOutput, WrotePart}
-use Rattle.nx_log.specs.Notices.{HaveToldTorn, Notices}
+use Rattle.nx_log.specs.LogRun.{BeginSalvage, IsOutput, WroteOutput, WrotePart}
+use Rattle.nx_log.specs.Notices.{HaveToldAll, HaveToldTorn, Notice, Notices}
 use Rattle.nx_log.specs.Query.{admitted}
-use Rattle.nx_log.specs.Reading.{HoldEntries, HoldEntriesToEnd}
+use Rattle.nx_log.specs.Reading.{HoldEntriesToEnd}
+use Rattle.nx_log.specs.Salvage.{AreCut, BeginsBehind, Salvage, SalvageToEnd, Stretch, bytes_in, entries_in, first_line, lines_in, told_of}
+use Rattle.nx_log.specs.declared.damage.Damaged.{Damaged}
+use Rattle.nx_log.specs.declared.damage.Damaged.TheVariants.{PassedOver, Refused}
+use Rattle.nx_log.specs.declared.log_runs.LogRun.{LogRun}
 use Rattle.nx_log.specs.declared.writing.form.Form.{Form}
 use Rattle.nx_log.specs.declared.log_fault.LogFault.{LogFault}
 use Rattle.nx_log.specs.declared.log_fault.LogFault.TheVariants.{Read, Write, BadLog}
@@ -30,40 +35,104 @@ pub record HasGivenOutput (query : Query) (form : Form) (old new : Option (List 
   pub given : HasGiven old new output.batch bytes
   pub counted : output.admitted ≡ min (length (admitted query entries)) (2 ^ 64 - 1)
 
--- the run read these bytes, the output of their whole entries was given, and each torn one told
-pub record IsRunning (query : Query) (form : Form) (old : Option (List ℕ)) (log : LogReading)
-    (new : Option (List ℕ)) (output : Output) (n : Notices) (bytes : List ℕ) : Type 0 where
+-- Where what is not of a log is refused, none of it stands before.
+abbrev pub StandsIn : Damaged → List Stretch → Type 0
+StandsIn Refused stretches = stretches ≡ []
+StandsIn PassedOver stretches = ⊤
+
+-- Behind stretches bytes are passed over, or the reader was given a rest.
+abbrev pub IsPassing : Bool → List Stretch → List ℕ → List ℕ → Type 0
+IsPassing true stretches rest torn = (rest ≡ []) × (torn ≡ []) × (stretches ≢ [])
+IsPassing false stretches rest torn = BeginsBehind stretches rest
+
+-- The run read these bytes: some stretches, and a rest that is of a log so far. The output of their
+-- whole entries was given, and what is to be told of them was told.
+pub record IsRunning (query : Query) (form : Form) (damaged : Damaged) (old : Option (List ℕ))
+    (run : LogRun) (new : Option (List ℕ)) (n : Notices) (bytes : List ℕ) : Type 0 where
+  pub stretches : List Stretch
+  pub rest : List ℕ
+  pub last : List MarkedCopy
+  pub torn : List ℕ
+  pub cut : AreCut bytes stretches rest
+  pub at : IsAt run.log rest last torn
+  pub given : HasGivenOutput query form old new run.output (entries_in stretches ++ last)
+  pub told : HaveToldAll n (told_of stretches torn)
+  pub ended : run.ended ≡ lines_in (bytes_in stretches)
+  pub first : first_line stretches ≡ run.first_bad
+  pub passing : IsPassing run.is_passing stretches rest torn
+  pub mode : run.damaged ≡ damaged
+  pub stands : StandsIn damaged stretches
+
+-- what was salvaged so far, its output and what was told
+pub record HasSalvaged (query : Query) (form : Form) (damaged : Damaged) (contents : Contents)
+    (n : Notices) (bytes : List ℕ) : Type 0 where
+  pub stretches : List Stretch
+  pub entries : List MarkedCopy
+  pub told : List Notice
+  pub salvage : Salvage stretches bytes entries told
+  pub wrote : WroteOutput query form contents entries
+  pub was_told : HaveToldAll n told
+  pub stands : StandsIn damaged stretches
+
+-- the same of a front of the bytes, whose output was written as far as this
+pub record HasWrittenPart (query : Query) (form : Form) (damaged : Damaged) (contents : Contents)
+    (n : Notices) (bytes : List ℕ) (written : ℕ) : Type 0 where
+  pub stretches : List Stretch
+  pub entries : List MarkedCopy
+  pub told : List Notice
+  pub salvage : BeginSalvage stretches bytes entries told
+  pub wrote : WrotePart query form contents entries written
+  pub was_told : HaveToldAll n told
+  pub stands : StandsIn damaged stretches
+
+-- the bytes stop being a log at this line, where that is refused
+pub record StopsRun (query : Query) (form : Form) (damaged : Damaged) (contents : Contents)
+    (n : Notices) (bytes : List ℕ) (line : ℕ) : Type 0 where
   pub entries : List MarkedCopy
   pub torn : List ℕ
-  pub at : IsAt log bytes entries torn
-  pub given : HasGivenOutput query form old new output entries
-  pub told : HaveToldTorn n torn
-
--- the run ends so with this fault in the bytes
-abbrev pub EndsRun : Query → Form → Contents → Notices → List ℕ → LogFault → Type 0
-EndsRun query form contents n bytes Read =
-    (entries : List MarkedCopy) × (torn : List ℕ) × HoldEntries bytes entries torn
-    × WroteOutput query form contents entries × HaveToldTorn n torn
-EndsRun query form contents n bytes (Write written) =
-    (entries : List MarkedCopy) × (torn : List ℕ) × BeginWithEntries bytes entries torn
-    × WrotePart query form contents entries written × HaveToldTorn n torn
-EndsRun query form contents n bytes (BadLog line) =
-    (entries : List MarkedCopy) × (torn : List ℕ)
-    × StopAt bytes entries torn (record { line = line })
-    × WroteOutput query form contents entries × HaveToldTorn n torn
-EndsRun query form contents n bytes fault = ⊥
-
--- the bytes are all, and each torn entry of them was told
-abbrev pub EndsTold : Notices → List ℕ → List MarkedCopy → Type 0
-EndsTold n bytes entries =
-    (torn : List ℕ) × HoldEntriesToEnd bytes entries torn × HaveToldTorn n torn
-
--- all bytes are of a log, the output of their entries was written, and those admitted are counted
-pub record HasRunOver (query : Query) (form : Form) (contents : Contents) (n : Notices)
-    (bytes : List ℕ) (count : ℕ) : Type 0 where
-  pub entries : List MarkedCopy
-  pub torn : List ℕ
-  pub hold : HoldEntriesToEnd bytes entries torn
+  pub stop : StopAt bytes entries torn (record { line = line })
   pub wrote : WroteOutput query form contents entries
   pub told : HaveToldTorn n torn
-  pub counted : count ≡ min (length (admitted query entries)) (2 ^ 64 - 1)
+  pub refused : damaged ≡ Refused
+
+-- the run ends so with this fault in the bytes
+abbrev pub EndsRun : Query → Form → Damaged → Contents → Notices → List ℕ → LogFault → Type 0
+EndsRun query form damaged contents n bytes Read = HasSalvaged query form damaged contents n bytes
+EndsRun query form damaged contents n bytes (Write written) =
+    HasWrittenPart query form damaged contents n bytes written
+EndsRun query form damaged contents n bytes (BadLog line) =
+    StopsRun query form damaged contents n bytes line
+EndsRun query form damaged contents n bytes fault = ⊥
+
+-- the bytes are all, and what is to be told of them was told
+pub record EndsTold (n : Notices) (stretches : List Stretch) (rest : List ℕ)
+    (last : List MarkedCopy) : Type 0 where
+  pub torn : List ℕ
+  pub hold : HoldEntriesToEnd rest last torn
+  pub told : HaveToldAll n (told_of stretches torn)
+
+-- all bytes were salvaged, the output of their entries was written, and this is the first line that
+-- isn't of a log
+pub record HasRunOver (query : Query) (form : Form) (damaged : Damaged) (contents : Contents)
+    (n : Notices) (bytes : List ℕ) (entries : List MarkedCopy) (first_bad : Option ℕ)
+    : Type 0 where
+  pub stretches : List Stretch
+  pub told : List Notice
+  pub salvage : SalvageToEnd stretches bytes entries told
+  pub wrote : WroteOutput query form contents entries
+  pub was_told : HaveToldAll n told
+  pub first : first_line stretches ≡ first_bad
+  pub stands : StandsIn damaged stretches
+
+-- it answers so at the end
+abbrev pub EndsAll : Query → Form → Damaged → Contents → Notices → List ℕ → Result ℕ LogFault
+    → Type 0
+EndsAll query form damaged contents n bytes (Ok count) =
+    (entries : List MarkedCopy) × HasRunOver query form damaged contents n bytes entries None
+    × (count ≡ min (length (admitted query entries)) (2 ^ 64 - 1))
+EndsAll query form damaged contents n bytes (Err (BadLog line)) =
+    (entries : List MarkedCopy)
+    × HasRunOver query form damaged contents n bytes entries (Some line)
+EndsAll query form damaged contents n bytes (Err (Write written)) =
+    HasWrittenPart query form damaged contents n bytes written
+EndsAll query form damaged contents n bytes (Err fault) = ⊥

@@ -134,6 +134,13 @@ impl LogReader {
         self.held.as_slice()
     }
 
+    /// The line on which the next byte stands.
+    pub(crate) fn line(&self) -> u64
+        ensures { result ≡ self.now.line }
+    {
+        self.line
+    }
+
     /// The torn entry with which the bytes end that were given, where they end with one.
     pub fn finish(&self) -> Option<TornLine>
         ensures { (bytes : List ℕ) (entries : List MarkedCopy) (torn : List ℕ)
@@ -302,7 +309,7 @@ fn line_after(line: u64, bytes: &[u8]) -> u64
 }
 
 /// How many of the bytes are newlines.
-fn line_feeds(bytes: &[u8]) -> usize
+pub(crate) fn line_feeds(bytes: &[u8]) -> usize
     ensures { result ≡ count_by (λ byte. byte == newline) bytes.now }
 {
     bytes.iter().filter(|byte| **byte == b'\n').count()

@@ -116,7 +116,7 @@ LacksRange rows =
 -- the call is neither a watch nor a run over a log
 abbrev pub IsOnStreams : Call → Type 0
 IsOnStreams (call.Watch name moment) = ⊥
-IsOnStreams (call.Log query form) = ⊥
+IsOnStreams (call.Log query form damaged) = ⊥
 IsOnStreams _ = ⊤
 
 -- the call is one that takes values
@@ -125,5 +125,5 @@ WantsValues (call.Send station moment) = ⊤
 WantsValues (call.Watch name moment) = ⊤
 WantsValues (call.Slots station moment) = ⊤
 WantsValues (call.Damage kind from count) = ⊤
-WantsValues (call.Log query form) = ⊤
+WantsValues (call.Log query form damaged) = ⊤
 WantsValues _ = ⊥

@@ -2,8 +2,12 @@
 
 use super::{FIRST, LOG_OF_EA01, expect_text, shown};
 use nx_envelope::Letter;
-use nx_fec::Channel;
-use nx_log::{Letters, Query, entry_at, json_line, remembered_of, since_of, until_of};
+use nx_fec::{Channel, Counting};
+use nx_log::{
+    Damaged, Form, Letters, LogFault, Query, entry_at, json_line, log_run, remembered_of, since_of,
+    until_of,
+};
+use std::alloc::Global;
 use std::process::Abort;
 
 /// A copy of LB02 that was cut, four hours after EA01, on channel 1.
@@ -150,4 +154,57 @@ fn lines_of_json(rt: HostRuntime) {
         let line = json_line(&view);
         expect_text(&rt, shown(entry), &line, wanted);
     }
+}
+
+/// A run over these bytes, what it wrote, and what it told.
+fn run_over(
+    alloc: Global,
+    bytes: &[u8],
+    damaged: Damaged,
+) -> (Result<u64, LogFault>, Vec<u8>, Vec<u8>) {
+    let mut writer = Counting::new(Vec::new(alloc));
+    let mut notices = Counting::new(Vec::new(alloc));
+    let outcome = log_run(
+        alloc,
+        &mut Counting::new(bytes),
+        &mut writer,
+        &mut notices,
+        &Query::all(),
+        Form::Log,
+        damaged,
+    );
+    (outcome, writer.into_inner(), notices.into_inner())
+}
+
+/// Words before the first entry, an entry, one that was torn, one with a damaged date, an entry.
+const DAMAGED_LOG: &[u8] = b"TEST\n[EA01 2025-01-01 00:40:00 full 0/5]\nTEST\n\n[BB08 2026-\n\
+    [BB08 2026-xx\n[EA01 2025-01-01 00:40:00 full 0/5]\nTEST\n\n";
+
+/// What is not of a log ends a run, or is passed over up to the next bracket and told.
+#[test]
+fn salvaged(rt: HostRuntime) {
+    let (outcome, written, told) = run_over(rt.alloc(), DAMAGED_LOG, Damaged::Refused);
+    assert_eq!(rt; outcome, Err(LogFault::BadLog { line: 1 }));
+    expect_text(&rt, "refused, written", &written, b"");
+    expect_text(&rt, "refused, told", &told, b"");
+    let (outcome, written, told) = run_over(rt.alloc(), DAMAGED_LOG, Damaged::PassedOver);
+    assert_eq!(rt; outcome, Err(LogFault::BadLog { line: 1 }));
+    expect_text(
+        &rt,
+        "passed over, written",
+        &written,
+        b"[EA01 2025-01-01 00:40:00 full 0/5]\nTEST\n\n[EA01 2025-01-01 00:40:00 full 0/5]\nTEST\n\n",
+    );
+    expect_text(
+        &rt,
+        "passed over, told",
+        &told,
+        b"navtex: line 1 is not of a log, and was passed over\n\
+        navtex: line 5: a torn entry was passed over\n\
+        navtex: line 6 is not of a log, and was passed over\n",
+    );
+    let (outcome, written, told) = run_over(rt.alloc(), LOG_OF_EA01, Damaged::PassedOver);
+    assert_eq!(rt; outcome, Ok(1));
+    expect_text(&rt, "a log, written", &written, LOG_OF_EA01);
+    expect_text(&rt, "a log, told", &told, b"");
 }

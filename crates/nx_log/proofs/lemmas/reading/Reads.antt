@@ -41,7 +41,7 @@ pub hold_is_log : (bytes : List ℕ) (entries : List MarkedCopy) (torn : List �
     → HoldEntries bytes entries torn → IsOfLog bytes
 hold_is_log bytes entries torn h = (h.read, h.is)
 
-less_is_log : (bytes : List ℕ) (n : ℕ) → IsOfLog bytes → IsOfLog (take n bytes)
+pub less_is_log : (bytes : List ℕ) (n : ℕ) → IsOfLog bytes → IsOfLog (take n bytes)
 less_is_log bytes n is =
     front_is_log (drop n bytes) (take n bytes)
     (subst IsOfLog (sym (take-append-drop n bytes)) is)

@@ -1,8 +1,9 @@
 -- A run over a log, step by step.
 use Rattle.std.proofs.Common.{◌≡◌, ℕ, zero, suc, ◌+◌, ◌-◌, ◌^◌, ◌≤◌, ◌<◌, Bool, true, false, cond, min, List, [], ◌∷◌, ◌++◌, length, take, drop}
 use Rattle.std.proofs.Common.{refl, sym, ap, ◌∙◌, subst, arith, append_assoc, append-nil, length-append, take-append-drop, Option, None, Some, Result, Ok, Err, inl}
-use Rattle.std.specs.Prelude.{MatchResult, OnOk, ◌==◌}
+use Rattle.std.specs.Prelude.{IfOk, IsErrOf, MatchResult, OnOk, ◌==◌}
 use Rattle.std.specs.List.{All, AllZip, concat}
+use Rattle.std.proofs.lemmas.List.{length-take-le, take-take}
 use Rattle.std.proofs.lemmas.List.Elements.{All-append, All-cons, All-nil, All-weaker}
 use Rattle.std.specs.Io.KnownBytes.{Appends}
 use Rattle.std.proofs.KnownBytes.{Appends-nil}
@@ -11,18 +12,23 @@ use Rattle.std.proofs.lemmas.List.Folds.{concat-append}
 use Rattle.std.proofs.lemmas.List.Sums.{count_by-le-length, length-filter}
 use Rattle.nx_fec.specs.air_files.LineRuns.{HasGiven}
 use Rattle.nx_code.specs.Reading.{newline}
-use Rattle.nx_fec.specs.Transfers.{Devices, WroteSome, contents_of}
+use Rattle.nx_fec.specs.Transfers.{Contents, Devices, WroteSome, contents_of}
 use Rattle.nx_fec.specs.declared.fault.WriteFault.{WriteFault}
 use Rattle.nx_receiver.specs.copies.Shares.{MarkedCopy}
 use Rattle.nx_log.specs.LogReading.{LogReading}
 use Rattle.nx_log.specs.LogReader.{IsAt, StopAt, Takes, most_lines}
-use Rattle.nx_log.specs.LogRun.{AnswersLogRun, AreAll, BeginWithEntries, IsInForm, IsOutput, WroteOutput, WrotePart, most_read}
+use Rattle.nx_log.specs.LogRun.{AnswersLogRun, AnswersRun, AreAll, BeginSalvage, IsInForm, IsOutput, WroteOutput, WrotePart, most_read}
 use Rattle.nx_log.specs.Logged.{IsLoggedAs}
 use Rattle.nx_log.specs.Query.{admits, admitted}
-use Rattle.nx_log.specs.Notices.{HaveToldTorn, Notices, notices_of}
-use Rattle.nx_log.specs.Reading.{AreRead, Head, HoldEntriesToEnd, IsHead, IsTail, LogRead, StopAtLine, begun, entries_of, is_begun, is_first, line_behind, nothing, torn_line, whole}
+use Rattle.nx_log.specs.Notices.{HaveTold, HaveToldAll, HaveToldTorn, Notice, Notices, damaged_at, notice_texts, notices_of, torn_notice, torn_notices}
+use Rattle.nx_log.specs.Reading.{AreRead, Head, HoldEntries, HoldEntriesToEnd, IsHead, IsNoBracket, IsTail, LogRead, StopAtLine, begun, entries_of, is_begun, is_first, line_behind, nothing, torn_line, whole}
+use Rattle.nx_log.specs.Salvage.{AreCut, BeginsBehind, IsPassedOver, Salvage, SalvageToEnd, Stretch, bytes_in, entries_in, first_line, first_of, lines_in, told_of, told_torn}
 use Rattle.nx_log.specs.View.{IsViewOf, copy_said}
+use Rattle.nx_log.specs.declared.damage.Damaged.{Damaged}
+use Rattle.nx_log.specs.declared.damage.Damaged.TheVariants.{PassedOver, Refused}
 use Rattle.nx_log.specs.declared.entries.entry.EntryView.{EntryView}
+use Rattle.nx_log.specs.declared.entries.reader.BadLine.{BadLine}
+use Rattle.nx_log.specs.declared.log_runs.LogRun.{LogRun}
 use Rattle.nx_log.specs.declared.writing.form.Form.{Form}
 use Rattle.nx_log.specs.declared.log_fault.LogFault.{LogFault}
 use Rattle.nx_log.specs.declared.log_fault.LogFault.TheVariants.{Read, Write, BadLog, Memory}
@@ -30,10 +36,11 @@ use Rattle.nx_log.specs.declared.writing.output.Output.{Output}
 use Rattle.nx_log.specs.declared.queries.query.Query.{Query}
 use Rattle.nx_log.specs.declared.entries.reader.Pushed.TheVariants.{Entry, Torn}
 use Rattle.nx_log.specs.declared.entries.reader.TornLine.{TornLine}
-use Rattle.nx_log.specs.private.LogRunning.{EndsRun, HasGivenOutput, HasRunOver}
+use Rattle.nx_log.specs.private.LogRunning.{EndsAll, EndsRun, HasGivenOutput, HasRunOver, HasSalvaged, HasWrittenPart, IsPassing, IsRunning, StandsIn, StopsRun}
 use Rattle.nx_log.proofs.lemmas.reader.Steps.{holds_at}
 use Rattle.nx_log.proofs.lemmas.reader.Tails.{all_front, all_last}
-use Rattle.nx_log.proofs.lemmas.reading.Reads.{same_held}
+use Rattle.nx_log.proofs.lemmas.reading.Reads.{hold_is_log, same_held}
+use Rattle.nx_log.proofs.lemmas.runs.Stretches.{cut_longer, cut_off, cut_on, lines_few, lines_more, longer, none_behind, stop_on, told_over}
 use Rattle.nx_log.proofs.lemmas.reading.Entries.{entry_is_some, one_entry}
 
 pub match-map : {A E : Type 0} (r : Result A E) (P P' : A → Type 0) (Q Q' : E → Type 0)
@@ -198,27 +205,6 @@ torn-some bytes piece entries torn old new zero line at t =
     absurd (omega (arith, long))
 torn-some bytes piece entries torn old new (suc n) line at t = omega arith
 
-pub begin-at : (log : LogReading) (front more : List ℕ) (entries : List MarkedCopy)
-    (torn : List ℕ) → IsAt log front entries torn → BeginWithEntries (front ++ more) entries torn
-begin-at log front more entries torn at =
-    record { front = front; more = more; split = refl; hold = holds_at log front entries torn at }
-
--- the bytes up to the end of an entry in a piece
-pub begin-in : (log : LogReading) (bytes piece : List ℕ) (taken : ℕ) (entries : List MarkedCopy)
-    (torn : List ℕ) → IsAt log (bytes ++ take taken piece) entries torn
-    → BeginWithEntries (bytes ++ piece) entries torn
-begin-in log bytes piece taken entries torn at =
-    subst (λ l. BeginWithEntries l entries torn)
-    (append_assoc bytes (take taken piece) (drop taken piece)
-    ∙ ap (λ l. bytes ++ l) (take-append-drop taken piece))
-    (begin-at log (bytes ++ take taken piece) (drop taken piece) entries torn at)
-
-pub begin-all : (log : LogReading) (bytes : List ℕ) (entries : List MarkedCopy) (torn : List ℕ)
-    → IsAt log bytes entries torn → BeginWithEntries bytes entries torn
-begin-all log bytes entries torn at =
-    subst (λ l. BeginWithEntries l entries torn) (append-nil bytes)
-    (begin-at log bytes [] entries torn at)
-
 -- ---- lines and entries are no more than the bytes
 
 line-small : (bytes : List ℕ) → line_behind bytes ≤ length bytes + 1
@@ -285,27 +271,45 @@ all-small (part ∷ parts) read r =
 last-of : (xs : List ℕ) (x size : ℕ) → All (IsSmall size) (xs ++ x ∷ []) → IsSmall size x
 last-of xs x size h = all_last (IsSmall size) xs x h
 
--- a torn entry is told at its line
-pub told-line : (log : LogReading) (bytes : List ℕ) (entries : List MarkedCopy) (torn : List ℕ)
-    (line counted : ℕ) → length bytes ≤ most_read → IsAt log bytes entries (torn ++ line ∷ [])
-    → counted ≡ min line most_lines → counted ≡ line
-told-line log bytes entries torn line counted within at is =
+-- the line of a torn entry is none behind the bytes
+pub torn-bound : (log : LogReading) (bytes : List ℕ) (entries : List MarkedCopy) (torn : List ℕ)
+    (line : ℕ) → IsAt log bytes entries (torn ++ line ∷ []) → line ≤ length bytes + 1
+torn-bound log bytes entries torn line at =
     let h = holds_at log bytes entries (torn ++ line ∷ []) at in
     let lines = all-small (h.is.part ∷ h.is.earlier) h.read h.is.are in
     let told = all_front (IsSmall (length h.read.bytes)) h.read.told h.read.last lines in
     let small = last-of torn line (length h.read.bytes)
     (subst (All (IsSmall (length h.read.bytes))) (sym h.are_torn) told) in
-    omega (arith, is, small, ap length h.is.all, within)
+    omega (arith, small, ap length h.is.all)
 
 -- so is one at the end
-pub told-last : (bytes : List ℕ) (entries : List MarkedCopy) (torn : List ℕ) (line counted : ℕ)
-    → length bytes ≤ most_read → HoldEntriesToEnd bytes entries (torn ++ line ∷ [])
-    → counted ≡ min line most_lines → counted ≡ line
-told-last bytes entries torn line counted within h is =
+pub last-bound : (bytes : List ℕ) (entries : List MarkedCopy) (torn : List ℕ) (line : ℕ)
+    → HoldEntriesToEnd bytes entries (torn ++ line ∷ []) → line ≤ length bytes + 1
+last-bound bytes entries torn line h =
     let lines = all-small (h.is.part ∷ h.is.earlier) h.read h.is.are in
     let small = last-of torn line (length h.read.bytes)
     (subst (All (IsSmall (length h.read.bytes))) (sym h.are_torn) lines) in
-    omega (arith, is, small, ap length h.is.all, within)
+    omega (arith, small, ap length h.is.all)
+
+-- and the line at which they stop being a log
+stop-bound : (bytes : List ℕ) (entries : List MarkedCopy) (torn : List ℕ) (line : ℕ)
+    → StopAtLine bytes entries torn line → line ≤ length bytes + 1
+stop-bound bytes entries torn line s =
+    omega (
+      arith,
+      s.is_line,
+      line-small (take s.place bytes),
+      ap length (take-append-drop s.place bytes),
+      length-append (take s.place bytes) (drop s.place bytes),
+    )
+
+-- a line behind so many others is told as it is
+pub exact-line : (before rest : List ℕ) (ended line counted told : ℕ)
+    → length (before ++ rest) ≤ most_read → ended ≡ lines_in before → line ≤ length rest + 1
+    → counted ≡ min line most_lines → told ≡ min (ended + counted) most_lines
+    → told ≡ lines_in before + line
+exact-line before rest ended line counted told within is small count saturated =
+    omega (arith, within, is, small, count, saturated, lines_few before, length-append before rest)
 
 one-entry-each : (first : Bool) (head : Head) (front tail : List ℕ)
     → IsHead first head front tail → length (entries_of head) ≤ length (front ++ tail)
@@ -352,7 +356,7 @@ line-bound bytes n line within is =
               (drop n bytes),
         )
 
-stop-line : (bytes : List ℕ) (entries : List MarkedCopy) (torn : List ℕ) (line : ℕ)
+pub stop-line : (bytes : List ℕ) (entries : List MarkedCopy) (torn : List ℕ) (line : ℕ)
     → length bytes ≤ most_read → StopAt bytes entries torn (record { line = line })
     → StopAtLine bytes entries torn line
 stop-line bytes entries torn line within h =
@@ -379,30 +383,435 @@ count-exact query entries torn bytes count within h is =
 
 -- nothing is told yet
 pub none-told : (old : Option (List ℕ)) (failures : ℕ) → failures ≡ 0
-    → HaveToldTorn (notices_of old old failures) []
+    → HaveToldAll (notices_of old old failures) []
 none-told old failures none = inl (none, Appends-nil old)
+
+-- what is told of torn entries alone
+torn-texts : (torn : List ℕ) → notice_texts (told_torn 0 torn) ≡ torn_notices torn
+torn-texts [] = refl
+torn-texts (line ∷ torn) =
+    let e : 0 + line ≡ line = omega arith in
+    ap (λ n. torn_notice n ++ notice_texts (told_torn 0 torn)) e
+    ∙ ap (λ l. torn_notice line ++ l) (torn-texts torn)
+
+all-torn : (n : Notices) (torn : List ℕ) → HaveToldAll n (told_of [] torn) → HaveToldTorn n torn
+all-torn n torn told = subst (HaveTold n) (torn-texts torn) told
+
+-- ---- how a run stands
+
+module _ (query : Query) (form : Form) (damaged : Damaged) (old : Option (List ℕ)) where
+  module _ (run : LogRun) (new : Option (List ℕ)) (n : Notices) (bytes : List ℕ)
+      (h : IsRunning query form damaged old run new n bytes) where
+    pub salvage-at : Salvage h.stretches bytes (entries_in h.stretches ++ h.last)
+        (told_of h.stretches h.torn)
+    salvage-at = record {
+      rest = h.rest;
+      last = h.last;
+      torn = h.torn;
+      cut = h.cut;
+      hold = holds_at run.log h.rest h.last h.torn h.at;
+      are_entries = refl;
+      is_told = refl;
+    }
+
+    -- what waited was written
+    pub salvaged : (after : Option (List ℕ))
+        → WroteOutput query form (record { before = old; after = after })
+        (entries_in h.stretches ++ h.last)
+        → HasSalvaged query form damaged (record { before = old; after = after }) n bytes
+    salvaged after wrote = record {
+      stretches = h.stretches;
+      entries = entries_in h.stretches ++ h.last;
+      told = told_of h.stretches h.torn;
+      salvage = salvage-at;
+      wrote = wrote;
+      was_told = h.told;
+      stands = h.stands;
+    }
+
+    -- or not all of it
+    pub part-at : (more : List ℕ) (after : Option (List ℕ)) (written : ℕ)
+        → WrotePart query form (record { before = old; after = after })
+        (entries_in h.stretches ++ h.last) written
+        → HasWrittenPart query form damaged (record { before = old; after = after }) n
+        (bytes ++ more) written
+    part-at more after written wrote = record {
+      stretches = h.stretches;
+      entries = entries_in h.stretches ++ h.last;
+      told = told_of h.stretches h.torn;
+      salvage = record { front = bytes; more = more; split = refl; salvage = salvage-at };
+      wrote = wrote;
+      was_told = h.told;
+      stands = h.stands;
+    }
+
+    pub part-all : (after : Option (List ℕ)) (written : ℕ)
+        → WrotePart query form (record { before = old; after = after })
+        (entries_in h.stretches ++ h.last) written
+        → HasWrittenPart query form damaged (record { before = old; after = after }) n bytes written
+    part-all after written wrote =
+        subst (λ l. HasWrittenPart query form damaged (record { before = old; after = after }) n l
+        written) (append-nil bytes) (part-at [] after written wrote)
+
+    -- an entry more, of which not all was written
+    pub part-entry : (reader : LogReading) (part : List ℕ) (taken : ℕ) (one : MarkedCopy)
+        (after : Option (List ℕ)) (written : ℕ)
+        → BeginsBehind h.stretches (h.rest ++ take taken part)
+        → IsAt reader (h.rest ++ take taken part) (h.last ++ one ∷ []) h.torn
+        → WrotePart query form (record { before = old; after = after })
+        ((entries_in h.stretches ++ h.last) ++ one ∷ []) written
+        → HasWrittenPart query form damaged (record { before = old; after = after }) n
+        (bytes ++ part) written
+    part-entry reader part taken one after written begins at wrote = record {
+      stretches = h.stretches;
+      entries = (entries_in h.stretches ++ h.last) ++ one ∷ [];
+      told = told_of h.stretches h.torn;
+      salvage = record {
+        front = bytes ++ take taken part;
+        more = drop taken part;
+        split = ap (λ l. bytes ++ l) (sym (take-append-drop taken part))
+            ∙ sym (append_assoc bytes (take taken part) (drop taken part));
+        salvage = record {
+          rest = h.rest ++ take taken part;
+          last = h.last ++ one ∷ [];
+          torn = h.torn;
+          cut = cut_on bytes (take taken part) h.rest h.stretches h.cut begins;
+          hold = holds_at reader (h.rest ++ take taken part) (h.last ++ one ∷ []) h.torn at;
+          are_entries = append_assoc (entries_in h.stretches) h.last (one ∷ []);
+          is_told = refl;
+        };
+      };
+      wrote = wrote;
+      was_told = h.told;
+      stands = h.stands;
+    }
+
+    -- the bytes stop being a log, which is refused
+    pub stops : (part : List ℕ) (line : ℕ) (after : Option (List ℕ)) → run.damaged ≡ Refused
+        → StopAt (h.rest ++ part) h.last h.torn (record { line = line })
+        → WroteOutput query form (record { before = old; after = after })
+        (entries_in h.stretches ++ h.last)
+        → StopsRun query form damaged (record { before = old; after = after }) n (bytes ++ part)
+        line
+    stops part line after refused stop wrote =
+        let mode : damaged ≡ Refused = sym h.mode ∙ refused in
+        let none : h.stretches ≡ [] = subst (λ d. StandsIn d h.stretches) mode h.stands in
+        let same : bytes ≡ h.rest = h.cut.split ∙ ap (λ ss. bytes_in ss ++ h.rest) none in
+        record {
+          entries = h.last;
+          torn = h.torn;
+          stop = subst (λ l. StopAt (l ++ part) h.last h.torn (record { line = line })) (sym same)
+              stop;
+          wrote = subst (λ ss. WroteOutput query form (record { before = old; after = after })
+              (entries_in ss ++ h.last)) none wrote;
+          told = all-torn n h.torn (subst (λ ss. HaveToldAll n (told_of ss h.torn)) none h.told);
+          refused = mode;
+        }
+
+-- nothing is passed over yet
+pub stands-none : (damaged : Damaged) → StandsIn damaged []
+stands-none Refused = refl
+stands-none PassedOver = tt
+
+stands-other : (damaged : Damaged) (one other : Stretch) (earlier : List Stretch)
+    → StandsIn damaged (one ∷ earlier) → StandsIn damaged (other ∷ earlier)
+stands-other Refused one other earlier e = let never = e in cc
+stands-other PassedOver one other earlier e = tt
+
+-- the last stretch goes on
+module _ (query : Query) (form : Form) (damaged : Damaged) (old : Option (List ℕ)) (run : LogRun)
+    (new : Option (List ℕ)) (n : Notices) (bytes more : List ℕ) (ended : ℕ) where
+  pub goes-by : (h : IsRunning query form damaged old run new n bytes)
+      → length (bytes ++ more) ≤ most_read → run.is_passing ≡ true → All IsNoBracket more
+      → ended ≡ min (run.ended + lines_in more) most_lines
+      → IsRunning query form damaged old (record run { ended = ended }) new n (bytes ++ more)
+  goes-by h within is_passing none ended_is = go h.stretches refl
+    where
+      passing : IsPassing true h.stretches h.rest h.torn
+      passing = subst (λ b. IsPassing b h.stretches h.rest h.torn) is_passing h.passing
+
+      go : (stretches : List Stretch) → h.stretches ≡ stretches
+          → IsRunning query form damaged old (record run { ended = ended }) new n (bytes ++ more)
+      go [] e = absurd (passing.2 e)
+      go (stretch ∷ earlier) e =
+          let cut : AreCut bytes (stretch ∷ earlier) [] =
+          subst (λ l. AreCut bytes (stretch ∷ earlier) l) passing.0
+          (subst (λ ss. AreCut bytes ss h.rest) e h.cut) in
+          let on = cut_longer bytes more stretch earlier cut none in
+          let long = ap length on.split in
+          let front : List ℕ = bytes_in earlier ++ stretch.bytes in
+          let all : List ℕ = bytes_in earlier ++ (stretch.bytes ++ more) in
+          let same : all ≡ front ++ more = sym (append_assoc (bytes_in earlier) stretch.bytes more)
+          in
+          let lines : lines_in all ≡ lines_in front + lines_in more =
+          ap lines_in same ∙ lines_more front more in
+          let size = length-append all [] in
+          let few = lines_few all in
+          let was : run.ended ≡ lines_in front = h.ended ∙ ap (λ ss. lines_in (bytes_in ss)) e in
+          record {
+            stretches = longer stretch more ∷ earlier;
+            rest = [];
+            last = h.last;
+            torn = [];
+            cut = on;
+            at = subst (λ l. IsAt run.log l h.last []) passing.0
+                (subst (λ l. IsAt run.log h.rest h.last l) passing.1 h.at);
+            given = subst (λ ss. HasGivenOutput query form old new run.output
+                (entries_in ss ++ h.last)) e h.given;
+            told = subst (λ ss. HaveToldAll n (told_of ss [])) e
+                (subst (λ l. HaveToldAll n (told_of h.stretches l)) passing.1 h.told);
+            ended = omega (arith, ended_is, was, lines, few, long, size, within);
+            first = subst (λ ss. first_line ss ≡ run.first_bad) e h.first;
+            passing = subst (λ b. IsPassing b (longer stretch more ∷ earlier) [] [])
+                (sym is_passing) (refl, refl, (λ none. cc));
+            mode = h.mode;
+            stands = stands-other damaged stretch (longer stretch more) earlier
+                (subst (StandsIn damaged) e h.stands);
+          }
+
+-- a stretch more, which is passed over
+ended-over : (before rest part : List ℕ) (ended from after : ℕ)
+    → length (before ++ (rest ++ part)) ≤ most_read → ended ≡ lines_in before
+    → from ≡ min (line_behind rest) most_lines
+    → after ≡ min (ended + (from - 1) + lines_in part) most_lines
+    → after ≡ lines_in (before ++ (rest ++ part))
+ended-over before rest part ended from after size was from_is after_is =
+    omega (
+      arith,
+      size,
+      was,
+      from_is,
+      after_is,
+      lines_more before (rest ++ part),
+      lines_more rest part,
+      lines_few (before ++ (rest ++ part)),
+    )
+
+module _ (query : Query) (form : Form) (damaged : Damaged) (old : Option (List ℕ))
+    (run next : LogRun) (new : Option (List ℕ)) (n told : Notices) (bytes part : List ℕ)
+    (line from : ℕ) where
+  pub passes-over : (h : IsRunning query form damaged old run new n bytes)
+      → length (bytes ++ part) ≤ most_read → run.damaged ≡ PassedOver
+      → BeginsBehind h.stretches (h.rest ++ part) → All IsNoBracket (drop 1 part)
+      → StopAt (h.rest ++ part) h.last h.torn (record { line = line }) → from ≡ run.log.line
+      → next.damaged ≡ run.damaged → next.output ≡ run.output → next.is_passing ≡ true
+      → IsAt next.log [] [] []
+      → next.ended ≡ min (run.ended + (from - 1) + lines_in part) most_lines
+      → next.first_bad ≡ first_of run.first_bad (min (run.ended + line) most_lines)
+      → HaveToldAll told (told_of h.stretches h.torn
+      ++ damaged_at (min (run.ended + line) most_lines) ∷ [])
+      → IsRunning query form damaged old next new told (bytes ++ part)
+  passes-over h within passed begins none stop_at from_is same output passing fresh ended first
+      was_told =
+      let front = bytes_in h.stretches in
+      let all : List ℕ = h.rest ++ part in
+      let split : bytes ++ part ≡ front ++ all =
+      ap (λ l. l ++ part) h.cut.split ∙ append_assoc front h.rest part in
+      let size : length (front ++ all) ≤ most_read =
+      subst (λ l. length l ≤ most_read) split within in
+      let long = length-append front all in
+      let stop = stop-line all h.last h.torn line (omega (arith, size, long)) stop_at in
+      let small = stop-bound all h.last h.torn line stop in
+      let bad : min (run.ended + line) most_lines ≡ lines_in front + line =
+      omega (arith, h.ended, size, long, small, lines_few front) in
+      let stretch : Stretch =
+      record { bytes = all; entries = h.last; torn = h.torn; line = line } in
+      let over : IsPassedOver stretch = record {
+        stop = stop;
+        no_bracket = none_behind h.rest part h.last h.torn line
+            (hold_is_log h.rest h.last h.torn (holds_at run.log h.rest h.last h.torn h.at)) none
+            stop;
+      } in
+      record {
+        stretches = stretch ∷ h.stretches;
+        rest = [];
+        last = [];
+        torn = [];
+        cut = cut_off bytes part h.rest h.stretches stretch h.cut refl over begins;
+        at = fresh;
+        given = subst (λ o. HasGivenOutput query form old new o
+            (entries_in (stretch ∷ h.stretches) ++ [])) (sym output)
+            (subst (HasGivenOutput query form old new run.output)
+            (sym (append-nil (entries_in h.stretches ++ h.last))) h.given);
+        told = subst (HaveToldAll told) (sym (told_over h.stretches stretch))
+            (subst (λ k. HaveToldAll told (told_of h.stretches h.torn ++ damaged_at k ∷ [])) bad
+            was_told);
+        ended = ended-over front h.rest part run.ended from next.ended size h.ended
+            (from_is ∙ h.at.line) ended;
+        first = sym (first ∙ ap (first_of run.first_bad) bad
+            ∙ ap (λ f. first_of f (lines_in front + line)) (sym h.first));
+        passing = subst (λ b. IsPassing b (stretch ∷ h.stretches) [] []) (sym passing)
+            (refl, refl, (λ none. cc));
+        mode = same ∙ h.mode;
+        stands = subst (λ d. StandsIn d (stretch ∷ h.stretches)) (sym passed ∙ h.mode) tt;
+      }
+
+-- a fault in a front of the bytes
+stop-more : (front more : List ℕ) (entries : List MarkedCopy) (torn : List ℕ) (bad : BadLine)
+    → StopAt front entries torn bad → StopAt (front ++ more) entries torn bad
+stop-more front more entries torn bad s = record {
+  line = s.line;
+  stop = stop_on front more entries torn s.line s.stop;
+  counted = s.counted;
+}
+
+pub ends-more : (query : Query) (form : Form) (damaged : Damaged) (contents : Contents)
+    (n : Notices) (front more : List ℕ) (fault : LogFault) → (fault ≡ Read → ⊥)
+    → EndsRun query form damaged contents n front fault
+    → EndsRun query form damaged contents n (front ++ more) fault
+ends-more query form damaged contents n front more Read not_read h = absurd (not_read refl)
+ends-more query form damaged contents n front more (Write written) not_read h = record {
+  stretches = h.stretches;
+  entries = h.entries;
+  told = h.told;
+  salvage = record {
+    front = h.salvage.front;
+    more = h.salvage.more ++ more;
+    split = ap (λ l. l ++ more) h.salvage.split
+        ∙ append_assoc h.salvage.front h.salvage.more more;
+    salvage = h.salvage.salvage;
+  };
+  wrote = h.wrote;
+  was_told = h.was_told;
+  stands = h.stands;
+}
+ends-more query form damaged contents n front more (BadLog line) not_read h = record {
+  entries = h.entries;
+  torn = h.torn;
+  stop = stop-more front more h.entries h.torn (record { line = line }) h.stop;
+  wrote = h.wrote;
+  told = h.told;
+  refused = h.refused;
+}
+ends-more query form damaged contents n front more (Memory error) not_read h = absurd h
+
+-- what is answered of a front of a piece
+pub front-answer : (query : Query) (form : Form) (damaged : Damaged) (contents : Contents)
+    (n : Notices) (bytes piece : List ℕ) (count : ℕ) (P : List ℕ → Type 0)
+    (r : Result ℕ LogFault) → count ≤ length piece → IfOk r (λ k. k ≤ length (take count piece))
+    → (IsErrOf r Read → ⊥)
+    → MatchResult r (λ k. P (bytes ++ take k (take count piece)))
+    (λ fault. EndsRun query form damaged contents n (bytes ++ take count piece) fault)
+    → MatchResult r (λ k. P (bytes ++ take k piece))
+    (λ fault. EndsRun query form damaged contents n (bytes ++ piece) fault)
+front-answer query form damaged contents n bytes piece count P (Ok k) fits within not_read h =
+    let short : k ≤ count = omega (arith, within, fits, length-take-le count piece fits) in
+    subst (λ l. P (bytes ++ l)) (take-take k count piece short) h
+front-answer query form damaged contents n bytes piece count P (Err fault) fits within not_read h =
+    subst (λ l. EndsRun query form damaged contents n l fault)
+    (append_assoc bytes (take count piece) (drop count piece)
+    ∙ ap (λ l. bytes ++ l) (take-append-drop count piece))
+    (ends-more query form damaged contents n (bytes ++ take count piece) (drop count piece) fault
+    (λ e. not_read (ap Err e)) h)
+
+-- ---- what it answers
+
+-- bytes of which nothing is passed over are a log
+held-salvage : (bytes : List ℕ) (entries : List MarkedCopy) (told : List Notice)
+    (s : Salvage [] bytes entries told) → HoldEntries bytes entries s.torn
+held-salvage bytes entries told s =
+    subst (λ l. HoldEntries bytes l s.torn) (sym s.are_entries)
+    (subst (λ l. HoldEntries l s.last s.torn) (sym s.cut.split) s.hold)
+
+held-to-end : (bytes : List ℕ) (entries : List MarkedCopy) (told : List Notice)
+    (s : SalvageToEnd [] bytes entries told) → HoldEntriesToEnd bytes entries s.torn
+held-to-end bytes entries told s =
+    subst (λ l. HoldEntriesToEnd bytes l s.torn) (sym s.are_entries)
+    (subst (λ l. HoldEntriesToEnd l s.last s.torn) (sym s.cut.split) s.hold)
+
+-- where no line is bad, nothing is passed over
+first-some : (first : Option ℕ) (line : ℕ) → first_of first line ≡ None → ⊥
+first-some None line e = cc
+first-some (Some first) line e = cc
+
+no-stretch : (stretches : List Stretch) → first_line stretches ≡ None → stretches ≡ []
+no-stretch [] e = refl
+no-stretch (stretch ∷ earlier) e =
+    absurd (first-some (first_line earlier) (lines_in (bytes_in earlier) + stretch.line) e)
 
 module _ {R W : Type 0} (query : Query) (form : Form) (d : Devices R W) (n : Notices)
     (bytes : List ℕ) (within : length bytes ≤ most_read) where
-  pub ends-answer : (fault : LogFault) → EndsRun query form (contents_of d) n bytes fault
-      → AnswersLogRun query form d n (Err fault) bytes
-  ends-answer Read h = h
-  ends-answer (Write written) h = h
-  ends-answer (BadLog line) h = (h.0, h.1, stop-line bytes h.0 h.1 line within h.2, h.3, h.4)
-  ends-answer (Memory error) h = absurd h
+  read-refused : HasSalvaged query form Refused (contents_of d) n bytes
+      → AnswersLogRun query form d n (Err Read) bytes
+  read-refused h =
+      let s = subst (λ ss. Salvage ss bytes h.entries h.told) h.stands h.salvage in (
+        h.entries,
+        s.torn,
+        held-salvage bytes h.entries h.told s,
+        h.wrote,
+        all-torn n s.torn (subst (HaveToldAll n) s.is_told h.was_told),
+      )
 
-  pub finished-answer : (outcome : Result ℕ LogFault) → AreAll query form d n bytes
-      → MatchResult outcome
-      (λ count. HasRunOver query form (contents_of d) n bytes count)
-      (λ fault. EndsRun query form (contents_of d) n bytes fault)
-      → AnswersLogRun query form d n outcome bytes
-  finished-answer (Ok count) all h = (
+  write-refused : (written : ℕ) → HasWrittenPart query form Refused (contents_of d) n bytes written
+      → AnswersLogRun query form d n (Err (Write written)) bytes
+  write-refused written h =
+      let b = subst (λ ss. BeginSalvage ss bytes h.entries h.told) h.stands h.salvage in
+      let s = b.salvage in (
+        h.entries,
+        s.torn,
+        record {
+          front = b.front;
+          more = b.more;
+          split = b.split;
+          hold = held-salvage b.front h.entries h.told s;
+        },
+        h.wrote,
+        all-torn n s.torn (subst (HaveToldAll n) s.is_told h.was_told),
+      )
+
+  pub ends-answer : (damaged : Damaged) (fault : LogFault)
+      → EndsRun query form damaged (contents_of d) n bytes fault
+      → AnswersRun query form d n damaged (Err fault) bytes
+  ends-answer Refused Read h = read-refused h
+  ends-answer Refused (Write written) h = write-refused written h
+  ends-answer Refused (BadLog line) h =
+      (h.entries, h.torn, stop-line bytes h.entries h.torn line within h.stop, h.wrote, h.told)
+  ends-answer Refused (Memory error) h = absurd h
+  ends-answer PassedOver Read h =
+      (h.stretches, h.entries, h.told, h.salvage, h.wrote, h.was_told)
+  ends-answer PassedOver (Write written) h =
+      (h.stretches, h.entries, h.told, h.salvage, h.wrote, h.was_told)
+  ends-answer PassedOver (BadLog line) h = let never = h.refused in cc
+  ends-answer PassedOver (Memory error) h = absurd h
+
+  all-answer : (entries : List MarkedCopy) (count : ℕ) (damaged : Damaged)
+      → AreAll query form d n bytes
+      → HasRunOver query form damaged (contents_of d) n bytes entries None
+      → count ≡ min (length (admitted query entries)) (2 ^ 64 - 1)
+      → AnswersLogRun query form d n (Ok count) bytes
+  all-answer entries count damaged all h counted =
+      let s = subst (λ ss. SalvageToEnd ss bytes entries h.told) (no-stretch h.stretches h.first)
+      h.salvage in
+      let hold = held-to-end bytes entries h.told s in (
+        all,
+        entries,
+        s.torn,
+        hold,
+        h.wrote,
+        all-torn n s.torn (subst (HaveToldAll n) s.is_told h.was_told),
+        count-exact query entries s.torn bytes count within hold counted,
+      )
+
+  pub finished-answer : (damaged : Damaged) (outcome : Result ℕ LogFault)
+      → AreAll query form d n bytes
+      → EndsAll query form damaged (contents_of d) n bytes outcome
+      → AnswersRun query form d n damaged outcome bytes
+  finished-answer Refused (Ok count) all h = all-answer h.0 count Refused all h.1 h.2
+  finished-answer PassedOver (Ok count) all h = all-answer h.0 count PassedOver all h.1 h.2
+  finished-answer Refused (Err (BadLog line)) all h =
+      let never : ◌≡◌ {A = Option ℕ} None (Some line) =
+      ap first_line (sym h.1.stands) ∙ h.1.first in
+      cc
+  finished-answer PassedOver (Err (BadLog line)) all h = (
     all,
-    h.entries,
-    h.torn,
-    h.hold,
-    h.wrote,
-    h.told,
-    count-exact query h.entries h.torn bytes count within h.hold h.counted,
+    h.1.stretches,
+    h.0,
+    h.1.told,
+    h.1.salvage,
+    h.1.wrote,
+    h.1.was_told,
+    h.1.first,
   )
-  finished-answer (Err fault) all h = ends-answer fault h
+  finished-answer damaged (Err (Write written)) all h = ends-answer damaged (Write written) h
+  finished-answer damaged (Err Read) all h = absurd h
+  finished-answer damaged (Err (Memory error)) all h = absurd h

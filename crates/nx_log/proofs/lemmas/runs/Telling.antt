@@ -1,4 +1,4 @@
--- What is told of torn entries.
+-- What is told, one notice more.
 use Rattle.std.proofs.Common.{◌≡◌, ℕ, ◌+◌, ◌<◌, List, [], ◌∷◌, ◌++◌, length}
 use Rattle.std.proofs.Common.{take, Option, Result, Ok, Err, inl, inr, refl, sym, ap}
 use Rattle.std.proofs.Common.{◌∙◌, subst, arith, append_assoc, append-nil, length-append}
@@ -9,14 +9,14 @@ use Rattle.std.proofs.Math.Seq.{take-append-add}
 use Rattle.std.proofs.lemmas.List.{take-append-le}
 use Rattle.nx_fec.specs.Transfers.{CountedDevice, FailsOnce, WroteSome}
 use Rattle.nx_fec.specs.declared.fault.WriteFault.{WriteFault}
-use Rattle.nx_log.specs.Notices.{HaveTold, notices_of, torn_notice, torn_notices}
+use Rattle.nx_log.specs.Notices.{HaveTold, Notice, notice_text, notice_texts, notices_of}
 
-pub notices_more : (lines : List ℕ) (line : ℕ)
-    → torn_notices (lines ++ line ∷ []) ≡ torn_notices lines ++ torn_notice line
-notices_more [] line = append-nil (torn_notice line)
-notices_more (first ∷ lines) line =
-    ap (λ l. torn_notice first ++ l) (notices_more lines line)
-    ∙ sym (append_assoc (torn_notice first) (torn_notices lines) (torn_notice line))
+pub texts_more : (notices : List Notice) (one : Notice)
+    → notice_texts (notices ++ one ∷ []) ≡ notice_texts notices ++ notice_text one
+texts_more [] one = append-nil (notice_text one)
+texts_more (first ∷ notices) one =
+    ap (λ l. notice_text first ++ l) (texts_more notices one)
+    ∙ sym (append_assoc (notice_text first) (notice_texts notices) (notice_text one))
 
 -- nothing more is told once a write failed
 pub told-stopped : (old new : Option (List ℕ)) (failures : ℕ) (text more : List ℕ)

@@ -1,10 +1,9 @@
-use Rattle.std.proofs.Common.{[]}
 use Rattle.std.proofs.lemmas.Result.{err_from_is_err_and}
 use Rattle.nx_fec.specs.Transfers.{devices}
 use Rattle.nx_fec.proofs.lemmas.lines.ReadingLaws.{Err-same}
 use Rattle.nx_fec.proofs.lemmas.devices.TransferLaws.{Ok-not_err, Writes-fault, Writes-sound}
 use Rattle.nx_log.specs.Notices.{notices_of}
-use Rattle.nx_log.proofs.lemmas.runs.LogRuns.{ends-answer, finished-answer, none-told}
+use Rattle.nx_log.proofs.lemmas.runs.LogRuns.{ends-answer, finished-answer}
 use Rattle.nx_log.proofs.log_runs.log_run.Goals as goal
 
 pub end-requires : goal.end-requires
@@ -22,19 +21,16 @@ returns-in_err-read_log g c =
     let told = g.N.Write.contents c.args.notices.now.inner in
     let n = notices_of told (g.N.Write.contents c.read_log.new.notices.inner)
     c.read_log.new.notices.failures in
-    let r = c.in_err-read_log.ensures.read old told (record {
-      entries = [];
-      torn = [];
-      at = c.new.ensures;
-      given = c.new-2.ensures.given c.args.query.now c.args.form old;
-      told = none-told told c.args.notices.now.failures c.requires.notices;
-    }) in
+    let r = c.in_err-read_log.ensures.read c.args.damaged old told
+    (c.new-run.ensures.running c.args.query.now c.args.form old told c.args.notices.now.failures
+    c.requires.notices) in
     let writes = Writes-fault _ _ _ c.in_err-read_log.ensures.writes in
     rw p.1 (rw p.2 (record {
       bytes = r.0;
       consumed = r.1;
       within = r.2;
-      answer = ends-answer c.args.query.now c.args.form d n r.0 r.2 c.in_err-read_log.field-0.0 r.3;
+      answer = ends-answer c.args.query.now c.args.form d n r.0 r.2 c.args.damaged
+          c.in_err-read_log.field-0.0 r.3;
       unread = (
         λ e. c.in_err-read_log.ensures.unread.0 (Err-same _ _ e),
         λ one. Err-same _ _ (c.in_err-read_log.ensures.unread.1 one),
@@ -52,19 +48,16 @@ returns g c =
     let told = g.N.Write.contents c.args.notices.now.inner in
     let n = notices_of told (g.N.Write.contents c.end.new.notices.inner)
     c.end.new.notices.failures in
-    let r = c.in_ok-read_log.ensures.read old told (record {
-      entries = [];
-      torn = [];
-      at = c.new.ensures;
-      given = c.new-2.ensures.given c.args.query.now c.args.form old;
-      told = none-told told c.args.notices.now.failures c.requires.notices;
-    }) in
+    let r = c.in_ok-read_log.ensures.read c.args.damaged old told
+    (c.new-run.ensures.running c.args.query.now c.args.form old told c.args.notices.now.failures
+    c.requires.notices) in
     record {
       bytes = r.0;
       consumed = r.1;
       within = r.2;
-      answer = finished-answer c.args.query.now c.args.form d n r.0 r.2 c.end.result r.3.0
-          (c.end.ensures.ended c.args.query.now c.args.form old told r.0 r.2 r.3.1);
+      answer = finished-answer c.args.query.now c.args.form d n r.0 r.2 c.args.damaged c.end.result
+          r.3.0
+          (c.end.ensures.ended c.args.query.now c.args.form c.args.damaged old told r.0 r.2 r.3.1);
       unread = (
         λ e. absurd (c.end.ensures.unread e),
         λ one. absurd (Ok-not_err _ _ (c.in_ok-read_log.ensures.unread.1 one)),

@@ -120,4 +120,4 @@ pub has-query : (call : Call) (rows : List Row) → command_name call ≡ codes 
     → HasValues call rows
     → (query : Query) × IsQuery rows query
 has-query call rows is given =
-    query_call-query (λ q f. Log q f) rows call (made_at (codes "log") call rows is given)
+    query_call-query (λ q f d. Log q f d) rows call (made_at (codes "log") call rows is given)

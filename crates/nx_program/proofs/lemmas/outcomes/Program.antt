@@ -6,6 +6,7 @@ use Rattle.nx_program.specs.declared.fault.CallFault.{CallFault}
 use Rattle.nx_program.specs.declared.fault.CallFault.TheVariants as call
 use Rattle.nx_program.specs.declared.fault.Fault.{Fault}
 use Rattle.nx_program.specs.declared.fault.Fault.TheVariants as fault
+use Rattle.nx_log.specs.declared.damage.Damaged.{Damaged}
 use Rattle.nx_log.specs.declared.log_fault.LogFault.{LogFault}
 use Rattle.nx_log.specs.declared.log_fault.LogFault.TheVariants as log
 use Rattle.nx_receiver.specs.declared.air_file_runs.listen_fault.ListenFault.{ListenFault}
@@ -234,10 +235,11 @@ watch-arguments d b name moment outcome (Ok disk, gives, opened) is =
     ]
 
 -- nor does a run over a log
-log-arguments : {R W : Type 0} (query : Query) (form : Form) (d : Devices R W) (n : Notices)
-    (outcome : Result (Unit {0}) Fault) → EndsLog query form d n outcome
+log-arguments : {R W : Type 0} (query : Query) (form : Form) (damaged : Damaged) (d : Devices R W)
+    (n : Notices) (outcome : Result (Unit {0}) Fault) → EndsLog query form damaged d n outcome
     → status_of outcome ≡ 64 → ⊥
-log-arguments query form d n outcome (own, runs, told) is = go own (sym (ap status_of told) ∙ is)
+log-arguments query form damaged d n outcome (own, runs, told) is =
+    go own (sym (ap status_of told) ∙ is)
   where
     go : (own : Result ℕ LogFault) → status_of (log_outcome own) ≡ 64 → ⊥
     go (Ok count) e = absurd (omega (arith, e))
@@ -269,7 +271,8 @@ pub arguments-exit : {R W F D E : Type 0} (arguments : List Text) (d : Devices R
 arguments-exit arguments d b status exits is = elim exits.ends [
   | inl runs ↦ absurd (watch-arguments d b runs.name runs.moment exits.outcome runs.watched
       (sym exits.status_is ∙ is))
-  | inr (inl runs) ↦ absurd (log-arguments runs.query runs.form d _ exits.outcome runs.read.1
+  | inr (inl runs) ↦ absurd (log-arguments runs.query runs.form runs.damaged d _ exits.outcome
+      runs.read.1
       (sym exits.status_is ∙ is))
   | inr (inr ends) ↦ arguments-end arguments d exits.outcome ends.1 (sym exits.status_is ∙ is)
 ]
@@ -304,7 +307,8 @@ pub refused-exits : {R W F D E : Type 0} (arguments : List Text) (d : Devices R 
     → IsRefused arguments → (status ≡ 64) ⊎ (status ≡ 1)
 refused-exits arguments d b status exits refused = elim exits.ends [
   | inl runs ↦ absurd (named_not_refused arguments (Watch runs.name runs.moment) runs.named refused)
-  | inr (inl runs) ↦ absurd (named_not_refused arguments (Log runs.query runs.form) runs.named
+  | inr (inl runs) ↦ absurd (named_not_refused arguments
+      (Log runs.query runs.form runs.damaged) runs.named
       refused)
   | inr (inr ends) ↦ elim (refused-ends arguments d exits.outcome ends.1 refused) [
     | inl is ↦ inl (exits.status_is ∙ is)
@@ -316,7 +320,7 @@ refused-exits arguments d b status exits refused = elim exits.ends [
 performs-streams : {R W F D E : Type 0} (call : Call) (d : Devices R W) (b : Beside F D W E)
     → IsUnused b → PerformsOnStreams call d (Ok tt) → Performs call d b (Ok tt)
 performs-streams (Watch name moment) d b unused performed = absurd performed
-performs-streams (Log query form) d b unused performed = absurd performed
+performs-streams (Log query form damaged) d b unused performed = absurd performed
 performs-streams call d b unused performed = (unused, performed)
 
 -- a success of arguments that name a call is the success of that call
@@ -330,7 +334,8 @@ success-named arguments d b call named success = elim success [
       subst P (named_once arguments
       (Watch runs.name runs.moment) call runs.named named) runs.watched
   | inr (inl runs) ↦ let P : Call → Type 0 = λ c. Performs c d b (Ok tt) in
-      subst P (named_once arguments (Log runs.query runs.form) call runs.named named) runs.read
+      subst P (named_once arguments
+      (Log runs.query runs.form runs.damaged) call runs.named named) runs.read
   | inr (inr (unused, inl runs)) ↦ let P : Call → Type 0 = λ c. PerformsOnStreams c d (Ok tt) in
       performs-streams call d b unused
       (subst P (named_once arguments runs.call call runs.named named) runs.performed)

@@ -26,8 +26,10 @@ use Rattle.nx_watch.specs.declared.lines.line_effects.StartMoments.{StartMoments
 use Rattle.nx_program.specs.declared.fault.Fault.{Fault}
 use Rattle.nx_program.specs.declared.fault.Fault.TheVariants as fault
 use Rattle.nx_program.specs.FaultText.{call_fault_line, call_text, open_reason}
-use Rattle.nx_log.specs.LogRun.{AnswersLogRun}
-use Rattle.nx_log.specs.Notices.{HaveToldTorn, Notices, torn_notice, torn_notices}
+use Rattle.nx_log.specs.LogRun.{AnswersLogRun, AnswersRun}
+use Rattle.nx_log.specs.Notices.{HaveTold, HaveToldAll, HaveToldTorn, Notice, Notices, damaged_at, notice_text, notice_texts, torn_at, torn_notice, torn_notices}
+use Rattle.nx_log.specs.declared.damage.Damaged.{Damaged}
+use Rattle.nx_log.specs.declared.damage.Damaged.TheVariants.{PassedOver, Refused}
 use Rattle.nx_log.specs.declared.log_fault.LogFault.{LogFault}
 use Rattle.nx_log.specs.declared.log_fault.LogFault.TheVariants as log
 use Rattle.nx_log.specs.declared.queries.query.Query.{Query}
@@ -321,27 +323,73 @@ behind-torn (n ∷ torn) text line =
     (behind-another (codes "line " ++ (decimal n ++ codes ": a torn entry was passed over\n"))
     (torn_notices torn ++ text) (behind-torn torn text line))
 
+-- so does what is told of them and of what is passed over
+behind-one : (notice : Notice) (text : List ℕ) → IsFaultLine text
+    → IsFaultLine (notice_text notice ++ text)
+behind-one (torn_at n) text line =
+    behind-another (codes "line " ++ (decimal n ++ codes ": a torn entry was passed over\n")) text
+    line
+behind-one (damaged_at n) text line =
+    behind-another
+    (codes "line " ++ (decimal n ++ codes " is not of a log, and was passed over\n")) text line
+
+behind-all : (told : List Notice) (text : List ℕ) → IsFaultLine text
+    → IsFaultLine (notice_texts told ++ text)
+behind-all [] text line = line
+behind-all (notice ∷ told) text line =
+    subst IsFaultLine (sym (append_assoc (notice_text notice) (notice_texts told) text))
+    (behind-one notice (notice_texts told ++ text) (behind-all told text line))
+
+-- what was told, where this leads
+pub record ToldLeads (n : Notices) : Type 0 where
+  pub text : List ℕ
+  pub leads : (behind : List ℕ) → IsFaultLine behind → IsFaultLine (text ++ behind)
+  pub told : HaveTold n text
+
+torn-leads : (n : Notices) (torn : List ℕ) → HaveToldTorn n torn → ToldLeads n
+torn-leads n torn told =
+    record { text = torn_notices torn; leads = behind-torn torn; told = told }
+
+all-leads : (n : Notices) (notices : List Notice) → HaveToldAll n notices → ToldLeads n
+all-leads n notices told =
+    record { text = notice_texts notices; leads = behind-all notices; told = told }
+
 -- a run over a log told of some torn entries
 log-answer-told : {R W : Type 0} (query : Query) (form : Form) (d : Devices R W) (n : Notices)
     (own : Result ℕ LogFault) (bytes : List ℕ) → AnswersLogRun query form d n own bytes
-    → (torn : List ℕ) × HaveToldTorn n torn
-log-answer-told query form d n (Ok count) bytes answer = (answer.2, answer.5)
-log-answer-told query form d n (Err log.Read) bytes answer = (answer.1, answer.4)
-log-answer-told query form d n (Err (log.BadLog line)) bytes answer = (answer.1, answer.4)
-log-answer-told query form d n (Err (log.Write written)) bytes answer = (answer.1, answer.4)
-log-answer-told query form d n (Err (log.Memory want)) bytes answer = ([], answer.3)
+    → ToldLeads n
+log-answer-told query form d n (Ok count) bytes answer = torn-leads n answer.2 answer.5
+log-answer-told query form d n (Err log.Read) bytes answer = torn-leads n answer.1 answer.4
+log-answer-told query form d n (Err (log.BadLog line)) bytes answer =
+    torn-leads n answer.1 answer.4
+log-answer-told query form d n (Err (log.Write written)) bytes answer =
+    torn-leads n answer.1 answer.4
+log-answer-told query form d n (Err (log.Memory want)) bytes answer = torn-leads n [] answer.3
 
-log-told : {R W F D E : Type 0} (query : Query) (form : Form) (d : Devices R W)
-    (b : Beside F D W E) (outcome : Result (Unit {0}) Fault) → ReadsLog query form d b outcome
-    → HasLed b.contents b.faults b.faults_after
-log-told query form d b outcome (opens, (own, runs, told)) =
-    let torn = log-answer-told query form d
+-- also one that passes over what is not of a log
+run-answer-told : {R W : Type 0} (query : Query) (form : Form) (damaged : Damaged)
+    (d : Devices R W) (n : Notices) (own : Result ℕ LogFault) (bytes : List ℕ)
+    → AnswersRun query form d n damaged own bytes → ToldLeads n
+run-answer-told query form Refused d n own bytes answer =
+    log-answer-told query form d n own bytes answer
+run-answer-told query form PassedOver d n (Ok count) bytes answer =
+    log-answer-told query form d n (Ok count) bytes answer
+run-answer-told query form PassedOver d n (Err log.Read) bytes answer =
+    all-leads n answer.2 answer.5
+run-answer-told query form PassedOver d n (Err (log.BadLog line)) bytes answer =
+    all-leads n answer.4 answer.7
+run-answer-told query form PassedOver d n (Err (log.Write written)) bytes answer =
+    all-leads n answer.2 answer.5
+run-answer-told query form PassedOver d n (Err (log.Memory want)) bytes answer =
+    log-answer-told query form d n (Err (log.Memory want)) bytes answer
+
+log-told : {R W F D E : Type 0} (query : Query) (form : Form) (damaged : Damaged)
+    (d : Devices R W) (b : Beside F D W E) (outcome : Result (Unit {0}) Fault)
+    → ReadsLog query form damaged d b outcome → HasLed b.contents b.faults b.faults_after
+log-told query form damaged d b outcome (opens, (own, runs, told)) =
+    let led = run-answer-told query form damaged d
     (notices_between b.contents b.faults b.faults_after) own runs.bytes runs.answer in
-    record {
-      told = torn_notices torn.0;
-      leads = behind-torn torn.0;
-      written = torn.1;
-    }
+    record { told = led.text; leads = led.leads; written = led.told }
 
 pub ends-told : {R W F D E : Type 0} (arguments : List Text) (d : Devices R W) (b : Beside F D W E)
     (outcome : Result (Unit {0}) Fault) → b.faults.failures ≡ 0 → EndsRun arguments d b outcome
@@ -349,7 +397,7 @@ pub ends-told : {R W F D E : Type 0} (arguments : List Text) (d : Devices R W) (
 ends-told arguments d b outcome none (inl runs) =
     watch-told d b runs.name runs.moment outcome none runs.watched
 ends-told arguments d b outcome none (inr (inl runs)) =
-    log-told runs.query runs.form d b outcome runs.read
+    log-told runs.query runs.form runs.damaged d b outcome runs.read
 ends-told arguments d b outcome none (inr (inr ends)) = nothing-told b none ends.0
 
 -- a fault is one text on standard error, with what was told before
@@ -392,7 +440,7 @@ silent-outcome arguments d b behind_call (Err why) ends reports zero none = absu
 silent-outcome arguments d b behind_call (Ok done) (inl runs) reports zero none =
     absurd (none (inl (runs.name, runs.moment, runs.named)))
 silent-outcome arguments d b behind_call (Ok done) (inr (inl runs)) reports zero none =
-    absurd (none (inr (runs.query, runs.form, runs.named)))
+    absurd (none (inr (runs.query, runs.form, runs.damaged, runs.named)))
 silent-outcome arguments d b behind_call (Ok done) (inr (inr ends)) reports zero none =
     reports ∙ ends.0.untold
 

@@ -13,13 +13,14 @@ use Rattle.nx_fec.specs.declared.air_files.channel.Channel.{Channel}
 use Rattle.nx_fec.specs.declared.air_files.channel.Channel.TheVariants.{One, Two, Zero}
 use Rattle.nx_log.specs.Query.{IsSetOf}
 use Rattle.nx_log.specs.Times.{IsSince, IsUntil}
+use Rattle.nx_log.specs.declared.damage.Damaged.{Damaged}
 use Rattle.nx_log.specs.declared.writing.form.Form.{Form}
 use Rattle.nx_log.specs.declared.queries.query.Query.{Query}
 use Rattle.nx_memory.proofs.lemmas.Letters.{contains-insert, contains-none}
 use Rattle.nx_program.specs.declared.log_arguments.LogOption.{LogOption}
 use Rattle.nx_program.specs.declared.log_arguments.LogOption.TheVariants as option
-use Rattle.nx_program.specs.LogArguments.{Asks, IsForm, IsQuery, IsUnfit, NamesChannel}
-use Rattle.nx_program.specs.LogArguments.{NamesLetters, form_of, given_to, has_flag}
+use Rattle.nx_program.specs.LogArguments.{Asks, IsDamaged, IsForm, IsQuery, IsUnfit, NamesChannel}
+use Rattle.nx_program.specs.LogArguments.{NamesLetters, damaged_of, form_of, given_to, has_flag}
 use Rattle.nx_program.specs.declared.arguments.Call.{Call}
 use Rattle.nx_program.proofs.lemmas.arguments.CallValues.{IsDecided, differ}
 use Rattle.nx_program.proofs.lemmas.Known.{at_most, both, each, same_text}
@@ -200,36 +201,42 @@ query_not_unfit rows query option.Since text is unfit =
 query_not_unfit rows query option.Until text is unfit =
     asks-nothing IsUntil _ _ is.until (text, unfit.given, unfit.nothing)
 
--- the call of a query and a form
-abbrev made_of : (make : Query → Form → Call) (rows : List Row)
+-- the call of a query, a form and what is done with damaged bytes
+abbrev made_of : (make : Query → Form → Damaged → Call) (rows : List Row)
     → ((query : Query) × IsQuery rows query) ⊎ IsAnyUnfit rows → Option Call
-made_of make rows (inl is) = Some (make is.0 (form_of (has_flag (codes "json") rows)))
+made_of make rows (inl is) =
+    Some (make is.0 (form_of (has_flag (codes "json") rows))
+    (damaged_of (has_flag (codes "salvage") rows)))
 made_of make rows (inr unfit) = None
 
-abbrev pub query_call : (Query → Form → Call) → List Row → Option Call
+abbrev pub query_call : (Query → Form → Damaged → Call) → List Row → Option Call
 query_call make rows = made_of make rows (query_or_unfit rows)
 
-pub query_call-only : (make : Query → Form → Call) (rows : List Row) (query : Query) (form : Form)
-    → IsQuery rows query → IsForm rows form → query_call make rows ≡ Some (make query form)
-query_call-only make rows query form is is_form = go (query_or_unfit rows)
+pub query_call-only : (make : Query → Form → Damaged → Call) (rows : List Row) (query : Query)
+    (form : Form) (damaged : Damaged) → IsQuery rows query → IsForm rows form
+    → IsDamaged rows damaged
+    → query_call make rows ≡ Some (make query form damaged)
+query_call-only make rows query form damaged is is_form is_damaged = go (query_or_unfit rows)
   where
     go : (d : ((query : Query) × IsQuery rows query) ⊎ IsAnyUnfit rows)
-        → made_of make rows d ≡ Some (make query form)
-    go (inl found) = rw (query_once rows found.0 query found.1 is, ← is_form) refl
+        → made_of make rows d ≡ Some (make query form damaged)
+    go (inl found) = rw (query_once rows found.0 query found.1 is, ← is_form, ← is_damaged) refl
     go (inr unfit) = absurd (query_not_unfit rows query unfit.0 unfit.1 is unfit.2)
 
-pub query_call-is : (make : Query → Form → Call) (rows : List Row) (P : Call → Type 0)
-    → ((query : Query) (form : Form) → IsQuery rows query → IsForm rows form → P (make query form))
+pub query_call-is : (make : Query → Form → Damaged → Call) (rows : List Row) (P : Call → Type 0)
+    → ((query : Query) (form : Form) (damaged : Damaged) → IsQuery rows query → IsForm rows form
+    → IsDamaged rows damaged → P (make query form damaged))
     → IfSome (query_call make rows) P
 query_call-is make rows P has = go (query_or_unfit rows)
   where
     go : (d : ((query : Query) × IsQuery rows query) ⊎ IsAnyUnfit rows)
         → IfSome (made_of make rows d) P
-    go (inl found) = has found.0 (form_of (has_flag (codes "json") rows)) found.1 refl
+    go (inl found) = has found.0 (form_of (has_flag (codes "json") rows))
+        (damaged_of (has_flag (codes "salvage") rows)) found.1 refl refl
     go (inr unfit) = tt
 
 -- where there is such a call, there is a query
-pub query_call-query : (make : Query → Form → Call) (rows : List Row) (call : Call)
+pub query_call-query : (make : Query → Form → Damaged → Call) (rows : List Row) (call : Call)
     → query_call make rows ≡ Some call → (query : Query) × IsQuery rows query
 query_call-query make rows call made = go (query_or_unfit rows) made
   where

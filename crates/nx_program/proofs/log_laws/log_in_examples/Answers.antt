@@ -21,7 +21,7 @@ use Rattle.nx_program.proofs.lemmas.arguments.GivenValues.{given}
 use Rattle.nx_program.proofs.lemmas.arguments.Arguments.{conflict_is_refusal}
 use Rattle.nx_program.proofs.log_laws.log_in_examples.Goals as goal
 
--- a flag that was not given, and the rows of both
+-- a flag that was not given, and the rows of all
 abbrev off : Text → Row
 off name = record {
   id = name;
@@ -31,8 +31,8 @@ off name = record {
   reading = AsWritten;
 }
 
-abbrev both_off : List Row
-both_off = off (codes "good") ∷ off (codes "json") ∷ []
+abbrev all_off : List Row
+all_off = off (codes "good") ∷ off (codes "json") ∷ off (codes "salvage") ∷ []
 
 first_second : IsShownAs 1735689600 (codes "2025-01-01 00:00:00")
 first_second = record {
@@ -129,34 +129,48 @@ unfolding clap_on_literals
 returns c = record {
   all = λ program. record {
     taken = refl;
-    values = both_off;
+    values = all_off;
     command = refl;
     given = (
       record { stations = tt; subjects = tt; channel = tt; since = tt; until = tt; good = refl },
+      refl,
       refl,
     );
   };
   flags = λ program. record {
     taken = refl;
-    values = given (codes "json") (codes "true") ∷ given (codes "good") (codes "true") ∷ [];
+    values = given (codes "json") (codes "true") ∷ given (codes "good") (codes "true")
+        ∷ off (codes "salvage") ∷ [];
     command = refl;
     given = (
       record { stations = tt; subjects = tt; channel = tt; since = tt; until = tt; good = refl },
+      refl,
+      refl,
+    );
+  };
+  salvage = λ program. record {
+    taken = refl;
+    values = given (codes "salvage") (codes "true") ∷ off (codes "good") ∷ off (codes "json") ∷ [];
+    command = refl;
+    given = (
+      record { stations = tt; subjects = tt; channel = tt; since = tt; until = tt; good = refl },
+      refl,
       refl,
     );
   };
   channel = λ program. record {
     taken = refl;
-    values = given (codes "channel") (codes "1") ∷ both_off;
+    values = given (codes "channel") (codes "1") ∷ all_off;
     command = refl;
     given = (
       record { stations = tt; subjects = tt; channel = refl; since = tt; until = tt; good = refl },
+      refl,
       refl,
     );
   };
   since = λ program. record {
     taken = refl;
-    values = given (codes "since") (codes "2025-01-01") ∷ both_off;
+    values = given (codes "since") (codes "2025-01-01") ∷ all_off;
     command = refl;
     given = (
       record {
@@ -168,11 +182,12 @@ returns c = record {
         good = refl;
       },
       refl,
+      refl,
     );
   };
   until = λ program. record {
     taken = refl;
-    values = given (codes "until") (codes "2025-01-01") ∷ both_off;
+    values = given (codes "until") (codes "2025-01-01") ∷ all_off;
     command = refl;
     given = (
       record {
@@ -184,11 +199,12 @@ returns c = record {
         good = refl;
       },
       refl,
+      refl,
     );
   };
   minute = λ program. record {
     taken = refl;
-    values = given (codes "until") (codes "2025-01-01 00:40") ∷ both_off;
+    values = given (codes "until") (codes "2025-01-01 00:40") ∷ all_off;
     command = refl;
     given = (
       record {
@@ -200,11 +216,12 @@ returns c = record {
         good = refl;
       },
       refl,
+      refl,
     );
   };
   no_year = λ program. record {
     taken = refl;
-    values = given (codes "since") (codes "2025") ∷ both_off;
+    values = given (codes "since") (codes "2025") ∷ all_off;
     entered = refl;
     reported = record {
       option = Since;
@@ -215,7 +232,7 @@ returns c = record {
   };
   no_time = λ program. record {
     taken = refl;
-    values = given (codes "since") (codes "now") ∷ both_off;
+    values = given (codes "since") (codes "now") ∷ all_off;
     entered = refl;
     reported = record {
       option = Since;
@@ -226,7 +243,7 @@ returns c = record {
   };
   small_letter = λ program. record {
     taken = refl;
-    values = given (codes "station") (codes "e") ∷ both_off;
+    values = given (codes "station") (codes "e") ∷ all_off;
     entered = refl;
     reported = record {
       option = Station;

@@ -1,28 +1,65 @@
-use Rattle.std.proofs.Common.{◌∙◌}
+use Rattle.std.proofs.Common.{◌≤◌, ◌++◌, ◌∙◌, length, refl, subst}
 use Rattle.std.proofs.lemmas.Result.{err_from_is_err_and}
-use Rattle.nx_log.proofs.lemmas.runs.LogRuns.{begin-all}
+use Rattle.nx_log.specs.LogRun.{most_read}
+use Rattle.nx_log.specs.Salvage.{entries_in, told_of}
+use Rattle.nx_log.proofs.lemmas.runs.LogRuns.{part-all}
 use Rattle.nx_log.proofs.log_runs.LogRun.end.Goals as goal
 
 pub returns-in_err-send-clause-ended : goal.returns-in_err-send-clause-ended
-returns-in_err-send-clause-ended g c = λ query form old told bytes within h.
+returns-in_err-send-clause-ended g c = λ query form damaged old told bytes within h.
     let p = err_from_is_err_and c.from_residual.result c.from_residual.ensures.1 in
-    rw p.1 (rw p.2 (
-      h.entries,
-      h.torn,
-      begin-all c.args.self.now.log bytes h.entries h.torn h.at,
-      c.in_err-send.ensures.given query form old h.entries h.given,
-      h.told,
-    ))
+    rw p.1 (rw p.2 (part-all query form damaged old c.args.self.now _ _ bytes h _ _
+    (c.in_err-send.ensures.given query form old (entries_in h.stretches ++ h.last) h.given)))
 
-pub returns-clause-ended : goal.returns-clause-ended
-returns-clause-ended g c = λ query form old told bytes within h.
-    let sent = c.in_ok-send.ensures.given query form old h.entries h.given in
-    let last = c.tell_last.ensures told bytes h.entries h.torn within h.at h.told in
-    record {
-      entries = h.entries;
-      torn = last.0;
-      hold = last.1;
-      wrote = sent.1;
-      told = last.2;
-      counted = c.admitted.ensures ∙ sent.0.counted;
-    }
+pub returns-in-Some-clause-ended : goal.returns-in-Some-clause-ended
+returns-in-Some-clause-ended g c = λ query form damaged old told bytes within h.
+    let sent = c.in_ok-send.ensures.given query form old (entries_in h.stretches ++ h.last) h.given
+    in
+    let last = c.tell_last.ensures told h.stretches h.rest h.last h.torn
+    (subst (λ l. length l ≤ most_read) h.cut.split within) h.ended h.at h.told in (
+      entries_in h.stretches ++ h.last,
+      record {
+        stretches = h.stretches;
+        told = told_of h.stretches last.torn;
+        salvage = record {
+          rest = h.rest;
+          last = h.last;
+          torn = last.torn;
+          cut = h.cut;
+          hold = last.hold;
+          are_entries = refl;
+          is_told = refl;
+        };
+        wrote = sent.1;
+        was_told = last.told;
+        first = h.first ∙ c.in-Some.is;
+        stands = h.stands;
+      },
+    )
+
+pub returns-in-None-clause-ended : goal.returns-in-None-clause-ended
+returns-in-None-clause-ended g c = λ query form damaged old told bytes within h.
+    let sent = c.in_ok-send.ensures.given query form old (entries_in h.stretches ++ h.last) h.given
+    in
+    let last = c.tell_last.ensures told h.stretches h.rest h.last h.torn
+    (subst (λ l. length l ≤ most_read) h.cut.split within) h.ended h.at h.told in (
+      entries_in h.stretches ++ h.last,
+      record {
+        stretches = h.stretches;
+        told = told_of h.stretches last.torn;
+        salvage = record {
+          rest = h.rest;
+          last = h.last;
+          torn = last.torn;
+          cut = h.cut;
+          hold = last.hold;
+          are_entries = refl;
+          is_told = refl;
+        };
+        wrote = sent.1;
+        was_told = last.told;
+        first = h.first ∙ c.in-None.is;
+        stands = h.stands;
+      },
+      c.admitted.ensures ∙ sent.0.counted,
+    )

@@ -5,25 +5,22 @@ use Rattle.std.proofs.lemmas.List.{length-take-le, take-append-le}
 use Rattle.std.proofs.lemmas.Result.{err_from_is_err_and}
 use Rattle.std.specs.Io.KnownBytes.{Consumes}
 use Rattle.nx_fec.proofs.lemmas.devices.TransferLaws.{Ok-not_err, Writes-sound}
-use Rattle.nx_log.proofs.lemmas.reader.Steps.{holds_at}
-use Rattle.nx_log.proofs.lemmas.runs.LogRuns.{begin-all}
+use Rattle.nx_log.specs.Salvage.{entries_in}
+use Rattle.nx_log.proofs.lemmas.runs.LogRuns.{part-all, salvaged}
 use Rattle.nx_log.proofs.log_runs.LogRun.read_log.Goals as goal
 
 pub returns-in_err-send-clause-read : goal.returns-in_err-send-clause-read
-returns-in_err-send-clause-read g c = λ old told h.
-    let r = c.loop-room.invariant.read old told h in
+returns-in_err-send-clause-read g c = λ damaged old told h.
+    let r = c.loop-room.invariant.read damaged old told h in
     let run = r.3 in
     let p = err_from_is_err_and c.from_residual.result c.from_residual.ensures.1 in (
       r.0,
       r.1,
       omega (arith, r.2),
-      rw p.1 (rw p.2 (
-        run.entries,
-        run.torn,
-        begin-all c.loop-room.self.log r.0 run.entries run.torn run.at,
-        c.in_err-send.ensures.given c.args.query.now c.args.form old run.entries run.given,
-        run.told,
-      )),
+      rw p.1 (rw p.2 (part-all c.args.query.now c.args.form damaged old c.loop-room.self _ _ r.0
+          run _ _
+          (c.in_err-send.ensures.given c.args.query.now c.args.form old
+          (entries_in run.stretches ++ run.last) run.given))),
     )
 
 pub returns-in_err-send-clause-writes : goal.returns-in_err-send-clause-writes
@@ -43,47 +40,52 @@ returns-in_err-send-clause-writes g c =
     }
 
 pub returns-in-End-clause-read : goal.returns-in-End-clause-read
-returns-in-End-clause-read g c = λ old told h.
-    let r = c.loop-room.invariant.read old told h in
+returns-in-End-clause-read g c = λ damaged old told h.
+    let r = c.loop-room.invariant.read damaged old told h in
     let run = r.3 in
-    let sent = c.in_ok-send.ensures.given c.args.query.now c.args.form old run.entries run.given in (
+    let sent = c.in_ok-send.ensures.given c.args.query.now c.args.form old
+    (entries_in run.stretches ++ run.last) run.given in (
       r.0,
       Consumes-kept _ _ _ r.0 r.1 c.in-End.ensures.0,
       omega (arith, r.2),
       (
         inl c.in-End.ensures.1,
         record {
-          entries = run.entries;
+          stretches = run.stretches;
+          rest = run.rest;
+          last = run.last;
           torn = run.torn;
+          cut = run.cut;
           at = run.at;
           given = sent.0;
           told = run.told;
+          ended = run.ended;
+          first = run.first;
+          passing = run.passing;
+          mode = run.mode;
+          stands = run.stands;
         },
       ),
     )
 
 pub returns-in-Failed-clause-read : goal.returns-in-Failed-clause-read
-returns-in-Failed-clause-read g c = λ old told h.
-    let r = c.loop-room.invariant.read old told h in
+returns-in-Failed-clause-read g c = λ damaged old told h.
+    let r = c.loop-room.invariant.read damaged old told h in
     let run = r.3 in
-    let sent = c.in_ok-send.ensures.given c.args.query.now c.args.form old run.entries run.given in (
+    let sent = c.in_ok-send.ensures.given c.args.query.now c.args.form old
+    (entries_in run.stretches ++ run.last) run.given in (
       r.0,
       Consumes-kept _ _ _ r.0 r.1 c.in-Failed.ensures.0,
       omega (arith, r.2),
-      (
-        run.entries,
-        run.torn,
-        holds_at c.loop-room.self.log r.0 run.entries run.torn run.at,
-        sent.1,
-        run.told,
-      ),
+      salvaged c.args.query.now c.args.form damaged old c.loop-room.self _ _ r.0 run _ sent.1,
     )
 
 pub returns-in_err-take_piece-clause-read : goal.returns-in_err-take_piece-clause-read
-returns-in_err-take_piece-clause-read g c = λ old told h.
-    let r = c.loop-room.invariant.read old told h in
+returns-in_err-take_piece-clause-read g c = λ damaged old told h.
+    let r = c.loop-room.invariant.read damaged old told h in
     let run = r.3 in
-    let sent = c.in_ok-send.ensures.given c.args.query.now c.args.form old run.entries run.given in
+    let sent = c.in_ok-send.ensures.given c.args.query.now c.args.form old
+    (entries_in run.stretches ++ run.last) run.given in
     let b = c.next_piece.new.buffer in
     let most = c.min-most.result in
     let count = c.in-Bytes.count in
@@ -110,7 +112,7 @@ returns-in_err-take_piece-clause-read g c = λ old told h.
         fits,
         c.min-most.ensures,
       ),
-      rw p.1 (rw p.2 (c.in_err-take_piece.ensures.taken old told r.0
+      rw p.1 (rw p.2 (c.in_err-take_piece.ensures.taken damaged old told r.0
           (omega (
             arith,
             r.2,
@@ -121,11 +123,19 @@ returns-in_err-take_piece-clause-read g c = λ old told h.
             c.min-most.ensures,
           ))
           (record {
-            entries = run.entries;
+            stretches = run.stretches;
+            rest = run.rest;
+            last = run.last;
             torn = run.torn;
+            cut = run.cut;
             at = run.at;
             given = sent.0;
             told = run.told;
+            ended = run.ended;
+            first = run.first;
+            passing = run.passing;
+            mode = run.mode;
+            stands = run.stands;
           }))),
     )
 
@@ -159,29 +169,37 @@ loop-room-preserved g c =
       );
       bound = omega (arith, inv.bound);
       reading = c.in_ok-take_piece.ensures.reading;
-      read = λ old told h.
-          let r = inv.read old told h in
+      read = λ damaged old told h.
+          let r = inv.read damaged old told h in
           let run = r.3 in
-          let sent = c.in_ok-send.ensures.given c.args.query.now c.args.form old run.entries
-          run.given in (
+          let sent = c.in_ok-send.ensures.given c.args.query.now c.args.form old
+          (entries_in run.stretches ++ run.last) run.given in (
             r.0 ++ piece,
             Consumes-trans _ _ _ _ _ r.1 read',
             omega (arith, r.2, size, low, length-append r.0 piece),
-            c.in_ok-take_piece.ensures.taken old told r.0
+            c.in_ok-take_piece.ensures.taken damaged old told r.0
                 (omega (arith, r.2, size, low, length-append r.0 piece))
                 (record {
-                  entries = run.entries;
+                  stretches = run.stretches;
+                  rest = run.rest;
+                  last = run.last;
                   torn = run.torn;
+                  cut = run.cut;
                   at = run.at;
                   given = sent.0;
                   told = run.told;
+                  ended = run.ended;
+                  first = run.first;
+                  passing = run.passing;
+                  mode = run.mode;
+                  stands = run.stands;
                 }),
           );
     }
 
 pub returns-clause-read : goal.returns-clause-read
-returns-clause-read g c = λ old told h.
-    let r = c.loop-room.invariant.read old told h in (
+returns-clause-read g c = λ damaged old told h.
+    let r = c.loop-room.invariant.read damaged old told h in (
       r.0,
       r.1,
       omega (arith, r.2),

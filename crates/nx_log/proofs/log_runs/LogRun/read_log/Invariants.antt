@@ -3,6 +3,7 @@ use Rattle.std.specs.Io.KnownBytes.{Consumes}
 use Rattle.nx_log.specs.LogRun.{most_read}
 use Rattle.nx_log.specs.private.LogRunning.{IsReading, IsRunning}
 use Rattle.nx_log.specs.Notices.{notices_of}
+use Rattle.nx_log.specs.declared.damage.Damaged.{Damaged}
 use Rattle.nx_log.proofs.log_runs.LogRun.read_log.Given as goal
 
 -- the entries of all bytes so far were given
@@ -13,14 +14,13 @@ invariant-loop-room g l = record {
   chunk : length l.buffer ≡ 65536;
   bound : l.room ≤ most_read;
   reading : IsReading l.self.log;
-  read : (old told : Option (List ℕ))
-      → IsRunning l.query l.form old l.fn.self.log (g.W.Write.contents l.fn.writer.inner)
-      l.fn.self.output
+  read : (damaged : Damaged) (old told : Option (List ℕ))
+      → IsRunning l.query l.form damaged old l.fn.self (g.W.Write.contents l.fn.writer.inner)
       (notices_of told (g.N.Write.contents l.fn.notices.inner) l.fn.notices.failures) []
       → (bytes : List ℕ)
       × Consumes (g.R.Read.remaining l.fn.reader.inner) (g.R.Read.remaining l.reader.inner) bytes
       × (length bytes + l.room ≡ most_read)
-      × IsRunning l.query l.form old l.self.log (g.W.Write.contents l.writer.inner) l.self.output
+      × IsRunning l.query l.form damaged old l.self (g.W.Write.contents l.writer.inner)
       (notices_of told (g.N.Write.contents l.notices.inner) l.notices.failures) bytes;
 }
 

@@ -1,20 +1,29 @@
-use Rattle.std.proofs.Common.{◌++◌, ◌∷◌, [], subst}
-use Rattle.nx_log.specs.Notices.{HaveToldTorn, notices_of}
-use Rattle.nx_log.proofs.lemmas.runs.LogRuns.{told-last}
+use Rattle.std.proofs.Common.{◌++◌, ◌∷◌, [], subst, sym}
+use Rattle.nx_log.specs.Notices.{HaveToldAll, notices_of, torn_at}
+use Rattle.nx_log.specs.Salvage.{bytes_in, told_of}
+use Rattle.nx_log.proofs.lemmas.runs.LogRuns.{exact-line, last-bound}
+use Rattle.nx_log.proofs.lemmas.runs.Stretches.{told_more}
 use Rattle.nx_log.proofs.log_runs.LogRun.tell_last.Goals as goal
 
 pub returns-in-Some : goal.returns-in-Some
-returns-in-Some g c = λ told bytes entries torn within at h.
-    let t = c.in-Some.ensures bytes entries torn at in
-    let line = told-last bytes entries torn t.0 _ within t.2 t.1 in (
-      torn ++ t.0 ∷ [],
-      t.2,
-      subst (λ n. HaveToldTorn
-          (notices_of told (g.N.Write.contents c.tell_torn.new.notices.inner)
-          c.tell_torn.new.notices.failures) (torn ++ n ∷ [])) line
-          (c.tell_torn.ensures told torn h),
-    )
+returns-in-Some g c = λ told stretches rest last torn within ended at h.
+    let t = c.in-Some.ensures rest last torn at in
+    let n = notices_of told (g.N.Write.contents c.tell_torn.new.notices.inner)
+    c.tell_torn.new.notices.failures in
+    let line = exact-line (bytes_in stretches) rest c.args.self.now.ended t.0 _
+    c.saturating_add.result within ended (last-bound rest last torn t.0 t.2) t.1
+    c.saturating_add.ensures in
+    record {
+      torn = torn ++ t.0 ∷ [];
+      hold = t.2;
+      told = subst (HaveToldAll n) (sym (told_more stretches torn t.0))
+          (subst (λ k. HaveToldAll n (told_of stretches torn ++ torn_at k ∷ [])) line
+          (c.tell_torn.ensures told (told_of stretches torn) h));
+    }
 
 pub returns-in-None : goal.returns-in-None
-returns-in-None g c = λ told bytes entries torn within at h.
-    (torn, c.in-None.ensures bytes entries torn at, h)
+returns-in-None g c = λ told stretches rest last torn within ended at h. record {
+  torn = torn;
+  hold = c.in-None.ensures rest last torn at;
+  told = h;
+}
