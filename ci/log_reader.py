@@ -2,10 +2,11 @@
 """A plain reader of a log and of a kept log, to compare the program with. It is written from what a
 log is, not from the program's code, and it holds all bytes at once.
 
-usage: ci/log_reader.py [--kept] [--json] < FILE
+usage: ci/log_reader.py [--kept | --salvage] [--json] < FILE
 
 It prints the entries, as they stand in a log or as JSON, and says on standard error which lines have
-a torn entry. Where the bytes are damaged it says at which line, with status 2.
+a torn entry. Where the bytes are damaged it says at which line, with status 2. With --salvage it
+goes on there.
 
 An entry is `[`, two letters, two digits, `/1` or `/2` on these channels, a space, the moment as
 `YYYY-MM-DD HH:MM:SS`, a space, `full`, `cut` or `long`, a space, the number of `*` of the text,
@@ -22,6 +23,10 @@ bytes. A torn entry is told by the line of its first byte.
 A kept log is a gate, an entry, a gate, an entry, and so on, a gate. A gate is one byte, closed
 where it is a space. It stands for the entries that have an open gate before them. Behind these
 there is nothing, or one byte, or a closed gate and a put that was torn.
+
+Salvaged bytes are read up to the first byte with which they are no log. From there they are passed
+over up to the next `[`, and told by that byte's line; with this `[` another log begins. The torn
+entry of the part that is passed over isn't told.
 
 Damaged bytes are damaged at the line of the first byte with which no bytes to come make them good;
 where they end too early, at the line in which they end.
@@ -223,9 +228,9 @@ def first_bad(part, head, is_torn, reach):
     return len(part)
 
 
-def read_all(data):
-    """The entries of a log, the lines of its torn ones, and the line at which it is damaged, or
-    None. Then the torn entry of the last part isn't told."""
+def read_to_damage(data):
+    """The entries of a log, the lines of its torn ones, and the place of the byte with which it is
+    damaged, or None. Then the torn entry of the last part isn't told."""
     entries, torn, reach, begin = [], [], 0, 0
     while True:
         end = data.find(b"[", begin + (begin > 0 or data[:1] == b"["))
@@ -239,7 +244,7 @@ def read_all(data):
         if entry:
             entries.append(entry)
         if good < len(part):
-            return entries, torn, line_of(data, begin + good)
+            return entries, torn, begin + good
         tail = part[head:]
         if is_gap(tail):
             reach = reach_behind(max(0, reach - head), tail)
@@ -254,6 +259,35 @@ def read_all(data):
         if end == len(data):
             return entries, torn, None
         begin = end
+
+
+def read_all(data):
+    """The entries of a log, the lines of its torn ones, and the line at which it is damaged, or
+    None."""
+    entries, torn, place = read_to_damage(data)
+    return entries, torn, None if place is None else line_of(data, place)
+
+
+def salvage_all(data):
+    """The entries of a damaged log, what is told of it, in order, and the first line that is none
+    of a log, or None. A thing that is told is a line, and whether it is damaged."""
+    entries, told, begin = [], [], 0
+    while True:
+        rest, ended = data[begin:], data.count(b"\n", 0, begin)
+        found, torn, place = read_to_damage(rest)
+        entries += found
+        told += [(ended + it, False) for it in torn]
+        if place is not None:
+            told.append((ended + line_of(rest, place), True))
+        following = -1 if place is None else rest.find(b"[", place)
+        if following < 0:
+            return entries, told, next((line for line, is_bad in told if is_bad), None)
+        begin += following
+
+
+def notice_of(line, is_bad):
+    """What is told of a line: of a torn entry, or of bytes that are passed over."""
+    return f"line {line} is not of a log, and was passed over" if is_bad else f"line {line}: a torn entry was passed over"
 
 
 def read_log(data):
@@ -287,18 +321,21 @@ def kept_of(entries):
 
 def main():
     options = sys.argv[1:]
-    if set(options) - {"--kept", "--json"}:
+    if set(options) - {"--kept", "--json", "--salvage"} or {"--kept", "--salvage"} <= set(options):
         sys.exit(__doc__)
     data = sys.stdin.buffer.read()
     if "--kept" in options:
-        (entries, line), torn = read_kept(data), []
+        (entries, line), told = read_kept(data), []
+    elif "--salvage" in options:
+        entries, told, line = salvage_all(data)
     else:
         entries, torn, line = read_all(data)
+        told = [(it, False) for it in torn]
     for it in entries:
         sys.stdout.buffer.write(json_of(it) if "--json" in options else bytes_of(it))
     sys.stdout.flush()
-    for it in torn:
-        print(f"line {it}: a torn entry was passed over", file=sys.stderr)
+    for it in told:
+        print(notice_of(*it), file=sys.stderr)
     if line:
         print(f"line {line} is not of a log", file=sys.stderr)
     return 2 if line else 0
