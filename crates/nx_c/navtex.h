@@ -123,8 +123,7 @@ uint64_t nx_slot(uint8_t station, uint64_t moment);
  *
  * It hears elements as they come, of three channels at once: each is a frequency with a receiver of
  * its own. The log of a file through these calls is that of nx_listen. It takes all of its memory when
- * it is opened, some 3.3 MB, and gives it back when it is closed; no call between takes any, but for
- * nx_save, which gives it back before it returns.
+ * it is opened, one block of 27 kB, and gives it back when it is closed; no call between takes any.
  *
  * What a caller owes for it: it begins as {0}, and is never written or copied; each call on it has
  * ended before the next begins, on one thread. It is closed or abandoned before it is forgotten.

@@ -4,13 +4,14 @@ use Rattle.std.specs.Prelude.{ℕ, ◌≡◌, ◌≢◌, ◌==◌, nat_lt, if◌
 use Rattle.std.specs.Prelude.{Result, Ok, Err, IfErr}
 use Rattle.std.specs.declared.alloc.AllocError.{AllocError}
 use Rattle.nx_c.specs.Faults.{resume_told}
-use Rattle.nx_c.specs.Status.{number_of}
-use Rattle.nx_c.specs.Told.{Answer, IsPut, IsTold, Room, answer, ended_told}
-use Rattle.nx_c.specs.declared.told.Status.TheVariants.{Done, StateNoRoom}
+use Rattle.nx_c.specs.Told.{Answer, IsTold, answer, ended_told}
 use Rattle.nx_fec.specs.Transfers.{Contents, whole_input}
 use Rattle.nx_fec.specs.Runs.{AnswersEncoding, AnswersWordRun, IsDecoded, file_limit}
 use Rattle.nx_fec.specs.declared.fault.RunFault.{RunFault}
 use Rattle.nx_fec.specs.declared.fault.RunFault.TheVariants as run
+use Rattle.nx_handle.specs.CallerRoom.{IsPut, Room}
+use Rattle.nx_handle.specs.Status.{number_of}
+use Rattle.nx_handle.specs.declared.status.Status.TheVariants.{Done, StateNoRoom}
 use Rattle.nx_memory.specs.Saved.{AreSavedStates, SavedStates}
 use Rattle.nx_receiver.specs.air_file_runs.Chain.{HasGoneOn}
 use Rattle.nx_receiver.specs.air_file_runs.Listen.{AnswersListening}

@@ -1,8 +1,8 @@
 -- What the fault of each run tells: its status, and its place (this profile).
-use Rattle.std.specs.Prelude.{ℕ, ◌-◌, ◌^◌, min}
+use Rattle.std.specs.Prelude.{ℕ}
 use Rattle.nx_fec.specs.Transfers.{count_of}
 use Rattle.nx_c.specs.Told.{told, told_at, told_in}
-use Rattle.nx_c.specs.declared.told.Status.TheVariants as status
+use Rattle.nx_handle.specs.declared.status.Status.TheVariants as status
 use Rattle.nx_c.specs.declared.told.Told.{Told}
 use Rattle.nx_envelope.specs.declared.message.MessageFault.{MessageFault}
 use Rattle.nx_envelope.specs.declared.message.MessageFault.TheVariants as message

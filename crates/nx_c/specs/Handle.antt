@@ -7,7 +7,7 @@ use Rattle.std.specs.Prelude.{Option, None, Some}
 use Rattle.std.specs.Box.Ownership.{box_owns}
 use Rattle.std.specs.declared.alloc.Global.{Global}
 use Rattle.std.specs.contracts.impls.GlobalAllocator.TheImpl.{ghosts}
-use Rattle.nx_c.specs.contracts.receiver.kept.Kept.{the_row}
+use Rattle.nx_handle.specs.contracts.kept.Kept.{the_row}
 
 -- the C library's heap, of which there is one
 abbrev pub heap : Global

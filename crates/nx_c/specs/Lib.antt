@@ -1,13 +1,4 @@
-pub mod Status
 pub mod Told
 pub mod Faults
 pub mod Calls
 pub mod Handle
-pub mod Life
-pub mod Opening
-pub mod Hearing
-pub mod Closing
-pub mod Selecting
-pub mod Saving
-pub mod LogEntry
-pub mod WholeLife

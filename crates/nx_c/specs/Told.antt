@@ -1,29 +1,11 @@
 -- What a call tells its caller, and what it puts into the caller's room (this profile).
-use Rattle.std.specs.Prelude.{◌≡◌, ℕ, nat_lt, if◌then◌else◌, List, ◌++◌, length, take, drop, min}
-use Rattle.std.specs.Prelude.{Result, Ok, Err}
-use Rattle.nx_c.specs.Status.{number_of}
+use Rattle.std.specs.Prelude.{◌≡◌, ℕ, List, length, Result, Ok, Err}
 use Rattle.nx_c.specs.declared.told.Place.{Place}
-use Rattle.nx_c.specs.declared.told.Status.{Status}
-use Rattle.nx_c.specs.declared.told.Status.TheVariants as status
 use Rattle.nx_c.specs.declared.told.Told.{Told}
-
--- the caller's room for a text, before a call and after it, and what the call says of the text's
--- length
-pub record Room : Type 0 where
-  pub old : List ℕ
-  pub new : List ℕ
-  pub written : ℕ
-
-abbrev pub room : List ℕ → List ℕ → ℕ → Room
-room old new written = record { old = old; new = new; written = written }
-
--- The text was put into the room, as much of it as there is room for, and what stood behind it in
--- the room stayed. Its bytes are counted, those too for which there was no room.
-pub record IsPut (text : List ℕ) (r : Room) : Type 0 where
-  pub put : r.new
-      ≡ take (min (length text) (length r.old)) text
-      ++ drop (min (length text) (length r.old)) r.old
-  pub counted : r.written ≡ length text
+use Rattle.nx_handle.specs.CallerRoom.{IsPut, Room, after_putting}
+use Rattle.nx_handle.specs.Status.{number_of}
+use Rattle.nx_handle.specs.declared.status.Status.{Status}
+use Rattle.nx_handle.specs.declared.status.Status.TheVariants as status
 
 -- what a call answers beside what it puts into rooms
 pub record Answer : Type 0 where
@@ -43,13 +25,6 @@ told_at status line at = told_in status line 0 at
 
 abbrev pub told : Status → Told
 told status = told_at status 0 0
-
--- a status, where a text of so many bytes is put into a room of so many: all is done, but for the
--- room
-abbrev pub after_putting : ℕ → ℕ → Status → Status
-after_putting count capacity status.Done =
-    if nat_lt capacity count then status.NoRoom else status.Done
-after_putting count capacity other = other
 
 -- what a run tells that has a fault or none
 abbrev pub ended_told : {N F : Type 0} → (F → Told) → Result N F → Told

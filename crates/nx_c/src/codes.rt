@@ -2,16 +2,17 @@
 
 ghost use Rattle.nx_c.specs.Calls.{DecodesTo, EncodesTo};
 ghost use Rattle.nx_c.specs.Faults.{run_told};
-ghost use Rattle.nx_c.specs.Told.{Tells, answer, ended_told, room};
+ghost use Rattle.nx_c.specs.Told.{Tells, answer, ended_told};
+ghost use Rattle.nx_handle.specs.CallerRoom.{room};
 ghost use Rattle.nx_code.specs.Signal.{number_of_signal, place};
 ghost use Rattle.nx_code.specs.declared.signals.Signal.{Signal};
 ghost use Rattle.std.specs.Prelude.{◌≡◌, ◌≢◌, ◌+◌};
 
-use crate::caller_room::tell;
 use crate::faults::{run_told, told};
-use crate::told::{Place, Status, Told};
+use crate::told::{Place, Told, tell};
 use nx_code::{Signal, Word, signal_of};
 use nx_fec::{Counting, RunFault, decode_run, encode_run};
+use nx_handle::Status;
 use std::alloc::Global;
 
 /// Decodes an air file, as `nx_fec::decode_run` does, and puts its text into the caller's room.

@@ -3,11 +3,12 @@
 ghost use Rattle.std.specs.Prelude.{◌≡◌, ◌≢◌};
 ghost use Rattle.nx_c.specs.Faults.{check_told, emission_told, listen_told, message_told, resume_told, run_told, send_told, sending_told};
 ghost use Rattle.nx_c.specs.Told.{told, told_at, told_in};
-ghost use Rattle.nx_c.specs.declared.told.Status.TheVariants.{Done};
+ghost use Rattle.nx_handle.specs.declared.status.Status.TheVariants.{Done};
 
-use crate::told::{Place, Status, Told};
+use crate::told::{Place, Told};
 use nx_envelope::MessageFault;
 use nx_fec::RunFault;
+use nx_handle::Status;
 use nx_receiver::{ListenFault, MomentFault, ResumeFault, StateFault};
 use nx_station::{CheckFault, EmissionFault, SendFault, SendRunFault};
 

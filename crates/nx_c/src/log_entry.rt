@@ -1,23 +1,23 @@
-//! An entry of a log, as C has it.
+//! The call that reads an entry of a log.
 
-/// What an entry of a log says.
-#[repr(C)]
-#[derive(Clone, Copy, Debug, Drop, PartialEq, Eq)]
-pub struct LogEntry {
-    /// The moment of its header, in whole seconds since 1970-01-01 00:00:00 UTC.
-    pub moment: u64,
-    /// How many bytes the entry has.
-    pub length: usize,
-    /// Its errors, the asterisks in its text.
-    pub errors: u16,
-    /// The channel on which it was heard, 0 to 2.
-    pub channel: u8,
-    /// The station, B1.
-    pub station: u8,
-    /// The subject, B2.
-    pub subject: u8,
-    /// The number, from 0 to 99.
-    pub number: u8,
-    /// How it ended: 0 full, 1 cut, 2 long.
-    pub how: u8,
+ghost use Rattle.nx_handle.specs.CallerRoom.{room};
+ghost use Rattle.nx_handle.specs.LogEntry.{AnswersEntry};
+
+use nx_handle::LogEntry;
+
+/// Reads the entry of a log with which the bytes begin, whatever stands behind it: tells what it
+/// says, and puts its text into the caller's room.
+///
+/// `NoEntry` where they begin with none; `NoRoom` where the text is longer than the room.
+#[unsafe(no_mangle)]
+pub extern "C" fn nx_log_entry(
+    bytes: &[u8],
+    entry: &mut LogEntry,
+    text: &mut [u8],
+    written: &mut usize,
+) -> u32
+    ensures { AnswersEntry bytes.now entry.old entry.new
+        (room text.old text.new written.new) result }
+{
+    nx_handle::log_entry(bytes, entry, text, written)
 }

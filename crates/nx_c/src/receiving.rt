@@ -3,17 +3,18 @@
 ghost use Rattle.std.specs.Prelude.{◌≡◌, ◌≢◌, ◌≤◌, [], length, take, Some, IfOk, OnOk};
 ghost use Rattle.nx_c.specs.Calls.{GoesOnTo, HasResumed, ListensTo, ResumesTo, TellsResuming, after_handing, handed, written_anew};
 ghost use Rattle.nx_c.specs.Faults.{listen_told, resume_told};
-ghost use Rattle.nx_c.specs.Told.{IsPut, Tells, answer, room};
+ghost use Rattle.nx_c.specs.Told.{Tells, answer};
+ghost use Rattle.nx_handle.specs.CallerRoom.{IsPut, room};
 ghost use Rattle.nx_memory.specs.Saved.{AreSavedStates};
 ghost use Rattle.nx_receiver.specs.air_file_runs.Listen.{IsLogOf};
 ghost use Rattle.nx_receiver.specs.laws.ListenOnce.{HasPrintedOnce};
 ghost use Rattle.nx_receiver.specs.copies.Shares.{all_at_zero};
 ghost use Rattle.nx_receiver.specs.air_file_runs.State.{BeginsWith, state_bytes};
 
-use crate::caller_room::{put, tell};
 use crate::faults::{listen_told, resume_told, told};
-use crate::told::{Place, Status};
+use crate::told::{Place, tell};
 use nx_fec::{Counting, WriteFault};
+use nx_handle::{Status, put};
 use nx_memory::SavedSet;
 use nx_receiver::{Report, ResumeFault, listen, listen_from, read_state, write_state};
 use std::alloc::Global;
@@ -160,7 +161,7 @@ fn go_on(alloc: Global, states: &SavedSet, air: &[u8]) -> Resumed
 }
 
 /// The text of a state.
-pub(crate) fn state_text(alloc: Global, states: &SavedSet) -> Result<Vec<u8>, WriteFault>
+fn state_text(alloc: Global, states: &SavedSet) -> Result<Vec<u8>, WriteFault>
     ensures text { IfOk result (λ text. text.items ≡ state_bytes states.now) }
     ensures sound { AreSavedStates states.now }
 {

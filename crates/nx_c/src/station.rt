@@ -3,16 +3,17 @@
 ghost use Rattle.std.specs.Prelude.{◌≡◌, ◌-◌, ◌^◌, ◌⊎◌, []};
 ghost use Rattle.nx_c.specs.Calls.{ChecksTo, SendsTo};
 ghost use Rattle.nx_c.specs.Faults.{check_told, sending_told};
-ghost use Rattle.nx_c.specs.Told.{IsTold, Tells, answer, ended_told, room, told};
-ghost use Rattle.nx_c.specs.declared.told.Status.TheVariants.{NoStation};
+ghost use Rattle.nx_c.specs.Told.{IsTold, Tells, answer, ended_told, told};
+ghost use Rattle.nx_handle.specs.CallerRoom.{room};
+ghost use Rattle.nx_handle.specs.declared.status.Status.TheVariants.{NoStation};
 ghost use Rattle.nx_code.specs.Reading.{IsCapital};
 ghost use Rattle.nx_station.specs.Slots.{HasNoSlot, IsNextSlot};
 
-use crate::caller_room::tell;
 use crate::faults::{check_told, sending_told, told};
-use crate::told::{Place, Status, Told};
+use crate::told::{Place, Told, tell};
 use nx_envelope::Letter;
 use nx_fec::Counting;
+use nx_handle::Status;
 use nx_station::{CheckFault, check_run, next_slot, send};
 use std::alloc::Global;
 

@@ -1,97 +1,11 @@
 //! What a call tells its caller: a status, and the place of a fault.
 
-ghost use Rattle.std.specs.Prelude.{◌≡◌};
-ghost use Rattle.nx_c.specs.Status.{number_of};
+ghost use Rattle.std.specs.Prelude.{◌≡◌, ◌≤◌, length, take};
+ghost use Rattle.nx_c.specs.Told.{IsTold, answer};
+ghost use Rattle.nx_handle.specs.CallerRoom.{room};
+ghost use Rattle.nx_handle.specs.declared.status.Status.TheVariants.{Done};
 
-/// How a call ended. `enum nx_status` of `navtex.h` has the same numbers.
-#[derive(Clone, Copy, Debug, Drop, PartialEq, Eq)]
-pub enum Status {
-    /// All succeeded, and the caller's room held all that was written.
-    Done = 0,
-    /// All succeeded, but what was written is longer than the caller's room for it.
-    NoRoom = 1,
-    /// A read failed.
-    Read = 2,
-    /// There was no memory for what is written.
-    Write = 3,
-    /// There was no memory for the run.
-    Memory = 4,
-    /// There is a byte past the limit of a file.
-    FileTooLong = 5,
-    /// There is a byte past the limit of an air file.
-    AirTooLong = 6,
-    /// The line has a 515th byte before its end.
-    LineLong = 7,
-    /// The file ends inside the line.
-    LineCut = 8,
-    /// The line is not understood.
-    BadLine = 9,
-    /// The line has elements, and no line before it is a moment.
-    NoMoment = 10,
-    /// The moment of the line is out of range.
-    MomentRange = 11,
-    /// The moment of the line is before the last one.
-    MomentBack = 12,
-    /// The line refuses a subject that can't be refused.
-    Vital = 13,
-    /// The line of the state can't stand there.
-    StateLine = 14,
-    /// The state ends before the end of the line.
-    StateCut = 15,
-    /// All succeeded and the log was given, but the new state is longer than the caller's room.
-    StateNoRoom = 16,
-    /// The elements are no whole words.
-    Ragged = 17,
-    /// The character has no signal.
-    NoSuchCharacter = 18,
-    /// A line of the message is too long.
-    LongLine = 19,
-    /// A character of the message has no signal.
-    BadCharacter = 20,
-    /// A line of the message has a reserved word.
-    Reserved = 21,
-    /// The message is too long.
-    LongText = 22,
-    /// The file ends inside the message.
-    Open = 23,
-    /// There is no message.
-    NoMessages = 24,
-    /// The message is of another station than the first one.
-    MixedStations = 25,
-    /// The station has no slot.
-    NoSlot = 26,
-    /// The messages have more positions than a slot has room for.
-    SlotFull = 27,
-    /// The byte names no station.
-    NoStation = 28,
-    /// The word has the wrong weight.
-    WrongWord = 29,
-    /// The two words of the position are no pair.
-    Unpaired = 30,
-    /// The words are no emission of this profile.
-    BadEnvelope = 31,
-    /// The receiver is closed, or its end has begun.
-    Closed = 32,
-    /// The receiver is open already.
-    AlreadyOpen = 33,
-    /// The number is that of no channel.
-    NoChannel = 34,
-    /// A byte is none of an element.
-    NoElement = 35,
-    /// The byte names no subject.
-    NoSubject = 36,
-    /// The bytes begin with no entry.
-    NoEntry = 37,
-}
-
-impl Status {
-    /// The number of a status.
-    pub fn number(self) -> u32
-        ensures { result ≡ number_of self }
-    {
-        self as u32
-    }
-}
+use nx_handle::{Status, after_putting, put};
 
 /// Where a fault stands. A number that the fault doesn't have is 0.
 #[repr(C)]
@@ -110,4 +24,23 @@ pub struct Place {
 pub struct Told {
     pub status: Status,
     pub place: Place,
+}
+
+/// Tells the caller how a run ended that wrote this text, and puts the text into the room for it.
+/// Answers the number of the status.
+pub(crate) fn tell(
+    told: Told,
+    text: &[u8],
+    space: &mut [u8],
+    written: &mut usize,
+    place: &mut Place,
+) -> u32
+    ensures told { IsTold told text.now
+        (room space.old space.new written.new) (answer result place.new) }
+    ensures done { result ≡ 0 → (told.status ≡ Done)
+        × (written.new ≤ length space.old) × (take written.new space.new ≡ text.now) }
+{
+    put(text, space, written);
+    *place = told.place;
+    after_putting(text.len(), space.len(), told.status).number()
 }

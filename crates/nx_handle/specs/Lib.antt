@@ -8,4 +8,5 @@ pub mod Hearing
 pub mod Closing
 pub mod Selecting
 pub mod Saving
+pub mod LogEntry
 pub mod WholeLife

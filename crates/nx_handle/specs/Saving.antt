@@ -1,5 +1,5 @@
 -- What saving a receiver answers, and opening one from what is saved (this profile).
-use Rattle.std.specs.Prelude.{◌≡◌, ◌⊎◌, ℕ, List, [], length, Option, Some, None, Result, Ok, Err}
+use Rattle.std.specs.Prelude.{◌≡◌, ◌⊎◌, ℕ, List, [], length, Option, Some, None}
 use Rattle.nx_fec.specs.Transfers.{whole_input}
 use Rattle.nx_fec.specs.declared.air_files.channel.Channel.{Channel}
 use Rattle.nx_memory.specs.Saved.{AreSavedStates, SavedStates}
@@ -13,7 +13,6 @@ use Rattle.nx_handle.specs.Life.{HasHeard, hearing}
 use Rattle.nx_handle.specs.Status.{number_of}
 use Rattle.nx_handle.specs.CallerRoom.{IsPut, Room, after_putting}
 use Rattle.nx_handle.specs.declared.kept.Kept.{Kept}
-use Rattle.nx_handle.specs.declared.status.Status.{Status}
 use Rattle.nx_handle.specs.declared.status.Status.TheVariants as status
 
 -- The text spells what these receivers leave of all channels, whatever they were given.
@@ -39,15 +38,6 @@ pub record AnswersSaving (old new : Option Kept) (state : Room) (answer : ℕ) :
   pub put : IsPut text state
   pub saves : SavesBy (hearing old) text (length state.old) answer
   pub unchanged : new ≡ old
-
--- what is kept of a receiver that is opened from these bytes, or why there is none
-abbrev pub Restores : List ℕ → Result Kept Status → Type 0
-Restores bytes (Ok kept) =
-    BeginsWith bytes (λ states more. HasHeard (starts_from states) (Some kept) [] [])
-Restores bytes (Err why) =
-    (BeginsWith bytes (λ states more. Unit {0}) × (why ≡ status.Memory))
-    ⊎ ((fault : StateFault) × ExplainsState whole_input bytes fault
-    × (why ≡ state_status fault))
 
 -- These bytes begin with a state, and a receiver is opened that starts with it and has heard
 -- nothing; or there is no memory for it. Or the bytes begin with no state, and the status says why.

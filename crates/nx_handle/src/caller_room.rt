@@ -9,7 +9,7 @@ use crate::status::Status;
 
 /// Puts a text into the caller's room, as much of it as there is room for. `written` is the length
 /// of the whole text.
-pub(crate) fn put(text: &[u8], space: &mut [u8], written: &mut usize)
+pub fn put(text: &[u8], space: &mut [u8], written: &mut usize)
     ensures { IsPut text.now (room space.old space.new written.new) }
 {
     let count = text.len().min(space.len());
@@ -18,7 +18,7 @@ pub(crate) fn put(text: &[u8], space: &mut [u8], written: &mut usize)
 }
 
 /// A status, where a text of so many bytes is put into a room of so many.
-fn after_putting(count: usize, capacity: usize, status: Status) -> Status
+pub fn after_putting(count: usize, capacity: usize, status: Status) -> Status
     ensures { result ≡ after_putting count capacity status }
 {
     if status == Status::Done && count > capacity {
@@ -29,7 +29,7 @@ fn after_putting(count: usize, capacity: usize, status: Status) -> Status
 
 /// Puts a text into the caller's room as `put` does, and answers the number of `Done`, or of
 /// `NoRoom` where there is no room for all of it.
-pub(crate) fn put_whole(text: &[u8], space: &mut [u8], written: &mut usize) -> u32
+pub fn put_whole(text: &[u8], space: &mut [u8], written: &mut usize) -> u32
     ensures put { IsPut text.now (room space.old space.new written.new) }
     ensures status { result ≡ number_of
         (after_putting (length text.now) (length space.old) Done) }

@@ -1,6 +1,6 @@
 //! Closing a receiver.
 
-ghost use Rattle.std.specs.Prelude.{◌≡◌, ◌≤◌, ℕ, List, [], ◌∷◌, IfSome, None, Some, MatchOption};
+ghost use Rattle.std.specs.Prelude.{◌≡◌, ◌≤◌, ℕ, List, [], ◌∷◌, IfSome, None, Some, MatchOption, if◌then◌else◌};
 ghost use Rattle.nx_envelope.specs.Moment.{last_moment};
 ghost use Rattle.nx_receiver.specs.copies.FoundCopies.{copy_of};
 ghost use Rattle.nx_receiver.specs.Listener.{AreInRange, last_copies};
@@ -29,17 +29,30 @@ pub fn close(slot: &mut Option<Kept>, log: &mut [u8], written: &mut usize) -> u3
         put(&[], log, written);
         return Status::Closed.number();
     };
+    let (status, stays) = close_kept(kept, log, written);
+    if stays {
+        return status;
+    }
+    *slot = None;
+    status
+}
+
+/// Closes with what is kept of an open receiver, as `close` does: answers that status, and whether
+/// the receiver stays open. Where it doesn't, its caller closes it.
+pub fn close_kept(kept: &mut Kept, log: &mut [u8], written: &mut usize) -> (u32, bool)
+    ensures { AnswersClosing (Some kept.old) (if result.1 then Some kept.new else None)
+        (room log.old log.new written.new) result.0 }
+{
     if log.len() < MAX_ENTRY {
         put(&[], log, written);
-        return Status::NoRoom.number();
+        return (Status::NoRoom.number(), true);
     }
     let Some((channel, entry)) = take_last(kept) else {
-        *slot = None;
         put(&[], log, written);
-        return 0;
+        return (0, false);
     };
     put(&entry_bytes(&entry, channel), log, written);
-    0
+    (0, true)
 }
 
 /// Takes the first of what is left of what the end prints; the end begins, where it has not.

@@ -43,7 +43,7 @@ pub fn hear(
 }
 
 /// Hears elements with what is kept of an open receiver, as `hear` does.
-fn hear_kept(
+pub fn hear_kept(
     kept: &mut Kept,
     channel: u8,
     elements: &[u8],

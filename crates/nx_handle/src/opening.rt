@@ -1,20 +1,16 @@
 //! Opening a receiver, and setting its moment.
 
-ghost use Rattle.std.specs.Prelude.{◌≡◌, ◌⊎◌, ◌<◌, ◌≤◌, [], ◌∷◌, IfErr, IfOk, OnOk, Option, Some};
-ghost use Rattle.nx_envelope.specs.Moment.{last_moment};
-ghost use Rattle.nx_receiver.specs.copies.Shares.{all_at_zero, to_all};
-ghost use Rattle.nx_handle.specs.Receivers.{HearsGiven, Listening};
+ghost use Rattle.std.specs.Prelude.{◌≡◌, [], OnErr, OnOk, Some};
+ghost use Rattle.nx_receiver.specs.copies.Shares.{starts_from};
 ghost use Rattle.nx_handle.specs.Life.{HasHeard, hearing};
 ghost use Rattle.nx_handle.specs.Opening.{AnswersMoment, AnswersOpening, moment_told};
-ghost use Rattle.nx_handle.specs.declared.kept.Stage.TheVariants.{Hearing};
-ghost use Rattle.nx_handle.specs.declared.status.Status.TheVariants.{Memory, MomentRange};
 
 use crate::kept::{Kept, Stage};
 use crate::status::Status;
 use arrayvec::ArrayVec;
-use nx_memory::{PlainRecall, SavedSet};
+use nx_memory::SavedSet;
 use nx_receiver::{Listener, MomentFault};
-use std::alloc::Global;
+use std::alloc::{AllocError, Global};
 
 /// Opens a receiver at a moment, in whole seconds since 1970-01-01 00:00:00 UTC: it has heard
 /// nothing, remembers nothing, and everything is selected.
@@ -26,40 +22,33 @@ pub fn open(alloc: Global, slot: &mut Option<Kept>, moment: u64) -> u32
     if slot.is_some() {
         return Status::AlreadyOpen.number();
     }
-    match opened(alloc, moment) {
-        Ok(kept) => {
-            *slot = Some(kept);
-            0
-        }
-        Err(status) => status.number(),
-    }
-}
-
-/// What is kept of a receiver that is opened at a moment.
-fn opened(alloc: Global, moment: u64) -> Result<Kept, Status>
-    ensures heard { IfOk result (λ kept. HasHeard all_at_zero (Some kept)
-        (to_all moment ∷ []) []) }
-    ensures range { OnOk result (moment ≤ last_moment) }
-    ensures refused { IfErr result (λ why. (why ≡ Memory)
-        ⊎ ((why ≡ MomentRange) × (last_moment < moment))) }
-{
-    let Ok(mut listener) = Listener::starting(alloc, &SavedSet::new()) else {
-        return Err(Status::Memory);
+    let Ok(()) = begin(alloc, slot, &SavedSet::new()) else {
+        return Status::Memory.number();
     };
-    if let Err(fault) = listener.set_moment(moment) {
-        return Err(moment_told(fault));
+    let status = set_moment(slot, moment);
+    if status == 0 {
+        return 0;
     }
-    Ok(kept_of(listener))
+    *slot = None;
+    status
 }
 
-/// What is kept of a receiver that hears with these three.
-pub(crate) fn kept_of(listener: Listener<PlainRecall>) -> Kept
-    ensures { result.stage ≡ Hearing listener }
+/// Opens a receiver that starts with what is saved, and has heard nothing. What is kept of it is
+/// built in its place: it is large, and each move of it takes as much of the stack.
+pub(crate) fn begin(
+    alloc: Global,
+    slot: &mut Option<Kept>,
+    saved: &SavedSet,
+) -> Result<(), AllocError>
+    ensures heard { OnOk result (HasHeard (starts_from saved.now) slot.new [] []) }
+    ensures refused { OnErr result (slot.new ≡ slot.old) }
 {
-    Kept {
+    let listener = Listener::starting(alloc, saved)?;
+    *slot = Some(Kept {
         stage: Stage::Hearing(listener),
         entry: ArrayVec::new(),
-    }
+    });
+    Ok(())
 }
 
 /// Sets the moment from here on, of all channels. `MomentRange` where it is past the year 2999,
@@ -74,7 +63,7 @@ pub fn set_moment(slot: &mut Option<Kept>, moment: u64) -> u32
 }
 
 /// Sets the moment of what is kept of an open receiver, as `set_moment` does.
-fn set_moment_kept(kept: &mut Kept, moment: u64) -> u32
+pub fn set_moment_kept(kept: &mut Kept, moment: u64) -> u32
     ensures { AnswersMoment moment (Some kept.old) (Some kept.new) result
         (hearing (Some kept.old)) }
 {

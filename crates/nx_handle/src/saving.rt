@@ -1,23 +1,20 @@
 //! Saving a receiver, and opening one from what is saved.
 
-ghost use Rattle.std.specs.Prelude.{◌≡◌, ◌⊎◌, ℕ, List, [], IfErr, IfOk, MatchResult, Some};
-ghost use Rattle.nx_memory.specs.Saved.{AreSavedStates, SavedStates};
+ghost use Rattle.std.specs.Prelude.{◌≡◌, IfOk, Some};
+ghost use Rattle.nx_memory.specs.Saved.{AreSavedStates};
 ghost use Rattle.nx_receiver.specs.air_file_runs.State.{state_bytes};
-ghost use Rattle.nx_receiver.specs.copies.Shares.{starts_from};
 ghost use Rattle.nx_handle.specs.StateFaults.{state_status};
-ghost use Rattle.nx_handle.specs.Life.{HasHeard};
-ghost use Rattle.nx_handle.specs.Saving.{AnswersOpeningFrom, AnswersSaving, Restores};
+ghost use Rattle.nx_handle.specs.Saving.{AnswersOpeningFrom, AnswersSaving};
 ghost use Rattle.nx_handle.specs.CallerRoom.{room};
-ghost use Rattle.nx_handle.specs.declared.status.Status.TheVariants.{Memory};
 
 use crate::caller_room::{put, put_whole};
 use crate::kept::{Kept, Stage};
-use crate::opening::kept_of;
+use crate::opening::begin;
 use crate::status::Status;
 use arrayvec::ArrayVec;
 use nx_fec::{Counting, WriteFault};
 use nx_memory::SavedSet;
-use nx_receiver::{Listener, StateFault, read_state, write_state};
+use nx_receiver::{StateFault, read_state, write_state};
 use std::alloc::Global;
 
 /// Room for the text of a state: of each channel its head, the letters that are refused and 200
@@ -41,7 +38,7 @@ pub fn save(slot: &Option<Kept>, state: &mut [u8], written: &mut usize) -> u32
 }
 
 /// Saves what is kept of an open receiver, as `save` does.
-fn save_kept(kept: &Kept, state: &mut [u8], written: &mut usize) -> u32
+pub fn save_kept(kept: &Kept, state: &mut [u8], written: &mut usize) -> u32
     ensures { AnswersSaving (Some kept.now) (Some kept.now)
         (room state.old state.new written.new) result }
 {
@@ -78,27 +75,14 @@ pub fn open_from(alloc: Global, slot: &mut Option<Kept>, state: &[u8]) -> u32
     if slot.is_some() {
         return Status::AlreadyOpen.number();
     }
-    match opened_from(alloc, state) {
-        Ok(kept) => {
-            *slot = Some(kept);
-            0
-        }
-        Err(status) => status.number(),
-    }
-}
-
-/// What is kept of a receiver that is opened from the state with which these bytes begin.
-fn opened_from(alloc: Global, state: &[u8]) -> Result<Kept, Status>
-    ensures { Restores state.now result }
-{
     let states = match read_state(&mut Counting::new(state)) {
         Ok(states) => states,
-        Err(fault) => return Err(state_status(fault)),
+        Err(fault) => return state_status(fault).number(),
     };
-    let Ok(listener) = Listener::starting(alloc, &states) else {
-        return Err(Status::Memory);
-    };
-    Ok(kept_of(listener))
+    match begin(alloc, slot, &states) {
+        Ok(()) => 0,
+        Err(_) => Status::Memory.number(),
+    }
 }
 
 /// The status that a fault of a state tells.

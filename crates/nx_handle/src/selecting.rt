@@ -24,8 +24,8 @@ pub fn refuse_station(slot: &mut Option<Kept>, channel: u8, station: u8) -> u32
     refuse_station_kept(kept, channel, station)
 }
 
-/// The same with what is kept of an open receiver.
-fn refuse_station_kept(kept: &mut Kept, channel: u8, station: u8) -> u32
+/// Does with what is kept of an open receiver what `refuse_station` does.
+pub fn refuse_station_kept(kept: &mut Kept, channel: u8, station: u8) -> u32
     ensures { AnswersSelecting (letter_status NoStation channel station)
         (events.refuse_station station)
         channel (Some kept.old) (Some kept.new) result }
@@ -54,8 +54,8 @@ pub fn accept_station(slot: &mut Option<Kept>, channel: u8, station: u8) -> u32
     accept_station_kept(kept, channel, station)
 }
 
-/// The same with what is kept of an open receiver.
-fn accept_station_kept(kept: &mut Kept, channel: u8, station: u8) -> u32
+/// Does with what is kept of an open receiver what `accept_station` does.
+pub fn accept_station_kept(kept: &mut Kept, channel: u8, station: u8) -> u32
     ensures { AnswersSelecting (letter_status NoStation channel station)
         (events.accept_station station)
         channel (Some kept.old) (Some kept.new) result }
@@ -84,8 +84,8 @@ pub fn accept_subject(slot: &mut Option<Kept>, channel: u8, subject: u8) -> u32
     accept_subject_kept(kept, channel, subject)
 }
 
-/// The same with what is kept of an open receiver.
-fn accept_subject_kept(kept: &mut Kept, channel: u8, subject: u8) -> u32
+/// Does with what is kept of an open receiver what `accept_subject` does.
+pub fn accept_subject_kept(kept: &mut Kept, channel: u8, subject: u8) -> u32
     ensures { AnswersSelecting (letter_status NoSubject channel subject)
         (events.accept_subject subject)
         channel (Some kept.old) (Some kept.new) result }
@@ -114,8 +114,8 @@ pub fn refuse_subject(slot: &mut Option<Kept>, channel: u8, subject: u8) -> u32
     refuse_subject_kept(kept, channel, subject)
 }
 
-/// The same with what is kept of an open receiver.
-fn refuse_subject_kept(kept: &mut Kept, channel: u8, subject: u8) -> u32
+/// Does with what is kept of an open receiver what `refuse_subject` does.
+pub fn refuse_subject_kept(kept: &mut Kept, channel: u8, subject: u8) -> u32
     ensures { AnswersSelecting (subject_status channel subject) (events.refuse_subject subject)
         channel (Some kept.old) (Some kept.new) result }
 {

@@ -22,7 +22,7 @@ use Rattle.std.specs.declared.option.Option.{Option}
 use Rattle.std.specs.declared.option.Option.TheVariants.{None, Some}
 use Rattle.nx_c.specs.Handle.{handle_owns, heap}
 use Rattle.nx_c.specs.contracts.receiver.handle.NxReceiver as handle
-use Rattle.nx_c.specs.contracts.receiver.kept.Kept as kept
+use Rattle.nx_handle.specs.contracts.kept.Kept as kept
 use Rattle.std_alloc.specs.Box.Ownership.{box_owns}
 
 abbrev pub Handle : RattleType

@@ -1,5 +1,5 @@
 -- A run that goes on from the state with which some bytes begin.
-use Rattle.std.proofs.Common.{◌≡◌, ℕ, List, IfSome, Option, Some, Result, Ok, Err, OnOk}
+use Rattle.std.proofs.Common.{◌≡◌, ℕ, List, IfSome, Some, Result, Ok, Err, OnOk}
 use Rattle.std.proofs.Common.{subst, sym}
 use Rattle.nx_fec.specs.Transfers.{Contents, Devices, contents_of, whole_input}
 use Rattle.nx_fec.proofs.lemmas.devices.TransferLaws.{IfSome-end}

@@ -1,11 +1,13 @@
 //! A receiver in the caller's memory, which is a pointer to what is kept of it.
 
-ghost use Rattle.std.specs.Prelude.{◌≡◌, None, Some, MatchOption, Option, is_some};
+ghost use Rattle.std.specs.Prelude.{◌≡◌, ◌≢◌, None, Some, MatchOption, Option, is_some};
 ghost use Rattle.nx_c.specs.Handle.{handle_owns, kept_coded};
-ghost use Rattle.nx_c.specs.declared.receiver.kept.Kept.{Kept as WhatIsKept};
+ghost use Rattle.nx_handle.specs.Status.{number_of};
+ghost use Rattle.nx_handle.specs.declared.kept.Kept.{Kept as WhatIsKept};
+ghost use Rattle.nx_handle.specs.declared.status.Status.TheVariants.{Memory};
 
-use crate::receiver::kept::Kept;
 use crate::receiver::loose::Loose;
+use nx_handle::{Kept, Status};
 use std::alloc::Global;
 use std::marker::Model;
 use std::mem::replace;
@@ -74,6 +76,22 @@ impl NxReceiver {
         let receiver = NxReceiver::of_loose(Loose::of(kept));
         let loose = replace(self, receiver).into_loose(alloc)?;
         Some(loose.into_box())
+    }
+
+    /// Opens a receiver with what is kept of it, in a block of its own. Answers the number of
+    /// `Done`, or of `Memory` where there is none for the block; the receiver then stays as it was.
+    pub(crate) fn open_with(&mut self, kept: Kept, alloc: Global) -> u32
+        ensures done { result ≡ 0 → self.new.value ≡ Some kept }
+        ensures refused { result ≢ 0
+            → (result ≡ number_of Memory) × (self.new.value ≡ self.old.value) }
+    {
+        match Box::new(alloc, kept) {
+            Ok(kept) => {
+                let _none = self.put(kept, alloc);
+                0
+            }
+            Err(_) => Status::Memory.number(),
+        }
     }
 
     /// Whether the receiver is open.

@@ -1,5 +1,5 @@
 -- The statuses of the calls of a receiver.
-use Rattle.std.proofs.Common.{◌≡◌, ◌<◌, ◌≤◌, ◌⊎◌, inr, ℕ, List, arith, refl, sym, ap, ◌∙◌, Option, Some}
+use Rattle.std.proofs.Common.{◌≡◌, ◌<◌, ◌≤◌, ℕ, List, arith, refl, sym, ap, ◌∙◌, Option, Some}
 use Rattle.std.proofs.lemmas.Grind.{common_steps}
 use Rattle.nx_envelope.specs.Moment.{last_moment}
 use Rattle.nx_receiver.specs.Events.{Refuses}
@@ -13,7 +13,6 @@ use Rattle.nx_handle.specs.Status.{number_of}
 use Rattle.nx_handle.specs.declared.kept.Kept.{Kept}
 use Rattle.nx_handle.specs.declared.kept.Stage.{Stage}
 use Rattle.nx_handle.specs.declared.kept.Stage.TheVariants.{Hearing}
-use Rattle.nx_handle.specs.declared.status.Status.TheVariants.{Memory, MomentRange}
 
 pub moment-done : (last moment : ℕ) → last ≤ moment → moment ≤ last_moment
     → 0 ≡ number_of (moment_status last moment)
@@ -28,12 +27,6 @@ moment-refused last moment (Back from at) h =
 pub moment-not-done : (fault : MomentFault) → number_of (moment_told fault) ≡ 0 → ⊥
 moment-not-done (Range at) e = absurd (omega (arith, e))
 moment-not-done (Back from at) e = absurd (omega (arith, e))
-
--- a receiver that is opened is refused its moment only where that is out of range
-pub opening-refused : (moment : ℕ) (fault : MomentFault) → Refuses 0 moment fault
-    → (moment_told fault ≡ Memory) ⊎ ((moment_told fault ≡ MomentRange) × (last_moment < moment))
-opening-refused moment (Range at) h = inr (refl, h.1)
-opening-refused moment (Back from at) h = absurd (omega (arith, h.3))
 
 -- what is kept of a receiver stays, where those that hear do
 pub same-kept : (kept : Kept) (was now : Listening) → kept.stage ≡ Hearing was → now ≡ was

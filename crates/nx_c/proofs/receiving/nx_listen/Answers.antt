@@ -1,6 +1,6 @@
 use Rattle.std.proofs.Common.{arith}
 use Rattle.std.proofs.lemmas.Grind.{common_steps}
-use Rattle.std.proofs.Common.{Some, ap, sym, ◌∙◌, subst}
+use Rattle.std.proofs.Common.{ap, sym, ◌∙◌, subst}
 use Rattle.nx_fec.specs.Transfers.{whole_input}
 use Rattle.nx_receiver.proofs.lemmas.once.Listen.{printed-once}
 use Rattle.nx_receiver.specs.air_file_runs.Listen.{AnswersListening}

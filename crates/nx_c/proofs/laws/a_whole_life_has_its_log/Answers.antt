@@ -1,5 +1,0 @@
-use Rattle.nx_c.proofs.lemmas.Life.{life-from, life-log}
-use Rattle.nx_c.proofs.laws.a_whole_life_has_its_log.Goals as goal
-
-pub returns : goal.returns
-returns c = record { log = life-log; from = life-from }
