@@ -27,8 +27,8 @@ extern "C" {
 /* How a call ended. The numbers are those of navtex.h. */
 enum nx_live_status {
     NX_LIVE_DONE = 0,
-    NX_LIVE_NO_ROOM = 1,       /* nx_live_save: `written` is greater than the capacity; else less than
-                                * NX_LIVE_MAX_ENTRY of room was given, and nothing was done */
+    NX_LIVE_NO_ROOM = 1,       /* nx_live_save, nx_live_log_entry: `written` is greater than the capacity;
+                                * else less than NX_LIVE_MAX_ENTRY of room was given, and nothing was done */
     NX_LIVE_READ = 2,          /* a read failed: bytes in memory never do, but no proof says so */
     NX_LIVE_WRITE = 3,         /* a state that is too long: none is, but no proof says so */
     NX_LIVE_MEMORY = 4,        /* no memory: none is taken, but no proof says so */
@@ -42,7 +42,8 @@ enum nx_live_status {
     NX_LIVE_ALREADY_OPEN = 33, /* the receiver is open */
     NX_LIVE_NO_CHANNEL = 34,   /* the number is that of no channel */
     NX_LIVE_NO_ELEMENT = 35,   /* a byte is none of an element */
-    NX_LIVE_NO_SUBJECT = 36    /* the byte names no subject */
+    NX_LIVE_NO_SUBJECT = 36,   /* the byte names no subject */
+    NX_LIVE_NO_ENTRY = 37      /* the bytes begin with no entry of a log */
 };
 
 /* How many bytes of room a receiver needs, and how they are aligned. Over the C that wasm2c makes, the
@@ -99,6 +100,25 @@ uint32_t nx_live_close(struct nx_live *receiver, uint8_t *log, size_t capacity, 
 
 /* Closes a receiver, and prints nothing. */
 void nx_live_abandon(struct nx_live *receiver);
+
+/* What an entry of a log says. */
+struct nx_live_entry {
+    uint64_t moment;  /* of its header, in seconds since 1970-01-01 00:00:00 UTC */
+    size_t length;    /* how many bytes it has */
+    uint16_t errors;  /* the asterisks in its text */
+    uint8_t channel;  /* 0 to 2 */
+    uint8_t station;  /* 'A' to 'Z' */
+    uint8_t subject;  /* 'A' to 'Z' */
+    uint8_t number;   /* 0 to 99 */
+    uint8_t how;      /* how it ended: 0 full, 1 cut, 2 long */
+};
+
+/* Reads the entry of a log with which the bytes begin, as nx_live_hear and nx_live_close hand them out,
+ * whatever lies behind it, and writes its text: at most 4,100 bytes. NX_LIVE_NO_ENTRY: they begin with
+ * none; the entry stays as it was, and no text is written. The receiver, open or closed, stays as it
+ * is; over the C that wasm2c makes, its room is where this works. */
+uint32_t nx_live_log_entry(const struct nx_live *receiver, const uint8_t *bytes, size_t count,
+                           struct nx_live_entry *entry, uint8_t *text, size_t capacity, size_t *written);
 
 #ifdef NX_LIVE_BY_WASM2C
 /* The caller's: called where the module can't go on, as with too small a stack. The receiver is lost

@@ -4,6 +4,8 @@
  *   live-air hear PIECE              writes the log; elements are given in pieces of so many
  *   live-air resume STATE NEW        the same in pieces of 7, from the state in the file STATE; the
  *                                    new one goes to the file NEW
+ *   live-air entries                 reads a log entry by entry, and writes it again from what each
+ *                                    is told to say
  *   live-air speed PIECE TIMES       hears all elements so often, and says how many nanoseconds of
  *                                    the processor one took
  *
@@ -105,6 +107,27 @@ static int resume(const char *state_name, const char *new_name) {
     return 0;
 }
 
+static int entries(void) {
+    static uint8_t log[1 << 20], text[4100];
+    static const char *const ends[] = {"full", "cut", "long"};
+    size_t length = fread(log, 1, sizeof log, stdin), written;
+    for (size_t at = 0; at < length;) {
+        struct nx_live_entry entry;
+        char mark[] = "/0", time[20];
+        done("nx_live_log_entry",
+             nx_live_log_entry(&receiver, log + at, length - at, &entry, text, sizeof text, &written));
+        time_t moment = (time_t)entry.moment;
+        strftime(time, sizeof time, "%Y-%m-%d %H:%M:%S", gmtime(&moment));
+        mark[entry.channel > 0 ? 1 : 0] = (char)(entry.channel > 0 ? '0' + entry.channel : 0);
+        size_t head = (size_t)printf("[%c%c%02u%s %s %s %u/%zu]\n", entry.station, entry.subject, entry.number, mark, time,
+                                     ends[entry.how], entry.errors, written);
+        fwrite(text, 1, written, stdout);
+        fwrite(log + at + head + written, 1, entry.length - head - written, stdout);
+        at += entry.length;
+    }
+    return 0;
+}
+
 /* Hears the elements of all lines, of channel 0, so often. */
 static int speed(size_t piece, int times) {
     static uint8_t elements[1 << 20];
@@ -131,8 +154,10 @@ int main(int argument_count, char **arguments) {
         return hear_file(strtoul(arguments[2], NULL, 10));
     if (argument_count == 4 && strcmp(arguments[1], "resume") == 0)
         return resume(arguments[2], arguments[3]);
+    if (argument_count == 2 && strcmp(arguments[1], "entries") == 0)
+        return entries();
     if (argument_count == 4 && strcmp(arguments[1], "speed") == 0)
         return speed(strtoul(arguments[2], NULL, 10), atoi(arguments[3]));
-    fputs("usage: live-air hear PIECE | resume STATE NEW | speed PIECE TIMES\n", stderr);
+    fputs("usage: live-air hear PIECE | resume STATE NEW | entries | speed PIECE TIMES\n", stderr);
     return 2;
 }

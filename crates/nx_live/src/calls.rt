@@ -6,6 +6,7 @@ ghost use Rattle.nx_handle.specs.CallerRoom.{room};
 ghost use Rattle.nx_handle.specs.Closing.{AnswersClosing};
 ghost use Rattle.nx_handle.specs.Hearing.{AnswersHearing};
 ghost use Rattle.nx_handle.specs.Life.{hearing};
+ghost use Rattle.nx_handle.specs.LogEntry.{AnswersEntry};
 ghost use Rattle.nx_handle.specs.Opening.{AnswersMoment, AnswersOpening};
 ghost use Rattle.nx_handle.specs.Saving.{AnswersOpeningFrom, AnswersSaving};
 ghost use Rattle.nx_handle.specs.Selecting.{AnswersSelecting, letter_status, subject_status};
@@ -13,7 +14,7 @@ ghost use Rattle.nx_handle.specs.declared.status.Status.TheVariants.{NoStation, 
 
 use crate::handle::NxLive;
 use crate::lending::{ROOM, ROOM_ALIGNMENT};
-use nx_handle::Kept;
+use nx_handle::{Kept, LogEntry};
 use std::alloc::Global;
 
 /// Opens a receiver at a moment, in whole seconds since 1970-01-01 00:00:00 UTC: it has heard
@@ -148,4 +149,24 @@ pub extern "C" fn nx_live_abandon(receiver: &mut NxLive)
     ensures { receiver.new.value ≡ None }
 {
     nx_handle::abandon(receiver.slot());
+}
+
+/// Reads the entry of a log with which the bytes begin, whatever stands behind it: tells what it
+/// says, and puts its text into the caller's room. `NoEntry` where they begin with none; `NoRoom`
+/// where the text is longer than the room.
+///
+/// The receiver, open or closed, stays as it is: only where the library is made into C by another
+/// tool does that work in the receiver's room.
+#[unsafe(no_mangle)]
+pub extern "C" fn nx_live_log_entry(
+    _receiver: &NxLive,
+    bytes: &[u8],
+    entry: &mut LogEntry,
+    text: &mut [u8],
+    written: &mut usize,
+) -> u32
+    ensures { AnswersEntry bytes.now entry.old entry.new
+        (room text.old text.new written.new) result }
+{
+    nx_handle::log_entry(bytes, entry, text, written)
 }

@@ -2,6 +2,7 @@
 //
 //   node live-air.mjs MODULE hear PIECE
 //   node live-air.mjs MODULE resume STATE NEW
+//   node live-air.mjs MODULE entries
 //   node live-air.mjs MODULE speed PIECE TIMES
 import { readFileSync, writeFileSync, writeSync } from "node:fs";
 import { Receiver } from "./receiver.mjs";
@@ -42,8 +43,26 @@ function speed(piece, times) {
   console.log(`${((user * 1000) / elements.length / times).toFixed(2)} ns an element`);
 }
 
+function two(number) {
+  return String(number).padStart(2, "0");
+}
+
+function entries() {
+  let log = readFileSync(0);
+  while (log.length > 0) {
+    const { channel, errors, how, length, moment, number, station, subject, text } = receiver.entryOf(log);
+    const mark = channel > 0 ? `/${channel}` : "";
+    const time = new Date(moment * 1000).toISOString().slice(0, 19).replace("T", " ");
+    const head = `[${station}${subject}${two(number)}${mark} ${time} ${how} ${errors}/${text.length}]\n`;
+    writeSync(1, Buffer.concat([Buffer.from(head), text, log.subarray(head.length + text.length, length)]));
+    log = log.subarray(length);
+  }
+}
+
 if (call === "speed") {
   speed(Number(first), Number(second));
+} else if (call === "entries") {
+  entries();
 } else {
   if (call === "hear") receiver.open(0);
   else receiver.openFrom(readFileSync(first));

@@ -14,6 +14,7 @@
 
 #define PIECE 512u        /* so many elements go into the module at once */
 #define MOST_STATE 12288u /* no text of a state is longer */
+#define MOST_TEXT 4100u   /* no text of an entry is longer */
 
 /* What the calls of the module write to, behind its own memory. */
 struct lent {
@@ -22,6 +23,16 @@ struct lent {
     uint8_t elements[PIECE];
     uint8_t log[MOST_STATE];
 };
+
+/* What nx_live_log_entry tells, as the module has it: there a size has 64 bits. It stands in the
+ * place of `log`, and behind it the text and the bytes that are read. */
+struct seen {
+    uint64_t moment, length;
+    uint16_t errors;
+    uint8_t channel, station, subject, number, how;
+};
+#define TEXT (AT(log) + sizeof(struct seen))
+#define BYTES (TEXT + MOST_TEXT)
 
 /* What lies in the room of a receiver. */
 struct place {
@@ -36,6 +47,7 @@ struct place {
 
 _Static_assert(sizeof(struct place) <= NX_LIVE_ROOM, "the room holds an instance");
 _Static_assert(NX_LIVE_MAX_ENTRY <= MOST_STATE, "an entry has place where a state has");
+_Static_assert(sizeof(struct seen) + MOST_TEXT + NX_LIVE_MAX_ENTRY <= MOST_STATE, "and so has one that is read");
 
 static size_t number_at(const struct place *place, size_t at) {
     uint64_t number;
@@ -160,4 +172,21 @@ uint32_t nx_live_close(struct nx_live *receiver, uint8_t *log, size_t capacity, 
 
 void nx_live_abandon(struct nx_live *receiver) {
     Z_navtex_liveZ_nx_live_abandon(&place_of(receiver)->module, AT(handle));
+}
+
+uint32_t nx_live_log_entry(const struct nx_live *receiver, const uint8_t *bytes, size_t count,
+                           struct nx_live_entry *entry, uint8_t *text, size_t capacity, size_t *written) {
+    struct place *place = receiver->room;
+    struct seen seen;
+    count = least(count, NX_LIVE_MAX_ENTRY); /* what stands behind an entry isn't read */
+    memcpy(place->memory + BYTES, bytes, count);
+    uint32_t status = Z_navtex_liveZ_nx_live_log_entry(&place->module, AT(handle), BYTES, count, AT(log), TEXT,
+                                                       least(capacity, MOST_TEXT), AT(written));
+    *written = number_at(place, AT(written));
+    memcpy(text, place->memory + TEXT, least(*written, capacity));
+    memcpy(&seen, place->memory + AT(log), sizeof seen);
+    if (status != NX_LIVE_NO_ENTRY)
+        *entry = (struct nx_live_entry){seen.moment,  (size_t)seen.length, seen.errors, seen.channel,
+                                        seen.station, seen.subject,        seen.number, seen.how};
+    return status;
 }

@@ -5,11 +5,15 @@
 const ROOM = 26584; // NX_LIVE_ROOM of the header
 const MAX_ENTRY = 4163; // NX_LIVE_MAX_ENTRY
 const MAX_STATE = 12288; // no text of a state is longer
+const MAX_TEXT = 4100; // no text of an entry is longer
 const PIECE = 4096; // elements that one call of the module hears
 const PAGE = 65536;
 
 // What the calls write to, behind the module's own memory.
-const OFFSETS = { handle: 0, heard: 8, written: 16, room: 24, log: 24 + ROOM, elements: 24 + ROOM + MAX_STATE };
+const OFFSETS = {
+  handle: 0, heard: 8, written: 16, entry: 24, room: 48, log: 48 + ROOM, text: 48 + ROOM + MAX_ENTRY,
+  elements: 48 + ROOM + MAX_STATE,
+};
 const SIZE = OFFSETS.elements + PIECE;
 
 function grow(memory, pages) {
@@ -98,6 +102,27 @@ export class Receiver {
   save() {
     this.call("nx_live_save", this.at("log"), BigInt(MAX_STATE), this.at("written"));
     return this.bytes("log", this.number("written")).slice();
+  }
+
+  /** What the entry says with which bytes begin, whatever stands behind it: one of `hear` or `close`,
+   * or of a log. Where they begin with none, this is refused with status 37. */
+  entryOf(bytes) {
+    const begin = bytes.subarray(0, MAX_ENTRY);
+    this.bytes("log", begin.length).set(begin);
+    this.call("nx_live_log_entry", this.at("log"), BigInt(begin.length), this.at("entry"), this.at("text"),
+      BigInt(MAX_TEXT), this.at("written"));
+    const seen = new DataView(this.exports.memory.buffer, this.base + OFFSETS.entry, 24);
+    return {
+      moment: Number(seen.getBigUint64(0, true)),
+      length: Number(seen.getBigUint64(8, true)),
+      errors: seen.getUint16(16, true),
+      channel: seen.getUint8(18),
+      station: String.fromCharCode(seen.getUint8(19)),
+      subject: String.fromCharCode(seen.getUint8(20)),
+      number: seen.getUint8(21),
+      how: ["full", "cut", "long"][seen.getUint8(22)],
+      text: this.bytes("text", this.number("written")).slice(),
+    };
   }
 
   /** Ends the elements: gives what their end prints. The receiver may be opened again. */
