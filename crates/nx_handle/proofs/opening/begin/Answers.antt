@@ -1,4 +1,4 @@
-use Rattle.std.proofs.Common.{[], refl, Some}
+use Rattle.std.proofs.Common.{[], refl}
 use Rattle.nx_receiver.specs.copies.Shares.{starts_from}
 use Rattle.nx_handle.proofs.lemmas.Status.{has-heard}
 use Rattle.nx_handle.proofs.opening.begin.Goals as goal
