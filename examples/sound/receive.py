@@ -30,6 +30,7 @@ class Middle:
         self.bin = rate / self.size
         self.places = np.arange(max(first, SHIFT), min(last, rate / 2 - SHIFT) + 1, 2.0)
         self.power = np.ones(self.size // 2 + 1)
+        self.smooth = self.power
         self.before = np.zeros(0)
         wide = np.arange(-12, 13) * self.bin
         self.line = np.exp(-(wide / 22.0) ** 2)
@@ -43,11 +44,11 @@ class Middle:
             lowest, highest = int(200 / self.bin), int(min(4000 / self.bin, len(power)))
             power /= np.mean(power[lowest:highest])
             self.power += (np.minimum(power, 50 * np.median(power) + 20) - self.power) / 12
+        self.smooth = np.convolve(self.power, self.line, "same")
 
     def scores(self, places=None):
         places = self.places if places is None else np.asarray(places)
-        smooth = np.convolve(self.power, self.line, "same")
-        at = lambda f: np.interp(f / self.bin, np.arange(len(smooth)), smooth)
+        at = lambda f: np.interp(f / self.bin, np.arange(len(self.smooth)), self.smooth)
         return np.minimum(at(places - SHIFT / 2), at(places + SHIFT / 2))
 
     def best(self, first=0, last=np.inf):
@@ -67,6 +68,7 @@ class Mixer:
         self.whole = rate
         self.rest = np.zeros(0, complex)           # samples that don't fill a fold yet
         self.folded = [np.zeros(0, complex)] * 3   # the last pieces: before, now, next
+        self.medians = [0.0] * 3                   # of the size of their samples
         self.half = int(1.5 * self.rate / BAND)    # half the length of the filter
         self.held = np.zeros(self.half, complex)   # blanked samples that the filter still needs
         self.begin = -float(self.half)             # number of the first of them
@@ -80,6 +82,7 @@ class Mixer:
         count = len(mixed) // self.fold
         self.rest = mixed[count * self.fold:]
         self.folded = self.folded[1:] + [mixed[:count * self.fold].reshape(count, self.fold).mean(1)]
+        self.medians = self.medians[1:] + [np.median(np.abs(self.folded[-1])) if count else 0.0]
         return self.filtered(self.blanked())
 
     def blanked(self):
@@ -91,7 +94,7 @@ class Mixer:
         piece = self.folded[1]
         if not len(piece):
             return piece
-        limit = 5 * max(np.median(np.abs(p)) for p in self.folded if len(p))
+        limit = 5 * max(self.medians)
         loud = np.abs(piece) > limit
         if loud.any() and limit > 0:
             around = int(0.0007 * self.rate) + 1
@@ -113,7 +116,8 @@ class Mixer:
         late, which = np.unique(np.round(nearest - moments, 9), return_inverse=True)
         away = late[:, None] + reach
         weights = np.sinc(2 * BAND / self.rate * away) * (0.5 + 0.5 * np.cos(np.pi * away / (self.half + 1)))
-        made = np.sum(weights[which] * self.held[nearest[:, None] + reach], 1) * (2 * BAND / self.rate)
+        near = np.lib.stride_tricks.sliding_window_view(self.held, len(reach))[nearest - self.half]
+        made = np.einsum("ij,ij->i", near, weights[which]) * (2 * BAND / self.rate)
         self.made += len(made)
         drop = max(0, int(self.made * step - self.begin) - self.half - 2)
         self.held, self.begin = self.held[drop:], self.begin + drop
@@ -176,7 +180,7 @@ class Clock:
         if gains[first] > STEP:
             shown = sums[first] if first else shown - self.past
             self.past *= first > 0
-        place = -np.angle(shown) / (2 * np.pi) * PER
+        place = float(-np.angle(shown) / (2 * np.pi) * PER)
         if gains[first] > STEP and first == 0:
             self.next += (place - self.next + PER / 2) % PER - PER / 2
         self.past = (self.past + self.swings.pop(0)) * np.exp(-1 / MEMORY)
@@ -185,7 +189,7 @@ class Clock:
         while self.next < limit:
             begins.append(self.next)
             late = (place - self.next + PER / 2) % PER - PER / 2
-            self.next += PER + np.clip(late / 8, -0.02 * PER, 0.02 * PER)
+            self.next += PER + min(max(late / 8, -0.02 * PER), 0.02 * PER)
         begins = np.array(begins)
         pair = [self.tone(begins, sign) for sign in (1, -1)]
         drop = max(0, int(self.next) - self.begin - 2 * PER)
@@ -196,7 +200,8 @@ class Clock:
         """r of the upper tone (sign 1) or the lower: the mean of x e^(-2 pi i f t) over each
         element, t from its beginning, between samples by straight lines."""
         turns = sign * np.pi * SHIFT / RATE
-        places = self.begin + np.arange(len(self.heard))
-        sums = np.concatenate(([0], np.cumsum(self.heard * np.exp(-1j * turns * places))))
+        heard = self.heard[:int(self.next) + PER + 2 - self.begin]
+        places = self.begin + np.arange(len(heard))
+        sums = np.concatenate(([0], np.cumsum(heard * np.exp(-1j * turns * places))))
         at = lambda t: np.interp(t - self.begin, np.arange(len(sums)), sums)
         return (at(begins + PER) - at(begins)) * np.exp(1j * turns * begins) / PER

@@ -33,6 +33,8 @@ CASES = np.array([      # how often; A^2 of the upper and the lower tone, N of b
     (0.005, 1, 1, 64, 1), (0.005, 1, 1, 1, 64),
     (0.01, 1/4, 1/4, 1/4, 1/4), (0.01, 1/16, 1/16, 1/16, 1/16),               # with the gain down
     (0.01, 1/64, 1/64, 1/64, 1/64), (0.02, 0, 0, 1/64, 1/64)])                # or in silence
+OFTEN, PARTS = CASES[:, 0] / CASES[:, 0].sum(), CASES[:, 1:].T
+MOVES = (1 - CHANGE) * np.eye(len(CASES)) + CHANGE * OFTEN                    # from case to case
 
 PATTERNS = (np.arange(128)[:, None] >> np.arange(WORD)) & 1          # the elements of each word
 PICK = np.concatenate((PATTERNS, 1 - PATTERNS), 1).T.astype(float)   # the same, by tone
@@ -71,39 +73,40 @@ def weighed(power, loud, noise):
     """What each of CASES explains, by the passes of a hidden Markov model (Rabiner 1989): the
     likelihood of each tone at each element, where its case is told by the others, and the
     probability of each case, of which the element tells too."""
-    often, parts = CASES[:, 0] / CASES[:, 0].sum(), CASES[:, 1:].T
-    power, loud, noise = power[..., None], loud[..., None] * parts[:2], noise[..., None] * parts[2:]
+    power, loud, noise = power[..., None], loud[..., None] * PARTS[:2], noise[..., None] * PARTS[2:]
     still = -power / noise - np.log(noise)                               # element, tone, case
     sent = still + log_i0(2 * np.sqrt(loud * power) / noise) - loud / noise
     likes = np.stack((sent[:, 0] + still[:, 1], still[:, 0] + sent[:, 1]))
     likes = np.exp(likes - likes.max((0, 2), keepdims=True))             # tone, element, case
     either = likes.sum(0) + 1e-30
-    shares, begins, before, behind = np.empty_like(either), CHANGE * often, often, np.ones(len(often))
-    for place, one in enumerate(either):
-        shares[place] = before
-        before = before * one * ((1 - CHANGE) / (before @ one)) + begins
-    for place in range(len(either) - 1, -1, -1):
-        shares[place] *= behind
-        heard = behind * either[place]
-        behind = heard * ((1 - CHANGE) / (heard @ often)) + CHANGE
+    told = either / (either @ OFTEN)[:, None]                            # so the products stay in range
+    before, behind = np.empty_like(told), np.empty_like(told)
+    before[0], behind[-1] = OFTEN, 1
+    for place in range(1, len(told)):
+        before[place] = (before[place - 1] * told[place - 1]) @ MOVES
+        behind[-1 - place] = MOVES @ (behind[-place] * told[-place])
+    shares = before / before.sum(1, keepdims=True) * (behind / behind.sum(1, keepdims=True))
     likes = np.log((likes * shares).sum(2).T + 1e-300)
     shares = shares * either
     return likes, shares / shares.sum(1, keepdims=True)
 
 
 def spoilt(models):
-    """The likelihoods of 128 words where a sending may also be spoilt to any, and their mean."""
-    mean = log_sum(models) - np.log(128)
-    return np.logaddexp(models + np.log(1 - SPOILT), mean[..., None] + np.log(SPOILT)), mean
+    """The likelihoods of 128 words where a sending may also be spoilt to any; behind them their
+    mean."""
+    top = models.max(-1, keepdims=True)
+    parts = np.exp(models - top)
+    mean = parts.mean(-1, keepdims=True)
+    return np.concatenate((np.log((1 - SPOILT) * parts + SPOILT * mean), np.log(mean)), -1) + top
 
 
 def pairs(dx, rx, exchanged):
-    """The likelihood of each pair of DX and RX and, last, of an end, over that of any two words."""
+    """The likelihood of each pair of DX and RX and, last, of an end, over that of any two words.
+    Given are rows of `spoilt`."""
     turn = 127 if exchanged else 0
-    (dx, any_dx), (rx, any_rx) = spoilt(dx), spoilt(rx)
     both = dx[..., DX ^ turn] + rx[..., RX ^ turn] + PRIOR
-    end = dx[..., P1 ^ turn] + any_rx + LAST
-    return np.concatenate((both, end[..., None]), -1) - (any_dx + any_rx)[..., None]
+    end = dx[..., P1 ^ turn] + rx[..., 128] + LAST
+    return np.concatenate((both, end[..., None]), -1) - (dx[..., 128:] + rx[..., 128:])
 
 
 class Store:
@@ -151,7 +154,7 @@ class Sendings:
         self.tones = Store(2, dtype=complex)     # r of the upper and of the lower tone
         self.mixed = Store()                     # the frequency that they were mixed down by
         self.state = Store(2, 4)                 # of each tone A^2, A / N, A^2 / N, and its likelihood
-        self.words = Store(128)                  # the likelihood of each word that begins here
+        self.words = Store(129)                  # the likelihood of each word that begins here: `spoilt`
         self.proof = Store(2)                    # that of a position that begins here; exchanged
         self.slopes = Store(2, dtype=complex)    # how the phase of its words grows; exchanged
         self.out = Store(dtype=int)
@@ -187,19 +190,20 @@ class Sendings:
         power = np.abs(self.tones[begin:end + BEHIND]) ** 2 + 1e-15
         rows = np.arange(first, end) - begin
         since, upto = np.maximum(rows - BEFORE, 0), rows + BEHIND + 1
-        sums = lambda x: np.cumsum(np.concatenate((np.zeros((1, 2)), x)), 0)
-        near = lambda x: sums(x)[upto] - sums(x)[since]
         wide = np.clip(np.arange(len(power)) - rows[0], 0, len(rows) - 1)
         sent = np.clip(2 * power / power.sum(1, keepdims=True) - 0.5, 0.02, 0.98)
         for _ in range(2):
-            noise = near((1 - sent) * power) / near(1 - sent)
-            loud = np.maximum(near(sent * power) / near(sent) - noise, 0.05 * noise)
+            sums = np.stack(((1 - sent) * power, 1 - sent, sent * power, sent))
+            sums = np.cumsum(np.concatenate((np.zeros((4, 1, 2)), sums), 1), 1)
+            still, silent, heard, often = sums[:, upto] - sums[:, since]
+            noise = still / silent
+            loud = np.maximum(heard / often - noise, 0.05 * noise)
             likes = likely(power, loud[wide], noise[wide])
             sent = part(likes - likes[:, ::-1])
         likes, shares = weighed(power, loud[wide], noise[wide])
-        likes, shares, parts = likes[rows], shares[rows], CASES[:, 1:].T
-        sizes = np.sqrt(loud) / noise * (shares @ (np.sqrt(parts[:2]) / parts[2:]).T)
-        ratios = loud / noise * (shares @ (parts[:2] / parts[2:]).T)
+        likes, shares = likes[rows], shares[rows]
+        sizes = np.sqrt(loud) / noise * (shares @ (np.sqrt(PARTS[:2]) / PARTS[2:]).T)
+        ratios = loud / noise * (shares @ (PARTS[:2] / PARTS[2:]).T)
         self.state.add(np.stack((loud, sizes, ratios, likes), 2))
 
     def hear_words(self):
@@ -208,7 +212,7 @@ class Sendings:
         if end > first:
             likes = self.state[first:end + WORD - 1][:, :, 3]
             rows = np.lib.stride_tricks.sliding_window_view(likes, WORD, 0)   # place, tone, element
-            self.words.add(rows.reshape(len(rows), 2 * WORD) @ PICK)
+            self.words.add(spoilt(rows.reshape(len(rows), 2 * WORD) @ PICK))
 
     def hear_positions(self):
         """What speaks for a position at each place, and how the phase grows in its likeliest words."""
@@ -218,22 +222,22 @@ class Sendings:
         proofs, slopes = [], []
         for turn in (0, 127):
             models = pairs(self.words[first:end], self.words[first + GAP:end + GAP], turn)
-            proofs.append(np.clip(log_sum(models), -4, 6))
-            best = models[:, :-1].argmax(1)
-            slopes.append(np.exp(models.max(1) - log_sum(models)) * (
-                self.slope(first, end, DX[best] ^ turn) + self.slope(first + GAP, end + GAP, RX[best] ^ turn)))
+            proof, best = log_sum(models), models[:, :-1].argmax(1)
+            proofs.append(np.clip(proof, -4, 6))
+            slopes.append(np.exp(models.max(1) - proof) * self.slope(
+                np.arange(first, end) + [[0], [GAP]], np.array([DX[best], RX[best]]) ^ turn).sum(0))
         self.proof.add(np.array(proofs).T)
         self.slopes.add(np.array(slopes).T)
 
-    def slope(self, first, end, words):
+    def slope(self, places, words):
         """The sum of c(i + m) c(i)*, m from 1 to 3, of which the angle is 4 pi T times the
         frequency that is left in c, the tones of a word turned back (Luise and Reggiannini
         1995)."""
-        places, tone = np.arange(first, end)[:, None] + np.arange(WORD), 1 - PATTERNS[words]
+        places, tone = places[..., None] + np.arange(WORD), 1 - PATTERNS[words]
         state = self.state.rows[places - self.state.first, tone]
         turned = self.tones.rows[places - self.tones.first, tone] * TURNED[words]
         turned *= state[..., 1]
-        return sum(np.sum(turned[:, m:] * turned[:, :WORD - m].conj(), 1) for m in (1, 2, 3))
+        return sum(np.sum(turned[..., m:] * turned[..., :WORD - m].conj(), -1) for m in (1, 2, 3))
 
     def decide(self):
         """The element that is told next, and the words of a position that begins there."""
@@ -298,7 +302,7 @@ class Sendings:
         Words are heard whole before `end`, and from `begin` on `step` elements later; a word
         between says nothing. Both are tried each 4 elements."""
         dx = np.arange(place, place + TURN * ON - step, TURN)
-        words = [[np.zeros((len(dx), 128))] + [self.words[at[0]:at[-1] + 1:TURN] for at in (first, first + step)]
+        words = [[np.zeros((len(dx), 129))] + [self.words[at[0]:at[-1] + 1:TURN] for at in (first, first + step)]
                  for first in (dx, dx + GAP)]
         proof = [[log_sum(pairs(one, other, self.exchanged)) for other in words[1]] for one in words[0]]
         ends = place + 4 * np.arange(TURN * ON // 4)[:, None, None]
@@ -321,9 +325,9 @@ class Sendings:
         models are mixed, with and without phase, by what spoke for each of late."""
         off = self.off(place)
         places = self.heard(self.told), self.heard(self.told + GAP)
-        none = np.zeros(128)
+        none = np.zeros(129)
         still = pairs(*(none if p is None else self.words[p] for p in places), self.exchanged)
-        turning = pairs(*(none if p is None else self.with_phase(p, off) for p in places), self.exchanged)
+        turning = pairs(*(none if p is None else spoilt(self.with_phase(p, off)) for p in places), self.exchanged)
         self.phase = np.clip(0.95 * self.phase + log_sum(turning) - log_sum(still), -6, 6)
         share = part(self.phase)
         models = np.logaddexp(still + np.log(1 - share), turning + np.log(share))
@@ -348,12 +352,12 @@ class Sendings:
     def off(self, place):
         """How far the middle is from where element `place` was mixed down, Hz."""
         first, last, _ = self.stretches[0]
-        places = [p for p in range(place - 12 * TURN, place + ON * TURN + 1, TURN)
-                  if max(first, self.slopes.first) <= p < last]
-        if not places:
+        back = min(12, (place - max(first, self.slopes.first)) // TURN)
+        begin, end = place - back * TURN, min(place + ON * TURN + 1, last)
+        if begin >= end:
             return 0.0
-        total = sum(self.slopes[p][int(self.exchanged)] for p in places)
-        self.middle = np.mean([self.mixed[p] for p in places]) + np.angle(total) / (4 * np.pi * T)
+        total = self.slopes[begin:end:TURN][:, int(self.exchanged)].sum()
+        self.middle = self.mixed[begin:end:TURN].mean() + np.angle(total) / (4 * np.pi * T)
         return self.middle - self.mixed[place]
 
     def with_phase(self, place, off):
