@@ -1,9 +1,6 @@
-//! What runs over the lines of an air file share: their limit, what they count, and why they end.
+//! What runs over the lines of an air file share: what they count, and why they end.
 
 use crate::fault::LineFault;
-
-/// The most bytes of an air file that is read as it comes (this profile).
-pub const AIR_LIMIT: u64 = 268_435_456;
 
 /// What a run over the lines of an air file read and wrote.
 #[derive(Clone, Copy, Debug, PartialEq, Eq)]
