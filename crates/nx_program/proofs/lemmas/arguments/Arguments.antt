@@ -323,8 +323,8 @@ lacks_value arguments name values taken entered none =
               none (make kind from.0 count.0) has.0 has.1;
         })
     go (options make) makes gives = elim (query_or_unfit values) [
-      | inl is ↦ absurd (let has = makes.1 values is.0 _ is.1 refl in
-          none (make is.0 _) has.0 has.1)
+      | inl is ↦ absurd (let has = makes.1 values is.0 _ _ is.1 refl refl in
+          none (make is.0 _ _) has.0 has.1)
       | inr unfit ↦ a_value makes.0 (value_report unfit.0 unfit.1) (record {
         taken = taken;
         values = values;

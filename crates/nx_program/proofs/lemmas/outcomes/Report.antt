@@ -377,7 +377,7 @@ run-answer-told query form PassedOver d n (Ok count) bytes answer =
 run-answer-told query form PassedOver d n (Err log.Read) bytes answer =
     all-leads n answer.2 answer.5
 run-answer-told query form PassedOver d n (Err (log.BadLog line)) bytes answer =
-    all-leads n answer.4 answer.7
+    all-leads n answer.3 answer.6
 run-answer-told query form PassedOver d n (Err (log.Write written)) bytes answer =
     all-leads n answer.2 answer.5
 run-answer-told query form PassedOver d n (Err (log.Memory want)) bytes answer =
