@@ -6,6 +6,8 @@ use Rattle.nx_fec.specs.declared.air_files.channel.Channel.{Channel}
 use Rattle.nx_memory.specs.Selection.{is_vital}
 use Rattle.nx_receiver.specs.Events.{Command}
 use Rattle.nx_receiver.specs.Listener.{then_command}
+use Rattle.nx_receiver.specs.declared.command.Command.{Command as TheCommand}
+use Rattle.nx_receiver.specs.declared.command.Command.TheVariants.{RefuseStation, AcceptStation, RefuseSubject, AcceptSubject}
 use Rattle.nx_handle.specs.Receivers.{HearsGiven, Listening}
 use Rattle.nx_receiver.specs.copies.Shares.{Given, MarkedCopy, Starts}
 use Rattle.nx_handle.specs.Life.{hearing}
@@ -18,20 +20,20 @@ use Rattle.nx_handle.specs.declared.status.Status.TheVariants as status
 abbrev pub is_letter : ℕ → Bool
 is_letter byte = nat_le capital_a byte && nat_le byte capital_z
 
--- the status of a command for a channel and a letter, and for a subject that is refused: `none` is
--- that of a byte which is no letter
-abbrev pub letter_status : Status → ℕ → ℕ → Status
-letter_status none channel byte =
-    if nat_lt 2 channel then status.NoChannel
-    else if is_letter byte then status.Done
-    else none
-
-abbrev pub subject_status : ℕ → ℕ → Status
-subject_status channel byte =
-    if nat_lt 2 channel then status.NoChannel
-    else if not (is_letter byte) then status.NoSubject
+-- the status of a command for the letter of a byte, on a channel that there is
+abbrev pub byte_status : TheCommand ℕ → Status
+byte_status (RefuseStation byte) = if is_letter byte then status.Done else status.NoStation
+byte_status (AcceptStation byte) = if is_letter byte then status.Done else status.NoStation
+byte_status (RefuseSubject byte) =
+    if not (is_letter byte) then status.NoSubject
     else if is_vital byte then status.Vital
     else status.Done
+byte_status (AcceptSubject byte) = if is_letter byte then status.Done else status.NoSubject
+
+-- the same on the channel of a number
+abbrev pub command_status : ℕ → TheCommand ℕ → Status
+command_status channel command =
+    if nat_lt 2 channel then status.NoChannel else byte_status command
 
 -- the same, of a receiver that hears, or doesn't
 abbrev pub selecting_status : Status → Option Listening → Status

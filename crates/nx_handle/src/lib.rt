@@ -26,8 +26,5 @@ pub use hearing::{hear, hear_kept};
 pub use kept::{Ending, Kept, Stage};
 pub use opening::{open, set_moment, set_moment_kept};
 pub use saving::{open_from, save, save_kept};
-pub use selecting::{
-    accept_station, accept_station_kept, accept_subject, accept_subject_kept, refuse_station,
-    refuse_station_kept, refuse_subject, refuse_subject_kept,
-};
+pub use selecting::{select, select_kept};
 pub use status::Status;

@@ -1,149 +1,81 @@
 //! Selecting what a receiver prints.
 
-ghost use Rattle.std.specs.Prelude.{◌≡◌, ◌≢◌, IfErr, IfOk, Some};
-ghost use Rattle.nx_fec.specs.air_files.Channels.{channel_number};
-ghost use Rattle.nx_receiver.specs.Events as events;
-ghost use Rattle.nx_handle.specs.Selecting.{AnswersSelecting, letter_status, subject_status};
-ghost use Rattle.nx_handle.specs.declared.status.Status.{Status as StatusOf};
-ghost use Rattle.nx_handle.specs.declared.status.Status.TheVariants.{Done, NoStation, NoSubject};
+ghost use Rattle.std.specs.Prelude.{◌≡◌, ◌≢◌, IfErr, IfOk, Some, false, true, if◌then◌else◌};
+ghost use Rattle.nx_receiver.specs.Commands.{by_byte, refuses_vital, said};
+ghost use Rattle.nx_handle.specs.Selecting.{AnswersSelecting, byte_status, command_status, is_letter};
+ghost use Rattle.nx_handle.specs.declared.status.Status.TheVariants.{Done, NoStation, NoSubject, Vital};
 
 use crate::kept::{Kept, Stage};
 use crate::status::Status;
 use nx_envelope::Letter;
 use nx_fec::Channel;
+use nx_receiver::Command;
 
-/// Refuses a station, 'A' to 'Z', on a channel, for all its subjects, from here on.
-pub fn refuse_station(slot: &mut Option<Kept>, channel: u8, station: u8) -> u32
-    ensures { AnswersSelecting (letter_status NoStation channel station)
-        (events.refuse_station station)
+/// Gives a command for the letter of a byte, 'A' to 'Z', to a channel, from here on. `Vital` where
+/// it is to refuse subject A, B, D or L, which can't be refused (ITU-R M.540).
+pub fn select(slot: &mut Option<Kept>, channel: u8, command: Command<u8>) -> u32
+    ensures { AnswersSelecting (command_status channel command) (by_byte command)
         channel slot.old slot.new result }
 {
     let Some(kept) = slot else {
         return Status::Closed.number();
     };
-    refuse_station_kept(kept, channel, station)
+    select_kept(kept, channel, command)
 }
 
-/// Does with what is kept of an open receiver what `refuse_station` does.
-pub fn refuse_station_kept(kept: &mut Kept, channel: u8, station: u8) -> u32
-    ensures { AnswersSelecting (letter_status NoStation channel station)
-        (events.refuse_station station)
+/// Does with what is kept of an open receiver what `select` does.
+pub fn select_kept(kept: &mut Kept, channel: u8, command: Command<u8>) -> u32
+    ensures { AnswersSelecting (command_status channel command) (by_byte command)
         channel (Some kept.old) (Some kept.new) result }
 {
     let Stage::Hearing(listener) = &mut kept.stage else {
         return Status::Closed.number();
     };
-    match letter_asked(channel, station, Status::NoStation) {
-        Ok((channel, station)) => {
-            listener.refuse_station(channel, station);
-            0
-        }
-        Err(status) => status.number(),
+    let Some(channel) = Channel::new(channel) else {
+        return Status::NoChannel.number();
+    };
+    let command = match for_letter(command) {
+        Ok(command) => command,
+        Err(status) => return status.number(),
+    };
+    match listener.command(channel, command) {
+        Ok(()) => 0,
+        Err(_) => Status::Vital.number(),
     }
 }
 
-/// Refuses a station on a channel no longer, from here on.
-pub fn accept_station(slot: &mut Option<Kept>, channel: u8, station: u8) -> u32
-    ensures { AnswersSelecting (letter_status NoStation channel station)
-        (events.accept_station station)
-        channel slot.old slot.new result }
+/// The command for the letter of its byte, or the status of one that is no letter's.
+fn for_letter(command: Command<u8>) -> Result<Command, Status>
+    ensures ok { IfOk result (λ asked. (said asked ≡ by_byte command)
+        × (byte_status command ≡ (if refuses_vital (by_byte command) then Vital else Done))) }
+    ensures err { IfErr result (λ status. (status ≡ byte_status command) × (status ≢ Done)) }
 {
-    let Some(kept) = slot else {
-        return Status::Closed.number();
-    };
-    accept_station_kept(kept, channel, station)
-}
-
-/// Does with what is kept of an open receiver what `accept_station` does.
-pub fn accept_station_kept(kept: &mut Kept, channel: u8, station: u8) -> u32
-    ensures { AnswersSelecting (letter_status NoStation channel station)
-        (events.accept_station station)
-        channel (Some kept.old) (Some kept.new) result }
-{
-    let Stage::Hearing(listener) = &mut kept.stage else {
-        return Status::Closed.number();
-    };
-    match letter_asked(channel, station, Status::NoStation) {
-        Ok((channel, station)) => {
-            listener.accept_station(channel, station);
-            0
-        }
-        Err(status) => status.number(),
+    match command {
+        Command::RefuseStation(byte) => Ok(Command::RefuseStation(station(byte)?)),
+        Command::AcceptStation(byte) => Ok(Command::AcceptStation(station(byte)?)),
+        Command::RefuseSubject(byte) => Ok(Command::RefuseSubject(subject(byte)?)),
+        Command::AcceptSubject(byte) => Ok(Command::AcceptSubject(subject(byte)?)),
     }
 }
 
-/// Refuses a subject on a channel no longer, from here on.
-pub fn accept_subject(slot: &mut Option<Kept>, channel: u8, subject: u8) -> u32
-    ensures { AnswersSelecting (letter_status NoSubject channel subject)
-        (events.accept_subject subject)
-        channel slot.old slot.new result }
+/// The station of this byte.
+fn station(byte: u8) -> Result<Letter, Status>
+    ensures ok { IfOk result (λ letter. (letter.byte ≡ byte) × (is_letter byte ≡ true)) }
+    ensures err { IfErr result (λ status. (status ≡ NoStation) × (is_letter byte ≡ false)) }
 {
-    let Some(kept) = slot else {
-        return Status::Closed.number();
-    };
-    accept_subject_kept(kept, channel, subject)
-}
-
-/// Does with what is kept of an open receiver what `accept_subject` does.
-pub fn accept_subject_kept(kept: &mut Kept, channel: u8, subject: u8) -> u32
-    ensures { AnswersSelecting (letter_status NoSubject channel subject)
-        (events.accept_subject subject)
-        channel (Some kept.old) (Some kept.new) result }
-{
-    let Stage::Hearing(listener) = &mut kept.stage else {
-        return Status::Closed.number();
-    };
-    match letter_asked(channel, subject, Status::NoSubject) {
-        Ok((channel, subject)) => {
-            listener.accept_subject(channel, subject);
-            0
-        }
-        Err(status) => status.number(),
+    match Letter::new(byte) {
+        Some(letter) => Ok(letter),
+        None => Err(Status::NoStation),
     }
 }
 
-/// Refuses a subject on a channel, of all stations, from here on. `Vital` where it is A, B, D or L,
-/// which can't be refused (ITU-R M.540).
-pub fn refuse_subject(slot: &mut Option<Kept>, channel: u8, subject: u8) -> u32
-    ensures { AnswersSelecting (subject_status channel subject) (events.refuse_subject subject)
-        channel slot.old slot.new result }
+/// The subject of this byte.
+fn subject(byte: u8) -> Result<Letter, Status>
+    ensures ok { IfOk result (λ letter. (letter.byte ≡ byte) × (is_letter byte ≡ true)) }
+    ensures err { IfErr result (λ status. (status ≡ NoSubject) × (is_letter byte ≡ false)) }
 {
-    let Some(kept) = slot else {
-        return Status::Closed.number();
-    };
-    refuse_subject_kept(kept, channel, subject)
-}
-
-/// Does with what is kept of an open receiver what `refuse_subject` does.
-pub fn refuse_subject_kept(kept: &mut Kept, channel: u8, subject: u8) -> u32
-    ensures { AnswersSelecting (subject_status channel subject) (events.refuse_subject subject)
-        channel (Some kept.old) (Some kept.new) result }
-{
-    let Stage::Hearing(listener) = &mut kept.stage else {
-        return Status::Closed.number();
-    };
-    match letter_asked(channel, subject, Status::NoSubject) {
-        Ok((channel, subject)) => match listener.refuse_subject(channel, subject) {
-            Ok(()) => 0,
-            Err(_) => Status::Vital.number(),
-        },
-        Err(status) => status.number(),
+    match Letter::new(byte) {
+        Some(letter) => Ok(letter),
+        None => Err(Status::NoSubject),
     }
-}
-
-/// The channel of this number, and the letter of this byte; `none` where it is that of no letter.
-fn letter_asked(number: u8, byte: u8, none: Status) -> Result<(Channel, Letter), Status>
-    requires { none ≢ Done }
-    ensures ok { IfOk result (λ asked. (channel_number asked.0 ≡ number)
-        × (asked.1.byte ≡ byte) × (letter_status none number byte ≡ Done)) }
-    ensures err { IfErr result (λ status. (status ≡ letter_status none number byte)
-        × (status ≢ Done)) }
-{
-    let Some(channel) = Channel::new(number) else {
-        return Err(Status::NoChannel);
-    };
-    let Some(letter) = Letter::new(byte) else {
-        return Err(none);
-    };
-    Ok((channel, letter))
 }

@@ -1,7 +1,9 @@
-//! The calls of a receiver. Each does what the call of `nx_handle` does that has its name.
+//! The calls of a receiver. Each does what the call of `nx_handle` does that has its name; those
+//! that refuse or accept do what `select` does.
 
 ghost use Rattle.std.specs.Prelude.{◌≡◌, None};
 ghost use Rattle.nx_receiver.specs.Events as events;
+ghost use Rattle.nx_receiver.specs.declared.command.Command.TheVariants.{RefuseStation, AcceptStation, RefuseSubject, AcceptSubject};
 ghost use Rattle.nx_handle.specs.CallerRoom.{room};
 ghost use Rattle.nx_handle.specs.Closing.{AnswersClosing};
 ghost use Rattle.nx_handle.specs.Hearing.{AnswersHearing};
@@ -9,12 +11,12 @@ ghost use Rattle.nx_handle.specs.Life.{hearing};
 ghost use Rattle.nx_handle.specs.LogEntry.{AnswersEntry};
 ghost use Rattle.nx_handle.specs.Opening.{AnswersMoment, AnswersOpening};
 ghost use Rattle.nx_handle.specs.Saving.{AnswersOpeningFrom, AnswersSaving};
-ghost use Rattle.nx_handle.specs.Selecting.{AnswersSelecting, letter_status, subject_status};
-ghost use Rattle.nx_handle.specs.declared.status.Status.TheVariants.{NoStation, NoSubject};
+ghost use Rattle.nx_handle.specs.Selecting.{AnswersSelecting, command_status};
 
 use crate::handle::NxLive;
 use crate::lending::{ROOM, ROOM_ALIGNMENT};
 use nx_handle::{Kept, LogEntry};
+use nx_receiver::Command;
 use std::alloc::Global;
 
 /// Opens a receiver at a moment, in whole seconds since 1970-01-01 00:00:00 UTC: it has heard
@@ -77,41 +79,38 @@ pub extern "C" fn nx_live_hear(
 /// Refuses a station, 'A' to 'Z', on a channel, for all its subjects, from here on.
 #[unsafe(no_mangle)]
 pub extern "C" fn nx_live_refuse_station(receiver: &mut NxLive, channel: u8, station: u8) -> u32
-    ensures { AnswersSelecting (letter_status NoStation channel station)
-        (events.refuse_station station)
-        channel receiver.old.value receiver.new.value result }
+    ensures { AnswersSelecting (command_status channel (RefuseStation station))
+        (events.refuse_station station) channel receiver.old.value receiver.new.value result }
 {
-    nx_handle::refuse_station(receiver.slot(), channel, station)
+    nx_handle::select(receiver.slot(), channel, Command::RefuseStation(station))
 }
 
 /// Refuses a station on a channel no longer, from here on.
 #[unsafe(no_mangle)]
 pub extern "C" fn nx_live_accept_station(receiver: &mut NxLive, channel: u8, station: u8) -> u32
-    ensures { AnswersSelecting (letter_status NoStation channel station)
-        (events.accept_station station)
-        channel receiver.old.value receiver.new.value result }
+    ensures { AnswersSelecting (command_status channel (AcceptStation station))
+        (events.accept_station station) channel receiver.old.value receiver.new.value result }
 {
-    nx_handle::accept_station(receiver.slot(), channel, station)
+    nx_handle::select(receiver.slot(), channel, Command::AcceptStation(station))
 }
 
 /// Refuses a subject on a channel, of all stations, from here on. A, B, D and L can't be refused
 /// (ITU-R M.540).
 #[unsafe(no_mangle)]
 pub extern "C" fn nx_live_refuse_subject(receiver: &mut NxLive, channel: u8, subject: u8) -> u32
-    ensures { AnswersSelecting (subject_status channel subject) (events.refuse_subject subject)
-        channel receiver.old.value receiver.new.value result }
+    ensures { AnswersSelecting (command_status channel (RefuseSubject subject))
+        (events.refuse_subject subject) channel receiver.old.value receiver.new.value result }
 {
-    nx_handle::refuse_subject(receiver.slot(), channel, subject)
+    nx_handle::select(receiver.slot(), channel, Command::RefuseSubject(subject))
 }
 
 /// Refuses a subject on a channel no longer, from here on.
 #[unsafe(no_mangle)]
 pub extern "C" fn nx_live_accept_subject(receiver: &mut NxLive, channel: u8, subject: u8) -> u32
-    ensures { AnswersSelecting (letter_status NoSubject channel subject)
-        (events.accept_subject subject)
-        channel receiver.old.value receiver.new.value result }
+    ensures { AnswersSelecting (command_status channel (AcceptSubject subject))
+        (events.accept_subject subject) channel receiver.old.value receiver.new.value result }
 {
-    nx_handle::accept_subject(receiver.slot(), channel, subject)
+    nx_handle::select(receiver.slot(), channel, Command::AcceptSubject(subject))
 }
 
 /// Puts the text of a state into the caller's room, with which `nx_live_open_from` goes on: of each

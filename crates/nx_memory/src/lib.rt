@@ -15,7 +15,7 @@ pub use memories::listed::Listed;
 pub use memories::plain_recall::PlainRecall;
 pub use memories::recall::{CAPACITY, LIFETIME, Recall};
 pub use memories::ring_recall::RingRecall;
-pub use selection::{Selection, Vital};
+pub use selection::{Selection, Vital, is_vital_subject};
 pub use state::saved::Saved;
 pub use state::saved_line::MAX_STATE_LINE;
 pub use state::saved_set::SavedSet;

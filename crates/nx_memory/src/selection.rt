@@ -150,8 +150,8 @@ impl Selection {
     }
 }
 
-/// Whether the subject is A, B, D or L.
-pub(crate) fn is_vital_subject(subject: u8) -> bool
+/// Whether the subject of this byte is A, B, D or L, which can't be refused (ITU-R M.540).
+pub fn is_vital_subject(subject: u8) -> bool
     ensures { result ≡ is_vital subject }
 {
     matches!(subject, b'A' | b'B' | b'D' | b'L')

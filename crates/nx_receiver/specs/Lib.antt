@@ -1,3 +1,4 @@
+pub mod Commands
 pub mod CopyHearing
 pub mod Events
 pub mod Listener

@@ -4,16 +4,18 @@
 
 ghost use Rattle.std.specs.Prelude.{◌≡◌, ◌+◌, ◌<◌, ◌≤◌, List, Bool, [], ◌++◌, ◌↔◌, length, take, drop, false, true, None, Some, IfOk, IfErr, IsErr, IsTrue, OnErr, OnOk};
 ghost use Rattle.nx_envelope.specs.Finder.{is_ready};
-ghost use Rattle.nx_memory.specs.Selection.{admits, is_vital};
-ghost use Rattle.nx_receiver.specs.Events as events;
+ghost use Rattle.nx_memory.specs.Selection.{admits};
+ghost use Rattle.nx_receiver.specs.Commands.{refuses_vital, said};
+ghost use Rattle.nx_receiver.specs.declared.command.Command.TheVariants.{RefuseSubject};
 ghost use Rattle.nx_receiver.specs.Events.{Setting, Start, first_setting, refused_after};
 ghost use Rattle.nx_receiver.specs.copies.FoundCopies.{TaggedCopy};
 ghost use Rattle.nx_receiver.specs.private.CopyHearer.{HasEndedAll, HearerStands, HearsAll, IsOver, LockIsOver, TagGoesOn, handed_out, over_now, over_with};
 ghost use Rattle.nx_receiver.specs.private.LockReader.{is_open};
 ghost use Rattle.nx_receiver.specs.CopyHearing.{in_force};
 
+use crate::command::Command;
 use crate::copy_taker::{CopyTag, CopyTaker, Over};
-use nx_envelope::{Finder, Found, Identity, Letter};
+use nx_envelope::{Finder, Found, Identity};
 use nx_fec::PackedElements;
 use nx_memory::{Selection, Vital};
 use nx_sync::Synchroniser;
@@ -189,42 +191,23 @@ impl CopyHearer {
         self.taker.selection = *selection;
     }
 
-    /// Refuses the station.
-    pub(crate) fn refuse_station(&mut self, station: Letter)
-        ensures { self.new ≡ record self.old {
-          refused = refused_after self.old.refused (events.refuse_station station.byte);
-        } }
-    {
-        self.taker.selection.refuse_station(station);
-    }
-
-    /// Refuses the station no longer.
-    pub(crate) fn accept_station(&mut self, station: Letter)
-        ensures { self.new ≡ record self.old {
-          refused = refused_after self.old.refused (events.accept_station station.byte);
-        } }
-    {
-        self.taker.selection.accept_station(station);
-    }
-
-    /// Refuses the subject, unless it is vital.
-    pub(crate) fn refuse_subject(&mut self, subject: Letter) -> Result<(), Vital>
-        ensures vital { IsErr result ↔ IsTrue (is_vital subject.byte) }
-        ensures fault { IfErr result (λ vital. vital.subject ≡ subject) }
-        ensures refused { OnOk result (self.new ≡ record self.old {
-          refused = refused_after self.old.refused (events.refuse_subject subject.byte);
+    /// Does what the command says. `Vital` where it is to refuse a vital subject: the hearer then
+    /// stays as it was.
+    pub(crate) fn command(&mut self, command: Command) -> Result<(), Vital>
+        ensures vital { IsErr result ↔ IsTrue (refuses_vital (said command)) }
+        ensures fault { IfErr result (λ vital. command ≡ RefuseSubject vital.subject) }
+        ensures done { OnOk result (self.new ≡ record self.old {
+          refused = refused_after self.old.refused (said command);
         }) }
         ensures unchanged { OnErr result (self.new ≡ self.old) }
     {
-        self.taker.selection.refuse_subject(subject)
-    }
-
-    /// Refuses the subject no longer.
-    pub(crate) fn accept_subject(&mut self, subject: Letter)
-        ensures { self.new ≡ record self.old {
-          refused = refused_after self.old.refused (events.accept_subject subject.byte);
-        } }
-    {
-        self.taker.selection.accept_subject(subject);
+        let selection = &mut self.taker.selection;
+        match command {
+            Command::RefuseStation(station) => selection.refuse_station(station),
+            Command::AcceptStation(station) => selection.accept_station(station),
+            Command::RefuseSubject(subject) => return selection.refuse_subject(subject),
+            Command::AcceptSubject(subject) => selection.accept_subject(subject),
+        }
+        Ok(())
     }
 }

@@ -2,6 +2,7 @@
 #![tactic(auto)]
 
 mod air_file_runs;
+mod command;
 mod copy_hearer;
 mod copy_taker;
 mod entry;
@@ -21,6 +22,7 @@ pub use air_file_runs::resume_fault::{ResumeFault, Want};
 pub use air_file_runs::resuming::resume;
 pub use air_file_runs::state::{read_state, write_state};
 pub use air_file_runs::state_fault::StateFault;
+pub use command::Command;
 pub use entry::Entry;
 pub use fault::{MomentFault, ReceiverFault, check_moment};
 pub use fresh_recall::FreshRecall;

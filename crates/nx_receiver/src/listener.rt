@@ -5,10 +5,11 @@ ghost use Rattle.std.specs.Prelude.{◌≡◌, ◌+◌, ◌<◌, ◌≤◌, ◌�
 ghost use Rattle.nx_envelope.specs.Moment.{last_moment};
 ghost use Rattle.nx_memory.specs.Memory.{newest_moment};
 ghost use Rattle.nx_memory.specs.Saved.{AreSavedEntries};
-ghost use Rattle.nx_memory.specs.Selection.{is_vital};
 ghost use Rattle.nx_receiver.specs.air_file_runs.Chain.{Leaves};
+ghost use Rattle.nx_receiver.specs.Commands.{refuses_vital, said};
+ghost use Rattle.nx_receiver.specs.declared.command.Command.TheVariants.{RefuseSubject};
 ghost use Rattle.nx_receiver.specs.Events as events;
-ghost use Rattle.nx_receiver.specs.Events.{Refuses, Start, at_moment, command};
+ghost use Rattle.nx_receiver.specs.Events.{Refuses, Start, at_moment};
 ghost use Rattle.nx_receiver.specs.copies.FoundCopies.{TaggedCopy, copy_of};
 ghost use Rattle.nx_receiver.specs.copies.InTurn.{PrintAllToEnd, PrintsInTurn};
 ghost use Rattle.nx_receiver.specs.Listener.{AreInRange, HearsOver, IsSpelled, last_copies, moment_in_force, receiver_on, starts_over, then_command, then_elements, then_moment, with_receiver};
@@ -17,6 +18,7 @@ ghost use Rattle.nx_receiver.specs.copies.Shares.{Given, MarkedCopy, Starts, mar
 ghost use Rattle.nx_receiver.specs.private.Awaiting.{HearsUpTo};
 ghost use Rattle.nx_receiver.specs.private.Listener.{HearsTo};
 
+use crate::command::Command;
 use crate::copy_taker::Over;
 use crate::entry::Entry;
 use crate::fault::{MomentFault, ReceiverFault};
@@ -24,7 +26,6 @@ use crate::fresh_recall::FreshRecall;
 use crate::receiver::Receiver;
 use crate::writing::MAX_ENTRY;
 use arrayvec::ArrayVec;
-use nx_envelope::Letter;
 use nx_fec::{Channel, PackedElements};
 use nx_memory::{Listed, Recall, RingRecall, Saved, SavedSet, Selection, Vital};
 use std::alloc::{AllocError, Global};
@@ -190,73 +191,25 @@ impl<M: Recall> Listener<M> {
         self.on_2.set_moment(moment)
     }
 
-    /// Refuses the station on a channel, for all its subjects, from here on.
-    pub fn refuse_station(&mut self, channel: Channel, station: Letter)
-        ensures heard { (starts : Starts) (given : List Given) (copies : List MarkedCopy)
-            → HearsOver M.content starts self.old given copies → HearsOver M.content starts self.new
-            (then_command given channel (events.refuse_station station.byte)) copies }
-        ensures stands { TakesEvent M.content (receiver_on self.old channel)
-            (receiver_on self.new channel) (command (events.refuse_station station.byte)) }
-        ensures only { self.new ≡ with_receiver self.old channel (receiver_on self.new channel) }
-    {
-        match channel {
-            Channel::Zero => self.on_0.refuse_station(station),
-            Channel::One => self.on_1.refuse_station(station),
-            Channel::Two => self.on_2.refuse_station(station),
-        }
-    }
-
-    /// Refuses the station on a channel no longer, from here on.
-    pub fn accept_station(&mut self, channel: Channel, station: Letter)
-        ensures heard { (starts : Starts) (given : List Given) (copies : List MarkedCopy)
-            → HearsOver M.content starts self.old given copies → HearsOver M.content starts self.new
-            (then_command given channel (events.accept_station station.byte)) copies }
-        ensures stands { TakesEvent M.content (receiver_on self.old channel)
-            (receiver_on self.new channel) (command (events.accept_station station.byte)) }
-        ensures only { self.new ≡ with_receiver self.old channel (receiver_on self.new channel) }
-    {
-        match channel {
-            Channel::Zero => self.on_0.accept_station(station),
-            Channel::One => self.on_1.accept_station(station),
-            Channel::Two => self.on_2.accept_station(station),
-        }
-    }
-
-    /// Refuses the subject on a channel, of all stations, from here on. `Vital` where it is A, B, D
-    /// or L (ITU-R M.540); the listener then stays as it was.
-    pub fn refuse_subject(&mut self, channel: Channel, subject: Letter) -> Result<(), Vital>
+    /// Does on a channel what the command says, from here on. `Vital` where it is to refuse subject
+    /// A, B, D or L (ITU-R M.540); the listener then stays as it was.
+    pub fn command(&mut self, channel: Channel, command: Command) -> Result<(), Vital>
         ensures heard { OnOk result ((starts : Starts) (given : List Given)
             (copies : List MarkedCopy) → HearsOver M.content starts self.old given copies
             → HearsOver M.content starts self.new
-            (then_command given channel (events.refuse_subject subject.byte)) copies) }
-        ensures vital { IsErr result ↔ IsTrue (is_vital subject.byte) }
-        ensures fault { IfErr result (λ vital. vital.subject ≡ subject) }
+            (then_command given channel (said command)) copies) }
+        ensures vital { IsErr result ↔ IsTrue (refuses_vital (said command)) }
+        ensures fault { IfErr result (λ vital. command ≡ RefuseSubject vital.subject) }
         ensures unchanged { OnErr result (self.new ≡ self.old) }
         ensures stands { OnOk result
             (TakesEvent M.content (receiver_on self.old channel) (receiver_on self.new channel)
-            (command (events.refuse_subject subject.byte))) }
+            (events.command (said command))) }
         ensures only { self.new ≡ with_receiver self.old channel (receiver_on self.new channel) }
     {
         match channel {
-            Channel::Zero => self.on_0.refuse_subject(subject),
-            Channel::One => self.on_1.refuse_subject(subject),
-            Channel::Two => self.on_2.refuse_subject(subject),
-        }
-    }
-
-    /// Refuses the subject on a channel no longer, from here on.
-    pub fn accept_subject(&mut self, channel: Channel, subject: Letter)
-        ensures heard { (starts : Starts) (given : List Given) (copies : List MarkedCopy)
-            → HearsOver M.content starts self.old given copies → HearsOver M.content starts self.new
-            (then_command given channel (events.accept_subject subject.byte)) copies }
-        ensures stands { TakesEvent M.content (receiver_on self.old channel)
-            (receiver_on self.new channel) (command (events.accept_subject subject.byte)) }
-        ensures only { self.new ≡ with_receiver self.old channel (receiver_on self.new channel) }
-    {
-        match channel {
-            Channel::Zero => self.on_0.accept_subject(subject),
-            Channel::One => self.on_1.accept_subject(subject),
-            Channel::Two => self.on_2.accept_subject(subject),
+            Channel::Zero => self.on_0.command(command),
+            Channel::One => self.on_1.command(command),
+            Channel::Two => self.on_2.command(command),
         }
     }
 

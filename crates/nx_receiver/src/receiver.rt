@@ -9,8 +9,10 @@ ghost use Rattle.nx_memory.specs.Memory.{most_entries, newest_moment};
 ghost use Rattle.nx_memory.specs.declared.memories.entry.MemoryEntry.{MemoryEntry};
 ghost use Rattle.nx_memory.specs.Selection.{admits, is_vital};
 ghost use Rattle.nx_receiver.specs.air_file_runs.Chain.{Leaves};
+ghost use Rattle.nx_receiver.specs.Commands.{refuses_vital, said};
+ghost use Rattle.nx_receiver.specs.declared.command.Command.TheVariants.{RefuseSubject};
 ghost use Rattle.nx_receiver.specs.Events as events;
-ghost use Rattle.nx_receiver.specs.Events.{Event, Start, at_moment, command, first_setting, none_refused, setting_after_all, Refuses, elements};
+ghost use Rattle.nx_receiver.specs.Events.{Event, Start, at_moment, first_setting, none_refused, setting_after_all, Refuses, elements};
 ghost use Rattle.nx_receiver.specs.Listener.{IsSpelled};
 ghost use Rattle.nx_receiver.specs.copies.Log.{PrintsToEnd};
 ghost use Rattle.nx_receiver.specs.copies.Printing.{entries_after, printed_copies};
@@ -27,6 +29,7 @@ ghost use Rattle.nx_fec.specs.air_files.LineRuns.{HasGiven};
 ghost use Rattle.nx_fec.specs.declared.air_files.channel.Channel.{Channel};
 ghost use Rattle.nx_fec.specs.Transfers.{FailsOnce, WroteSome};
 
+use crate::command::Command;
 use crate::copy_hearer::CopyHearer;
 use crate::copy_taker::{CopyTag, Over};
 use crate::entry::Entry;
@@ -131,45 +134,63 @@ impl<M: Recall> Receiver<M> {
     /// Selects what this selection does, from here on, in place of what was selected.
     pub fn set_selection(&mut self, selection: &Selection)
         ensures { TakesEvent M.content self.old self.new
-            (command (events.select selection.now)) }
+            (events.command (events.select selection.now)) }
     {
         self.hearer.set_selection(selection);
+    }
+
+    /// Does what the command says, from here on. `Vital` where it is to refuse subject A, B, D or L
+    /// (ITU-R M.540); the receiver then stays as it was.
+    pub fn command(&mut self, command: Command) -> Result<(), Vital>
+        ensures stands { OnOk result (TakesEvent M.content self.old self.new
+            (events.command (said command))) }
+        ensures vital { IsErr result ↔ IsTrue (refuses_vital (said command)) }
+        ensures fault { IfErr result (λ vital. command ≡ RefuseSubject vital.subject) }
+        ensures unchanged { OnErr result (self.new ≡ self.old) }
+    {
+        self.hearer.command(command)
     }
 
     /// Refuses the station, for all its subjects, from here on.
     pub fn refuse_station(&mut self, station: Letter)
         ensures { TakesEvent M.content self.old self.new
-            (command (events.refuse_station station.byte)) }
+            (events.command (events.refuse_station station.byte)) }
     {
-        self.hearer.refuse_station(station);
+        let Ok(()) = self.command(Command::RefuseStation(station)) else {
+            unreachable!()
+        };
     }
 
     /// Refuses the station no longer, from here on.
     pub fn accept_station(&mut self, station: Letter)
         ensures { TakesEvent M.content self.old self.new
-            (command (events.accept_station station.byte)) }
+            (events.command (events.accept_station station.byte)) }
     {
-        self.hearer.accept_station(station);
+        let Ok(()) = self.command(Command::AcceptStation(station)) else {
+            unreachable!()
+        };
     }
 
     /// Refuses the subject, of all stations, from here on. `Vital` where it is A, B, D or L (ITU-R
     /// M.540); the receiver then stays as it was.
     pub fn refuse_subject(&mut self, subject: Letter) -> Result<(), Vital>
         ensures stands { OnOk result (TakesEvent M.content self.old self.new
-            (command (events.refuse_subject subject.byte))) }
+            (events.command (events.refuse_subject subject.byte))) }
         ensures vital { IsErr result ↔ IsTrue (is_vital subject.byte) }
         ensures fault { IfErr result (λ vital. vital.subject ≡ subject) }
         ensures unchanged { OnErr result (self.new ≡ self.old) }
     {
-        self.hearer.refuse_subject(subject)
+        self.command(Command::RefuseSubject(subject))
     }
 
     /// Refuses the subject no longer, from here on.
     pub fn accept_subject(&mut self, subject: Letter)
         ensures { TakesEvent M.content self.old self.new
-            (command (events.accept_subject subject.byte)) }
+            (events.command (events.accept_subject subject.byte)) }
     {
-        self.hearer.accept_subject(subject);
+        let Ok(()) = self.command(Command::AcceptSubject(subject)) else {
+            unreachable!()
+        };
     }
 
     /// Whether a copy whose header came now would be selected: neither the station nor the subject

@@ -6,8 +6,7 @@ ghost use Rattle.nx_envelope.specs.Moment.{last_moment};
 ghost use Rattle.nx_fec.specs.air_files.AirFile.{IsLine, Line, elements, moment};
 ghost use Rattle.nx_fec.specs.Transfers.{CountedDevice, FailsOnce, devices};
 ghost use Rattle.nx_log.specs.Logged.{IsLoggedAs};
-ghost use Rattle.nx_memory.specs.Selection.{is_vital};
-ghost use Rattle.nx_receiver.specs.Events as events;
+ghost use Rattle.nx_receiver.specs.Commands.{refuses_vital, said};
 ghost use Rattle.nx_receiver.specs.copies.InTurn.{PrintAllToEnd};
 ghost use Rattle.nx_receiver.specs.air_file_runs.Listen.{given_by};
 ghost use Rattle.nx_receiver.specs.Listener.{HearsGiven, last_copies, starts_of, then_command, then_elements};
@@ -30,10 +29,9 @@ use crate::stamped::StampedReader;
 use crate::watch_fault::WatchFault;
 use crate::watch_report::WatchReport;
 use arrayvec::ArrayVec;
-use nx_envelope::Letter;
 use nx_fec::{Channel, Counting, LineKind, PackedElements, Scanner};
 use nx_kept::DiskFile;
-use nx_receiver::{LastEntries, Listener, MAX_ENTRY, entry_bytes};
+use nx_receiver::{Command, LastEntries, Listener, MAX_ENTRY, entry_bytes};
 use std::io::{Read, Write};
 
 /// The receivers of a watch, and who keeps the entries that they print.
@@ -83,34 +81,24 @@ impl<D: DiskFile + Drop> LoggingListener<D> {
         match kind {
             LineKind::Elements(mark) => return self.hear(mark, scanner.elements(), writer),
             LineKind::Moment(moment) => self.set_moment(moment),
-            LineKind::RefuseStation(mark, byte) => {
-                self.listener
-                    .refuse_station(Channel::of(mark), Letter::of_capital(byte));
-            }
-            LineKind::AcceptStation(mark, byte) => {
-                self.listener
-                    .accept_station(Channel::of(mark), Letter::of_capital(byte));
-            }
-            LineKind::RefuseSubject(mark, byte) => {
-                self.refuse_subject(Channel::of(mark), Letter::of_capital(byte));
-            }
-            LineKind::AcceptSubject(mark, byte) => {
-                self.listener
-                    .accept_subject(Channel::of(mark), Letter::of_capital(byte));
+            _ => {
+                let (channel, command) = Command::of_line(kind);
+                self.command(channel, command);
             }
         }
         Ok(())
     }
 
-    /// Refuses the subject on a channel. The refusal of a vital one doesn't act.
-    fn refuse_subject(&mut self, channel: Channel, subject: Letter)
+    /// Does on a channel what the command says. The refusal of a vital subject doesn't act.
+    fn command(&mut self, channel: Channel, command: Command)
         ensures heard { (starts : Starts) (given : List Given) (copies : List MarkedCopy)
-            → is_vital subject.byte ≡ false → HearsGiven starts self.old.listener given copies
+            → refuses_vital (said command) ≡ false
+            → HearsGiven starts self.old.listener given copies
             → HearsGiven starts self.new.listener
-            (then_command given channel (events.refuse_subject subject.byte)) copies }
+            (then_command given channel (said command)) copies }
         ensures keeper { self.new.keeper ≡ self.old.keeper }
     {
-        let _ = self.listener.refuse_subject(channel, subject);
+        let _ = self.listener.command(channel, command);
     }
 
     /// Hears elements of a channel up to and with the one that ends the first copy that is printed,

@@ -2,17 +2,18 @@
 
 ghost use Rattle.std.specs.Prelude.{◌≡◌, None};
 ghost use Rattle.nx_receiver.specs.Events as events;
+ghost use Rattle.nx_receiver.specs.declared.command.Command.TheVariants.{RefuseStation, AcceptStation, RefuseSubject, AcceptSubject};
 ghost use Rattle.nx_handle.specs.CallerRoom.{room};
 ghost use Rattle.nx_handle.specs.Closing.{AnswersClosing};
 ghost use Rattle.nx_handle.specs.Hearing.{AnswersHearing};
 ghost use Rattle.nx_handle.specs.Life.{hearing};
 ghost use Rattle.nx_handle.specs.Opening.{AnswersMoment, AnswersOpening};
 ghost use Rattle.nx_handle.specs.Saving.{AnswersOpeningFrom, AnswersSaving};
-ghost use Rattle.nx_handle.specs.Selecting.{AnswersSelecting, letter_status, subject_status};
-ghost use Rattle.nx_handle.specs.declared.status.Status.TheVariants.{NoStation, NoSubject};
+ghost use Rattle.nx_handle.specs.Selecting.{AnswersSelecting, command_status};
 
 use crate::receiver::handle::NxReceiver;
 use nx_handle::{Status, put};
+use nx_receiver::Command;
 use std::alloc::Global;
 
 /// Opens a receiver at a moment, in whole seconds since 1970-01-01 00:00:00 UTC: it has heard
@@ -107,14 +108,13 @@ pub extern "C" fn nx_refuse_station(
     channel: u8,
     station: u8,
 ) -> u32
-    ensures { AnswersSelecting (letter_status NoStation channel station)
-        (events.refuse_station station)
-        channel receiver.old.value receiver.new.value result }
+    ensures { AnswersSelecting (command_status channel (RefuseStation station))
+        (events.refuse_station station) channel receiver.old.value receiver.new.value result }
 {
     let Some(mut kept) = receiver.take(alloc) else {
         return Status::Closed.number();
     };
-    let status = nx_handle::refuse_station_kept(&mut kept, channel, station);
+    let status = nx_handle::select_kept(&mut kept, channel, Command::RefuseStation(station));
     let _none = receiver.put(kept, alloc);
     status
 }
@@ -127,14 +127,13 @@ pub extern "C" fn nx_accept_station(
     channel: u8,
     station: u8,
 ) -> u32
-    ensures { AnswersSelecting (letter_status NoStation channel station)
-        (events.accept_station station)
-        channel receiver.old.value receiver.new.value result }
+    ensures { AnswersSelecting (command_status channel (AcceptStation station))
+        (events.accept_station station) channel receiver.old.value receiver.new.value result }
 {
     let Some(mut kept) = receiver.take(alloc) else {
         return Status::Closed.number();
     };
-    let status = nx_handle::accept_station_kept(&mut kept, channel, station);
+    let status = nx_handle::select_kept(&mut kept, channel, Command::AcceptStation(station));
     let _none = receiver.put(kept, alloc);
     status
 }
@@ -148,13 +147,13 @@ pub extern "C" fn nx_refuse_subject(
     channel: u8,
     subject: u8,
 ) -> u32
-    ensures { AnswersSelecting (subject_status channel subject) (events.refuse_subject subject)
-        channel receiver.old.value receiver.new.value result }
+    ensures { AnswersSelecting (command_status channel (RefuseSubject subject))
+        (events.refuse_subject subject) channel receiver.old.value receiver.new.value result }
 {
     let Some(mut kept) = receiver.take(alloc) else {
         return Status::Closed.number();
     };
-    let status = nx_handle::refuse_subject_kept(&mut kept, channel, subject);
+    let status = nx_handle::select_kept(&mut kept, channel, Command::RefuseSubject(subject));
     let _none = receiver.put(kept, alloc);
     status
 }
@@ -167,14 +166,13 @@ pub extern "C" fn nx_accept_subject(
     channel: u8,
     subject: u8,
 ) -> u32
-    ensures { AnswersSelecting (letter_status NoSubject channel subject)
-        (events.accept_subject subject)
-        channel receiver.old.value receiver.new.value result }
+    ensures { AnswersSelecting (command_status channel (AcceptSubject subject))
+        (events.accept_subject subject) channel receiver.old.value receiver.new.value result }
 {
     let Some(mut kept) = receiver.take(alloc) else {
         return Status::Closed.number();
     };
-    let status = nx_handle::accept_subject_kept(&mut kept, channel, subject);
+    let status = nx_handle::select_kept(&mut kept, channel, Command::AcceptSubject(subject));
     let _none = receiver.put(kept, alloc);
     status
 }

@@ -1,19 +1,21 @@
 -- What selecting answers.
-use Rattle.std.proofs.Common.{◌≡◌, ℕ, Bool, true, false, not, IsTrue, if◌then◌else◌, nat_lt, List, refl, sym, ap, ◌∙◌, Some}
+use Rattle.std.proofs.Common.{◌≡◌, ℕ, Bool, true, false, IsTrue, if◌then◌else◌, List, refl, sym, ap, ◌∙◌, subst, Some}
 use Rattle.nx_fec.specs.air_files.Channels.{channel_number}
 use Rattle.nx_fec.specs.declared.air_files.channel.Channel.{Channel}
-use Rattle.nx_memory.specs.Selection.{is_vital}
+use Rattle.nx_fec.specs.declared.air_files.channel.Channel.TheVariants.{Zero, One, Two}
 use Rattle.nx_receiver.specs.Events.{Command}
 use Rattle.nx_receiver.specs.Listener.{then_command}
 use Rattle.nx_handle.specs.Receivers.{HearsGiven, Listening}
+use Rattle.nx_receiver.specs.declared.command.Command.{Command as TheCommand}
 use Rattle.nx_receiver.specs.copies.Shares.{Given, MarkedCopy, Starts}
 use Rattle.nx_handle.specs.Life.{hearing_at}
-use Rattle.nx_handle.specs.Selecting.{AnswersSelecting, is_letter, letter_status, selecting_status, subject_status}
+use Rattle.nx_handle.specs.Selecting.{AnswersSelecting, byte_status, command_status}
+use Rattle.nx_handle.specs.Selecting.{selecting_status}
 use Rattle.nx_handle.specs.Status.{number_of}
 use Rattle.nx_handle.specs.declared.kept.Kept.{Kept}
 use Rattle.nx_handle.specs.declared.kept.Stage.TheVariants.{Hearing}
 use Rattle.nx_handle.specs.declared.status.Status.{Status}
-use Rattle.nx_handle.specs.declared.status.Status.TheVariants.{Done, NoChannel, NoSubject, Vital}
+use Rattle.nx_handle.specs.declared.status.Status.TheVariants.{Done, Vital}
 
 -- whatever was given before, those that hear stand after the command too
 abbrev pub Takes : Channel → Listening → Listening → Command → Type 0
@@ -41,20 +43,22 @@ selecting-done asked command channel on old new listener after was now is done t
   refused = λ no. absurd (no refl);
 }
 
-done-by : (far letter vital : Bool)
-    → (if far then NoChannel else if letter then Done else NoSubject) ≡ Done
-    → (IsTrue vital → IsTrue false)
-    → (if far then NoChannel
-    else if not letter then NoSubject
-    else if vital then Vital
-    else Done)
-    ≡ Done
-done-by true letter vital e n = e
-done-by false true true e n = let bad = n refl in cc
-done-by false true false e n = refl
-done-by false false vital e n = e
+-- on a channel that there is
+on-channel : (on : Channel) (command : TheCommand ℕ)
+    → command_status (channel_number on) command ≡ byte_status command
+on-channel Zero command = refl
+on-channel One command = refl
+on-channel Two command = refl
 
--- a subject that is no vital one
-pub subject-done : (channel byte : ℕ) → letter_status NoSubject channel byte ≡ Done
-    → (IsTrue (is_vital byte) → IsTrue false) → subject_status channel byte ≡ Done
-subject-done channel byte e n = done-by (nat_lt 2 channel) (is_letter byte) (is_vital byte) e n
+not-vital : (vital : Bool) → (IsTrue vital → IsTrue false)
+    → (if vital then Vital else Done) ≡ Done
+not-vital true spared = let bad = spared refl in cc
+not-vital false spared = refl
+
+-- a command for a letter, on a channel that there is, which refuses no vital subject
+pub command-done : (on : Channel) (channel : ℕ) (command : TheCommand ℕ) (vital : Bool)
+    → channel_number on ≡ channel → byte_status command ≡ (if vital then Vital else Done)
+    → (IsTrue vital → IsTrue false) → command_status channel command ≡ Done
+command-done on channel command vital is asked spared =
+    subst (λ n. command_status n command ≡ byte_status command) is (on-channel on command)
+    ∙ asked ∙ not-vital vital spared

@@ -1,21 +1,17 @@
 //! Listening to an air file: the log of its lines, written while it is read. What a line does that
 //! sets something is inlined always, since its answer would go through memory otherwise.
 
-ghost use Rattle.std.specs.Prelude.{◌≡◌, ◌+◌, ◌-◌, ◌^◌, ◌<◌, ◌≤◌, ℕ, Bool, true, false, List, [], ◌∷◌, ◌++◌, length, map, take, drop, Option, Some, IfOk, IfSome, MatchResult, OnOk};
-ghost use Rattle.nx_code.specs.Reading.{IsCapital};
+ghost use Rattle.std.specs.Prelude.{◌≡◌, ◌+◌, ◌-◌, ◌^◌, ◌<◌, ◌≤◌, ℕ, Bool, true, List, [], ◌∷◌, ◌++◌, length, map, take, drop, Option, Some, IfOk, IfSome, MatchResult};
 ghost use Rattle.nx_envelope.specs.Moment.{last_moment};
 ghost use Rattle.nx_fec.specs.air_files.AirFile.{IsLine, Line};
 ghost use Rattle.nx_fec.specs.air_files.AirFile as line;
 ghost use Rattle.nx_fec.specs.air_files.Scanner.{kind_of, line_with};
 ghost use Rattle.nx_fec.specs.Transfers.{FailsOnce, HasWritten, WroteSome, devices, count_of};
 ghost use Rattle.nx_fec.specs.air_files.LineRuns.{HasGiven, HasTaken, HasTakenSome, line_run};
-ghost use Rattle.nx_memory.specs.Selection.{is_vital};
-ghost use Rattle.nx_receiver.specs.Events.{command};
-ghost use Rattle.nx_receiver.specs.Events as events;
 ghost use Rattle.nx_receiver.specs.air_file_runs.ListenFrom.{GoesOnBy};
 ghost use Rattle.nx_receiver.specs.laws.ListenOnce.{ListensOnce};
 ghost use Rattle.nx_receiver.specs.copies.Log.{IsLog};
-ghost use Rattle.nx_receiver.specs.Receiver.{TakesEvent, entry_list};
+ghost use Rattle.nx_receiver.specs.Receiver.{entry_list};
 ghost use Rattle.nx_receiver.specs.copies.Shares.{Given, Starts, all_at_zero, marked, starts_from};
 ghost use Rattle.nx_receiver.specs.private.Awaiting.{HandsOut};
 ghost use Rattle.nx_receiver.specs.Listener.{Listening, content, receiver_on, starts_of, then_elements, with_receiver};
@@ -26,12 +22,12 @@ mod logged;
 mod unlogged;
 
 use crate::air_file_runs::listen_fault::{LineRefusal, ListenFault};
+use crate::command::Command;
 use crate::copy_taker::Over;
 use crate::entry::Entry;
 use crate::listener::Listener;
 use crate::writing::entry_bytes;
 use logged::listen_lines;
-use nx_envelope::Letter;
 use nx_fec::{Batch, Channel, Counting, LineKind, LinesRead, PackedElements, WriteFault, write_on};
 use nx_memory::SavedSet;
 use std::alloc::{AllocError, Global};
@@ -140,25 +136,13 @@ impl Listener {
             (λ why. RefusesLine starts lines line why × (self.new ≡ self.old)) }
     {
         match kind {
-            LineKind::Moment(moment) => return self.take_moment(moment),
-            LineKind::RefuseStation(mark, byte) => self.refuse_station(
-                Channel::of(mark),
-                Letter::of_capital(byte),
-            ),
-            LineKind::AcceptStation(mark, byte) => self.accept_station(
-                Channel::of(mark),
-                Letter::of_capital(byte),
-            ),
-            LineKind::RefuseSubject(mark, byte) => {
-                return self.take_refusal(Channel::of(mark), byte);
+            LineKind::Moment(moment) => self.take_moment(moment),
+            _ => {
+                let (channel, command) = Command::of_line(kind);
+                self.command(channel, command)?;
+                Ok(())
             }
-            LineKind::AcceptSubject(mark, byte) => self.accept_subject(
-                Channel::of(mark),
-                Letter::of_capital(byte),
-            ),
-            LineKind::Elements(_) => unreachable!(),
         }
-        Ok(())
     }
 
     /// Takes a moment, which belongs to all channels.
@@ -170,23 +154,6 @@ impl Listener {
             (λ why. RefusesLine starts lines (line.moment moment) why × (self.new ≡ self.old)) }
     {
         self.set_moment(moment)?;
-        Ok(())
-    }
-
-    /// Takes a command to refuse a subject on a channel.
-    fn take_refusal(&mut self, channel: Channel, byte: u8) -> Result<(), LineRefusal>
-        requires { IsCapital byte }
-        ensures stands { OnOk result
-            (TakesEvent content (receiver_on self.old channel) (receiver_on self.new channel)
-            (command (events.refuse_subject byte))) }
-        ensures only { self.new
-            ≡ with_receiver self.old channel (receiver_on self.new channel) }
-        ensures refused { (starts : Starts) (lines : List Line) (mark : Option Channel)
-            → MatchResult result (λ _. is_vital byte ≡ false)
-            (λ why. RefusesLine starts lines (line.refuse_subject mark byte) why
-            × (self.new ≡ self.old)) }
-    {
-        self.refuse_subject(channel, Letter::of_capital(byte))?;
         Ok(())
     }
 

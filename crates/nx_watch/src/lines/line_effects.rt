@@ -14,9 +14,9 @@ ghost use Rattle.nx_watch.specs.private.Effects.{is_acting, IsEffect, IsKept, Ke
 
 use crate::lines::line_run::LinesWatched;
 use crate::lines::no_effect::NoEffect;
-use nx_envelope::{LAST_MOMENT, Letter};
+use nx_envelope::LAST_MOMENT;
 use nx_fec::LineKind;
-use nx_memory::{LIFETIME, Selection};
+use nx_memory::{LIFETIME, is_vital_subject};
 
 /// The moments with which a watch starts, in whole seconds since 1970-01-01 00:00:00 UTC.
 #[derive(Clone, Copy, Debug, PartialEq, Eq)]
@@ -265,14 +265,4 @@ fn effect_of_refusal(byte: u8) -> Effect
     } else {
         Effect::Acts
     }
-}
-
-/// Whether the subject of this byte can't be refused (ITU-R M.540).
-fn is_vital_subject(byte: u8) -> bool
-    ensures { result ≡ is_vital byte }
-{
-    let Some(subject) = Letter::new(byte) else {
-        return false;
-    };
-    Selection::all().refuse_subject(subject).is_err()
 }

@@ -1,6 +1,6 @@
 -- What the taking of a line by a listener answers, by what the line says.
 use Rattle.std.proofs.Common.{◌≡◌, ℕ, List, [], ◌∷◌, ◌++◌, Option, Some, Result, Ok, Err}
-use Rattle.std.proofs.Common.{Bool, IfOk, MatchResult, OnOk, false, true, inl, refl, sym, ap, ◌∙◌}
+use Rattle.std.proofs.Common.{Bool, IfOk, IsTrue, MatchResult, false, true, inl, refl, sym, ap, ◌∙◌}
 use Rattle.std.proofs.Common.{subst}
 use Rattle.nx_fec.specs.air_files.AirFile.{Line, moment, elements, refuse_station, accept_station}
 use Rattle.nx_fec.specs.air_files.AirFile.{refuse_subject, accept_subject}
@@ -11,10 +11,10 @@ use Rattle.nx_fec.specs.air_files.Scanner.{elements_kept, kind_kept, kind_of, li
 use Rattle.nx_fec.specs.declared.air_files.lines.LineKind.{LineKind}
 use Rattle.nx_fec.specs.declared.air_files.lines.LineKind.TheVariants.{Elements}
 use Rattle.nx_fec.specs.declared.air_files.channel.Channel.{Channel}
-use Rattle.nx_memory.specs.Selection.{is_vital}
-use Rattle.nx_receiver.specs.Events.{command}
+use Rattle.nx_receiver.specs.Commands.{refuses_vital}
+use Rattle.nx_receiver.specs.Events.{Command, command}
 use Rattle.nx_receiver.specs.Events as fed
-use Rattle.nx_receiver.specs.air_file_runs.Listen.{given_by, given_of, refusal_fault}
+use Rattle.nx_receiver.specs.air_file_runs.Listen.{given_by, given_of, is_moment_line, refusal_fault}
 use Rattle.nx_receiver.specs.Receiver.{TakesEvent}
 use Rattle.nx_receiver.specs.copies.Shares.{Given, Starts, to_one}
 use Rattle.nx_receiver.specs.Listener.{Listening}
@@ -23,6 +23,7 @@ use Rattle.nx_receiver.specs.Listener.{content, receiver_on}
 use Rattle.nx_receiver.specs.private.Listener.{RefusesLine, StandsFrom}
 use Rattle.nx_receiver.specs.Listener.{starts_of, then_elements, with_receiver}
 use Rattle.nx_receiver.specs.private.ListenFaults.{StopsAtLine}
+use Rattle.nx_receiver.specs.private.Taken.{IsTakenAfter}
 use Rattle.nx_receiver.specs.private.Unlogged.{HasHeard, HasHeardGiven}
 use Rattle.nx_receiver.specs.declared.air_file_runs.listen_fault.LineRefusal.{LineRefusal}
 use Rattle.nx_receiver.specs.declared.air_file_runs.listen_fault.LineRefusal.TheVariants.{NoMoment}
@@ -153,23 +154,58 @@ taken-as starts old new lines line is bytes result same h =
     subst (λ l. MatchResult result (λ _. IsListening starts new (lines ++ l ∷ []) bytes)
     (λ why. RefusesLine starts lines l why × (new ≡ old))) (sym same) h
 
--- a command to refuse a subject on a channel
-pub subject-taken : (starts : Starts) (old new : Listening) (lines : List Line)
-    (mark : Option Channel) (channel : Channel) (byte : ℕ) (bytes : List ℕ)
-    (result : Result (Unit {0}) LineRefusal)
-    → given_of (refuse_subject mark byte) ≡ to_one channel (command (fed.refuse_subject byte) ∷ [])
+-- a line gives the command that its kind says
+pub kind-gives : (line : Line) (kind : LineKind) (channel : Channel) (given : Command)
+    → kind_of line ≡ kind
+    → given_of (line_with kind []) ≡ to_one channel (command given ∷ [])
+    → given_of line ≡ to_one channel (command given ∷ [])
+kind-gives (elements mark bits) kind channel given e gives =
+    let none : to_one (channel_of mark) [] ≡ to_one channel (command given ∷ []) =
+    subst (λ k. given_of (line_with k []) ≡ to_one channel (command given ∷ [])) (sym e) gives in cc
+kind-gives (moment n) kind channel given e gives =
+    ap (λ k. given_of (line_with k [])) e ∙ gives
+kind-gives (refuse_station mark letter) kind channel given e gives =
+    ap (λ k. given_of (line_with k [])) e ∙ gives
+kind-gives (accept_station mark letter) kind channel given e gives =
+    ap (λ k. given_of (line_with k [])) e ∙ gives
+kind-gives (refuse_subject mark letter) kind channel given e gives =
+    ap (λ k. given_of (line_with k [])) e ∙ gives
+kind-gives (accept_subject mark letter) kind channel given e gives =
+    ap (λ k. given_of (line_with k [])) e ∙ gives
+
+-- a line that gives a command says no moment, and is taken but for the refusal of a vital subject
+other-line : (line : Line) (channel : Channel) (given : Command)
+    → given_of line ≡ to_one channel (command given ∷ []) → is_moment_line line ≡ false
+other-line (moment n) channel given e = cc
+other-line (elements mark bits) channel given e = refl
+other-line (refuse_station mark letter) channel given e = refl
+other-line (accept_station mark letter) channel given e = refl
+other-line (refuse_subject mark letter) channel given e = refl
+other-line (accept_subject mark letter) channel given e = refl
+
+spared-line : (starts : Starts) (lines : List Line) (line : Line) (channel : Channel)
+    (given : Command) → given_of line ≡ to_one channel (command given ∷ [])
+    → refuses_vital given ≡ false → IsTakenAfter starts lines line
+spared-line starts lines (moment n) channel given e spared = cc
+spared-line starts lines (elements mark []) channel given e spared = cc
+spared-line starts lines (elements mark (bit ∷ bits)) channel given e spared = cc
+spared-line starts lines (refuse_station mark letter) channel given e spared = tt
+spared-line starts lines (accept_station mark letter) channel given e spared = tt
+spared-line starts lines (refuse_subject mark letter) channel given e spared =
+    let same : fed.refuse_subject letter ≡ given = cc in ap refuses_vital same ∙ spared
+spared-line starts lines (accept_subject mark letter) channel given e spared = tt
+
+pub spared : (vital : Bool) → (IsTrue vital → IsTrue false) → vital ≡ false
+spared false h = refl
+spared true h = let bad = h refl in cc
+
+pub command-taken : (starts : Starts) (old new : Listening) (lines : List Line) (line : Line)
+    (channel : Channel) (given : Command) (bytes : List ℕ)
+    → given_of line ≡ to_one channel (command given ∷ []) → refuses_vital given ≡ false
     → new ≡ with_receiver old channel (receiver_on new channel)
-    → OnOk result (TakesEvent content (receiver_on old channel) (receiver_on new channel)
-    (command (fed.refuse_subject byte)))
-    → MatchResult result (λ _. is_vital byte ≡ false)
-    (λ why. RefusesLine starts lines (refuse_subject mark byte) why × (new ≡ old))
-    → IsListening starts old lines bytes
-    → MatchResult result
-    (λ _. IsListening starts new (lines ++ refuse_subject mark byte ∷ []) bytes)
-    (λ why. RefusesLine starts lines (refuse_subject mark byte) why × (new ≡ old))
-subject-taken starts old new lines mark channel byte bytes (Ok x) gives only stands refused h =
-    commanded-on starts old new lines (refuse_subject mark byte) channel
-    (fed.refuse_subject byte) bytes
-    h refused gives refl only stands
-subject-taken starts old new lines mark channel byte bytes (Err why) gives only stands refused h =
-    refused
+    → TakesEvent content (receiver_on old channel) (receiver_on new channel) (command given)
+    → IsListening starts old lines bytes → IsListening starts new (lines ++ line ∷ []) bytes
+command-taken starts old new lines line channel given bytes gives spared only takes h =
+    commanded-on starts old new lines line channel given bytes h
+    (spared-line starts lines line channel given gives spared) gives
+    (other-line line channel given gives) only takes

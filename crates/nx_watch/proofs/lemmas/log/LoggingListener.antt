@@ -1,6 +1,6 @@
 -- The receivers of a watch take lines, and their entries are kept.
 use Rattle.std.proofs.Common.{◌≡◌, ℕ, ◌≤◌, ◌<◌, Bool, true, false, cond, List, [], ◌∷◌, ◌++◌}
-use Rattle.std.proofs.Common.{map, max, nat_le, Option, Some, None, Result, Ok, Err, refl, sym, ◌∙◌, ap, ap₂, subst, arith}
+use Rattle.std.proofs.Common.{map, max, nat_le, Option, Some, None, Result, Ok, Err, refl, sym, ◌∙◌, ap, subst, arith}
 use Rattle.std.proofs.Common.{append-nil}
 use Rattle.std.specs.Prelude.{IfSome, IsErr, IsTrue, MatchResult, OnOk}
 use Rattle.std.specs.List.{All, AllZip, concat}
@@ -17,6 +17,7 @@ use Rattle.nx_kept.specs.declared.disk.DiskFile.{Ghosts as TellsOfDisk}
 use Rattle.nx_log.specs.Entries.{IsWholeEntry}
 use Rattle.nx_log.specs.Logged.{IsLogged, IsLoggedAs}
 use Rattle.nx_log.proofs.lemmas.printed.Moments.{AreInRange, IsInRange, end_logged, given_logged}
+use Rattle.nx_receiver.specs.Commands.{refuses_vital}
 use Rattle.nx_receiver.specs.Events as fed
 use Rattle.nx_receiver.specs.Events.{Command, Event, Refuses, at_moment, command}
 use Rattle.nx_receiver.specs.copies.FoundCopies.{TaggedCopy, copy_of}
@@ -26,7 +27,7 @@ use Rattle.nx_receiver.specs.Receiver.{entry_list}
 use Rattle.nx_receiver.specs.declared.entry.Entry.{Entry}
 use Rattle.nx_receiver.specs.declared.listener.LastEntries.{LastEntries}
 use Rattle.nx_fec.specs.declared.air_files.channel.Channel.TheVariants.{Zero as OnZero, One, Two}
-use Rattle.nx_receiver.specs.Listener.{HearsGiven, IsSpelled, Listening, last_copies, moment_in_force, starts_of, then_elements}
+use Rattle.nx_receiver.specs.Listener.{HearsGiven, IsSpelled, Listening, last_copies, moment_in_force, starts_of, then_command, then_elements}
 use Rattle.nx_receiver.specs.copies.Log.{IsEntry, IsLog}
 use Rattle.nx_receiver.specs.copies.Shares.{Given, MarkedCopy, Starts, events_for, marked, share, to_one}
 use Rattle.nx_receiver.specs.declared.fault.MomentFault.{MomentFault}
@@ -34,6 +35,7 @@ use Rattle.nx_receiver.specs.declared.fault.MomentFault.TheVariants.{Back, Range
 use Rattle.nx_receiver.proofs.lemmas.listening.Listener.{given_by-one}
 use Rattle.nx_watch.proofs.lemmas.log.Heard.{none-heard}
 use Rattle.nx_watch.specs.Acting.{in_force, moments_said}
+use Rattle.nx_watch.specs.LineRun.{MayAct}
 use Rattle.nx_watch.specs.private.Keeping.{HasKept, KeepsWith}
 use Rattle.nx_watch.specs.private.LoggingListener.{IsCopyInRange, IsLineInRange, KeepsHeard, KeepsLines, LoggingTo, TakesLines, logging_to}
 use Rattle.nx_watch.specs.declared.logging_listener.LoggingListener.{LoggingListener}
@@ -190,6 +192,32 @@ line-kept disk start old new lines given line same within step s = record {
   kept = subst (λ k. HasKept disk start.keeper k s.texts given) (sym same) s.kept;
 }
 
+-- a line that gives a command has no moment out of range, and refuses no vital subject where it may
+-- act
+command-in-range : (line : Line) (channel : Channel) (given : Command)
+    → given_of line ≡ to_one channel (command given ∷ []) → IsLineInRange line
+command-in-range (moment n) channel given e = cc
+command-in-range (elements mark bits) channel given e = tt
+command-in-range (refuse_station mark letter) channel given e = tt
+command-in-range (accept_station mark letter) channel given e = tt
+command-in-range (refuse_subject mark letter) channel given e = tt
+command-in-range (accept_subject mark letter) channel given e = tt
+
+spares : (first : ℕ) (lines : List Line) (line : Line) (channel : Channel) (given : Command)
+    → given_of line ≡ to_one channel (command given ∷ []) → MayAct first lines line
+    → refuses_vital given ≡ false
+spares first lines (moment n) channel given e may = cc
+spares first lines (elements mark []) channel given e may = cc
+spares first lines (elements mark (bit ∷ bits)) channel given e may = cc
+spares first lines (refuse_station mark letter) channel given e may =
+    let same : given ≡ fed.refuse_station letter = cc in ap refuses_vital same
+spares first lines (accept_station mark letter) channel given e may =
+    let same : given ≡ fed.accept_station letter = cc in ap refuses_vital same
+spares first lines (refuse_subject mark letter) channel given e may =
+    let same : given ≡ fed.refuse_subject letter = cc in ap refuses_vital same ∙ may
+spares first lines (accept_subject mark letter) channel given e may =
+    let same : given ≡ fed.accept_subject letter = cc in ap refuses_vital same
+
 module _ {D W : Type 0} (disk : TellsOfDisk D) (contents : W → Option (List ℕ)) where
   -- the same beside a writer
   pub next-line : (start : LoggingTo D W) (old new : LoggingListener D)
@@ -204,25 +232,23 @@ module _ {D W : Type 0} (disk : TellsOfDisk D) (contents : W → Option (List �
   next-line start old new writer lines line same within step h =
       (h.0, line-kept disk start.logging old new lines h.0 line same within step h.1, h.2)
 
-  -- the same of a line that says a command, which was taken for its channel and its letter
+  -- the same of a line that gives a command, which was taken
   pub next-command : (start : LoggingTo D W) (old new : LoggingListener D)
-      (writer : CountedDevice W) (lines : List Line) (line is : Line) (make : ℕ → Command)
-      (mark : Option Channel) (letter : ℕ) {channel : Channel} {byte : ℕ}
-      → given_of is ≡ to_one (channel_of mark) (command (make letter) ∷ []) → IsLineInRange is
-      → line ≡ is → channel ≡ channel_of mark → byte ≡ letter → new.keeper ≡ old.keeper
-      → ((copies : List MarkedCopy)
+      (writer : CountedDevice W) (lines : List Line) (line : Line) (channel : Channel)
+      (given : Command) → given_of line ≡ to_one channel (command given ∷ [])
+      → MayAct (starts_of start.logging.listener).moment lines line → new.keeper ≡ old.keeper
+      → ((copies : List MarkedCopy) → refuses_vital given ≡ false
       → HearsGiven (starts_of start.logging.listener) old.listener (given_by lines) copies
       → HearsGiven (starts_of start.logging.listener) new.listener
-      (given_by lines ++ to_one channel (command (make byte) ∷ []) ∷ []) copies)
+      (then_command (given_by lines) channel given) copies)
       → TakesLines disk contents start (logging_to old writer) lines
       → TakesLines disk contents start (logging_to new writer) (lines ++ line ∷ [])
-  next-command start old new writer lines line is make mark letter gives within said at same kept
-      step h =
-      subst (λ l. TakesLines disk contents start (logging_to new writer)
-      (lines ++ l ∷ [])) (sym said) (next-line start old new writer lines is kept within
-      (λ copies heard. subst (λ one. HearsGiven (starts_of start.logging.listener) new.listener
-      (given_by lines ++ one ∷ []) copies)
-      (ap₂ (λ to b. to_one to (command (make b) ∷ [])) at same ∙ sym gives) (step copies heard)) h)
+  next-command start old new writer lines line channel given gives may kept step h =
+      let starts = starts_of start.logging.listener in
+      next-line start old new writer lines line kept (command-in-range line channel given gives)
+      (λ copies heard. subst (λ one. HearsGiven starts new.listener (given_by lines ++ one ∷ [])
+      copies) (sym gives)
+      (step copies (spares starts.moment lines line channel given gives may) heard)) h
 
   -- a line of elements, of which nothing was heard yet
   pub none-yet : (start : LoggingTo D W) (now : LoggingListener D)
