@@ -9,7 +9,7 @@ ghost use Rattle.nx_envelope.specs.Finder.{StandsAfter};
 ghost use Rattle.nx_code.specs.Reading.{newline};
 ghost use Rattle.nx_locks.specs.private.Reader.{HearsWord, IsFresh, ShowsWord, ShowsWords, TakesByte, counted};
 ghost use Rattle.nx_receiver.specs.copies.Log.{is_of_lines};
-ghost use Rattle.nx_sync.specs.Taking.{ArePairs};
+ghost use Rattle.nx_sync.specs.Ahead.{ArePairs};
 ghost use Rattle.nx_sync.specs.declared.step.Role.TheVariants.{Dx as DxRole};
 
 use crate::report_text::{Shown, append_some};

@@ -177,8 +177,8 @@ impl ReportWriter {
         ensures hears { HearsAll self.old self.new elements.now }
     {
         self.taker.clear();
-        self.synchroniser
-            .hear(&mut self.taker, elements.numbers(), 0, elements.len());
+        self.taker
+            .hear(&mut self.synchroniser, elements.numbers(), elements.len());
     }
 
     /// Ends the file: writes what its end shows, and counts.

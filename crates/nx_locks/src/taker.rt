@@ -1,16 +1,21 @@
 //! What takes what the elements bring, and shows their locks. What runs for each word is inlined
 //! always; what opens or closes a lock never is.
 
-ghost use Rattle.std.specs.Prelude.{◌≡◌, ◌+◌, ◌≤◌, [], ◌++◌, length};
+ghost use Rattle.std.specs.Prelude.{◌≡◌, ◌+◌, ◌*◌, ◌<◌, ◌≤◌, List, Bool, false, [], ◌++◌, length, IsTrue};
+ghost use Rattle.std.specs.List.{flat_map};
+ghost use Rattle.nx_code.specs.Packed.{packed_elements, packed_part};
+ghost use Rattle.nx_code.specs.Word.{elements, word_elements};
+ghost use Rattle.nx_sync.specs.Ahead.{ArePairs, BringsStep, BringsWords, HasPart};
+ghost use Rattle.nx_sync.specs.Synchroniser.{Held, is_hunting};
 ghost use Rattle.nx_envelope.specs.Moment.{last_moment};
 ghost use Rattle.nx_locks.specs.ReportText.{last_line};
-ghost use Rattle.nx_locks.specs.private.Taker.{Closes, HasRoom, Opens, ReadsWord, ShowsStep, TakerShows};
+ghost use Rattle.nx_locks.specs.private.Taker.{Closes, HasRoom, Hears, HearsPart, Opens, ReadsWord, ShowsStep, TakerShows};
 
 use crate::reader::LockReader;
 use crate::report_text::{Counts, Shown, close_lock, end_report, open_lock};
 use arrayvec::ArrayVec;
 use nx_code::{ELEMENTS, NEWLINE, Word};
-use nx_sync::{Change, Role, Step, StepTaker};
+use nx_sync::{Change, Role, Step, Synchroniser};
 use std::marker::Model;
 
 /// Takes what the elements bring, and shows their locks.
@@ -188,26 +193,121 @@ impl LockTaker {
     }
 }
 
-impl StepTaker for LockTaker {
-    ghost use Rattle.nx_locks.specs.private.Taker.{HasRoom, Hears};
-    ghost use Rattle.nx_locks.specs.private.TakerLaws.{hears_both, hears_none, room_for_fewer};
-
-    // Nothing is ever over: the next lock is shown as this one is.
-    type Over = ();
-
-    ghost can_take = { HasRoom };
-
-    ghost hears = { Hears };
-
-    #[inline(always)]
-    fn take(&mut self, count: usize, step: Step) -> Option<()> {
-        self.elements = self.elements.saturating_add(count as u64);
-        self.show(step);
-        None
+impl LockTaker {
+    /// Hears packed elements by this synchroniser, and shows their locks. Never inlined: its loop
+    /// has the registers to itself.
+    #[inline(never)]
+    pub(crate) fn hear(&mut self, synchroniser: &mut Synchroniser, numbers: &[u64], count: usize)
+        requires part { count ≤ packed_elements * length numbers.now }
+        requires room { HasRoom self.old count }
+        ensures { Hears synchroniser.old self.old (packed_part numbers.now 0 count)
+            synchroniser.new self.new }
+    {
+        let mut heard = 0;
+        while heard < count {
+            heard += self.hear_some(synchroniser, numbers, heard, count - heard);
+        }
     }
 
+    /// Hears some of these elements, so many from a place on, and says how many. In a lock these
+    /// are words at once, where some lie ahead that bring no change, and surely no header begins or
+    /// ends with any of them.
     #[inline(always)]
-    fn take_words(&mut self, words: &[Word]) -> bool {
+    fn hear_some(
+        &mut self,
+        synchroniser: &mut Synchroniser,
+        numbers: &[u64],
+        from: usize,
+        count: usize,
+    ) -> usize
+        requires some { 0 < count }
+        requires part { HasPart numbers.now from count }
+        requires room { HasRoom self.old count }
+        ensures { HearsPart synchroniser.old self.old numbers.now from count synchroniser.new
+            self.new result }
+    {
+        if !synchroniser.is_locked() {
+            return self.hunt(synchroniser, numbers, from, count);
+        }
+        let (many, eight) = synchroniser.words_ahead(numbers, from, count);
+        if many == 0 {
+            return self.hear_word(synchroniser, numbers, from, count);
+        }
+        let words = &eight[..many];
+        if !self.take_words(words) {
+            return self.hear_word(synchroniser, numbers, from, count);
+        }
+        synchroniser.accept(words);
+        ELEMENTS * many
+    }
+
+    /// Hunts through elements: hears those up to and with the one that locks, all where none does.
+    fn hunt(
+        &mut self,
+        synchroniser: &mut Synchroniser,
+        numbers: &[u64],
+        from: usize,
+        count: usize,
+    ) -> usize
+        requires hunting { IsTrue (is_hunting synchroniser.old) }
+        requires some { 0 < count }
+        requires part { HasPart numbers.now from count }
+        requires room { HasRoom self.old count }
+        ensures { HearsPart synchroniser.old self.old numbers.now from count synchroniser.new
+            self.new result }
+    {
+        let (heard, step) = synchroniser.seek(numbers, from, count);
+        self.take(heard, step);
+        heard
+    }
+
+    /// Hears the next elements up to the end of a word of the lock. Never inlined, so that a loop
+    /// over words at once has the registers to itself.
+    #[inline(never)]
+    fn hear_word(
+        &mut self,
+        synchroniser: &mut Synchroniser,
+        numbers: &[u64],
+        from: usize,
+        count: usize,
+    ) -> usize
+        requires locked { is_hunting synchroniser.old ≡ false }
+        requires some { 0 < count }
+        requires part { HasPart numbers.now from count }
+        requires room { HasRoom self.old count }
+        ensures { HearsPart synchroniser.old self.old numbers.now from count synchroniser.new
+            self.new result }
+    {
+        let (heard, step) = synchroniser.push_part(numbers, from, count);
+        self.take(heard, step);
+        heard
+    }
+
+    /// Takes what so many elements bring: the last one this step, and those before it nothing.
+    #[inline(always)]
+    fn take(&mut self, count: usize, step: Step)
+        requires some { 0 < count }
+        requires room { HasRoom self.old count }
+        ensures few { length self.new.shown ≤ length self.old.shown + 113 * count }
+        ensures hears { (old new : Held) (bits : List Bool) → length bits ≡ count
+            → BringsStep old new bits step → Hears old self.old bits new self.new }
+    {
+        self.elements = self.elements.saturating_add(count as u64);
+        self.show(step);
+    }
+
+    /// Takes words of a lock that bring no change, DX and RX by turns, at once, where surely no
+    /// header begins or ends with any of them: `true` where it did. Else nothing changed.
+    #[inline(always)]
+    fn take_words(&mut self, words: &[Word]) -> bool
+        requires pairs { ArePairs words.now }
+        requires room { HasRoom self.old (word_elements * length words.now) }
+        ensures few { length self.new.shown
+            ≤ length self.old.shown + 113 * (word_elements * length words.now) }
+        ensures hears { IsTrue result → (old new : Held) → BringsWords old new words.now
+            → Hears old self.old (flat_map elements words.now) new self.new }
+        ensures same { result ≡ false → self.new ≡ self.old }
+    {
         if !self.reader.hear_words(words, &mut self.shown) {
             return false;
         }
@@ -215,16 +315,4 @@ impl StepTaker for LockTaker {
         self.elements = self.elements.saturating_add(elements);
         true
     }
-
-    // A word that may begin or end a header is taken alone.
-    fn take_pairs(&mut self, _words: &[Word]) -> (usize, Option<()>) {
-        (0, None)
-    }
-
-    ghost none = { λ held taker. hears_none held taker };
-
-    ghost both = { λ old mid new first between last xs ys over one rest.
-        hears_both old mid new first between last xs ys over one rest };
-
-    ghost fewer = { λ taker n more room. room_for_fewer taker n more room };
 }

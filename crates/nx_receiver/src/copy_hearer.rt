@@ -112,8 +112,8 @@ impl CopyHearer {
         ensures tag { TagGoesOn self.old self.new }
     {
         let left = packed.len() - from;
-        self.synchroniser
-            .hear(&mut self.taker, packed.numbers(), from, left)
+        self.taker
+            .hear(&mut self.synchroniser, packed.numbers(), from, left)
     }
 
     /// The copy that can be taken, where one can. Where the lock is over with it, the lock has

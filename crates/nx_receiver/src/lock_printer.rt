@@ -6,7 +6,7 @@ ghost use Rattle.std.specs.Option.{option_to_list};
 ghost use Rattle.nx_receiver.specs.LockPrinter.{HasPrintedWords, PrintsLock};
 ghost use Rattle.nx_receiver.specs.copies.LockText.{AreNext};
 ghost use Rattle.nx_sync.specs.Words.{role_of};
-ghost use Rattle.nx_sync.specs.Taking.{ArePairs};
+ghost use Rattle.nx_sync.specs.Ahead.{ArePairs};
 ghost use Rattle.nx_sync.specs.declared.step.Role.{Role};
 ghost use Rattle.nx_sync.specs.declared.step.Role.TheVariants.{Dx as DxRole};
 

@@ -3,7 +3,7 @@
 //! not inlined, so that no loop over words has a place for a text of 4,100.
 
 ghost use Rattle.std.specs.Prelude.{◌≡◌, ◌↔◌, ◌+◌, ◌%◌, ◌<◌, ◌≤◌, ℕ, false, [], ◌∷◌, length, take, IsNone, IsTrue, MatchOption};
-ghost use Rattle.nx_sync.specs.Taking.{ArePairs};
+ghost use Rattle.nx_sync.specs.Ahead.{ArePairs};
 ghost use Rattle.nx_sync.specs.Words.{role_of};
 ghost use Rattle.nx_sync.specs.declared.step.Role.{Role};
 ghost use Rattle.nx_envelope.specs.Copies.{Copy};

@@ -5,4 +5,4 @@ pub mod Steps
 pub mod Laws
 pub mod Windows
 pub mod Synchroniser
-pub mod Taking
+pub mod Ahead

@@ -3,4 +3,3 @@ pub mod Windows
 pub mod Calls
 pub mod Eight
 pub mod MarkBits
-pub mod Taking

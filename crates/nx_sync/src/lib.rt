@@ -2,13 +2,13 @@
 //! the words and their roles from the phasing, and says when a lock is over.
 #![tactic(auto)]
 
+mod ahead;
 pub mod laws;
 mod mark_bits;
 mod packed;
 mod phasing;
 mod step;
 mod synchroniser;
-mod taking;
 mod track;
 mod windows;
 mod windows_after;
@@ -16,6 +16,5 @@ mod word_synchroniser;
 
 pub use step::{Change, Role, Step};
 pub use synchroniser::Synchroniser;
-pub use taking::StepTaker;
 pub use windows::first_lock;
 pub use word_synchroniser::WordSynchroniser;

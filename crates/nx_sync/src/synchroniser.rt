@@ -10,8 +10,7 @@ ghost use Rattle.nx_sync.specs.Locks.{pattern_elements};
 ghost use Rattle.nx_sync.specs.Steps.{step, LockStands, LimitStands, IsStep, HuntsThrough, IsWordStep};
 ghost use Rattle.nx_sync.specs.private.Windows as spec;
 ghost use Rattle.nx_sync.specs.private.Calls.{heard_one, track_from, BeginsLock, Fills, Completes, Passes, Skips, SkipsSome, SkipsEarly};
-ghost use Rattle.nx_sync.specs.Taking.{BringsStep};
-ghost use Rattle.nx_sync.specs.private.Taking.{HasPart};
+ghost use Rattle.nx_sync.specs.Ahead.{BringsStep, HasPart};
 ghost use Rattle.nx_sync.specs.Synchroniser.{StandsAfter, is_hunting, is_between_words};
 
 use crate::mark_bits::Marks;
@@ -273,11 +272,11 @@ impl Synchroniser {
         step
     }
 
-    /// Hears the next of these packed elements up to the end of the word in which they stand, all
-    /// where they are fewer: what as many pushes do. Says how many those are, and what the last one
-    /// brings; those before it bring nothing.
+    /// Hears packed elements of a lock, so many from a place on, up to the end of the word in which
+    /// they stand, all where they are fewer: what as many pushes do. Says how many those are, and
+    /// what the last one brings; those before it bring nothing.
     #[inline(always)]
-    fn push_part_here(&mut self, numbers: &[u64], from: usize, count: usize) -> (usize, Step)
+    pub fn push_part(&mut self, numbers: &[u64], from: usize, count: usize) -> (usize, Step)
         requires locked { is_hunting self.old ≡ false }
         requires some { 0 < count }
         requires room { from + count ≤ packed_elements * length numbers.now }
@@ -294,43 +293,6 @@ impl Synchroniser {
         self.recent = window_after_few(self.recent, number, heard);
         let filled = track.filled + (heard - 1) as u8;
         (heard, self.follow(Track { filled, ..track }))
-    }
-
-    /// The same by a call, so that a loop over whole words has the registers to itself.
-    #[inline(never)]
-    fn push_part_apart(&mut self, numbers: &[u64], from: usize, count: usize) -> (usize, Step)
-        requires locked { is_hunting self.old ≡ false }
-        requires some { 0 < count }
-        requires room { from + count ≤ packed_elements * length numbers.now }
-        ensures within { result.0 ≤ count }
-        ensures some { 0 < result.0 }
-        ensures brings { BringsStep self.old self.new (packed_part numbers.now from result.0)
-            result.1 }
-    {
-        self.push_part_here(numbers, from, count)
-    }
-
-    /// The same, by a call where that is said.
-    #[inline(always)]
-    pub(crate) fn push_part(
-        &mut self,
-        numbers: &[u64],
-        from: usize,
-        count: usize,
-        is_apart: bool,
-    ) -> (usize, Step)
-        requires locked { is_hunting self.old ≡ false }
-        requires some { 0 < count }
-        requires room { from + count ≤ packed_elements * length numbers.now }
-        ensures within { result.0 ≤ count }
-        ensures some { 0 < result.0 }
-        ensures brings { BringsStep self.old self.new (packed_part numbers.now from result.0)
-            result.1 }
-    {
-        if is_apart {
-            return self.push_part_apart(numbers, from, count);
-        }
-        self.push_part_here(numbers, from, count)
     }
 
     /// Hears the packed elements that come too early to be the last of 28, and says how many.

@@ -11,7 +11,7 @@ ghost use Rattle.nx_sync.specs.Steps.{IsWordStep, AreQuietWords};
 ghost use Rattle.nx_sync.specs.private.Calls.{fills_dx, held_at_words};
 ghost use Rattle.nx_sync.specs.Synchroniser as held;
 ghost use Rattle.nx_sync.specs.Synchroniser.{StandsAfter, is_between_words, keeps_lock};
-ghost use Rattle.nx_sync.specs.Taking.{ArePairs};
+ghost use Rattle.nx_sync.specs.Ahead.{ArePairs};
 
 use crate::mark_bits::Marks;
 use crate::phasing::PHASING_1;

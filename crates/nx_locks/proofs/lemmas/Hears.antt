@@ -12,7 +12,7 @@ use Rattle.nx_sync.specs.Laws.{OneMore, still_hunts, now_finds, still_stands, no
 use Rattle.nx_sync.specs.Locks.{Lock, Now, hunting, locked, IsNow, Past}
 use Rattle.nx_sync.specs.Steps.{Brings, found, word, inside, over, hunts, IsStep, step}
 use Rattle.nx_sync.specs.Synchroniser.{Held}
-use Rattle.nx_sync.specs.Taking.{BringsStep}
+use Rattle.nx_sync.specs.Ahead.{BringsStep}
 use Rattle.nx_sync.specs.Words.{heard_word, whole_words}
 use Rattle.nx_sync.specs.declared.step.Change.{Change}
 use Rattle.nx_sync.specs.declared.step.Change.TheVariants.{Locked}
@@ -240,11 +240,10 @@ pub step_taken : (old new : Taking) (before after : Held) (count : ℕ) (bits : 
     → 0 < length bits → BringsStep before after bits r
     → count ≡ min (old.elements + length bits) (2 ^ 64 - 1)
     → ShowsStep (record old { elements = count }) new r → new.moment ≡ old.moment
-    → Hears before old bits after new None
+    → Hears before old bits after new
 step_taken old new before after count bits r some brings counted ss kept = record {
   stands = brings.stands;
   moment = kept;
-  none = refl;
   shows = λ h moments given stands w few.
       let n = length bits - 1 in
       let x = get_or bits n false in

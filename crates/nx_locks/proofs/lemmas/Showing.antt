@@ -1,8 +1,7 @@
 -- What is shown of elements that a synchroniser heard for its taker, and of their end.
-use Rattle.std.proofs.Common.{◌≡◌, ℕ, ◌-◌, Bool, true, false, List, [], ◌++◌, length, take, Option}
+use Rattle.std.proofs.Common.{◌≡◌, ℕ, ◌-◌, Bool, true, false, List, [], ◌++◌, length, take}
 use Rattle.std.proofs.Common.{refl, sym, ap, ◌∙◌, subst, arith}
 use Rattle.std.specs.Prelude.{◌↔◌, IsTrue}
-use Rattle.std.proofs.lemmas.List.{take_all}
 use Rattle.nx_code.specs.Packed.{elements_of_numbers, packed_part}
 use Rattle.nx_sync.specs.Steps.{LockStands}
 use Rattle.nx_sync.specs.Synchroniser.{Held, StandsAfter}
@@ -17,25 +16,23 @@ abbrev showing : Held → Taking → Bool → Showing
 showing held taker has_moment =
     record { synchroniser = held; taker = taker; has_moment = has_moment }
 
--- elements that are packed in these numbers, all of which were heard
-pub heard_all : (bits : List Bool) (numbers : List ℕ) (count heard : ℕ)
-    → bits ≡ take (length bits) (elements_of_numbers numbers) → count ≡ length bits → heard ≡ count
-    → take heard (packed_part numbers 0 count) ≡ bits
-heard_all bits numbers count heard is counted all =
+-- elements that are packed in these numbers
+pub all_packed : (bits : List Bool) (numbers : List ℕ) (count : ℕ)
+    → bits ≡ take (length bits) (elements_of_numbers numbers) → count ≡ length bits
+    → packed_part numbers 0 count ≡ bits
+all_packed bits numbers count is counted =
     let many : count ≡ length bits - 0 = omega (arith, counted) in
-    let whole : packed_part numbers 0 count ≡ bits =
-    ap (packed_part numbers 0) many ∙ all_is bits numbers 0 is (omega arith) in
-    ap (take heard) whole ∙ take_all heard bits (omega (arith, counted, all))
+    ap (packed_part numbers 0) many ∙ all_is bits numbers 0 is (omega arith)
 
 -- what a synchroniser hears for its taker is shown, where the taker was cleared before
 pub hears_all : (before after : Held) (old cleared new : Taking) (has_moment : Bool)
-    (heard bits : List Bool) (over : Option (Unit {0})) → cleared ≡ record old { shown = [] }
-    → heard ≡ bits → Hears before cleared heard after new over
+    (heard bits : List Bool) → cleared ≡ record old { shown = [] } → heard ≡ bits
+    → Hears before cleared heard after new
     → HearsAll (showing before old has_moment) (showing after new has_moment) bits
-hears_all before after old cleared new has_moment heard bits over clear all h =
-    let hears : Hears before (record old { shown = [] }) bits after new over =
-    subst (λ xs. Hears before (record old { shown = [] }) xs after new over) all
-    (subst (λ t. Hears before t heard after new over) clear h) in
+hears_all before after old cleared new has_moment heard bits clear all h =
+    let hears : Hears before (record old { shown = [] }) bits after new =
+    subst (λ xs. Hears before (record old { shown = [] }) xs after new) all
+    (subst (λ t. Hears before t heard after new) clear h) in
     record {
       moment = hears.moment;
       has_moment = refl;

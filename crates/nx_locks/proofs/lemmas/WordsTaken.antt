@@ -1,6 +1,6 @@
 -- Words of a lock that are heard at once, where none of them brings a change.
 use Rattle.std.proofs.Common.{◌≡◌, ℕ, ◌+◌, ◌-◌, ◌*◌, ◌^◌, ◌<◌, Bool, List, [], ◌∷◌, ◌++◌}
-use Rattle.std.proofs.Common.{length, None, refl, sym, subst, arith}
+use Rattle.std.proofs.Common.{length, refl, sym, subst, arith}
 use Rattle.std.proofs.Common.{length-append}
 use Rattle.std.specs.Prelude.{min}
 use Rattle.std.specs.List.{flat_map}
@@ -8,7 +8,7 @@ use Rattle.std.proofs.lemmas.List.{length-map}
 use Rattle.nx_code.specs.Word.{elements}
 use Rattle.nx_sync.specs.Locks.{locked, IsNow}
 use Rattle.nx_sync.specs.Synchroniser.{Held}
-use Rattle.nx_sync.specs.Taking.{BringsWords}
+use Rattle.nx_sync.specs.Ahead.{BringsWords}
 use Rattle.nx_sync.specs.Words.{first_role, word_of_lock}
 use Rattle.nx_sync.specs.declared.step.Role.TheVariants.{Dx}
 use Rattle.nx_code.proofs.lemmas.Packed.{length-elements}
@@ -40,11 +40,10 @@ pub words_taken : (old : Taking) (before after : Held) (count : ℕ) (reader : R
     → count ≡ min (old.elements + 7 * length heard) (2 ^ 64 - 1)
     → ShowsWords old.reader reader Dx heard old.shown shown
     → Hears before old (flat_map elements heard) after
-    (record old { reader = reader; elements = count; shown = shown }) None
+    (record old { reader = reader; elements = count; shown = shown })
 words_taken old before after count reader heard shown some brings counted shows = record {
   stands = brings.stands;
   moment = refl;
-  none = refl;
   shows = λ bits moments given stands w few.
       let s = w.shows in
       let xs = flat_map elements heard in

@@ -1,12 +1,12 @@
--- The laws of a taker that shows locks: no elements bring nothing, elements after others bring what
--- both do, and room for more is room for fewer.
-use Rattle.std.specs.Prelude.{◌≡◌, ℕ, ◌+◌, Bool, List, [], ◌++◌, length, Option, None}
+-- The laws of a taker that shows locks: no elements bring nothing, and elements after others bring
+-- what both do.
+use Rattle.std.specs.Prelude.{◌≡◌, ℕ, Bool, List, [], ◌++◌, length}
 use Rattle.std.proofs.Common.{refl, sym, ap, ◌∙◌, subst, subst₂, arith, append_assoc, append-nil}
 use Rattle.std.proofs.Common.{length-append}
 use Rattle.std.proofs.lemmas.List.{map-append}
 use Rattle.nx_sync.specs.Synchroniser.{Held, StandsAfter}
 use Rattle.nx_locks.specs.private.Reader.{Reading}
-use Rattle.nx_locks.specs.private.Taker.{HasRoom, Hears, Shows, TakerShows, Taking, all_at}
+use Rattle.nx_locks.specs.private.Taker.{Hears, Shows, TakerShows, Taking, all_at}
 
 pub all_at-nil : (moment : ℕ) → all_at moment [] ≡ []
 unfolding all_at
@@ -47,7 +47,7 @@ nothing_heard reader began copies bits moments m given s =
     subst₂ (λ (x : List Bool) (y : List ℕ). Shows reader began copies x y given)
     (sym (append-nil bits)) (sym (ap (λ l. moments ++ l) (all_at-nil m) ∙ append-nil moments)) s
 
-pub hears_none : (held : Held) (taker : Taking) → Hears held taker [] held taker None
+pub hears_none : (held : Held) (taker : Taking) → Hears held taker [] held taker
 hears_none held taker = record {
   stands = λ bits s. subst (StandsAfter held) (sym (append-nil bits)) s;
   shows = λ bits moments given s w few. record {
@@ -62,13 +62,12 @@ hears_none held taker = record {
         });
   };
   moment = refl;
-  none = refl;
 }
 
 pub hears_both : (old mid new : Held) (first between last : Taking) (xs ys : List Bool)
-    (over : Option (Unit {0})) → Hears old first xs mid between None
-    → Hears mid between ys new last over → Hears old first (xs ++ ys) new last over
-hears_both old mid new first between last xs ys over one rest = record {
+    → Hears old first xs mid between → Hears mid between ys new last
+    → Hears old first (xs ++ ys) new last
+hears_both old mid new first between last xs ys one rest = record {
   stands = λ bits s. subst (StandsAfter new) (append_assoc bits xs ys)
       (rest.stands (bits ++ xs) (one.stands bits s));
   shows = λ bits moments given s w few.
@@ -87,8 +86,4 @@ hears_both old mid new first between last xs ys over one rest = record {
             (append_assoc given f.more g.more) g.shows;
       };
   moment = rest.moment ∙ one.moment;
-  none = rest.none;
 }
-
-pub room_for_fewer : (taker : Taking) (n more : ℕ) → HasRoom taker (n + more) → HasRoom taker n
-room_for_fewer taker n more room = omega (arith, room)

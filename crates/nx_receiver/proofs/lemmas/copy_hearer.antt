@@ -2,6 +2,7 @@
 pub mod Bits
 pub mod Hears
 pub mod Packed
+pub mod Parts
 pub mod PlainPairs
 pub mod PlainWords
 pub mod Takes

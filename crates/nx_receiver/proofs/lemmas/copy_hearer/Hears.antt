@@ -6,7 +6,7 @@ use Rattle.std.proofs.lemmas.List.{take_more, take_all}
 use Rattle.nx_sync.specs.Locks.{Past, hunting}
 use Rattle.nx_sync.specs.Steps.{IsLastStep, IsStep, step}
 use Rattle.nx_sync.specs.Synchroniser.{Held, StandsAfter}
-use Rattle.nx_sync.specs.Taking.{BringsStep}
+use Rattle.nx_sync.specs.Ahead.{BringsStep}
 use Rattle.nx_sync.specs.declared.step.Role.{Role}
 use Rattle.nx_sync.specs.declared.step.Step.{Step}
 use Rattle.nx_receiver.specs.declared.copy_taker.CopyTaker.{CopyTaker}

@@ -12,7 +12,7 @@ use Rattle.nx_sync.specs.Locks.{Lock, Now, hunting, locked, IsNow}
 use Rattle.nx_sync.specs.Steps.{AreQuietWords, LimitStands, Brings, found, word, inside, over}
 use Rattle.nx_sync.specs.Steps.{hunts, IsStep, IsWordStep, step}
 use Rattle.nx_sync.specs.Synchroniser.{Held}
-use Rattle.nx_sync.specs.Taking.{BringsWords}
+use Rattle.nx_sync.specs.Ahead.{BringsWords}
 use Rattle.nx_sync.specs.Words.{word_of_lock, first_role, heard_word, other_role, role_of}
 use Rattle.nx_sync.specs.Words.{whole_words}
 use Rattle.nx_sync.specs.declared.step.Role.{Role}

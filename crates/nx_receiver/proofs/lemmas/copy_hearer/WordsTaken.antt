@@ -10,11 +10,11 @@ use Rattle.nx_code.specs.Word.{elements}
 use Rattle.nx_code.proofs.lemmas.Packed.{length-elements}
 use Rattle.nx_sync.specs.Steps.{AreQuietWords, IsWordStep, step}
 use Rattle.nx_sync.specs.Synchroniser.{Held, StandsAfter}
-use Rattle.nx_sync.specs.Taking.{BringsWords}
+use Rattle.nx_sync.specs.Ahead.{BringsWords}
 use Rattle.nx_sync.specs.Words.{other_role, role_of}
 use Rattle.nx_sync.specs.declared.step.Role.{Role}
 use Rattle.nx_sync.specs.declared.step.Role.TheVariants.{Dx, Rx}
-use Rattle.nx_sync.proofs.lemmas.words.TakenSteps.{word_last}
+use Rattle.nx_sync.proofs.lemmas.words.LastSteps.{word_last}
 use Rattle.nx_envelope.specs.Finder.{is_over}
 use Rattle.nx_envelope.specs.declared.found.TextEvent.{TextEvent}
 use Rattle.nx_receiver.specs.declared.copy_taker.CopyTaker.{CopyTaker}

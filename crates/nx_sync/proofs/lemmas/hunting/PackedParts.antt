@@ -1,8 +1,9 @@
 -- Parts of packed elements that are parts of others, or stand in one number.
 use Rattle.std.proofs.Common.{◌≡◌, ℕ, ◌+◌, ◌-◌, ◌*◌, ◌/◌, ◌%◌, ◌^◌, ◌<◌, ◌≤◌, List, length, take}
-use Rattle.std.proofs.Common.{drop, get_or, Bool, sym, ap, ◌∙◌, arith, length-drop, length-take}
+use Rattle.std.proofs.Common.{◌++◌, drop, get_or, Bool, sym, ap, ◌∙◌, arith, length-drop, length-take}
 use Rattle.std.proofs.Common.{drop-drop, take-take}
 use Rattle.std.proofs.lemmas.List.{drop-take}
+use lib.Seq.{take-add}
 use Rattle.nx_code.specs.Word.{elements_from}
 use Rattle.nx_code.specs.Packed.{elements_of_numbers, packed_part}
 use Rattle.nx_code.proofs.lemmas.Packed.{length-numbers, part_here}
@@ -47,3 +48,11 @@ whole_number ws first count at room h =
 pub length-part : (ws : List ℕ) (from count : ℕ) → from + count ≤ 64 * length ws
     → length (packed_part ws from count) ≡ count
 length-part ws from count h = simp (length-take, length-drop) (omega (arith, length-numbers ws))
+
+-- the elements of a part, and those behind it
+pub more_parts : (ws : List ℕ) (from n more : ℕ)
+    → packed_part ws from (n + more) ≡ packed_part ws from n ++ packed_part ws (from + n) more
+more_parts ws from n more =
+    let bits : List Bool = drop from (elements_of_numbers ws) in
+    take-add n more bits
+    ∙ ap (λ l. take n bits ++ take more l) (drop-drop n from (elements_of_numbers ws))

@@ -9,7 +9,7 @@ use Rattle.nx_sync.specs.declared.track.Track.{Track}
 use Rattle.nx_sync.specs.private.Windows.{window_after}
 use Rattle.nx_sync.specs.Steps.{step, IsStep}
 use Rattle.nx_sync.specs.Synchroniser.{Held, StandsAfter}
-use Rattle.nx_sync.specs.Taking.{BringsStep}
+use Rattle.nx_sync.specs.Ahead.{BringsStep}
 use Rattle.nx_sync.specs.private.Calls.{heard_one}
 use Rattle.nx_sync.proofs.lemmas.states.Hearing.{window_after-append, window_after-one}
 use Rattle.nx_sync.proofs.lemmas.states.Pushes.{Followed, IsGood, push_locked}

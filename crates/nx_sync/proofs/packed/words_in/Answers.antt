@@ -1,7 +1,7 @@
 use Rattle.std.proofs.Common.{◌≡◌, ◌≤◌, ◌*◌, ◌^◌, ◌∙◌, ℕ, List, take, length, ap, arith, rules}
 use Rattle.std.proofs.Math.Nat.{pow-le-pow_right}
 use Rattle.nx_code.proofs.lemmas.Packed.{elements_from-take}
-use Rattle.nx_sync.proofs.lemmas.words.TakenSteps.{first_words}
+use Rattle.nx_sync.proofs.lemmas.words.LastSteps.{first_words}
 use Rattle.nx_sync.proofs.packed.words_in.Goals as goal
 
 pub words_of-requires : goal.words_of-requires

@@ -1,6 +1,6 @@
-use Rattle.std.proofs.Common.{◌≡◌, take}
+use Rattle.std.proofs.Common.{◌≡◌}
 use Rattle.nx_code.specs.Packed.{packed_part}
-use Rattle.nx_locks.proofs.lemmas.Showing.{heard_all, hears_all}
+use Rattle.nx_locks.proofs.lemmas.Showing.{all_packed, hears_all}
 use Rattle.nx_locks.proofs.report_writer.ReportWriter.hear.Goals as goal
 
 pub returns : goal.returns
@@ -8,11 +8,9 @@ returns c = rw (← c.self.view_is) (record {
   hears =
       let i = c.self.inside in
       let all = c.args.elements.now in
-      let heard = c.hear.ensures.taken.taken in
       let numbers = c.numbers.result.now in
-      let bits : take c.hear.result.0 (packed_part numbers 0 c.len.result) ≡ all =
-      heard_all all numbers c.len.result c.hear.result.0 c.numbers.ensures.elements
-      c.len.ensures.count (c.hear.ensures.all heard.none) in
-      hears_all i.synchroniser c.hear.new.self i.taker c.clear.new.self c.hear.new.taker
-      i.has_moment _ all c.hear.result.1 c.clear.ensures bits heard;
+      let bits : packed_part numbers 0 c.len.result ≡ all =
+      all_packed all numbers c.len.result c.numbers.ensures.elements c.len.ensures.count in
+      hears_all i.synchroniser c.hear.new.synchroniser i.taker c.clear.new.self c.hear.new.self
+      i.has_moment _ all c.clear.ensures bits c.hear.ensures;
 })

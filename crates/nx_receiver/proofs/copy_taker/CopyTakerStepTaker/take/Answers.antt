@@ -1,8 +1,0 @@
-use Rattle.std.proofs.Common.{arith}
-use Rattle.nx_receiver.proofs.lemmas.copy_hearer.Hears.{step_taken}
-use Rattle.nx_receiver.proofs.copy_taker.CopyTakerStepTaker.take.Goals as goal
-
-pub returns-clause-hears : goal.returns-clause-hears
-returns-clause-hears c = λ old new bits size brings.
-    step_taken c.args.self.now c.read.new.self old new bits c.args.step c.read.result
-    (omega (arith, size, c.requires.some)) c.read.ensures brings
