@@ -50,7 +50,7 @@ enum nx_live_status {
  * memory of the whole module lies in the room, its stack too; all is then compiled with
  * -DNX_LIVE_BY_WASM2C. */
 #ifdef NX_LIVE_BY_WASM2C
-#define NX_LIVE_ROOM 304320
+#define NX_LIVE_ROOM 305152
 #else
 #define NX_LIVE_ROOM 26584
 #endif
