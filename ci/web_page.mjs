@@ -54,10 +54,25 @@ const press = (selector) => browser.value(`document.querySelector(${JSON.stringi
 const began = (text) => browser.value(`document.getElementById('began').value = '${text}'`);
 const forgetFaults = () => browser.value("document.querySelectorAll('.fault button').forEach((one) => one.click())");
 
-/** Opens a file by the page's dialog, and waits until it was heard. */
-async function hear(file) {
+const choose = (file) => browser.giveFiles('#file', file);
+
+/** Drops a file on the page. */
+async function drop(file) {
+    const [x, y] = await browser.value(`(() => {
+        document.getElementById('drop').scrollIntoView();
+        const place = document.getElementById('drop').getBoundingClientRect();
+        return [place.left + place.width / 2, place.top + place.height / 2];
+    })()`);
+    const data = { items: [], files: [file], dragOperationsMask: 1 };
+    for (const type of ['dragEnter', 'dragOver', 'drop']) {
+        await browser.call('Input.dispatchDragEvent', { type, x, y, data });
+    }
+}
+
+/** Opens a file, by the page's dialog or by a drop, and waits until it was heard. */
+async function hear(file, open = choose) {
     await browser.value("document.getElementById('source').textContent = ''");
-    await browser.giveFiles('#file', file);
+    await open(file);
     await browser.until("document.getElementById('source').textContent.startsWith('Heard')");
 }
 
@@ -102,7 +117,7 @@ async function triesRecording() {
     const [, first] = example('two-messages.air').split(/^T .*\n/m);
     writeFileSync(`${room}/two-messages.wav`, waveOf(first, 1437));
     await began('2025-01-05 00:40');
-    await hear(`${room}/two-messages.wav`);
+    await hear(`${room}/two-messages.wav`, drop);
     const shown = await titles();
     assert.equal(shown.length, 4);
     assert.match(shown[0], /EB02: station E, B meteorological warning, number 02$/);
@@ -135,25 +150,32 @@ async function triesFaults() {
     writeFileSync(`${room}/note.txt`, 'Buoy 7 is unlit\n');
     writeFileSync(`${room}/noise.bin`, Buffer.from(Array.from({ length: 5000 }, (_, at) => (at * at) % 251)));
     writeFileSync(`${room}/empty.wav`, '');
-    await expectFault(/neither an air file nor a log/, () => browser.giveFiles('#file', `${room}/note.txt`));
-    await expectFault(/no sound that the browser can decode/, () => browser.giveFiles('#file', `${room}/noise.bin`));
-    await expectFault(/file is empty/, () => browser.giveFiles('#file', `${room}/empty.wav`));
+    await expectFault(/neither an air file nor a log/, () => choose(`${room}/note.txt`));
+    await expectFault(/no sound that the browser can decode/, () => drop(`${room}/noise.bin`));
+    await expectFault(/file is empty/, () => choose(`${room}/empty.wav`));
     await began('yesterday');
-    await expectFault(/has to be a time of UTC/, () => browser.giveFiles('#file', path('ea01.air')));
+    await expectFault(/has to be a time of UTC/, () => choose(path('ea01.air')));
     await began('');
     await expectFault(/^Another window of this page/, () => browser.value(
         "window.dispatchEvent(new StorageEvent('storage', { key: 'navtex.received' }))"));
     await expectFault(/has no message/, () => browser.giveFiles('#load-log', `${room}/note.txt`));
 }
 
+/** The text of a file that the page offers where a button is pressed. */
+async function saved(button, name) {
+    await press(button);
+    for (let tried = 0; tried < 50 && !existsSync(`${room}/${name}`); tried++) await pause(100);
+    return readFileSync(`${room}/${name}`, 'latin1');
+}
+
 /** The log as a file, and what another page that takes it remembers. */
 async function triesLogs() {
     await browser.send('Browser.setDownloadBehavior', { behavior: 'allow', downloadPath: room });
     const count = (await titles()).length;
-    await press('#save-log');
-    for (let tried = 0; tried < 50 && !existsSync(`${room}/navtex.log`); tried++) await pause(100);
-    const log = readFileSync(`${room}/navtex.log`, 'latin1');
-    assert.ok(log.startsWith(example('heard-badly.log')));
+    assert.ok((await saved('#save-log', 'navtex.log')).startsWith(example('heard-badly.log')));
+    const lines = (await saved('#save-json', 'navtex.json')).split('\n').slice(0, -1).map(JSON.parse);
+    assert.equal(lines.length, count);
+    assert.equal(lines[1].text, 'ABCDEFGHIJKLMNOPQRSTUVWX\n');
     await browser.value('window.confirm = () => true');
     await press('#anew');
     await browser.until("document.querySelectorAll('#list li').length === 0");
@@ -236,6 +258,38 @@ async function triesNoLeave() {
     await expectFault(/no leave to use the microphone/, () => press('#microphone'));
 }
 
+/** Loads the page where a script ran before it, and goes on without that script. */
+async function loadWith(source, action) {
+    const { identifier } = await browser.call('Page.addScriptToEvaluateOnNewDocument', { source });
+    await browser.reload();
+    await action();
+    await browser.call('Page.removeScriptToEvaluateOnNewDocument', { identifier });
+}
+
+/** A browser that lacks what is needed, and a computer without a microphone. */
+async function triesLacking() {
+    const shown = async (words) => {
+        await browser.until("document.querySelector('.fault')");
+        assert.match((await faults())[0], words);
+    };
+    await loadWith('delete window.WebAssembly', () => shown(/lacks WebAssembly, without which there is no receiver/));
+    await loadWith('delete window.OfflineAudioContext', async () => {
+        await ready();
+        await expectFault(/can't decode sound/, () => drop(`${room}/two-messages.wav`));
+    });
+    await loadWith('delete window.AudioWorkletNode', async () => {
+        await ready();
+        await expectFault(/lacks what a microphone needs/, () => press('#microphone'));
+    });
+    await loadWith("Object.defineProperty(window, 'localStorage', { get() { throw new Error('none'); } })",
+        () => shown(/^This browser keeps nothing for this page/));
+    await loadWith("MediaDevices.prototype.getUserMedia = async () => { throw new DOMException('', 'NotFoundError'); }",
+        async () => {
+            await ready();
+            await expectFault(/^No microphone was found/, () => press('#microphone'));
+        });
+}
+
 async function keepPictures() {
     mkdirSync(pictures, { recursive: true });
     const keep = async (name, ...size) => writeFileSync(`${pictures}/${name}.png`, await browser.picture(...size));
@@ -268,6 +322,7 @@ try {
     await press('#stop');
     await browser.until("document.getElementById('source').textContent.startsWith('The microphone was stopped.')");
     await triesNoLeave();
+    await triesLacking();
     assert.deepEqual(browser.requests.filter((address) => address !== PAGE), []);
     await triesServer();
     assert.deepEqual(browser.errors, []);
