@@ -5,6 +5,7 @@ pub mod FoundCopies
 pub mod Growing
 pub mod Hears
 pub mod OneReport
+pub mod Pairs
 pub mod PlainWords
 pub mod ReaderWords
 pub mod Runs

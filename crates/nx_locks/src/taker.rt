@@ -1,12 +1,12 @@
 //! What takes what the elements bring, and shows their locks. What runs for each word is inlined
 //! always; what opens or closes a lock never is.
 
-ghost use Rattle.std.specs.Prelude.{◌≡◌, ◌+◌, ◌*◌, ◌<◌, ◌≤◌, List, Bool, false, [], ◌++◌, length, IsTrue};
+ghost use Rattle.std.specs.Prelude.{◌≡◌, ℕ, ◌+◌, ◌*◌, ◌<◌, ◌≤◌, List, Bool, false, [], ◌∷◌, ◌++◌, length, take, IsTrue};
 ghost use Rattle.std.specs.List.{flat_map};
 ghost use Rattle.nx_code.specs.Packed.{packed_elements, packed_part};
 ghost use Rattle.nx_code.specs.Word.{elements, word_elements};
 ghost use Rattle.nx_sync.specs.Ahead.{ArePairs, BringsStep, BringsWords, HasPart};
-ghost use Rattle.nx_sync.specs.Synchroniser.{Held, is_hunting};
+ghost use Rattle.nx_sync.specs.Synchroniser.{Held, is_hunting, keeps_lock};
 ghost use Rattle.nx_envelope.specs.Moment.{last_moment};
 ghost use Rattle.nx_locks.specs.ReportText.{last_line};
 ghost use Rattle.nx_locks.specs.private.Taker.{Closes, HasRoom, Hears, HearsPart, Opens, ReadsWord, ShowsStep, TakerShows};
@@ -230,15 +230,37 @@ impl LockTaker {
             return self.hunt(synchroniser, numbers, from, count);
         }
         let (many, eight) = synchroniser.words_ahead(numbers, from, count);
-        if many == 0 {
-            return self.hear_word(synchroniser, numbers, from, count);
+        // A number that the compiler knows, so that it makes a form for each.
+        match many {
+            8 => self.hear_words(synchroniser, &eight[..8]),
+            6 => self.hear_words(synchroniser, &eight[..6]),
+            2 => self.hear_words(synchroniser, &eight[..2]),
+            _ => self.hear_word(synchroniser, numbers, from, count),
         }
-        let words = &eight[..many];
-        if !self.take_words(words) {
-            return self.hear_word(synchroniser, numbers, from, count);
+    }
+
+    /// Hears the first of these words at once, which lie ahead and bring no change: all of them
+    /// where surely no header begins or ends with any, else the first two. Says how many elements
+    /// these are.
+    #[inline(always)]
+    fn hear_words(&mut self, synchroniser: &mut Synchroniser, words: &[Word]) -> usize
+        requires pairs { ArePairs words.now }
+        requires keeps { (n : ℕ) → 0 < n → n ≤ length words.now
+            → IsTrue (keeps_lock synchroniser.old (take n words.now)) }
+        requires room { HasRoom self.old (word_elements * length words.now) }
+        ensures within { result ≤ word_elements * length words.now }
+        ensures some { 0 < result }
+        ensures few { length self.new.shown ≤ length self.old.shown + 113 * result }
+        ensures hears { Hears synchroniser.old self.old
+            (take result (flat_map elements words.now)) synchroniser.new self.new }
+    {
+        if self.take_words(words) {
+            synchroniser.accept(words);
+            return ELEMENTS * words.len();
         }
-        synchroniser.accept(words);
-        ELEMENTS * many
+        self.take_pair(words[0], words[1]);
+        synchroniser.accept(&words[..2]);
+        ELEMENTS * 2
     }
 
     /// Hunts through elements: hears those up to and with the one that locks, all where none does.
@@ -294,6 +316,20 @@ impl LockTaker {
     {
         self.elements = self.elements.saturating_add(count as u64);
         self.show(step);
+    }
+
+    /// Takes two words of a lock that bring no change, a DX word and an RX word. Never inlined: few
+    /// words go this way, and a loop over words has the registers to itself.
+    #[inline(never)]
+    fn take_pair(&mut self, dx: Word, rx: Word)
+        requires room { HasRoom self.old 14 }
+        ensures few { length self.new.shown ≤ length self.old.shown + 113 * 14 }
+        ensures hears { (old new : Held) → BringsWords old new (dx ∷ rx ∷ [])
+            → Hears old self.old (flat_map elements (dx ∷ rx ∷ [])) new self.new }
+    {
+        self.elements = self.elements.saturating_add(2 * ELEMENTS as u64);
+        self.reader.hear_word(dx, Role::Dx, &mut self.shown);
+        self.reader.hear_word(rx, Role::Rx, &mut self.shown);
     }
 
     /// Takes words of a lock that bring no change, DX and RX by turns, at once, where surely no
