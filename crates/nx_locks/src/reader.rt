@@ -5,7 +5,8 @@
 ghost use Rattle.std.specs.Prelude.{◌≡◌, ◌+◌, ◌≤◌, ◌==◌, ◌++◌, ℕ, List, false, length, not, slice_index, take, if◌then◌else◌, IsTrue};
 ghost use Rattle.arrayvec.specs.ArrayVec.{array_vec_len};
 ghost use Rattle.nx_code.specs.Word.{is_wrong, wrong_in};
-ghost use Rattle.nx_envelope.specs.Finder.{StandsAfter};
+ghost use Rattle.nx_envelope.specs.Finder.{Hears};
+ghost use Rattle.nx_envelope.specs.declared.finder.Finder.{Finder};
 ghost use Rattle.nx_code.specs.Reading.{newline};
 ghost use Rattle.nx_locks.specs.private.Reader.{HearsWord, IsFresh, ShowsWord, ShowsWords, TakesByte, counted};
 ghost use Rattle.nx_receiver.specs.copies.Log.{is_of_lines};
@@ -14,17 +15,16 @@ ghost use Rattle.nx_sync.specs.declared.step.Role.TheVariants.{Dx as DxRole};
 
 use crate::report_text::{Shown, append_some};
 use nx_code::{NEWLINE, Word, check_bits};
-use nx_envelope::{Finder, TextEvent};
-use nx_receiver::LockPrinter;
+use nx_envelope::TextEvent;
+use nx_receiver::LockReader;
 use nx_sync::Role;
 use std::marker::Model;
 
 /// Reads the text of a lock, of which it is given one word after the other, and counts its words,
 /// those of the wrong weight, and the headers in the text.
 #[derive(Drop)]
-pub(crate) struct LockReader {
-    printer: LockPrinter,
-    finder: Finder,
+pub(crate) struct CountingReader {
+    reader: LockReader,
     words: u64,
     wrong: u64,
     copies: u64,
@@ -32,15 +32,13 @@ pub(crate) struct LockReader {
     is_line_open: bool,
 }
 
-impl Model for LockReader {
+impl Model for CountingReader {
     ghost use Rattle.nx_locks.specs.private.Reader.{Reading};
 
     ghost Value = { Reading };
 
     ghost view = { λ r. record {
-      diversity = r.printer.diversity;
-      printer = r.printer.printer;
-      finder = r.finder;
+      lock = r.reader;
       words = r.words;
       wrong = r.wrong;
       copies = r.copies;
@@ -48,8 +46,7 @@ impl Model for LockReader {
     } };
 
     ghost inverse = { λ v. record {
-      printer = record { diversity = v.diversity; printer = v.printer };
-      finder = v.finder;
+      reader = v.lock;
       words = v.words;
       wrong = v.wrong;
       copies = v.copies;
@@ -57,16 +54,15 @@ impl Model for LockReader {
     } };
 }
 
-impl LockReader {
+impl CountingReader {
     /// A reader of a lock of which no word was heard yet.
-    pub(crate) fn new() -> LockReader
+    pub(crate) fn new() -> CountingReader
         ensures fresh { IsFresh result }
         ensures copies { result.copies ≡ 0 }
     {
-        prove!(size_of::<LockReader>() == size_of::<Finder>() + 40);
-        LockReader {
-            printer: LockPrinter::new(),
-            finder: Finder::new(),
+        prove!(size_of::<CountingReader>() == size_of::<LockReader>() + 32);
+        CountingReader {
+            reader: LockReader::new(),
             words: 0,
             wrong: 0,
             copies: 0,
@@ -111,8 +107,8 @@ impl LockReader {
         ensures shows { ShowsWord self.old self.new word role shown.old.items shown.new.items }
     {
         self.count(word);
-        if let Some(byte) = self.printer.print(word, role) {
-            self.take(byte);
+        if let Some((byte, event)) = self.reader.read_word(word, role) {
+            self.take(byte, event);
             shown.push(byte);
         }
     }
@@ -130,17 +126,9 @@ impl LockReader {
         ensures reader { result ≡ false → self.new ≡ self.old }
         ensures shown { result ≡ false → shown.new ≡ shown.old }
     {
-        // Copied field by field: as one number of four bytes it would have to be cut apart.
-        let mut printer = LockPrinter {
-            diversity: self.printer.diversity,
-            printer: self.printer.printer,
-        };
-        let printed = printer.print_words(words);
-        if !self.finder.hear_plain(printed.bytes, printed.count) {
+        let Some(printed) = self.reader.read_words(words) else {
             return false;
-        }
-        self.printer.diversity = printer.diversity;
-        self.printer.printer = printer.printer;
+        };
         self.words = self.words.saturating_add(words.len() as u64);
         self.wrong = self.wrong.saturating_add(wrong_among(words));
         self.is_line_open = is_open_after(self.is_line_open, &printed.bytes, printed.count);
@@ -159,20 +147,19 @@ impl LockReader {
         }
     }
 
-    /// Takes a byte of the text.
+    /// Takes a byte of the text, which brings this.
     #[inline(always)]
-    fn take(&mut self, byte: u8)
-        ensures headers { (text : List ℕ) → StandsAfter self.old.finder text
+    fn take(&mut self, byte: u8, event: TextEvent)
+        ensures headers { (text : List ℕ) (finder : Finder) → Hears text byte finder event
             → TakesByte self.old self.new text byte }
         ensures kept { self.new ≡ record self.old {
-          finder = self.new.finder;
           copies = self.new.copies;
           is_line_open = not (byte == newline);
         } }
         ensures few { self.new.copies ≤ self.old.copies + 1 }
     {
         self.is_line_open = byte != NEWLINE;
-        if let TextEvent::Header(_) = self.finder.hear(byte) {
+        if let TextEvent::Header(_) = event {
             self.copies = self.copies.saturating_add(1);
         }
     }
@@ -183,8 +170,7 @@ impl LockReader {
         ensures fresh { IsFresh self.new }
         ensures copies { self.new.copies ≡ 0 }
     {
-        self.printer = LockPrinter::new();
-        self.finder.restart();
+        self.reader.restart();
         self.words = 0;
         self.wrong = 0;
         self.copies = 0;

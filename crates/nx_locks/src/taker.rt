@@ -11,7 +11,7 @@ ghost use Rattle.nx_envelope.specs.Moment.{last_moment};
 ghost use Rattle.nx_locks.specs.ReportText.{last_line};
 ghost use Rattle.nx_locks.specs.private.Taker.{Closes, HasRoom, Hears, HearsPart, Opens, ReadsWord, ShowsStep, TakerShows};
 
-use crate::reader::LockReader;
+use crate::reader::CountingReader;
 use crate::report_text::{Counts, Shown, close_lock, end_report, open_lock};
 use arrayvec::ArrayVec;
 use nx_code::{ELEMENTS, NEWLINE, Word};
@@ -24,7 +24,7 @@ use std::marker::Model;
 /// it was last cleared.
 #[derive(Drop)]
 pub(crate) struct LockTaker {
-    reader: LockReader,
+    reader: CountingReader,
     /// The moment in force, in whole seconds since 1970-01-01 00:00:00 UTC.
     moment: u64,
     /// How many elements were heard.
@@ -70,9 +70,9 @@ impl LockTaker {
         ensures shows { TakerShows result [] [] [] }
         ensures moment { result.moment ≡ 0 }
     {
-        prove!(size_of::<LockTaker>() == size_of::<LockReader>() + size_of::<Shown>() + 32);
+        prove!(size_of::<LockTaker>() == size_of::<CountingReader>() + size_of::<Shown>() + 32);
         LockTaker {
-            reader: LockReader::new(),
+            reader: CountingReader::new(),
             moment: 0,
             elements: 0,
             locks: 0,

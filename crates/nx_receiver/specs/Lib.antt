@@ -2,7 +2,7 @@ pub mod Commands
 pub mod CopyHearing
 pub mod Events
 pub mod Listener
-pub mod LockPrinter
+pub mod LockReader
 pub mod Receiver
 pub mod air_file_runs
 pub mod copies

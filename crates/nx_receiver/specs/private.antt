@@ -6,6 +6,7 @@ pub mod Heads
 pub mod ListenFaults
 pub mod Listener
 pub mod ListenerBegins
+pub mod LockPrinter
 pub mod LockReader
 pub mod StateParts
 pub mod Taken

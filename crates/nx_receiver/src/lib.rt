@@ -28,6 +28,6 @@ pub use fault::{MomentFault, ReceiverFault, check_moment};
 pub use fresh_recall::FreshRecall;
 pub use judging::judge;
 pub use listener::{LastEntries, Listener};
-pub use lock_printer::LockPrinter;
+pub use lock_reader::LockReader;
 pub use receiver::Receiver;
 pub use writing::{MAX_ENTRY, entry_bytes, entry_end, entry_text, entry_text_on};

@@ -3,7 +3,7 @@
 
 ghost use Rattle.std.specs.Prelude.{◌≡◌, ◌+◌, ◌*◌, ◌<◌, ◌≤◌, ℕ, length, take};
 ghost use Rattle.std.specs.Option.{option_to_list};
-ghost use Rattle.nx_receiver.specs.LockPrinter.{HasPrintedWords, PrintsLock};
+ghost use Rattle.nx_receiver.specs.private.LockPrinter.{HasPrintedWords, PrintsLock};
 ghost use Rattle.nx_receiver.specs.copies.LockText.{AreNext};
 ghost use Rattle.nx_sync.specs.Words.{role_of};
 ghost use Rattle.nx_sync.specs.Ahead.{ArePairs};
@@ -18,17 +18,17 @@ use nx_sync::Role;
 ///
 /// It holds the latest three DX words and the shift in force.
 #[derive(Clone, Copy, Debug)]
-pub struct LockPrinter {
+pub(crate) struct LockPrinter {
     /// What arrived of the latest three DX words.
-    pub diversity: Diversity,
+    pub(crate) diversity: Diversity,
     /// What prints the positions, in the shift in force.
-    pub printer: Printer,
+    pub(crate) printer: Printer,
 }
 
 impl LockPrinter {
     /// A printer of a lock of which no word was heard yet.
     #[tactic(auto, unfolding(crate::specs::copies::LockText::dx_words, crate::specs::copies::LockText::positions))]
-    pub fn new() -> LockPrinter
+    pub(crate) fn new() -> LockPrinter
         ensures { (first : Role) (words : ℕ → ℕ) → PrintsLock result first words 0 }
     {
         LockPrinter {
@@ -40,7 +40,7 @@ impl LockPrinter {
     /// Takes the next word of the lock, which has that role, and answers the byte that it prints,
     /// if it prints one.
     #[inline(always)]
-    pub fn print(&mut self, word: Word, role: Role) -> Option<u8>
+    pub(crate) fn print(&mut self, word: Word, role: Role) -> Option<u8>
         ensures { (first : Role) (words : ℕ → ℕ) (n : ℕ) → PrintsLock self.old first words n
             → words n ≡ word → role ≡ role_of first n
             → HasPrintedWords self.new first words n 1 (option_to_list result) }
@@ -60,7 +60,7 @@ impl LockPrinter {
     /// Takes the next words of the lock at once, DX and RX by turns, and answers the bytes that
     /// they print.
     #[inline(always)]
-    pub fn print_words(&mut self, words: &[Word]) -> FourPrinted
+    pub(crate) fn print_words(&mut self, words: &[Word]) -> FourPrinted
         requires { ArePairs words.now }
         ensures printed { (first : Role) (before : ℕ → ℕ) (n : ℕ)
             → PrintsLock self.old first before n → AreNext first before n words.now

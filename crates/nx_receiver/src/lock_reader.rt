@@ -2,18 +2,21 @@
 //! inlined always, since its answers would go through memory otherwise. What hands a copy out is
 //! not inlined, so that no loop over words has a place for a text of 4,100.
 
-ghost use Rattle.std.specs.Prelude.{◌≡◌, ◌↔◌, ◌+◌, ◌%◌, ◌<◌, ◌≤◌, ℕ, false, [], ◌∷◌, length, take, IsNone, IsTrue, MatchOption};
+ghost use Rattle.std.specs.Prelude.{◌≡◌, ◌↔◌, ◌+◌, ◌*◌, ◌%◌, ◌<◌, ◌≤◌, ℕ, List, Some, None, false, [], ◌∷◌, length, take, IsNone, IsTrue, MatchOption};
+ghost use Rattle.std.specs.Option.{ForSome, option_map, option_to_list};
 ghost use Rattle.nx_sync.specs.Ahead.{ArePairs};
 ghost use Rattle.nx_sync.specs.Words.{role_of};
 ghost use Rattle.nx_sync.specs.declared.step.Role.{Role};
 ghost use Rattle.nx_envelope.specs.Copies.{Copy};
-ghost use Rattle.nx_envelope.specs.Finder.{Closes, ClosesHeld, ClosesNone, HasReady, is_over, is_ready};
+ghost use Rattle.nx_envelope.specs.Finder.{Closes, ClosesHeld, ClosesNone, HasReady, Hears, StandsAfter, is_over, is_ready};
+ghost use Rattle.nx_envelope.specs.declared.found.TextEvent.{TextEvent};
 ghost use Rattle.nx_envelope.specs.Found.{IsFound};
-ghost use Rattle.nx_receiver.specs.private.LockReader.{HearsUpTo, HearsWord, HearsWords, ReadsLock, ReadsPlain, is_open};
+ghost use Rattle.nx_receiver.specs.LockReader.{HasReadWords, ReadsLock, ReadsWords};
+ghost use Rattle.nx_receiver.specs.private.LockReader.{HearsUpTo, HearsWord, HearsWords, ReadsPlain, is_open};
 ghost use Rattle.nx_receiver.specs.copies.LockText.{text_after};
 
 use crate::lock_printer::LockPrinter;
-use nx_code::Word;
+use nx_code::{FourPrinted, Word};
 use nx_envelope::{Finder, Found, FoundHead, TextEvent};
 use nx_sync::Role;
 use std::marker::Model;
@@ -24,7 +27,7 @@ use std::marker::Model;
 /// It holds the latest three DX words, the shift in force, and what the finder holds. Of an earlier
 /// lock it holds nothing but the bytes of its last copy, which nothing reads.
 #[derive(Drop)]
-pub(crate) struct LockReader {
+pub struct LockReader {
     printer: LockPrinter,
     pub(crate) finder: Finder,
 }
@@ -48,7 +51,7 @@ impl Model for LockReader {
 
 impl LockReader {
     /// A reader of a lock of which no word was heard yet.
-    pub(crate) fn new() -> LockReader
+    pub fn new() -> LockReader
         ensures { (first : Role) (words : ℕ → ℕ) → ReadsLock result first words 0 }
     {
         prove!(size_of::<LockReader>() == size_of::<Finder>() + 8);
@@ -56,6 +59,50 @@ impl LockReader {
             printer: LockPrinter::new(),
             finder: Finder::new(),
         }
+    }
+
+    /// Reads the next word of the lock, which has that role. Answers the byte that it prints, if it
+    /// prints one, and what that brings. A copy that it ends can be taken before the next word.
+    #[inline(always)]
+    pub fn read_word(&mut self, word: Word, role: Role) -> Option<(u8, TextEvent)>
+        ensures reads { (first : Role) (words : ℕ → ℕ) (n : ℕ) → ReadsLock self.old first words n
+            → words n ≡ word → role ≡ role_of first n → HasReadWords self.new first words n 1
+            (option_to_list (option_map (λ printed. printed.0) result)) }
+        ensures brings { (byte : ℕ) (event : TextEvent) → result ≡ Some (byte, event)
+            → (text : List ℕ) → StandsAfter self.old.finder text
+            → Hears text byte self.new.finder event }
+        ensures ready { (byte : ℕ) (event : TextEvent) → result ≡ Some (byte, event)
+            → is_ready self.new.finder ≡ is_over event }
+        ensures kept { result ≡ None → self.new.finder ≡ self.old.finder }
+    {
+        match self.printer.print(word, role) {
+            Some(byte) => Some((byte, self.finder.hear(byte))),
+            None => None,
+        }
+    }
+
+    /// Reads the next words of the lock at once, DX and RX by turns, where surely none of them
+    /// begins or ends a copy, and answers what they print. Else nothing changed.
+    #[inline(always)]
+    pub fn read_words(&mut self, words: &[Word]) -> Option<FourPrinted>
+        requires { ArePairs words.now }
+        ensures reads { ForSome result (λ printed. ReadsWords self.old self.new words.now
+            (take printed.count printed.bytes)) }
+        ensures count { ForSome result (λ printed. 2 * printed.count ≤ length words.now) }
+        ensures same { result ≡ None → self.new ≡ self.old }
+    {
+        // Copied field by field: as one number of four bytes it would have to be cut apart.
+        let mut printer = LockPrinter {
+            diversity: self.printer.diversity,
+            printer: self.printer.printer,
+        };
+        let printed = printer.print_words(words);
+        if !self.finder.hear_plain(printed.bytes, printed.count) {
+            return None;
+        }
+        self.printer.diversity = printer.diversity;
+        self.printer.printer = printer.printer;
+        Some(printed)
     }
 
     /// Takes the next word of the lock, which has that role, and answers what it brings. A copy
@@ -71,8 +118,8 @@ impl LockReader {
         ensures ready { is_ready self.old.finder ≡ false
             → is_ready self.new.finder ≡ is_over result }
     {
-        match self.printer.print(word, role) {
-            Some(byte) => self.finder.hear(byte),
+        match self.read_word(word, role) {
+            Some((_, event)) => event,
             None => TextEvent::Nothing,
         }
     }
@@ -119,18 +166,10 @@ impl LockReader {
         ensures plain { IsTrue result → ReadsPlain self.old self.new words.now }
         ensures same { result ≡ false → self.new ≡ self.old }
     {
-        // Copied field by field: as one number of four bytes it would have to be cut apart.
-        let mut printer = LockPrinter {
-            diversity: self.printer.diversity,
-            printer: self.printer.printer,
-        };
-        let printed = printer.print_words(words);
-        if !self.finder.hear_plain(printed.bytes, printed.count) {
-            return false;
+        match self.read_words(words) {
+            Some(_) => true,
+            None => false,
         }
-        self.printer.diversity = printer.diversity;
-        self.printer.printer = printer.printer;
-        true
     }
 
     /// The copy that the last word ended, where it was not taken yet.
@@ -172,7 +211,7 @@ impl LockReader {
 
     /// Ends the text; the reader is then as new, for the next lock. A copy that stands open or
     /// could be taken is gone.
-    pub(crate) fn restart(&mut self)
+    pub fn restart(&mut self)
         ensures none { (first : Role) (words : ℕ → ℕ) (n : ℕ) → ReadsLock self.old first words n
             → is_open self.old.finder.copy ≡ false → ClosesNone (text_after first words n) }
         ensures as_new { (first : Role) (words : ℕ → ℕ) → ReadsLock self.new first words 0 }

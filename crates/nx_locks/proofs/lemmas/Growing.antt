@@ -19,7 +19,7 @@ use Rattle.nx_locks.specs.LockText.{headers_shown, shown_text, wrong_words}
 use Rattle.nx_locks.specs.Report.{AreShown, IsClosing, IsOpened, IsOpening, IsShown, moment_at}
 use Rattle.nx_locks.specs.Report.{past_headers}
 use Rattle.nx_locks.specs.ReportText.{closing_lines}
-use Rattle.nx_locks.specs.private.Reader.{Reading, ReadsLock, reading_of}
+use Rattle.nx_locks.specs.private.Reader.{Reading, ReadsLock}
 
 pub shown_is : (bits : List Bool) (t n : ℕ)
     → shown_text bits t n ≡ text_after (first_role bits t) (word_of_lock bits t) n
@@ -59,7 +59,7 @@ module _ (bits more : List Bool) (t n : ℕ) (here : IsPattern bits t) (h : t + 
         ≡ text_after (first_role (bits ++ more) t) (word_of_lock (bits ++ more) t) n =
         sym (shown_is bits t n) ∙ sym text-more ∙ shown_is (bits ++ more) t n in
         record {
-          reads = watching.reads-more (reading_of reader) bits more t n here h r.reads;
+          reads = watching.reads-more reader.lock bits more t n here h r.reads;
           words_counted = r.words_counted;
           wrong_counted = r.wrong_counted ∙ sym wrong-more;
           copies_counted = r.copies_counted ∙ ap (λ l. length (headers l)) same;

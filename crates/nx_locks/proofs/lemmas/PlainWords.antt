@@ -8,16 +8,14 @@ use Rattle.std.proofs.lemmas.Grind.{get_or_default_zero}
 use Rattle.std.proofs.lemmas.List.{take_more}
 use Rattle.nx_code.specs.Word.{is_wrong, wrong_in}
 use Rattle.nx_envelope.specs.Copies.{headers}
-use Rattle.nx_envelope.specs.Finder.{BringNothing, Keeps, StandsAfter}
-use Rattle.nx_sync.specs.declared.step.Role.{Role}
+use Rattle.nx_envelope.specs.Finder.{BringNothing, Keeps}
 use Rattle.nx_sync.specs.declared.step.Role.TheVariants.{Dx}
 use Rattle.nx_code.proofs.lemmas.WordCounts.{one_if, wrong_in-add, wrong_in-le}
 use Rattle.nx_receiver.specs.copies.Log.{is_of_lines}
-use Rattle.nx_receiver.specs.LockPrinter.{HasPrintedWords, PrintsLock}
+use Rattle.nx_receiver.specs.LockReader.{HasReadWords, ReadsWords}
 use Rattle.nx_receiver.specs.copies.LockText.{AreNext, text_after}
 use Rattle.nx_code.proofs.lemmas.WordCounts.{wrong_in-same}
-use Rattle.nx_receiver.proofs.lemmas.locks.ReaderWords.{printer_of, prints_lock, reads_on}
-use Rattle.nx_locks.specs.private.Reader.{HasHeardWords, Reading, ShowsWords, reading_of}
+use Rattle.nx_locks.specs.private.Reader.{HasHeardWords, Reading, ShowsWords}
 use Rattle.nx_locks.proofs.lemmas.ReaderWords.{line_pushed}
 
 -- whether a word of a list is wrong, by its place
@@ -66,19 +64,15 @@ no_more_lines text bytes count none =
 -- a reader that reads so many words at once, and appends what they print
 pub plain_shown : (old new : Reading) (bytes next given after : List ℕ) (count : ℕ)
     → length next ≡ count
-    → ((first : Role) (words : ℕ → ℕ) (n : ℕ)
-    → PrintsLock (printer_of (reading_of old)) first words n → AreNext first words n next
-    → HasPrintedWords (printer_of (reading_of new)) first words n count bytes)
-    → ((text : List ℕ) → StandsAfter old.finder text → StandsAfter new.finder (text ++ bytes))
-    → ((text : List ℕ) → StandsAfter old.finder text → BringNothing text bytes)
+    → ReadsWords old.lock new.lock next bytes
     → new.words ≡ min (old.words + count) (2 ^ 64 - 1)
     → new.wrong ≡ min (old.wrong + wrong_in (slice_index next) 0 count) (2 ^ 64 - 1)
     → new.copies ≡ old.copies
     → ((text : List ℕ) → old.is_line_open ≡ not (is_of_lines text)
     → new.is_line_open ≡ not (is_of_lines (text ++ bytes)))
     → after ≡ given ++ bytes → ShowsWords old new Dx next given after
-plain_shown old new bytes next given after count size prints finds brings words_are wrong_are
-    copies_are line spelled = record {
+plain_shown old new bytes next given after count size plain words_are wrong_are copies_are line
+    spelled = record {
       printed = bytes;
       spelled = spelled;
       hears = record {
@@ -86,7 +80,8 @@ plain_shown old new bytes next given after count size prints finds brings words_
         hears = λ first words n r is_word is_role few.
             let all : AreNext first words n next = record { dx = sym is_role; are = is_word } in
             let was : List ℕ = text_after first words n in
-            let read = prints first words n (prints_lock r.reads) all in
+            let read = subst (λ (m : ℕ). HasReadWords new.lock first words n m bytes) size
+            (plain.reads first words n r.reads all) in
             let grows = read.grows in
             let wrong : wrong_in words n count ≡ wrong_in (slice_index next) 0 count =
             wrong_in-same words (slice_index next) n 0 count
@@ -98,11 +93,11 @@ plain_shown old new bytes next given after count size prints finds brings words_
             let headers_stay : length (headers (text_after first words (n + count)))
             ≡ length (headers was) =
             ap (λ l. length (headers l)) grows
-            ∙ ap length (headers_plain was bytes (brings was r.reads.finder)) in
+            ∙ ap length (headers_plain was bytes (plain.nothing first words n r.reads all)) in
             let made : HasHeardWords new first words n count bytes = record {
               grows = grows;
               reads = record {
-                reads = reads_on read (finds was r.reads.finder);
+                reads = read.stands;
                 words_counted = omega (arith, words_are, r.words_counted, few, size);
                 wrong_counted = omega (
                   arith,

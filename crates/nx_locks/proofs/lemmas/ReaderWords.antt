@@ -15,13 +15,13 @@ use Rattle.nx_code.specs.Word.{is_wrong, wrong_in}
 use Rattle.nx_code.proofs.lemmas.WordCounts.{one_if}
 use Rattle.nx_sync.specs.declared.step.Role.{Role}
 use Rattle.nx_receiver.specs.copies.Log.{is_of_lines}
-use Rattle.nx_receiver.specs.LockPrinter.{HasPrintedWords, PrintsLock}
+use Rattle.nx_receiver.specs.CopyHearing.{LockReading}
+use Rattle.nx_receiver.specs.LockReader.{HasReadWords}
+use Rattle.nx_receiver.specs.LockReader as receiver
 use Rattle.nx_receiver.specs.copies.LockText.{positions}
-use Rattle.nx_receiver.specs.declared.lock_printer.LockPrinter.{LockPrinter}
-use Rattle.nx_receiver.specs.private.LockReader as receiver
 use Rattle.nx_receiver.specs.copies.LockText.{text_after}
 use Rattle.nx_locks.specs.private.Reader.{HasHeard, IsFresh, Reading, ReadsLock, TakesByte, counted}
-use Rattle.nx_locks.specs.private.Reader.{one_more, reading_of}
+use Rattle.nx_locks.specs.private.Reader.{one_more}
 
 no_text : (first : Role) (words : ℕ → ℕ) → text_after first words 0 ≡ []
 unfolding positions
@@ -35,26 +35,13 @@ no_line : is_of_lines [] ≡ true
 unfolding is_of_lines
 no_line = refl
 
-pub fresh_reader : (p : LockPrinter) (f : Finder)
-    → ((first : Role) (words : ℕ → ℕ) → PrintsLock p first words 0) → finders.StandsAfter f []
-    → IsFresh (record {
-      diversity = p.diversity;
-      printer = p.printer;
-      finder = f;
-      words = 0;
-      wrong = 0;
-      copies =
-          0;
-      is_line_open = false;
-    })
-unfolding positions wrong_in
-fresh_reader p f p_is f_is = record {
+pub fresh_reader : (lock : LockReading)
+    → ((first : Role) (words : ℕ → ℕ) → receiver.ReadsLock lock first words 0)
+    → IsFresh (record { lock = lock; words = 0; wrong = 0; copies = 0; is_line_open = false })
+unfolding wrong_in
+fresh_reader lock reads = record {
   fresh = λ first words. record {
-    reads = record {
-      latest = (p_is first words).latest;
-      shift = (p_is first words).shift;
-      finder = f_is;
-    };
+    reads = reads first words;
     words_counted = refl;
     wrong_counted = refl;
     copies_counted = sym (ap (λ l. length (headers l)) (no_text first words) ∙ no_headers);
@@ -66,7 +53,7 @@ fresh_reader p f p_is f_is = record {
 
 -- a reader that counted a word, and has yet to read it
 pub record IsCounted (mid : Reading) (first : Role) (words : ℕ → ℕ) (n : ℕ) : Type 0 where
-  pub reads : receiver.ReadsLock (reading_of mid) first words n
+  pub reads : receiver.ReadsLock mid.lock first words n
   pub words_counted : mid.words ≡ n + 1
   pub wrong_counted : mid.wrong ≡ wrong_in words 0 (n + 1)
   pub wrong_few : mid.wrong ≤ n + 1
@@ -104,21 +91,17 @@ is_counted old mid word first words n mid_is r is_word few =
     })
 
 -- a word that prints nothing
-pub heard_none : (mid : Reading) (p : LockPrinter) (printed : Option ℕ) (first : Role)
+pub heard_none : (mid : Reading) (lock : LockReading) (printed : Option ℕ) (first : Role)
     (words : ℕ → ℕ) (n : ℕ) → IsCounted mid first words n
-    → HasPrintedWords p first words n 1 (option_to_list printed) → printed ≡ None
-    → HasHeard (record mid { diversity = p.diversity; printer = p.printer }) first words n None
-heard_none mid p printed first words n c read none =
+    → HasReadWords lock first words n 1 (option_to_list printed) → printed ≡ None
+    → HasHeard (record mid { lock = lock }) first words n None
+heard_none mid lock printed first words n c read none =
     let grows : text_after first words (n + 1) ≡ text_after first words n ++ [] =
     read.grows ∙ ap (λ o. text_after first words n ++ option_to_list o) none in
     let same = grows ∙ append-nil (text_after first words n) in
     record {
       reads = record {
-        reads = record {
-          latest = read.stands.latest;
-          shift = read.stands.shift;
-          finder = subst (finders.StandsAfter mid.finder) (sym same) c.reads.finder;
-        };
+        reads = read.stands;
         words_counted = c.words_counted;
         wrong_counted = c.wrong_counted;
         copies_counted = c.copies_counted ∙ ap (λ l. length (headers l)) (sym same);
@@ -143,20 +126,16 @@ line_pushed text byte =
     ∙ ap (λ (o : Option ℕ). unwrap_or (option_map (λ b. eqb b 10) o) true) (get_pushed text byte)
 
 -- a word that prints a byte
-pub heard_some : (mid new : Reading) (p : LockPrinter) (printed : Option ℕ) (byte : ℕ)
+pub heard_some : (mid new : Reading) (lock : LockReading) (printed : Option ℕ) (byte : ℕ)
     (first : Role) (words : ℕ → ℕ) (n : ℕ) → IsCounted mid first words n → n + 1 < 2 ^ 64
-    → HasPrintedWords p first words n 1 (option_to_list printed) → printed ≡ Some byte
-    → TakesByte (record mid { diversity = p.diversity; printer = p.printer }) new
-    (text_after first words n) byte
+    → HasReadWords lock first words n 1 (option_to_list printed) → printed ≡ Some byte
+    → TakesByte (record mid { lock = lock }) new (text_after first words n) byte
     → new ≡ record mid {
-      diversity = p.diversity;
-      printer = p.printer;
-      finder = new.finder;
-      copies =
-          new.copies;
+      lock = lock;
+      copies = new.copies;
       is_line_open = not (eqb byte 10);
     } → HasHeard new first words n (Some byte)
-heard_some mid new p printed byte first words n c few read some takes kept =
+heard_some mid new lock printed byte first words n c few read some takes kept =
     let so_far = text_after first words n in
     let grows : text_after first words (n + 1) ≡ so_far ++ byte ∷ [] =
     read.grows ∙ ap (λ o. so_far ++ option_to_list o) some in
@@ -174,19 +153,11 @@ heard_some mid new p printed byte first words n c few read some takes kept =
           (λ l. length (headers l)) grows,
     ) in
     let made : ReadsLock (record mid {
-      diversity = p.diversity;
-      printer = p.printer;
-      finder = new.finder;
+      lock = lock;
       copies = new.copies;
-      is_line_open =
-          not (eqb byte 10);
+      is_line_open = not (eqb byte 10);
     }) first words (n + 1) = record {
-      reads = record {
-        latest = read.stands.latest;
-        shift = read.stands.shift;
-        finder =
-            subst (finders.StandsAfter new.finder) (sym grows) takes.stands;
-      };
+      reads = read.stands;
       words_counted = c.words_counted;
       wrong_counted = c.wrong_counted;
       copies_counted = copies;

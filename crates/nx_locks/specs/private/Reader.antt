@@ -3,42 +3,28 @@
 use Rattle.std.specs.Prelude.{◌≡◌, ℕ, ◌+◌, ◌-◌, ◌^◌, ◌<◌, ◌≤◌, Bool, if◌then◌else◌, not, List, []}
 use Rattle.std.specs.Prelude.{◌∷◌, ◌++◌, length, min, slice_index, Option}
 use Rattle.std.specs.Option.{option_to_list}
-use Rattle.nx_code.specs.declared.printing.Printer.{Printer}
 use Rattle.nx_envelope.specs.Copies.{headers}
-use Rattle.nx_envelope.specs.Finder as finders
-use Rattle.nx_envelope.specs.declared.finder.Finder.{Finder}
-use Rattle.nx_fec.specs.declared.emissions.diversity.Diversity.{Diversity}
 use Rattle.nx_code.specs.Word.{is_wrong, wrong_in}
 use Rattle.nx_sync.specs.Words.{role_of}
 use Rattle.nx_sync.specs.declared.step.Role.{Role}
 use Rattle.nx_receiver.specs.copies.Log.{is_of_lines}
-use Rattle.nx_receiver.specs.private.LockReader as receiver
+use Rattle.nx_receiver.specs.LockReader as receiver
 use Rattle.nx_receiver.specs.CopyHearing.{LockReading}
 use Rattle.nx_receiver.specs.copies.LockText.{text_after}
 
--- what contracts see of a reader: what arrived of the latest three DX words, the shift in force,
--- the finder of the headers, three counts, and whether the last line of the text is open
+-- what contracts see of a reader that counts: what reads the words, three counts, and whether the
+-- last line of the text is open
 pub record Reading : Type 0 where
-  pub diversity : Diversity
-  pub printer : Printer
-  pub finder : Finder
+  pub lock : LockReading
   pub words : ℕ
   pub wrong : ℕ
   pub copies : ℕ
   pub is_line_open : Bool
 
--- what reads the words
-abbrev pub reading_of : Reading → LockReading
-reading_of reader = record {
-  diversity = reader.diversity;
-  printer = reader.printer;
-  finder = reader.finder;
-}
-
 -- The reader stands after the first n words of a lock, and counted them, the wrong ones, and the
 -- headers in their text.
 pub record ReadsLock (reader : Reading) (first : Role) (words : ℕ → ℕ) (n : ℕ) : Type 0 where
-  pub reads : receiver.ReadsLock (reading_of reader) first words n
+  pub reads : receiver.ReadsLock reader.lock first words n
   pub words_counted : reader.words ≡ n
   pub wrong_counted : reader.wrong ≡ wrong_in words 0 n
   pub copies_counted : reader.copies ≡ length (headers (text_after first words n))
@@ -63,7 +49,6 @@ counted reader word = record reader {
 
 -- a byte behind this text was taken: the headers are counted
 pub record TakesByte (old new : Reading) (text : List ℕ) (byte : ℕ) : Type 0 where
-  pub stands : finders.StandsAfter new.finder (text ++ byte ∷ [])
   pub more : ℕ
   pub few : more ≤ 1
   pub headers : length (headers (text ++ byte ∷ [])) ≡ length (headers text) + more

@@ -19,7 +19,7 @@ use Rattle.nx_receiver.specs.declared.copy_taker.Over.{Over}
 use Rattle.nx_receiver.specs.declared.copy_taker.Over.TheVariants as over
 use Rattle.nx_receiver.specs.declared.copy_taker.CopyTag.{CopyTag}
 use Rattle.nx_receiver.specs.Events.{Setting}
-use Rattle.nx_receiver.specs.private.LockReader.{ReadsLock}
+use Rattle.nx_receiver.specs.LockReader.{ReadsLock}
 use Rattle.nx_receiver.specs.CopyHearing.{LockReading, CopyHearing, in_force}
 use Rattle.nx_receiver.specs.copies.LockText.{PlacedByte, bytes_of}
 use Rattle.nx_receiver.specs.copies.FoundCopies.{FoundCopy, place_in, ended_in, past_text, past_copies}

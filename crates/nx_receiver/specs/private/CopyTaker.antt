@@ -15,7 +15,8 @@ use Rattle.nx_receiver.specs.declared.copy_taker.CopyTag.{CopyTag}
 use Rattle.nx_receiver.specs.declared.copy_taker.CopyTaker.{CopyTaker}
 use Rattle.nx_receiver.specs.Events.{Setting}
 use Rattle.nx_receiver.specs.CopyHearing.{CopyHearing}
-use Rattle.nx_receiver.specs.private.LockReader.{HearsWord, ReadsLock}
+use Rattle.nx_receiver.specs.LockReader.{ReadsLock}
+use Rattle.nx_receiver.specs.private.LockReader.{HearsWord}
 use Rattle.nx_receiver.specs.copies.LockText.{text_after}
 use Rattle.nx_receiver.specs.private.CopyHearer.{HearsAll, TagGoesOn, over_with, tag_of}
 

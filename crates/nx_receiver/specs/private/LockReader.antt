@@ -1,33 +1,22 @@
--- A reader of the text of a lock, which is given its words one by one, and after which words it
--- stands (ITU-R M.625, mode B, and M.476 for what is printed). That each lock has a text of its
--- own, from letters, is this profile's. `first` is the role of word 0 of the lock, and `words`
--- gives each word's number.
+-- What the words of a lock bring to its reader, one by one or some at once. `first` is the role of
+-- word 0 of the lock, and `words` gives each word's number.
 use Rattle.std.specs.Prelude.{◌≡◌, ◌⊎◌, ℕ, Bool, true, false, ◌+◌, ◌*◌, List, [], ◌∷◌, ◌++◌, length}
-use Rattle.nx_code.specs.Reading.{shift_after_all}
-use Rattle.nx_code.specs.declared.shifts.Shift.TheVariants.{Letters}
-use Rattle.nx_fec.specs.emissions.Pairing.{IsLatest}
 use Rattle.nx_sync.specs.Words.{role_of}
 use Rattle.nx_sync.specs.declared.step.Role.{Role}
 use Rattle.nx_sync.specs.declared.step.Role.TheVariants.{Rx}
-use Rattle.nx_envelope.specs.Finder.{BringNothing, Hears, StandsAfter}
+use Rattle.nx_envelope.specs.Finder.{BringNothing, Hears}
 use Rattle.nx_envelope.specs.declared.finder.Finder.{Finder}
 use Rattle.nx_envelope.specs.declared.found.HeldCopy.{HeldCopy}
 use Rattle.nx_envelope.specs.declared.found.HeldCopy.TheVariants as held
 use Rattle.nx_envelope.specs.declared.found.TextEvent.{TextEvent}
 use Rattle.nx_envelope.specs.declared.found.TextEvent.TheVariants.{Nothing}
 use Rattle.nx_receiver.specs.CopyHearing.{LockReading}
-use Rattle.nx_receiver.specs.copies.LockText.{AreNext, dx_words, positions, text_after}
+use Rattle.nx_receiver.specs.LockReader.{ReadsLock}
+use Rattle.nx_receiver.specs.copies.LockText.{AreNext, text_after}
 
 -- the place of word k of the lock at t: the index of its last bit
 abbrev pub word_place : ℕ → ℕ → ℕ
 word_place t k = t + 7 * k + 6
-
--- The reader stands after the first n words of a lock: it has the latest three DX words among them,
--- the shift that their positions leave, and the copies of their text.
-pub record ReadsLock (reader : LockReading) (first : Role) (words : ℕ → ℕ) (n : ℕ) : Type 0 where
-  pub latest : IsLatest reader.diversity (dx_words first words n)
-  pub shift : reader.printer ≡ shift_after_all (positions first words n) Letters
-  pub finder : StandsAfter reader.finder (text_after first words n)
 
 -- the copy that is held stands open
 abbrev pub is_open : HeldCopy → Bool

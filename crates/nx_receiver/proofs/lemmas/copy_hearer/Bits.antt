@@ -20,7 +20,7 @@ use Rattle.nx_receiver.specs.declared.copy_taker.CopyTag.{CopyTag}
 use Rattle.nx_receiver.specs.Events.{Setting}
 use Rattle.nx_receiver.specs.copies.FoundCopies.{FoundCopy, ended_in, past_copies, standing_text}
 use Rattle.nx_receiver.specs.copies.FoundCopies.{ended_so_far, TaggedCopy, tag}
-use Rattle.nx_receiver.specs.private.LockReader.{ReadsLock}
+use Rattle.nx_receiver.specs.LockReader.{ReadsLock}
 use Rattle.nx_receiver.specs.copies.LockText.{dx_words}
 use Rattle.nx_receiver.specs.CopyHearing.{LockReading}
 use Rattle.nx_receiver.specs.copies.LockText.{PlacedByte, lock_text, text_by}

@@ -15,10 +15,11 @@ use Rattle.nx_envelope.proofs.lemmas.finder.PlainBytes.{first_more}
 use Rattle.nx_sync.specs.Words.{other_role, role_of}
 use Rattle.nx_sync.specs.declared.step.Role.{Role}
 use Rattle.nx_sync.specs.declared.step.Role.TheVariants.{Rx}
-use Rattle.nx_receiver.specs.LockPrinter.{HasPrintedWords}
+use Rattle.nx_receiver.specs.private.LockPrinter.{HasPrintedWords}
 use Rattle.nx_receiver.specs.CopyHearing.{LockReading}
 use Rattle.nx_receiver.specs.copies.LockText.{AreNext, text_after}
-use Rattle.nx_receiver.specs.private.LockReader.{HearsNext, HearsUpTo, HearsWord, PrintsPlain, ReadsLock}
+use Rattle.nx_receiver.specs.LockReader.{ReadsLock}
+use Rattle.nx_receiver.specs.private.LockReader.{HearsNext, HearsUpTo, HearsWord, PrintsPlain}
 use Rattle.nx_receiver.specs.private.LockReader.{ReadsPlain}
 use Rattle.nx_receiver.proofs.lemmas.locks.ReaderWords.{dx_of_pair, has_read_dx, printer_of, prints_lock}
 use Rattle.nx_receiver.proofs.lemmas.locks.ReaderWords.{reads_on}

@@ -32,7 +32,8 @@ use Rattle.nx_receiver.specs.copies.FoundCopies.{FoundCopy, ended_in, ended_so_f
 use Rattle.nx_receiver.specs.copies.FoundCopies.{past_copies, standing_text, TaggedCopy, tag}
 use Rattle.nx_receiver.specs.copies.LockText.{PlacedByte, bytes_of, lock_text, text_by}
 use Rattle.nx_receiver.specs.CopyHearing.{LockReading, CopyHearing, in_force}
-use Rattle.nx_receiver.specs.private.LockReader.{ReadsLock, ReadsPlain}
+use Rattle.nx_receiver.specs.LockReader.{ReadsLock}
+use Rattle.nx_receiver.specs.private.LockReader.{ReadsPlain}
 use Rattle.nx_receiver.specs.copies.LockText.{AreNext, text_after}
 use Rattle.nx_receiver.specs.private.CopyHearer.{HasEnded, HasTag, HearsBits, ReadsNow, ReadsOver}
 use Rattle.nx_receiver.specs.private.CopyTaker.{Hears, hearer_of}

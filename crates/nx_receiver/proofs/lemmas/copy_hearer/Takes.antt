@@ -20,7 +20,8 @@ use Rattle.nx_receiver.specs.declared.copy_taker.CopyTag.{CopyTag}
 use Rattle.nx_receiver.specs.Events.{Setting}
 use Rattle.nx_receiver.specs.copies.FoundCopies.{ended_in, open_in, past_copies, past_text, standing_text}
 use Rattle.nx_receiver.specs.copies.FoundCopies.{ended_so_far, open_so_far, found_copy, TaggedCopy, tag}
-use Rattle.nx_receiver.specs.private.LockReader.{ReadsLock, is_open}
+use Rattle.nx_receiver.specs.LockReader.{ReadsLock}
+use Rattle.nx_receiver.specs.private.LockReader.{is_open}
 use Rattle.nx_receiver.specs.copies.LockText.{text_after}
 use Rattle.nx_receiver.specs.CopyHearing.{LockReading, CopyHearing}
 use Rattle.nx_receiver.specs.copies.LockText.{PlacedByte, bytes_of, text_by}

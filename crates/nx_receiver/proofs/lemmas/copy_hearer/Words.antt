@@ -19,7 +19,8 @@ use Rattle.nx_receiver.specs.declared.copy_taker.Over.{Over}
 use Rattle.nx_receiver.specs.Events.{Setting}
 use Rattle.nx_receiver.specs.copies.FoundCopies.{FoundCopy, ended_in, past_copies, standing_text}
 use Rattle.nx_receiver.specs.copies.FoundCopies.{ended_so_far, TaggedCopy}
-use Rattle.nx_receiver.specs.private.LockReader.{ReadsLock, word_place}
+use Rattle.nx_receiver.specs.LockReader.{ReadsLock}
+use Rattle.nx_receiver.specs.private.LockReader.{word_place}
 use Rattle.nx_receiver.specs.copies.LockText.{PlacedByte, lock_text}
 use Rattle.nx_receiver.specs.private.CopyHearer.{HasTag, IsOver, LockIsOver, ReadsNow, ReadsOver}
 use Rattle.nx_receiver.specs.private.CopyHearer.{HearerStands, copies_by, over_with}

@@ -20,10 +20,11 @@ use Rattle.nx_fec.proofs.lemmas.emissions.Pairing.{third_last-early, third_last-
 use Rattle.nx_sync.specs.Words.{role_of, other_role, is_dx}
 use Rattle.nx_sync.specs.declared.step.Role.{Role}
 use Rattle.nx_sync.specs.declared.step.Role.TheVariants.{Dx, Rx}
-use Rattle.nx_receiver.specs.LockPrinter.{HasPrintedWords, PrintsLock}
+use Rattle.nx_receiver.specs.private.LockPrinter.{HasPrintedWords, PrintsLock}
 use Rattle.nx_receiver.specs.copies.LockText.{taken_at, positions}
 use Rattle.nx_receiver.specs.declared.lock_printer.LockPrinter.{LockPrinter}
-use Rattle.nx_receiver.specs.private.LockReader.{ReadsLock, is_open}
+use Rattle.nx_receiver.specs.LockReader.{ReadsLock}
+use Rattle.nx_receiver.specs.private.LockReader.{is_open}
 use Rattle.nx_receiver.specs.copies.LockText.{dx_words, text_after}
 use Rattle.nx_receiver.specs.CopyHearing.{LockReading}
 

@@ -1,6 +1,6 @@
 use Rattle.std.proofs.Common.{◌≡◌, ◌<◌, ◌+◌, ◌*◌, ◌∙◌, ℕ, List, ap, arith, length, slice_index, subst, sym, take}
 use Rattle.std.proofs.lemmas.Grind.{get_or_default_zero}
-use Rattle.nx_receiver.specs.LockPrinter.{HasPrintedWords}
+use Rattle.nx_receiver.specs.private.LockPrinter.{HasPrintedWords}
 use Rattle.nx_receiver.proofs.lemmas.locks.ReaderWords.{dx_of_pair}
 use Rattle.nx_receiver.proofs.lock_printer.LockPrinter.print_words.Goals as goal
 

@@ -1,6 +1,6 @@
 use Rattle.std.proofs.Common.{◌*◌, ◌≤◌, ℕ, take}
 use Rattle.nx_sync.specs.declared.step.Role.{Role}
-use Rattle.nx_receiver.specs.LockPrinter.{HasPrintedWords, PrintsLock}
+use Rattle.nx_receiver.specs.private.LockPrinter.{HasPrintedWords, PrintsLock}
 use Rattle.nx_receiver.specs.copies.LockText.{AreNext}
 use Rattle.nx_receiver.proofs.lock_printer.LockPrinter.print_words.Given as goal
 

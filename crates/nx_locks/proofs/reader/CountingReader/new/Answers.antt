@@ -1,0 +1,5 @@
+use Rattle.nx_locks.proofs.lemmas.ReaderWords.{fresh_reader}
+use Rattle.nx_locks.proofs.reader.CountingReader.new.Goals as goal
+
+pub returns-clause-fresh : goal.returns-clause-fresh
+returns-clause-fresh c = fresh_reader c.new.result c.new.ensures
