@@ -13,9 +13,9 @@ use Rattle.nx_watch.specs.AnyLines.{AreLines, cut_line}
 use Rattle.nx_watch.specs.CutTold.{TellsOfSomeCut}
 use Rattle.nx_watch.specs.LinesTold.{IsToldAtEnd}
 use Rattle.nx_watch.specs.declared.lines.line_effects.StartMoments.{StartMoments}
-use Rattle.nx_watch.specs.declared.lines.line_run.LinesWatched.{LinesWatched}
-use Rattle.nx_watch.specs.declared.lines.line_run.WatchEnd.{WatchEnd}
-use Rattle.nx_watch.specs.declared.lines.line_run.WatchEnd.TheVariants.{Read, Back, Write}
+use Rattle.nx_watch.specs.declared.lines.line_effects.LinesWatched.{LinesWatched}
+use Rattle.nx_watch.specs.declared.line_run.WatchEnd.{WatchEnd}
+use Rattle.nx_watch.specs.declared.line_run.WatchEnd.TheVariants.{Read, Back, Write}
 
 -- What takes the lines that act stood so at first and stands so now, after these lines.
 abbrev pub Standing : Type 0 → Type 1

@@ -20,6 +20,7 @@ use crate::logging_listener::LoggingListener;
 use crate::stamped::StampedReader;
 use crate::watch_fault::WatchFault;
 use crate::watch_report::WatchReport;
+use crate::watch_run::run_watch;
 use arrayvec::ArrayVec;
 use nx_fec::Counting;
 use nx_kept::{DiskFile, OpenFault};
@@ -124,7 +125,7 @@ pub fn watch<D: DiskFile + Drop, R: Read, W: Write, F: Write>(
         keeper,
         entry: ArrayVec::new(),
     };
-    logging.run(first, reader, writer, notices)
+    run_watch(logging, first, reader, writer, notices)
 }
 
 /// Why a watch can't begin.

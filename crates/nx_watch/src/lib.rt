@@ -4,11 +4,13 @@
 mod kept_log;
 pub mod laws;
 mod left_on;
+mod line_run;
 mod lines;
 mod logging_listener;
 mod stamped;
 mod watch_fault;
 mod watch_report;
+mod watch_run;
 
 pub use kept_log::start::remembered;
 pub use left_on::watch;

@@ -2,6 +2,5 @@
 
 pub(crate) mod any_scanner;
 pub(crate) mod line_effects;
-pub(crate) mod line_run;
 pub(crate) mod no_effect;
 pub(crate) mod telling;

@@ -4,7 +4,7 @@ ghost use Rattle.std.specs.Prelude.{◌≡◌, ◌+◌, ◌<◌, ◌≤◌, ℕ,
 ghost use Rattle.std.specs.List.{All, AllZip};
 ghost use Rattle.nx_envelope.specs.Moment.{last_moment};
 ghost use Rattle.nx_fec.specs.air_files.AirFile.{IsLine, Line, elements, moment};
-ghost use Rattle.nx_fec.specs.Transfers.{CountedDevice, FailsOnce, devices};
+ghost use Rattle.nx_fec.specs.Transfers.{CountedDevice, FailsOnce};
 ghost use Rattle.nx_log.specs.Logged.{IsLoggedAs};
 ghost use Rattle.nx_receiver.specs.Commands.{refuses_vital, said};
 ghost use Rattle.nx_receiver.specs.copies.InTurn.{PrintAllToEnd};
@@ -13,26 +13,24 @@ ghost use Rattle.nx_receiver.specs.Listener.{HearsGiven, last_copies, starts_of,
 ghost use Rattle.nx_receiver.specs.copies.Shares.{Given, MarkedCopy, Starts};
 ghost use Rattle.nx_watch.specs.declared.kept_log.keeper.Keeper.{Keeper as TheKeeper};
 ghost use Rattle.nx_watch.specs.declared.logging_listener.LoggingListener.{LoggingListener as TheLoggingListener};
-ghost use Rattle.nx_watch.specs.CutTold.{TellsOfSomeCut};
-ghost use Rattle.nx_watch.specs.LineRun.{HasTold, MayAct, TellsOfLines};
+ghost use Rattle.nx_watch.specs.LineRun.{HasTold, MayAct};
 ghost use Rattle.nx_watch.specs.LinesTold.{put_told};
-ghost use Rattle.nx_watch.specs.Stamps.{IsFresh, counted_of, stamps_of};
-ghost use Rattle.nx_watch.specs.private.Keeping.{HasKept, KeepsWith};
-ghost use Rattle.nx_watch.specs.private.LoggingListener.{HasClosed, HasRun, IsCopyInRange, IsLineInRange, KeepsHeard, KeepsLines, LoggingTo, TakesLines, logging_to};
+ghost use Rattle.nx_watch.specs.private.Keeping.{KeepsWith};
+ghost use Rattle.nx_watch.specs.private.LoggingListener.{HasClosed, IsCopyInRange, IsLineInRange, KeepsHeard, KeepsLines, LoggingTo, TakesLines, logging_to};
 
 use crate::kept_log::keeper::Keeper;
-use crate::lines::any_scanner::MOST_BYTES;
-use crate::lines::line_effects::StartMoments;
-use crate::lines::line_run::{WatchEnd, WriteFailed, watch_lines};
 use crate::lines::telling::tell_failed_put;
-use crate::stamped::StampedReader;
-use crate::watch_fault::WatchFault;
-use crate::watch_report::WatchReport;
 use arrayvec::ArrayVec;
 use nx_fec::{Channel, Counting, LineKind, PackedElements, Scanner};
 use nx_kept::DiskFile;
 use nx_receiver::{Command, LastEntries, Listener, MAX_ENTRY, entry_bytes};
-use std::io::{Read, Write};
+use std::io::Write;
+use thiserror::Error;
+
+/// A write failed.
+#[derive(Clone, Copy, Debug, Drop, PartialEq, Eq, Error)]
+#[error("a write failed")]
+pub struct WriteFailed;
 
 /// The receivers of a watch, and who keeps the entries that they print.
 #[derive(Drop)]
@@ -181,7 +179,7 @@ impl<D: DiskFile + Drop> LoggingListener<D> {
     }
 
     /// Closes the channels, and tells of a put that failed then, where none had before.
-    fn finish<W: Write, F: Write>(
+    pub(crate) fn finish<W: Write, F: Write>(
         self,
         writer: &mut Counting<W>,
         notices: &mut Counting<F>,
@@ -205,7 +203,7 @@ impl<D: DiskFile + Drop> LoggingListener<D> {
     }
 
     /// Who keeps its entries.
-    fn into_keeper(self) -> Keeper<D>
+    pub(crate) fn into_keeper(self) -> Keeper<D>
         ensures { result ≡ self.keeper }
     {
         let LoggingListener {
@@ -214,64 +212,6 @@ impl<D: DiskFile + Drop> LoggingListener<D> {
             entry: _,
         } = self;
         keeper
-    }
-
-    /// Watches the lines of an input, and answers how that ended; and the file. `first` is the
-    /// moments with which it starts.
-    pub(crate) fn run<R: Read, W: Write, F: Write>(
-        mut self,
-        first: StartMoments,
-        reader: &mut StampedReader<R, D, Counting<W>, Counting<F>>,
-        writer: &mut Counting<W>,
-        notices: &mut Counting<F>,
-    ) -> (Result<WatchReport, WatchFault>, D)
-        requires reader { IsFresh reader.old }
-        requires writer { writer.old.failures ≡ 0 }
-        ensures runs { (before : CountedDevice F) (cut : List ℕ)
-            → HasTold (F.contents before.inner) (F.contents notices.old.inner) notices.old.failures
-            cut
-            → first.newest ≡ (starts_of self.listener).moment → self.keeper.put ≡ 0
-            → (starts_of self.listener).moment ≤ last_moment
-            → HearsGiven (starts_of self.listener) self.listener [] []
-            → HasKept D.DiskFile self.keeper self.keeper [] []
-            → HasRun D.DiskFile first.started cut self (λ content. record {
-              tells = D.DiskFile;
-              start = content;
-              disk = self.keeper.log.device;
-              disk_after = result.1;
-              streams = devices R.remaining W.contents (counted_of reader.old)
-                  (counted_of reader.new) writer.old writer.new;
-              told = F.contents;
-              notices = before;
-              notices_after = notices.new;
-              stamps = stamps_of reader.new;
-            }) result.0 result.1 }
-        ensures told { (old : Option (List ℕ)) (cut : List ℕ) → TellsOfSomeCut cut
-            → HasTold old (F.contents notices.old.inner) notices.old.failures cut
-            → first.newest ≡ (starts_of self.listener).moment
-            → (starts_of self.listener).moment ≤ last_moment
-            → HearsGiven (starts_of self.listener) self.listener [] []
-            → HasKept D.DiskFile self.keeper self.keeper [] []
-            → TellsOfLines old (F.contents notices.new.inner) notices.new.failures }
-    {
-        // It holds no more than the receivers, its keeper, here of a file of eight bytes, and an
-        // entry.
-        prove!(
-            size_of::<LoggingListener<u64>>()
-                == size_of::<Listener>()
-                    + size_of::<Keeper<u64>>()
-                    + size_of::<ArrayVec<u8, MAX_ENTRY>>()
-        );
-        match watch_lines(reader, writer, notices, &mut self, first, MOST_BYTES) {
-            Ok(counts) => self.finish(writer, notices).answer(Ok(counts)),
-            Err(end) => match end {
-                WatchEnd::Back { line, last, given } => self
-                    .finish(writer, notices)
-                    .answer(Err(WatchFault::Back { line, last, given })),
-                WatchEnd::Read => self.into_keeper().answer(Err(WatchFault::Read)),
-                WatchEnd::Write => self.into_keeper().answer(Err(WatchFault::Disk)),
-            },
-        }
     }
 }
 

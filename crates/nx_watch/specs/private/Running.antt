@@ -7,9 +7,9 @@ use Rattle.nx_watch.specs.LineRun.{AnswersRun, AreCounted, HasTaken, HasTold, St
 use Rattle.nx_watch.specs.LinesTold.{IsFirstTold, IsToldByRead, number_told, put_told}
 use Rattle.nx_watch.specs.declared.lines.line_effects.LineEffects.{LineEffects}
 use Rattle.nx_watch.specs.declared.lines.line_effects.StartMoments.{StartMoments}
-use Rattle.nx_watch.specs.declared.lines.line_run.LineRun.{LineRun}
-use Rattle.nx_watch.specs.declared.lines.line_run.LinesWatched.{LinesWatched}
-use Rattle.nx_watch.specs.declared.lines.line_run.WatchEnd.{WatchEnd}
+use Rattle.nx_watch.specs.declared.line_run.LineRun.{LineRun}
+use Rattle.nx_watch.specs.declared.lines.line_effects.LinesWatched.{LinesWatched}
+use Rattle.nx_watch.specs.declared.line_run.WatchEnd.{WatchEnd}
 use Rattle.nx_watch.specs.private.Effects.{IsKept}
 use Rattle.nx_watch.specs.private.Scanning.{IsScanning}
 

@@ -9,7 +9,7 @@ ghost use Rattle.nx_watch.specs.declared.watch_fault.WatchFault.TheVariants.{Dis
 ghost use Rattle.nx_watch.specs.private.Keeping.{HasKept, KeepsWith};
 
 use crate::kept_log::log_grammar::LogGrammar;
-use crate::lines::line_run::LinesWatched;
+use crate::lines::line_effects::LinesWatched;
 use crate::lines::telling::write_more;
 use crate::watch_fault::WatchFault;
 use crate::watch_report::WatchReport;

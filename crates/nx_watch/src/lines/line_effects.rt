@@ -12,7 +12,6 @@ ghost use Rattle.nx_watch.specs.Acting.{acts, moment_said, moments_behind};
 ghost use Rattle.nx_watch.specs.LineRun.{AreCounted};
 ghost use Rattle.nx_watch.specs.private.Effects.{is_acting, IsEffect, IsKept, KeepsMoments, SameCounts, said_behind};
 
-use crate::lines::line_run::LinesWatched;
 use crate::lines::no_effect::NoEffect;
 use nx_envelope::LAST_MOMENT;
 use nx_fec::LineKind;
@@ -26,6 +25,17 @@ pub struct StartMoments {
     /// The moment at which it starts. Elements that come before any moment set it, or the newest
     /// remembered one where that is later. One past the year 2999 isn't set.
     pub started: u64,
+}
+
+/// What a run over lines read.
+#[derive(Clone, Copy, Debug, PartialEq, Eq)]
+pub struct LinesWatched {
+    /// How many lines there were, a cut last one too.
+    pub lines: u64,
+    /// How many of them had no effect.
+    pub without_effect: u64,
+    /// The first of these, where lines count from 1.
+    pub first_without_effect: Option<u64>,
 }
 
 /// What is kept of the lines of a watch.

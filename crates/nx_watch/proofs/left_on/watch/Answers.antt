@@ -21,7 +21,7 @@ use Rattle.nx_watch.proofs.lemmas.log.Opening.{answers-opening, answers-watch, c
 use Rattle.nx_watch.proofs.lemmas.log.Remembering.{took-all}
 use Rattle.nx_watch.proofs.lemmas.log.Cutting.{told-first, told-opening, untold-foreign}
 use Rattle.nx_watch.proofs.left_on.watch.Goals as goal
-use Rattle.nx_watch.proofs.left_on.watch.Goals.{After-run}
+use Rattle.nx_watch.proofs.left_on.watch.Goals.{After-run_watch}
 
 abbrev err : WatchFault → Result WatchReport WatchFault
 err fault = Err fault
@@ -159,7 +159,7 @@ returns-in_default-clause-within g c = λ start ex other.
 -- ---- it was started
 
 -- the run begins with a listener that has heard and kept nothing
-begins : (g : _) → (c : After-run g)
+begins : (g : _) → (c : After-run_watch g)
     → (c.unwrap_or.result ≡ (starts_of c.in-Ok-starting.listener).moment)
     × ((starts_of c.in-Ok-starting.listener).moment ≤ last_moment)
     × HearsGiven (starts_of c.in-Ok-starting.listener) c.in-Ok-starting.listener [] []
@@ -181,7 +181,7 @@ begins g c =
     )
 
 -- whatever was told, the run was as it is said of it
-ran : (g : _) → (c : After-run g) → (cut : List ℕ)
+ran : (g : _) → (c : After-run_watch g) → (cut : List ℕ)
     × TellsOfSomeCut cut
     × HasTold (g.F.Write.contents c.args.notices.now.inner)
     (g.F.Write.contents c.open_log.new.notices.inner) c.open_log.new.notices.failures
@@ -198,14 +198,14 @@ pub returns-clause-watched : goal.returns-clause-watched
 returns-clause-watched g c = λ start entries ex stands.
     let disk = g.D.DiskFile in
     let log = c.in-Ok.log in
-    let b = begins g (goal.at.returns-clause-watched g c).After-run in
-    let some = ran g (goal.at.returns-clause-watched g c).After-run in
-    let any = c.run.ensures.runs c.args.notices.now some.0 some.2 b.0 refl b.1 b.2 b.3 in
+    let b = begins g (goal.at.returns-clause-watched g c).After-run_watch in
+    let some = ran g (goal.at.returns-clause-watched g c).After-run_watch in
+    let any = c.run_watch.ensures.runs c.args.notices.now some.0 some.2 b.0 refl b.1 b.2 b.3 in
     let explained = any.explained start ex in
     let opened = c.in-Ok.ensures.opened start explained in
     let o = opened in
     let told = o.told in
-    let run = c.run.ensures.runs c.args.notices.now told.0
+    let run = c.run_watch.ensures.runs c.args.notices.now told.0
     (told-first g.F.Write.contents c.args.notices.now c.open_log.new.notices told.0
     c.requires.notices told.2) b.0 refl b.1 b.2 b.3 in
     let same = same-texts stands.texts o.records o.front o.tail (disk.seen start c.args.device)
@@ -220,13 +220,13 @@ returns-clause-watched g c = λ start entries ex stands.
     c.in-Ok-starting.ensures.start ∙ ap starts_from saved in
     let answer = run.answers start (disk.seen start c.args.device) entries o.records told.1 each
     keeps in
-    answers-watch _ entries c.args.moment c.run.result.0
-    (started-before disk start c.args.device log.device c.run.result.1 g.R.Read.remaining
-    (counted_of c.args.reader.now) (counted_of c.run.new.reader) g.W.Write.contents
-    c.args.writer.now c.run.new.writer
-    g.F.Write.contents c.args.notices.now c.run.new.notices (stamps_of c.run.new.reader)
+    answers-watch _ entries c.args.moment c.run_watch.result.0
+    (started-before disk start c.args.device log.device c.run_watch.result.1 g.R.Read.remaining
+    (counted_of c.args.reader.now) (counted_of c.run_watch.new.reader) g.W.Write.contents
+    c.args.writer.now c.run_watch.new.writer
+    g.F.Write.contents c.args.notices.now c.run_watch.new.notices (stamps_of c.run_watch.new.reader)
     (disk.seen start c.args.device) (starts_at c.args.moment entries)
-    entries o.records c.run.result.0 each c.in-Ok.ensures.faults
+    entries o.records c.run_watch.result.0 each c.in-Ok.ensures.faults
     (c.in-Ok.ensures.any_moment start o.records explained (record {
       front = o.front;
       tail = o.tail;
@@ -235,23 +235,23 @@ returns-clause-watched g c = λ start entries ex stands.
       split = o.split;
     }))
     (λ file left. keeps-stands disk start o.records (fresh-keeper log) keeps file left)
-    (started-so _ (disk.seen start c.args.device) entries c.run.result.0 starts answer))
+    (started-so _ (disk.seen start c.args.device) entries c.run_watch.result.0 starts answer))
 
 pub returns-clause-cause : goal.returns-clause-cause
 returns-clause-cause g c =
     let disk = g.D.DiskFile in
-    let b = begins g (goal.at.returns-clause-cause g c).After-run in
-    let some = ran g (goal.at.returns-clause-cause g c).After-run in
-    cause-behind disk c.run.result.0 c.args.device c.in-Ok.log.device c.run.result.1
+    let b = begins g (goal.at.returns-clause-cause g c).After-run_watch in
+    let some = ran g (goal.at.returns-clause-cause g c).After-run_watch in
+    cause-behind disk c.run_watch.result.0 c.args.device c.in-Ok.log.device c.run_watch.result.1
     c.in-Ok.ensures.faults
-    (c.run.ensures.runs c.args.notices.now some.0 some.2 b.0 refl b.1 b.2 b.3).cause
+    (c.run_watch.ensures.runs c.args.notices.now some.0 some.2 b.0 refl b.1 b.2 b.3).cause
 
 pub returns-clause-within : goal.returns-clause-within
 returns-clause-within g c = λ start ex other.
     let disk = g.D.DiskFile in
-    let b = begins g (goal.at.returns-clause-within g c).After-run in
-    let some = ran g (goal.at.returns-clause-within g c).After-run in
-    let ran-so = c.run.ensures.runs c.args.notices.now some.0 some.2 b.0 refl b.1 b.2 b.3 in
+    let b = begins g (goal.at.returns-clause-within g c).After-run_watch in
+    let some = ran g (goal.at.returns-clause-within g c).After-run_watch in
+    let ran-so = c.run_watch.ensures.runs c.args.notices.now some.0 some.2 b.0 refl b.1 b.2 b.3 in
     let o = c.in-Ok.ensures.opened start (ran-so.explained start ex) in
     ran-so.within start o.records
     (record { front = o.front; kept = o.kept; at_rest = o.at_rest })
@@ -259,23 +259,24 @@ returns-clause-within g c = λ start ex other.
 
 pub returns-clause-explained : goal.returns-clause-explained
 returns-clause-explained g c = λ start ex.
-    let b = begins g (goal.at.returns-clause-explained g c).After-run in
-    let some = ran g (goal.at.returns-clause-explained g c).After-run in
+    let b = begins g (goal.at.returns-clause-explained g c).After-run_watch in
+    let some = ran g (goal.at.returns-clause-explained g c).After-run_watch in
     c.in-Ok.ensures.explained start
-    ((c.run.ensures.runs c.args.notices.now some.0 some.2 b.0 refl b.1 b.2 b.3).explained start ex)
+    ((c.run_watch.ensures.runs c.args.notices.now some.0 some.2 b.0 refl b.1 b.2 b.3).explained
+    start ex)
 
 pub returns-clause-damaged : goal.returns-clause-damaged
 returns-clause-damaged g c = λ start line ex e.
     let disk = g.D.DiskFile in
     let log = c.in-Ok.log in
-    let b = begins g (goal.at.returns-clause-damaged g c).After-run in
-    let some = ran g (goal.at.returns-clause-damaged g c).After-run in
-    let any = c.run.ensures.runs c.args.notices.now some.0 some.2 b.0 refl b.1 b.2 b.3 in
+    let b = begins g (goal.at.returns-clause-damaged g c).After-run_watch in
+    let some = ran g (goal.at.returns-clause-damaged g c).After-run_watch in
+    let any = c.run_watch.ensures.runs c.args.notices.now some.0 some.2 b.0 refl b.1 b.2 b.3 in
     let opened = c.in-Ok.ensures.opened start (any.explained start ex) in
     let o = opened in
     let found = entries-of o.records o.front o.kept in
     let told = o.told in
-    let run = c.run.ensures.runs c.args.notices.now told.0
+    let run = c.run_watch.ensures.runs c.args.notices.now told.0
     (told-first g.F.Write.contents c.args.notices.now c.open_log.new.notices told.0
     c.requires.notices told.2) b.0 refl b.1 b.2 b.3 in
     let keeps : Keeps (disk.seen start) (disk.may_leave start) IsWholeEntry o.records log =
@@ -289,9 +290,9 @@ returns-clause-damaged g c = λ start line ex e.
 
 pub returns-clause-refused : goal.returns-clause-refused
 returns-clause-refused g c = λ start ex none.
-    let b = begins g (goal.at.returns-clause-refused g c).After-run in
-    let some = ran g (goal.at.returns-clause-refused g c).After-run in
-    let any = c.run.ensures.runs c.args.notices.now some.0 some.2 b.0 refl b.1 b.2 b.3 in
+    let b = begins g (goal.at.returns-clause-refused g c).After-run_watch in
+    let some = ran g (goal.at.returns-clause-refused g c).After-run_watch in
+    let any = c.run_watch.ensures.runs c.args.notices.now some.0 some.2 b.0 refl b.1 b.2 b.3 in
     let opened = c.in-Ok.ensures.opened start (any.explained start ex) in
     let o = opened in
     absurd (none (
@@ -307,9 +308,9 @@ returns-clause-refused g c = λ start ex none.
 
 pub returns-clause-foreign : goal.returns-clause-foreign
 returns-clause-foreign g c = λ start ex none.
-    let b = begins g (goal.at.returns-clause-foreign g c).After-run in
-    let some = ran g (goal.at.returns-clause-foreign g c).After-run in
-    let any = c.run.ensures.runs c.args.notices.now some.0 some.2 b.0 refl b.1 b.2 b.3 in
+    let b = begins g (goal.at.returns-clause-foreign g c).After-run_watch in
+    let some = ran g (goal.at.returns-clause-foreign g c).After-run_watch in
+    let any = c.run_watch.ensures.runs c.args.notices.now some.0 some.2 b.0 refl b.1 b.2 b.3 in
     let opened = c.in-Ok.ensures.opened start (any.explained start ex) in
     let o = opened in
     absurd (none (
@@ -360,7 +361,7 @@ returns-in_default-clause-told g c =
 
 pub returns-clause-told : goal.returns-clause-told
 returns-clause-told g c =
-    let b = begins g (goal.at.returns-clause-told g c).After-run in
-    let some = ran g (goal.at.returns-clause-told g c).After-run in
-    c.run.ensures.told (g.F.Write.contents c.args.notices.now.inner) some.0 some.1 some.2 b.0 b.1
-    b.2 b.3
+    let b = begins g (goal.at.returns-clause-told g c).After-run_watch in
+    let some = ran g (goal.at.returns-clause-told g c).After-run_watch in
+    c.run_watch.ensures.told (g.F.Write.contents c.args.notices.now.inner) some.0 some.1 some.2 b.0
+    b.1 b.2 b.3

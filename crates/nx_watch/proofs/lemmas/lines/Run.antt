@@ -28,13 +28,13 @@ use Rattle.nx_kept.specs.declared.disk.DiskFile.{Ghosts as TellsOfDisk}
 use Rattle.nx_watch.specs.declared.logging_listener.LoggingListener.{LoggingListener}
 use Rattle.nx_watch.specs.LinesTold.{IsFirstTold, IsReason}
 use Rattle.nx_watch.specs.declared.lines.no_effect.NoEffect.TheVariants.{GoesBack}
-use Rattle.nx_watch.specs.declared.lines.line_run.LinesWatched.{LinesWatched}
-use Rattle.nx_watch.specs.declared.lines.line_run.WatchEnd.{WatchEnd}
-use Rattle.nx_watch.specs.declared.lines.line_run.WatchEnd.TheVariants.{Read, Back, Write}
+use Rattle.nx_watch.specs.declared.lines.line_effects.LinesWatched.{LinesWatched}
+use Rattle.nx_watch.specs.declared.line_run.WatchEnd.{WatchEnd}
+use Rattle.nx_watch.specs.declared.line_run.WatchEnd.TheVariants.{Read, Back, Write}
 use Rattle.nx_watch.specs.private.Effects.{IsKept, sets}
 use Rattle.nx_watch.specs.declared.lines.any_scanner.Ended.{Ended}
 use Rattle.nx_watch.specs.declared.lines.line_effects.LineEffects.{LineEffects}
-use Rattle.nx_watch.specs.declared.lines.line_run.LineRun.{LineRun}
+use Rattle.nx_watch.specs.declared.line_run.LineRun.{LineRun}
 use Rattle.nx_watch.specs.private.Running.{EndsInput, EndsRun, HasToldLines, IsRunning, TellsFirst, ToldBefore, ToldBeside, beside}
 use Rattle.nx_watch.specs.private.Scanning.{IsScanning, lines_ended}
 use Rattle.nx_watch.specs.private.LoggingListener.{KeepsLines, TakesLines, logging_to}

@@ -18,9 +18,9 @@ use Rattle.nx_watch.specs.LineRun.{HasTaken}
 use Rattle.nx_watch.specs.Stamp.{Stamp, stamp}
 use Rattle.nx_watch.specs.declared.lines.line_effects.LineEffects.{LineEffects}
 use Rattle.nx_watch.specs.declared.lines.line_effects.StartMoments.{StartMoments}
-use Rattle.nx_watch.specs.declared.lines.line_run.LineRun.{LineRun}
-use Rattle.nx_watch.specs.declared.lines.line_run.WatchEnd.{WatchEnd}
-use Rattle.nx_watch.specs.declared.lines.line_run.WatchEnd.TheVariants.{Read, Back, Write}
+use Rattle.nx_watch.specs.declared.line_run.LineRun.{LineRun}
+use Rattle.nx_watch.specs.declared.line_run.WatchEnd.{WatchEnd}
+use Rattle.nx_watch.specs.declared.line_run.WatchEnd.TheVariants.{Read, Back, Write}
 use Rattle.nx_watch.specs.declared.logging_listener.LoggingListener.{LoggingListener}
 use Rattle.nx_watch.specs.private.LoggingListener.{LoggingTo, TakesLines, logging_to}
 use Rattle.nx_watch.specs.LinesTold.{IsToldByRead}

@@ -7,7 +7,7 @@ use Rattle.nx_watch.specs.private.LoggingListener.{LoggingTo, TakesLines, loggin
 use Rattle.nx_watch.specs.declared.lines.line_effects.StartMoments.{StartMoments}
 use Rattle.nx_watch.specs.private.Running.{IsBeside, IsRunning, ToldBefore, ToldBeside, beside}
 use Rattle.nx_watch.specs.private.Stamping.{RunsStamped, telling}
-use Rattle.nx_watch.proofs.lines.line_run.LineRun.read_lines.Given as goal
+use Rattle.nx_watch.proofs.line_run.LineRun.read_lines.Given as goal
 
 -- all whole lines that were read were taken, and so it was at each read
 abbrev pub invariant-loop-room : goal.invariant-loop-room

@@ -8,7 +8,7 @@ use Rattle.nx_watch.specs.private.Stamping.{StandsStamped, telling}
 use Rattle.nx_watch.proofs.lemmas.lines.Run.{answers-told, none-taken, run-starts}
 use Rattle.nx_watch.proofs.lemmas.lines.Told.{by-end}
 use Rattle.nx_watch.proofs.lemmas.log.Stamping.{ends-stamped, running-stamped}
-use Rattle.nx_watch.proofs.lines.line_run.watch_lines.Goals as goal
+use Rattle.nx_watch.proofs.line_run.watch_lines.Goals as goal
 
 pub returns-in-Ok-clause-watched : goal.returns-in-Ok-clause-watched
 returns-in-Ok-clause-watched g c = λ start old force well stood told.

@@ -16,34 +16,17 @@ ghost use Rattle.nx_watch.specs.private.Scanning.{IsScanning};
 ghost use Rattle.nx_watch.specs.private.Stamping.{RunsStamped, StandsStamped, telling};
 ghost use Rattle.nx_watch.specs.declared.lines.line_effects.StartMoments.{StartMoments as TheStart};
 ghost use Rattle.nx_watch.specs.declared.logging_listener.LoggingListener.{LoggingListener as TheLoggingListener};
-ghost use Rattle.nx_watch.specs.declared.lines.line_run.WatchEnd.TheVariants.{Read as ReadFailed, Write as WriteEnd};
+ghost use Rattle.nx_watch.specs.declared.line_run.WatchEnd.TheVariants.{Read as ReadFailed, Write as WriteEnd};
 
 use crate::lines::any_scanner::{AnyScanner, Ended};
-use crate::lines::line_effects::{Effect, LineEffects, StartMoments};
+use crate::lines::line_effects::{Effect, LineEffects, LinesWatched, StartMoments};
 use crate::lines::no_effect::NoEffect;
 use crate::lines::telling::{tell_failed_put, tell_first, tell_number};
-use crate::logging_listener::LoggingListener;
+use crate::logging_listener::{LoggingListener, WriteFailed};
 use crate::stamped::StampedReader;
 use nx_fec::{CHUNK, Counting, Piece};
 use nx_kept::DiskFile;
 use std::io::{Read, Write};
-use thiserror::Error;
-
-/// A write failed.
-#[derive(Clone, Copy, Debug, Drop, PartialEq, Eq, Error)]
-#[error("a write failed")]
-pub struct WriteFailed;
-
-/// What a run over lines read.
-#[derive(Clone, Copy, Debug, PartialEq, Eq)]
-pub struct LinesWatched {
-    /// How many lines there were, a cut last one too.
-    pub lines: u64,
-    /// How many of them had no effect.
-    pub without_effect: u64,
-    /// The first of these, where lines count from 1.
-    pub first_without_effect: Option<u64>,
-}
 
 /// Why a run over lines ended before its input.
 #[derive(Clone, Copy, Debug, PartialEq, Eq)]

@@ -7,7 +7,7 @@ use Rattle.nx_watch.specs.private.LoggingListener.{TakesLines, logging_to}
 use Rattle.nx_watch.proofs.lemmas.lines.Run.{run-of, some-line, taken-idle, whole-behind}
 use Rattle.nx_watch.proofs.lemmas.lines.Told.{tells-on}
 use Rattle.nx_watch.proofs.lemmas.lines.Scanning.{parts}
-use Rattle.nx_watch.proofs.lines.line_run.LineRun.take_line.Goals as goal
+use Rattle.nx_watch.proofs.line_run.LineRun.take_line.Goals as goal
 
 pub returns-in-Nothing-clause-taken : goal.returns-in-Nothing-clause-taken
 returns-in-Nothing-clause-taken g c = λ start first old bytes force r.

@@ -3,7 +3,7 @@ use Rattle.nx_watch.specs.LineRun.{AreCounted}
 use Rattle.nx_watch.specs.private.Running.{HasToldLines}
 use Rattle.nx_watch.specs.private.Scanning.{CutsAs}
 use Rattle.nx_watch.proofs.lemmas.lines.Run.{ends-input}
-use Rattle.nx_watch.proofs.lines.line_run.LineRun.end.Goals as goal
+use Rattle.nx_watch.proofs.line_run.LineRun.end.Goals as goal
 
 pub returns-in-Some : goal.returns-in-Some
 returns-in-Some g c = λ first old bytes lines scans tells.

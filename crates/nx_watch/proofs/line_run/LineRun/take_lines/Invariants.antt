@@ -4,7 +4,7 @@ use Rattle.nx_watch.specs.Acting.{most_bytes}
 use Rattle.nx_watch.specs.declared.lines.line_effects.StartMoments.{StartMoments}
 use Rattle.nx_watch.specs.private.Running.{IsRunning, ToldBeside}
 use Rattle.nx_watch.specs.private.LoggingListener.{LoggingTo, TakesLines, logging_to}
-use Rattle.nx_watch.proofs.lines.line_run.LineRun.take_lines.Given as goal
+use Rattle.nx_watch.proofs.line_run.LineRun.take_lines.Given as goal
 
 -- the lines that the bytes so far ended were taken
 abbrev pub invariant-loop-at : goal.invariant-loop-at

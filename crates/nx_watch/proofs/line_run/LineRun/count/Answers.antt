@@ -1,7 +1,7 @@
 use Rattle.std.proofs.Common.{◌++◌, ◌∙◌, subst}
 use Rattle.nx_watch.specs.LineRun.{HasTold}
 use Rattle.nx_watch.specs.LinesTold.{IsFirstTold, number_told}
-use Rattle.nx_watch.proofs.lines.line_run.LineRun.count.Goals as goal
+use Rattle.nx_watch.proofs.line_run.LineRun.count.Goals as goal
 
 pub returns-clause-told : goal.returns-clause-told
 returns-clause-told g c = λ first old bytes lines tells. record {

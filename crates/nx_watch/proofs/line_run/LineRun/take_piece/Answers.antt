@@ -3,7 +3,7 @@ use Rattle.nx_watch.specs.private.LoggingListener.{TakesLines, logging_to}
 use Rattle.nx_watch.specs.private.Running.{TellsFirst}
 use Rattle.nx_watch.proofs.lemmas.lines.Run.{answers-told, on-both, running-told}
 use Rattle.nx_watch.proofs.lemmas.lines.Told.{told-beside}
-use Rattle.nx_watch.proofs.lines.line_run.LineRun.take_piece.Goals as goal
+use Rattle.nx_watch.proofs.line_run.LineRun.take_piece.Goals as goal
 
 pub returns-clause-taken : goal.returns-clause-taken
 returns-clause-taken g c = λ base old is.

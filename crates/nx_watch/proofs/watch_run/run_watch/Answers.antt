@@ -16,16 +16,16 @@ use Rattle.nx_watch.specs.LinesTold.{IsToldAtEnd}
 use Rattle.nx_watch.specs.declared.lines.line_effects.StartMoments.{StartMoments}
 use Rattle.nx_watch.specs.private.Running.{HasToldSo, IsToldByEnd, ToldBefore}
 use Rattle.nx_watch.specs.private.Stamping.{StandsStamped, telling}
-use Rattle.nx_watch.specs.declared.lines.line_run.LinesWatched.{LinesWatched}
-use Rattle.nx_watch.specs.declared.lines.line_run.WatchEnd.{WatchEnd}
-use Rattle.nx_watch.specs.declared.lines.line_run.WatchEnd.TheVariants.{Read, Back, Write}
+use Rattle.nx_watch.specs.declared.lines.line_effects.LinesWatched.{LinesWatched}
+use Rattle.nx_watch.specs.declared.line_run.WatchEnd.{WatchEnd}
+use Rattle.nx_watch.specs.declared.line_run.WatchEnd.TheVariants.{Read, Back, Write}
 use Rattle.nx_watch.specs.private.Keeping.{HasKept}
 use Rattle.nx_watch.specs.private.LoggingListener.{logging_to}
 use Rattle.nx_watch.proofs.lemmas.log.Finish.{back-apart, closed-on, end-apart, has-run, heard-on, none-failed, none-yet-failed, stamps-keep, stands-first, unwritten-apart, wrote-some, zip-length}
 use Rattle.nx_watch.proofs.lemmas.lines.Run.{acting-cut, acting-idle, ends-idle, tells-some}
 use Rattle.nx_watch.proofs.lemmas.lines.Told.{at-end, at-finish}
-use Rattle.nx_watch.proofs.logging_listener.LoggingListener.run.Goals as goal
-use Rattle.nx_watch.proofs.logging_listener.LoggingListener.run.Goals.{After-watch_lines}
+use Rattle.nx_watch.proofs.watch_run.run_watch.Goals as goal
+use Rattle.nx_watch.proofs.watch_run.run_watch.Goals.{After-watch_lines}
 
 -- what was told before the first line
 abbrev behind : {F : Type 0} → (F → Option (List ℕ)) → CountedDevice F → List ℕ → ToldBefore
@@ -53,15 +53,15 @@ apart-Written e = cc
 pub returns-in-Ok-clause-runs : goal.returns-in-Ok-clause-runs
 returns-in-Ok-clause-runs g c = λ notices cut told is none range heard kept.
     let disk = g.D.DiskFile in
-    let self = c.args.self in
-    let start = logging_to self c.args.writer.now in
+    let logging = c.args.logging in
+    let start = logging_to logging c.args.writer.now in
     let before = behind g.F.Write.contents notices cut in
-    let w = c.in-Ok.ensures.watched self before (sym is)
-    (none-yet-failed disk self.keeper kept)
-    (stands-first disk self range heard kept) told in
+    let w = c.in-Ok.ensures.watched logging before (sym is)
+    (none-yet-failed disk logging.keeper kept)
+    (stands-first disk logging range heard kept) told in
     let acting = acting_lines c.args.first w.3.1 in
     let closed = c.finish.ensures.closed start acting w.3.4.stood.stands in
-    has-run disk self c.args.first g.R.Read.remaining (counted_of c.args.reader.now)
+    has-run disk logging c.args.first g.R.Read.remaining (counted_of c.args.reader.now)
     (counted_of c.watch_lines.new.reader)
     g.W.Write.contents c.args.writer.now c.finish.new.writer g.F.Write.contents notices
     c.finish.new.notices cut (stamps_of c.watch_lines.new.reader) at_end c.finish.result
@@ -77,7 +77,7 @@ returns-in-Ok-clause-runs g c = λ notices cut told is none range heard kept.
       consumed = w.1;
       within = w.2;
       read = (w.3.0, w.3.1, w.3.2, w.3.3, refl, w.3.4.on);
-      printed = subst (λ l. PrintAllToEnd (starts_of self.listener) (given_by l) closed.copies)
+      printed = subst (λ l. PrintAllToEnd (starts_of logging.listener) (given_by l) closed.copies)
           (sym (acting-cut c.args.first w.3.1 w.3.2)) closed.printed;
       failed_read = (
         λ e. absurd (end-apart e),
@@ -88,7 +88,7 @@ returns-in-Ok-clause-runs g c = λ notices cut told is none range heard kept.
           (logging_to c.watch_lines.new.logging c.watch_lines.new.writer) w.0 c.finish.result
           acting (acting_lines c.args.first (w.3.1 ++ cut_line w.3.2)) closed.copies
           (stamps_of c.watch_lines.new.reader) (acting-cut c.args.first w.3.1 w.3.2)
-          (λ since same k. closed-on disk g.W.Write.contents (starts_of self.listener) since
+          (λ since same k. closed-on disk g.W.Write.contents (starts_of logging.listener) since
           c.finish.result c.finish.new.writer acting closed.copies
           (ap (λ (l : Listening). starts_of l) same) closed.printed
           (c.finish.ensures.closed since acting k)) w.3.4.stood;
@@ -112,13 +112,13 @@ returns-in-Ok-clause-runs g c = λ notices cut told is none range heard kept.
 pub returns-in-Back-clause-runs : goal.returns-in-Back-clause-runs
 returns-in-Back-clause-runs g c = λ notices cut told is none range heard kept.
     let disk = g.D.DiskFile in
-    let self = c.args.self in
-    let start = logging_to self c.args.writer.now in
+    let logging = c.args.logging in
+    let start = logging_to logging c.args.writer.now in
     let before = behind g.F.Write.contents notices cut in
     let lines-read = c.watch_lines.new in
-    let w = c.in-Err.ensures.watched self before (sym is)
-    (none-yet-failed disk self.keeper kept)
-    (stands-first disk self range heard kept) told in
+    let w = c.in-Err.ensures.watched logging before (sym is)
+    (none-yet-failed disk logging.keeper kept)
+    (stands-first disk logging range heard kept) told in
     let r : RunOverLines _ = record {
       stands = StandsStamped (telling disk g.W.Write.contents g.F.Write.contents before)
           c.args.first w.0 (stamps_of lines-read.reader);
@@ -136,7 +136,7 @@ returns-in-Back-clause-runs g c = λ notices cut told is none range heard kept.
     let closed = c.finish-in-Back.ensures.closed start acting ended.5.stands in
     let stop = back c.in-Back.line c.in-Back.last c.in-Back.given in
     let lines = ended.0 ++ Some (moment c.in-Back.given) ∷ [] in
-    has-run disk self c.args.first g.R.Read.remaining (counted_of c.args.reader.now)
+    has-run disk logging c.args.first g.R.Read.remaining (counted_of c.args.reader.now)
     (counted_of lines-read.reader)
     g.W.Write.contents c.args.writer.now c.finish-in-Back.new.writer g.F.Write.contents
     notices c.finish-in-Back.new.notices cut (stamps_of lines-read.reader) stop
@@ -160,7 +160,7 @@ returns-in-Back-clause-runs g c = λ notices cut told is none range heard kept.
         ended.3 ∙ sym (length-append ended.0 (Some (moment c.in-Back.given) ∷ [])),
         ended.4,
       );
-      printed = subst (λ l. PrintAllToEnd (starts_of self.listener) (given_by l) closed.copies)
+      printed = subst (λ l. PrintAllToEnd (starts_of logging.listener) (given_by l) closed.copies)
           (sym (acting-idle c.args.first ended.0 (moment c.in-Back.given)
           (ends-idle c.args.first.newest (moments_behind c.args.first ended.0) c.in-Back.given
           ended.2))) closed.printed;
@@ -176,7 +176,7 @@ returns-in-Back-clause-runs g c = λ notices cut told is none range heard kept.
           (stamps_of lines-read.reader) (acting-idle c.args.first ended.0 (moment c.in-Back.given)
           (ends-idle c.args.first.newest (moments_behind c.args.first ended.0) c.in-Back.given
           ended.2))
-          (λ since same k. closed-on disk g.W.Write.contents (starts_of self.listener) since
+          (λ since same k. closed-on disk g.W.Write.contents (starts_of logging.listener) since
           c.finish-in-Back.result c.finish-in-Back.new.writer acting closed.copies
           (ap (λ (l : Listening). starts_of l) same) closed.printed
           (c.finish-in-Back.ensures.closed since acting k)) ended.5;
@@ -192,13 +192,13 @@ returns-in-Back-clause-runs g c = λ notices cut told is none range heard kept.
 pub returns-in-Read-clause-runs : goal.returns-in-Read-clause-runs
 returns-in-Read-clause-runs g c = λ notices cut told is none range heard kept.
     let disk = g.D.DiskFile in
-    let self = c.args.self in
-    let start = logging_to self c.args.writer.now in
+    let logging = c.args.logging in
+    let start = logging_to logging c.args.writer.now in
     let before = behind g.F.Write.contents notices cut in
     let lines-read = c.watch_lines.new in
-    let w = c.in-Err.ensures.watched self before (sym is)
-    (none-yet-failed disk self.keeper kept)
-    (stands-first disk self range heard kept) told in
+    let w = c.in-Err.ensures.watched logging before (sym is)
+    (none-yet-failed disk logging.keeper kept)
+    (stands-first disk logging range heard kept) told in
     let r : RunOverLines _ = record {
       stands = StandsStamped (telling disk g.W.Write.contents g.F.Write.contents before)
           c.args.first w.0 (stamps_of lines-read.reader);
@@ -213,7 +213,7 @@ returns-in-Read-clause-runs g c = λ notices cut told is none range heard kept.
     } in
     let ended = subst (λ e. AnswersRun r (Err e) w.0) c.in-Read.is w.3 in
     let stood = ended.3.stood.stands in
-    has-run disk self c.args.first g.R.Read.remaining (counted_of c.args.reader.now)
+    has-run disk logging c.args.first g.R.Read.remaining (counted_of c.args.reader.now)
     (counted_of lines-read.reader)
     g.W.Write.contents c.args.writer.now lines-read.writer g.F.Write.contents notices
     lines-read.notices cut (stamps_of lines-read.reader) unread c.into_keeper.result (record {
@@ -223,7 +223,7 @@ returns-in-Read-clause-runs g c = λ notices cut told is none range heard kept.
       given = stood.0;
       bytes = w.0;
       each = stood.1.each;
-      kept = subst (λ k. HasKept disk self.keeper k stood.1.texts stood.0)
+      kept = subst (λ k. HasKept disk logging.keeper k stood.1.texts stood.0)
           (sym c.into_keeper.ensures) stood.1.kept;
       wrote = stood.2;
       consumed = w.1;
@@ -239,7 +239,7 @@ returns-in-Read-clause-runs g c = λ notices cut told is none range heard kept.
           (logging_to lines-read.logging lines-read.writer) w.0 c.into_keeper.result
           (acting_lines c.args.first ended.0) (acting_lines c.args.first ended.0) stood.1.copies
           (stamps_of lines-read.reader) refl
-          (λ since same k. heard-on disk g.W.Write.contents (starts_of self.listener) since
+          (λ since same k. heard-on disk g.W.Write.contents (starts_of logging.listener) since
           (logging_to lines-read.logging lines-read.writer) c.into_keeper.result
           (acting_lines c.args.first ended.0) stood.1.copies
           (ap (λ (l : Listening). starts_of l) same) stood.1.heard.in_turn c.into_keeper.ensures k)
@@ -257,13 +257,13 @@ returns-in-Read-clause-runs g c = λ notices cut told is none range heard kept.
 pub returns-in-Write-clause-runs : goal.returns-in-Write-clause-runs
 returns-in-Write-clause-runs g c = λ notices cut told is none range heard kept.
     let disk = g.D.DiskFile in
-    let self = c.args.self in
-    let start = logging_to self c.args.writer.now in
+    let logging = c.args.logging in
+    let start = logging_to logging c.args.writer.now in
     let before = behind g.F.Write.contents notices cut in
     let lines-read = c.watch_lines.new in
-    let w = c.in-Err.ensures.watched self before (sym is)
-    (none-yet-failed disk self.keeper kept)
-    (stands-first disk self range heard kept) told in
+    let w = c.in-Err.ensures.watched logging before (sym is)
+    (none-yet-failed disk logging.keeper kept)
+    (stands-first disk logging range heard kept) told in
     let r : RunOverLines _ = record {
       stands = StandsStamped (telling disk g.W.Write.contents g.F.Write.contents before)
           c.args.first w.0 (stamps_of lines-read.reader);
@@ -280,7 +280,7 @@ returns-in-Write-clause-runs g c = λ notices cut told is none range heard kept.
     let stood = ended.3.stood.stands in
     let keeper = c.into_keeper-in-Write.result in
     let unwritten_one = c.watch_lines.ensures.unwritten.0 (c.in-Err.is ∙ ap Err c.in-Write.is) in
-    has-run disk self c.args.first g.R.Read.remaining (counted_of c.args.reader.now)
+    has-run disk logging c.args.first g.R.Read.remaining (counted_of c.args.reader.now)
     (counted_of lines-read.reader)
     g.W.Write.contents c.args.writer.now lines-read.writer g.F.Write.contents notices
     lines-read.notices cut (stamps_of lines-read.reader) unwritten keeper (record {
@@ -290,7 +290,7 @@ returns-in-Write-clause-runs g c = λ notices cut told is none range heard kept.
       given = stood.0;
       bytes = w.0;
       each = stood.1.each;
-      kept = subst (λ k. HasKept disk self.keeper k stood.1.texts stood.0)
+      kept = subst (λ k. HasKept disk logging.keeper k stood.1.texts stood.0)
           (sym c.into_keeper-in-Write.ensures) stood.1.kept;
       wrote = stood.2;
       consumed = w.1;
@@ -308,7 +308,7 @@ returns-in-Write-clause-runs g c = λ notices cut told is none range heard kept.
           (acting_lines c.args.first (ended.0 ++ Some ended.1 ∷ []))
           (acting_lines c.args.first (ended.0 ++ Some ended.1 ∷ [])) stood.1.copies
           (stamps_of lines-read.reader) refl
-          (λ since same k. heard-on disk g.W.Write.contents (starts_of self.listener) since
+          (λ since same k. heard-on disk g.W.Write.contents (starts_of logging.listener) since
           (logging_to lines-read.logging lines-read.writer) keeper
           (acting_lines c.args.first (ended.0 ++ Some ended.1 ∷ [])) stood.1.copies
           (ap (λ (l : Listening). starts_of l) same) stood.1.heard.in_turn
@@ -322,17 +322,17 @@ returns-in-Write-clause-runs g c = λ notices cut told is none range heard kept.
     }) c.answer-in-Write.result.0 c.answer-in-Write.result.1 is none
     c.answer-in-Write.ensures.device
     c.answer-in-Write.ensures.failed
-    (λ well all. absurd (wrote-some self.keeper keeper _ _ _ _ c.requires.writer unwritten_one
+    (λ well all. absurd (wrote-some logging.keeper keeper _ _ _ _ c.requires.writer unwritten_one
     stood.2 all))
 
 -- what was told when the lines were over, however they ended
 told-lines : (g : _) → (c : After-watch_lines g) → (before : ToldBefore)
     → HasTold before.old (g.F.Write.contents c.args.notices.now.inner) c.args.notices.now.failures
     before.text
-    → c.args.first.newest ≡ (starts_of c.args.self.listener).moment
-    → (starts_of c.args.self.listener).moment ≤ last_moment
-    → HearsGiven (starts_of c.args.self.listener) c.args.self.listener [] []
-    → HasKept g.D.DiskFile c.args.self.keeper c.args.self.keeper [] []
+    → c.args.first.newest ≡ (starts_of c.args.logging.listener).moment
+    → (starts_of c.args.logging.listener).moment ≤ last_moment
+    → HearsGiven (starts_of c.args.logging.listener) c.args.logging.listener [] []
+    → HasKept g.D.DiskFile c.args.logging.keeper c.args.logging.keeper [] []
     → (bytes : List ℕ) × (lines : List (Option Line))
     × HasToldSo before (g.F.Write.contents c.watch_lines.new.notices.inner)
     c.watch_lines.new.notices.failures
@@ -340,13 +340,13 @@ told-lines : (g : _) → (c : After-watch_lines g) → (before : ToldBefore)
 told-lines g c before said is range heard kept =
     let disk = g.D.DiskFile in
     let lines-read = c.watch_lines.new in
-    let w = c.watch_lines.ensures.watched c.args.self before (sym is)
-    (none-yet-failed disk c.args.self.keeper kept)
-    (stands-first disk c.args.self range heard kept) said in
+    let w = c.watch_lines.ensures.watched c.args.logging before (sym is)
+    (none-yet-failed disk c.args.logging.keeper kept)
+    (stands-first disk c.args.logging range heard kept) said in
     let r : RunOverLines _ = record {
       stands = StandsStamped (telling disk g.W.Write.contents g.F.Write.contents before)
           c.args.first w.0 (stamps_of lines-read.reader);
-      start = logging_to c.args.self c.args.writer.now;
+      start = logging_to c.args.logging c.args.writer.now;
       now = logging_to lines-read.logging lines-read.writer;
       first = c.args.first;
       AtEnd = IsAtEnd (g.R.Read.remaining (counted_of lines-read.reader).inner) ⊎
@@ -397,10 +397,10 @@ returns-in-Back-clause-told g c = λ old cut some said is range heard kept.
 told-open : (g : _) → (c : After-watch_lines g) → (old : Option (List ℕ)) (cut : List ℕ)
     → TellsOfSomeCut cut
     → HasTold old (g.F.Write.contents c.args.notices.now.inner) c.args.notices.now.failures cut
-    → c.args.first.newest ≡ (starts_of c.args.self.listener).moment
-    → (starts_of c.args.self.listener).moment ≤ last_moment
-    → HearsGiven (starts_of c.args.self.listener) c.args.self.listener [] []
-    → HasKept g.D.DiskFile c.args.self.keeper c.args.self.keeper [] []
+    → c.args.first.newest ≡ (starts_of c.args.logging.listener).moment
+    → (starts_of c.args.logging.listener).moment ≤ last_moment
+    → HearsGiven (starts_of c.args.logging.listener) c.args.logging.listener [] []
+    → HasKept g.D.DiskFile c.args.logging.keeper c.args.logging.keeper [] []
     → TellsOfLines old (g.F.Write.contents c.watch_lines.new.notices.inner)
     c.watch_lines.new.notices.failures
 told-open g c old cut some said is range heard kept =

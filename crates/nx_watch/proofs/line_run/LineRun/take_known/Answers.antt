@@ -12,7 +12,7 @@ use Rattle.nx_watch.proofs.lemmas.lines.Run.{elements-may, ends-reason, kind-is,
 use Rattle.nx_watch.proofs.lemmas.lines.Run.{may-set, taken-acting, taken-idle, taken-set}
 use Rattle.nx_watch.proofs.lemmas.lines.Told.{tells-acting, tells-idle}
 use Rattle.nx_watch.proofs.lemmas.lines.Starting.{is-setting}
-use Rattle.nx_watch.proofs.lines.line_run.LineRun.take_known.Goals as goal
+use Rattle.nx_watch.proofs.line_run.LineRun.take_known.Goals as goal
 
 pub returns-in-Acts-clause-taken : goal.returns-in-Acts-clause-taken
 returns-in-Acts-clause-taken g c = λ start first old bytes lines line force is taken tells.

@@ -11,14 +11,14 @@ use Rattle.nx_watch.specs.Stamps.{bytes_given, counted_of, stamps_of}
 use Rattle.nx_watch.specs.private.LoggingListener.{LoggingTo, TakesLines, logging_to}
 use Rattle.nx_watch.specs.private.Running.{EndsRun, IsRunning, TellsFirst, ToldBefore, ToldBeside, beside}
 use Rattle.nx_watch.specs.private.Stamping.{WasRunning, telling}
-use Rattle.nx_watch.specs.declared.lines.line_run.LineRun.{LineRun}
-use Rattle.nx_watch.specs.declared.lines.line_run.WatchEnd.TheVariants.{Read}
+use Rattle.nx_watch.specs.declared.line_run.LineRun.{LineRun}
+use Rattle.nx_watch.specs.declared.line_run.WatchEnd.TheVariants.{Read}
 use Rattle.nx_watch.proofs.lemmas.lines.Scanning.{Parts-lines, parts}
 use Rattle.nx_watch.proofs.lemmas.lines.Told.{not-beside}
 use Rattle.nx_watch.specs.declared.lines.line_effects.StartMoments.{StartMoments}
 use Rattle.nx_watch.proofs.lemmas.log.Stamping.{later-bytes, none-stamped, says-too, stamp-now, stamped-now}
-use Rattle.nx_watch.proofs.lines.line_run.LineRun.read_lines.Goals as goal
-use Rattle.nx_watch.proofs.lines.line_run.LineRun.read_lines.Goals.{After-next_piece}
+use Rattle.nx_watch.proofs.line_run.LineRun.read_lines.Goals as goal
+use Rattle.nx_watch.proofs.line_run.LineRun.read_lines.Goals.{After-next_piece}
 
 -- all that stood at the reads, and at the one that is made now
 stamped : (g : _) → (c : After-next_piece g)

@@ -2,7 +2,7 @@ use Rattle.std.proofs.Common.{◌++◌, take, subst, arith}
 use Rattle.nx_watch.specs.private.Running.{EndsRun, IsRunning}
 use Rattle.nx_watch.specs.private.LoggingListener.{TakesLines, logging_to}
 use Rattle.nx_fec.proofs.lemmas.devices.Piece.{piece-next, piece-rest}
-use Rattle.nx_watch.proofs.lines.line_run.LineRun.take_lines.Goals as goal
+use Rattle.nx_watch.proofs.line_run.LineRun.take_lines.Goals as goal
 
 pub returns-in-Err-clause-taken : goal.returns-in-Err-clause-taken
 returns-in-Err-clause-taken g c = λ start first old bytes force h more.

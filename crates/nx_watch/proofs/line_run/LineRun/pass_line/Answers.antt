@@ -1,6 +1,6 @@
 use Rattle.std.proofs.Common.{None, ◌+◌, ◌∙◌, ap}
 use Rattle.nx_watch.proofs.lemmas.lines.Told.{tells-idle}
-use Rattle.nx_watch.proofs.lines.line_run.LineRun.pass_line.Goals as goal
+use Rattle.nx_watch.proofs.line_run.LineRun.pass_line.Goals as goal
 
 pub returns-clause-tells : goal.returns-clause-tells
 returns-clause-tells g c = λ first old bytes lines reason tells.
