@@ -1,13 +1,15 @@
 //! A run over the lines of any bytes, which goes on behind those that aren't understood. What runs
 //! for each line is inlined always; what is done for one that isn't understood never is.
 
-ghost use Rattle.std.specs.Prelude.{◌≡◌, ◌+◌, ◌<◌, ◌≤◌, ◌↔◌, ◌⊎◌, ℕ, true, false, List, [], ◌∷◌, ◌++◌, Option, IsErrOf, IsSomeAnd, IfErr, IfOk, OnOk, MatchResult, None, Some, length, take, ◌^◌};
+ghost use Rattle.std.specs.Prelude.{◌≡◌, ◌+◌, ◌<◌, ◌≤◌, ◌↔◌, ◌⊎◌, ℕ, true, false, List, [], ◌∷◌, ◌++◌, Option, IsErrOf, IsSome, IsSomeAnd, IfOk, OnOk, MatchResult, None, Some, length, take, ◌^◌};
 ghost use Rattle.std.specs.Io.KnownBytes.{Consumes, IsAtEnd};
 ghost use Rattle.nx_fec.specs.air_files.AirFile.{IsLine, Line};
-ghost use Rattle.nx_watch.specs.Acting.{most_bytes};
+ghost use Rattle.nx_fec.specs.air_files.Scanner.{kind_of};
+ghost use Rattle.nx_watch.specs.Acting.{acting_lines, moments_behind, most_bytes};
 ghost use Rattle.nx_watch.specs.AnyLines.{AreLines};
-ghost use Rattle.nx_watch.specs.LineRun.{AnswersRun, AreCounted, HasTaken, HasTold, MayAct};
+ghost use Rattle.nx_watch.specs.LineRun.{AnswersRun, AreCounted, HasTaken, HasTold};
 ghost use Rattle.nx_watch.specs.LinesTold.{IsReason};
+ghost use Rattle.nx_watch.specs.private.Effects.{acting_and_set, is_acting, IsEffect, IsKept, KeepsMoments, SameCounts, set_by};
 ghost use Rattle.nx_watch.specs.private.Running.{EndsInput, EndsRun, HasToldLines, HasToldSo, IsBeside, IsRunning, IsToldByEnd, TellsFirst, ToldBefore, ToldBeside, beside};
 ghost use Rattle.nx_receiver.specs.Listener.{starts_of};
 ghost use Rattle.nx_watch.specs.Stamps.{IsFresh, counted_of, stamps_of};
@@ -22,9 +24,9 @@ use crate::lines::any_scanner::{AnyScanner, Ended};
 use crate::lines::line_effects::{Effect, LineEffects, LinesWatched, StartMoments};
 use crate::lines::no_effect::NoEffect;
 use crate::lines::telling::{tell_failed_put, tell_first, tell_number};
-use crate::logging_listener::{LoggingListener, WriteFailed};
+use crate::logging_listener::LoggingListener;
 use crate::stamped::StampedReader;
-use nx_fec::{CHUNK, Counting, Piece};
+use nx_fec::{CHUNK, Counting, LineKind, Piece};
 use nx_kept::DiskFile;
 use std::io::{Read, Write};
 
@@ -389,37 +391,51 @@ impl LineRun {
         tell_first(before, self.effects.lines(), why, notices);
     }
 
-    /// Gives the receivers the line that the last byte ended, which acts.
+    /// Gives the receivers the line of an air file that the last byte ended, and answers what it
+    /// did, by what they answer.
     #[inline(always)]
     fn give_line<D: DiskFile + Drop, W: Write>(
-        &self,
+        &mut self,
         writer: &mut Counting<W>,
         logging: &mut LoggingListener<D>,
-    ) -> Result<(), WatchEnd>
-        requires line { IsSomeAnd self.now.scanner.scanner.latest IsLine }
+    ) -> Effect
+        requires line { IsSomeAnd self.old.scanner.scanner.latest IsLine }
         requires writer { writer.old.failures ≡ 0 }
-        ensures taken { (start : LoggingTo D W) (lines : List Line) (line : Line)
-            → self.now.scanner.scanner.latest ≡ Some line
-            → MayAct (starts_of start.logging.listener).moment lines line
-            → TakesLines D.DiskFile W.contents start (logging_to logging.old writer.old) lines
-            → TakesLines D.DiskFile W.contents start (logging_to logging.new writer.new)
-            (lines ++ line ∷ []) }
-        ensures ended { IfErr result (λ end. end ≡ WriteEnd) }
-        ensures unread { IsErrOf result ReadFailed → ⊥ }
-        ensures open { OnOk result (writer.new.failures ≡ 0) }
-        ensures unwritten { IsErrOf result WriteEnd ↔ (writer.new.failures ≡ 1) }
-        ensures written_once { writer.new.failures ≤ 1 }
+        requires few { self.old.effects.lines < 2 ^ 63 }
+        requires fewer { self.old.effects.without_effect ≤ self.old.effects.lines }
+        ensures taken { (start : LoggingTo D W) (first : TheStart) (lines : List (Option Line))
+            (line : Line) → (starts_of start.logging.listener).moment ≡ first.newest
+            → self.old.scanner.scanner.latest ≡ Some line → IsKept first lines self.old.effects
+            → TakesLines D.DiskFile W.contents start (logging_to logging.old writer.old)
+            (acting_lines first lines)
+            → IsKept first (lines ++ Some line ∷ []) self.new.effects
+            × IsEffect first (moments_behind first lines) (Some line) result
+            × TakesLines D.DiskFile W.contents start (logging_to logging.new writer.new)
+            (acting_lines first (lines ++ Some line ∷ [])) }
+        ensures scanner { self.new.scanner ≡ self.old.scanner }
+        ensures lines { self.new.effects.lines ≡ self.old.effects.lines + 1 }
+        ensures fewer { self.new.effects.without_effect ≤ self.new.effects.lines }
+        ensures first { IsSome self.old.effects.first_without
+            → self.new.effects.first_without ≡ self.old.effects.first_without }
+        ensures none { is_acting result ≡ false → self.old.effects.first_without ≡ None
+            → self.new.effects.first_without ≡ Some self.new.effects.lines }
+        ensures acting { is_acting result ≡ true
+            → self.new.effects.first_without ≡ self.old.effects.first_without }
+        ensures idle { is_acting result ≡ false → writer.new ≡ writer.old }
+        ensures once { writer.new.failures ≤ 1 }
         ensures failed { logging.old.keeper.has_failed ≡ true
             → logging.new.keeper.has_failed ≡ true }
     {
-        match logging.take(&self.scanner.scanner, writer) {
-            Ok(()) => Ok(()),
-            Err(WriteFailed) => Err(WatchEnd::Write),
-        }
+        let Some(kind) = self.scanner.scanner.latest() else {
+            unreachable!()
+        };
+        set_start(&mut self.effects, kind, logging);
+        let answer = logging.take(&self.scanner.scanner, writer);
+        self.effects.line(kind, answer)
     }
 
-    /// Takes the line of an air file that the last byte ended: gives it to the receivers where it
-    /// acts, and tells why not where it is the first without effect.
+    /// Takes the line of an air file that the last byte ended: gives it to the receivers, and tells
+    /// why it did nothing where it is the first without effect.
     #[inline(always)]
     fn take_known<D: DiskFile + Drop, W: Write, F: Write>(
         &mut self,
@@ -459,16 +475,10 @@ impl LineRun {
         ensures failed { logging.old.keeper.has_failed ≡ true
             → logging.new.keeper.has_failed ≡ true }
     {
-        let Some(kind) = self.scanner.scanner.latest() else {
-            unreachable!()
-        };
         let before = self.effects.first_without();
-        match self.effects.line(kind) {
-            Effect::Acts => self.give_line(writer, logging),
-            Effect::Sets(given) => {
-                logging.set_moment(given);
-                self.give_line(writer, logging)
-            }
+        match self.give_line(writer, logging) {
+            Effect::Acts if writer.failures() > 0 => Err(WatchEnd::Write),
+            Effect::Acts => Ok(()),
             Effect::Nothing(why) => {
                 tell_first(before, self.effects.lines(), why, notices);
                 Ok(())
@@ -482,5 +492,29 @@ impl LineRun {
                 })
             }
         }
+    }
+}
+
+/// Sets the moment of the start, where a line of this kind is of elements and no moment in range
+/// came before it. One past the year 2999 isn't set.
+#[inline(always)]
+fn set_start<D: DiskFile + Drop>(
+    effects: &mut LineEffects,
+    kind: LineKind,
+    logging: &mut LoggingListener<D>,
+)
+    ensures set { (start : TheLoggingListener D) (first : TheStart) (lines : List (Option Line))
+        (line : Line) (given : List ℕ) → kind_of line ≡ kind
+        → (starts_of start.listener).moment ≡ first.newest
+        → KeepsMoments first (moments_behind first lines) effects.old
+        → KeepsLines D.DiskFile start logging.old (acting_lines first lines) given
+        → KeepsMoments first
+        (moments_behind first lines ++ set_by first (moments_behind first lines) line) effects.new
+        × KeepsLines D.DiskFile start logging.new (acting_and_set first lines line) given }
+    ensures counts { SameCounts effects.old effects.new }
+    ensures keeper { logging.new.keeper ≡ logging.old.keeper }
+{
+    if let Some(start) = effects.start_before(kind) {
+        effects.start_set(logging.set_moment(start));
     }
 }

@@ -3,4 +3,5 @@
 pub(crate) mod any_scanner;
 pub(crate) mod line_effects;
 pub(crate) mod no_effect;
+pub(crate) mod refusal;
 pub(crate) mod telling;

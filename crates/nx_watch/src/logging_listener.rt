@@ -1,36 +1,32 @@
 //! The receivers of a watch, and the log in which it keeps what they print.
 
-ghost use Rattle.std.specs.Prelude.{◌≡◌, ◌+◌, ◌<◌, ◌≤◌, ℕ, Bool, List, [], ◌∷◌, ◌++◌, Option, Some, IsSomeAnd, length, take, drop, true, false, ◌&&◌, not};
+ghost use Rattle.std.specs.Prelude.{◌≡◌, ◌+◌, ◌<◌, ◌≤◌, ℕ, Bool, List, [], ◌∷◌, ◌++◌, Option, Some, IsSomeAnd, MatchResult, OnErr, length, take, drop, true, ◌&&◌, not};
 ghost use Rattle.std.specs.List.{All, AllZip};
 ghost use Rattle.nx_envelope.specs.Moment.{last_moment};
 ghost use Rattle.nx_fec.specs.air_files.AirFile.{IsLine, Line, elements, moment};
-ghost use Rattle.nx_fec.specs.Transfers.{CountedDevice, FailsOnce};
+ghost use Rattle.nx_fec.specs.Transfers.{CountedDevice};
 ghost use Rattle.nx_log.specs.Logged.{IsLoggedAs};
-ghost use Rattle.nx_receiver.specs.Commands.{refuses_vital, said};
+ghost use Rattle.nx_receiver.specs.Events.{Refuses};
 ghost use Rattle.nx_receiver.specs.copies.InTurn.{PrintAllToEnd};
 ghost use Rattle.nx_receiver.specs.air_file_runs.Listen.{given_by};
-ghost use Rattle.nx_receiver.specs.Listener.{HearsGiven, last_copies, starts_of, then_command, then_elements};
-ghost use Rattle.nx_receiver.specs.copies.Shares.{Given, MarkedCopy, Starts};
+ghost use Rattle.nx_receiver.specs.Listener.{last_copies, starts_of, then_elements};
+ghost use Rattle.nx_receiver.specs.copies.Shares.{MarkedCopy, Starts};
 ghost use Rattle.nx_watch.specs.declared.kept_log.keeper.Keeper.{Keeper as TheKeeper};
 ghost use Rattle.nx_watch.specs.declared.logging_listener.LoggingListener.{LoggingListener as TheLoggingListener};
-ghost use Rattle.nx_watch.specs.LineRun.{HasTold, MayAct};
+ghost use Rattle.nx_watch.specs.LineRun.{HasTold, MayAct, force_behind};
 ghost use Rattle.nx_watch.specs.LinesTold.{put_told};
+ghost use Rattle.nx_watch.specs.private.Effects.{IsAnswer, lines_taken};
 ghost use Rattle.nx_watch.specs.private.Keeping.{KeepsWith};
 ghost use Rattle.nx_watch.specs.private.LoggingListener.{HasClosed, IsCopyInRange, IsLineInRange, KeepsHeard, KeepsLines, LoggingTo, TakesLines, logging_to};
 
 use crate::kept_log::keeper::Keeper;
+use crate::lines::refusal::Refusal;
 use crate::lines::telling::tell_failed_put;
 use arrayvec::ArrayVec;
 use nx_fec::{Channel, Counting, LineKind, PackedElements, Scanner};
 use nx_kept::DiskFile;
-use nx_receiver::{Command, LastEntries, Listener, MAX_ENTRY, entry_bytes};
+use nx_receiver::{Command, LastEntries, Listener, MAX_ENTRY, MomentFault, entry_bytes};
 use std::io::Write;
-use thiserror::Error;
-
-/// A write failed.
-#[derive(Clone, Copy, Debug, Drop, PartialEq, Eq, Error)]
-#[error("a write failed")]
-pub struct WriteFailed;
 
 /// The receivers of a watch, and who keeps the entries that they print.
 #[derive(Drop)]
@@ -43,60 +39,54 @@ pub(crate) struct LoggingListener<D> {
 
 impl<D: DiskFile + Drop> LoggingListener<D> {
     /// Sets the moment of all channels, as a line does that says it. A watch sets one by itself
-    /// before the first elements, where no line said one.
-    pub(crate) fn set_moment(&mut self, given: u64)
+    /// before the first elements, where no line said one. `Range` where it is past 2999-12-31
+    /// 23:59:59, else `Back` where it is before the one in force; the receivers then stay as they
+    /// were.
+    pub(crate) fn set_moment(&mut self, given: u64) -> Result<(), MomentFault>
         ensures set { (start : TheLoggingListener D) (lines : List Line) (bytes : List ℕ)
-            → MayAct (starts_of start.listener).moment lines (moment given)
             → KeepsLines D.DiskFile start self.old lines bytes
-            → KeepsLines D.DiskFile start self.new (lines ++ moment given ∷ []) bytes }
-        ensures failed { self.old.keeper.has_failed ≡ true → self.new.keeper.has_failed ≡ true }
+            → MatchResult result
+            (λ _. MayAct (starts_of start.listener).moment lines (moment given)
+            × KeepsLines D.DiskFile start self.new (lines ++ moment given ∷ []) bytes)
+            (λ fault. Refuses (force_behind (starts_of start.listener).moment lines) given fault
+            × (self.new ≡ self.old)) }
+        ensures keeper { self.new.keeper ≡ self.old.keeper }
     {
-        let _ = self.listener.set_moment(given);
+        self.listener.set_moment(given)
     }
 
-    /// Takes the line that the scanner's last byte ended, which acts, and keeps the entries that it
-    /// prints. It takes the whole line also where a write fails, after which it doesn't call the
-    /// writer.
+    /// Takes the line that the scanner's last byte ended, and keeps the entries that it prints;
+    /// answers why the receivers refuse it, where they do. It takes the whole line also where a
+    /// write fails, after which it doesn't call the writer.
     pub(crate) fn take<W: Write>(
         &mut self,
         scanner: &Scanner,
         writer: &mut Counting<W>,
-    ) -> Result<(), WriteFailed>
+    ) -> Result<(), Refusal>
         requires line { IsSomeAnd scanner.now.latest IsLine }
         requires none { writer.old.failures ≡ 0 }
         ensures taken { (start : LoggingTo D W) (lines : List Line) (line : Line)
             → scanner.now.latest ≡ Some line
-            → MayAct (starts_of start.logging.listener).moment lines line
             → TakesLines D.DiskFile W.contents start (logging_to self.old writer.old) lines
-            → TakesLines D.DiskFile W.contents start (logging_to self.new writer.new)
-            (lines ++ line ∷ []) }
-        ensures counts { FailsOnce writer.new result }
+            → IsAnswer (force_behind (starts_of start.logging.listener).moment lines) line result
+            × TakesLines D.DiskFile W.contents start (logging_to self.new writer.new)
+            (lines ++ lines_taken line result) }
+        ensures refused { OnErr result (writer.new ≡ writer.old) }
+        ensures once { writer.new.failures ≤ 1 }
         ensures failed { self.old.keeper.has_failed ≡ true → self.new.keeper.has_failed ≡ true }
     {
         let Some(kind) = scanner.latest() else {
             unreachable!()
         };
         match kind {
-            LineKind::Elements(mark) => return self.hear(mark, scanner.elements(), writer),
-            LineKind::Moment(moment) => self.set_moment(moment),
+            LineKind::Elements(mark) => self.hear(mark, scanner.elements(), writer),
+            LineKind::Moment(moment) => self.set_moment(moment)?,
             _ => {
                 let (channel, command) = Command::of_line(kind);
-                self.command(channel, command);
+                self.listener.command(channel, command)?;
             }
         }
         Ok(())
-    }
-
-    /// Does on a channel what the command says. The refusal of a vital subject doesn't act.
-    fn command(&mut self, channel: Channel, command: Command)
-        ensures heard { (starts : Starts) (given : List Given) (copies : List MarkedCopy)
-            → refuses_vital (said command) ≡ false
-            → HearsGiven starts self.old.listener given copies
-            → HearsGiven starts self.new.listener
-            (then_command given channel (said command)) copies }
-        ensures keeper { self.new.keeper ≡ self.old.keeper }
-    {
-        let _ = self.listener.command(channel, command);
     }
 
     /// Hears elements of a channel up to and with the one that ends the first copy that is printed,
@@ -139,24 +129,19 @@ impl<D: DiskFile + Drop> LoggingListener<D> {
         mark: Option<Channel>,
         packed: &PackedElements,
         writer: &mut Counting<W>,
-    ) -> Result<(), WriteFailed>
+    )
         requires { writer.old.failures ≡ 0 }
         ensures taken { (start : LoggingTo D W) (lines : List Line)
             → TakesLines D.DiskFile W.contents start (logging_to self.old writer.old) lines
             → TakesLines D.DiskFile W.contents start (logging_to self.new writer.new)
             (lines ++ elements mark packed.now ∷ []) }
-        ensures counts { FailsOnce writer.new result }
+        ensures once { writer.new.failures ≤ 1 }
         ensures failed { self.old.keeper.has_failed ≡ true → self.new.keeper.has_failed ≡ true }
     {
         let channel = Channel::of(mark);
         let mut at = 0;
         while at < packed.len() {
             at += self.hear_next(channel, packed, at, writer);
-        }
-        if writer.failures() > 0 {
-            Err(WriteFailed)
-        } else {
-            Ok(())
         }
     }
 

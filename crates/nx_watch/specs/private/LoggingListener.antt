@@ -1,5 +1,5 @@
 -- How the receivers of a watch stand, and what is kept of what they print.
-use Rattle.std.specs.Prelude.{ℕ, ◌≤◌, List, ⊤, Option, Result}
+use Rattle.std.specs.Prelude.{◌≡◌, ℕ, ◌≤◌, List, ⊤, Option, Result}
 use Rattle.std.specs.List.{All, AllZip}
 use Rattle.nx_envelope.specs.Moment.{last_moment}
 use Rattle.nx_fec.specs.air_files.AirFile.{Line, moment}
@@ -7,10 +7,10 @@ use Rattle.nx_fec.specs.Transfers.{CountedDevice}
 use Rattle.nx_kept.specs.declared.disk.DiskFile.{Ghosts as TellsOfDisk}
 use Rattle.nx_log.specs.Logged.{IsLoggedAs}
 use Rattle.nx_receiver.specs.air_file_runs.Listen.{given_by}
-use Rattle.nx_receiver.specs.Listener.{HearsGiven, starts_of}
+use Rattle.nx_receiver.specs.Listener.{HearsGiven, moment_in_force, starts_of}
 use Rattle.nx_receiver.specs.copies.InTurn.{PrintAllToEnd}
 use Rattle.nx_receiver.specs.copies.Shares.{Given, MarkedCopy, Starts}
-use Rattle.nx_watch.specs.LineRun.{Standing, WereGiven}
+use Rattle.nx_watch.specs.LineRun.{Standing, WereGiven, force_behind}
 use Rattle.nx_watch.specs.Watch.{AnswersOver, FailsWithin, HasCause, TellsOfCut, WatchDevices}
 use Rattle.nx_watch.specs.declared.kept_log.keeper.Keeper.{Keeper}
 use Rattle.nx_watch.specs.declared.watch_fault.WatchFault.{WatchFault}
@@ -37,11 +37,13 @@ logging_to logging writer = record { logging = logging; writer = writer }
 
 module _ {D : Type 0} (disk : TellsOfDisk D) where
   -- Since start it took these lines: it printed copies of them, and kept their entries, and gave
-  -- these bytes to a writer.
+  -- these bytes to a writer. The moment in force of its receivers is that of the lines.
   pub record KeepsLines (start now : LoggingListener D) (lines : List Line) (given : List ℕ)
       : Type 0 where
     pub first : (starts_of start.listener).moment ≤ last_moment
     pub in_range : All IsLineInRange lines
+    pub force : moment_in_force (starts_of start.listener).moment (given_by lines)
+        ≡ force_behind (starts_of start.listener).moment lines
     pub copies : List MarkedCopy
     pub heard : HearsGiven (starts_of start.listener) now.listener (given_by lines) copies
     pub texts : List (List ℕ)

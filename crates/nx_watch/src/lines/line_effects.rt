@@ -1,21 +1,20 @@
-//! Which lines act, and which one ends the watch.
+//! What lines did, by what the receivers answered, and which one ends the watch.
 
-ghost use Rattle.std.specs.Prelude.{◌≡◌, ◌+◌, ◌^◌, ◌<◌, ◌≤◌, ℕ, Bool, List, [], ◌∷◌, ◌++◌, Option, Some, None, IsSome, true, false, if◌then◌else◌};
-ghost use Rattle.nx_fec.specs.air_files.AirFile.{Line, elements, moment};
+ghost use Rattle.std.specs.Prelude.{◌≡◌, ◌+◌, ◌^◌, ◌<◌, ◌≤◌, ℕ, List, [], ◌∷◌, ◌++◌, Option, Some, None, Err, IsSome, MatchResult, OnOk, true, false};
+ghost use Rattle.nx_fec.specs.air_files.AirFile.{Line, moment};
 ghost use Rattle.nx_fec.specs.air_files.Scanner.{kind_of};
-ghost use Rattle.nx_fec.specs.declared.air_files.channel.Channel.{Channel};
-ghost use Rattle.nx_memory.specs.Selection.{is_vital};
+ghost use Rattle.nx_receiver.specs.Events.{Refuses};
 ghost use Rattle.nx_watch.specs.declared.lines.line_effects.LineEffects.{LineEffects as TheEffects};
 ghost use Rattle.nx_watch.specs.declared.lines.line_effects.StartMoments.{StartMoments as TheStart};
-ghost use Rattle.nx_watch.specs.declared.lines.no_effect.NoEffect.TheVariants.{Vital};
-ghost use Rattle.nx_watch.specs.Acting.{acts, moment_said, moments_behind};
-ghost use Rattle.nx_watch.specs.LineRun.{AreCounted};
-ghost use Rattle.nx_watch.specs.private.Effects.{is_acting, IsEffect, IsKept, KeepsMoments, SameCounts, said_behind};
+ghost use Rattle.nx_watch.specs.Acting.{acts, given, in_force, is_far_back as far_back, moment_said, moments_behind};
+ghost use Rattle.nx_watch.specs.LineRun.{AreCounted, MayAct};
+ghost use Rattle.nx_watch.specs.private.Effects.{is_acting, IsAnswer, IsEffect, IsKept, IsStartBefore, KeepsMoments, SameCounts, said_behind, set_by};
 
 use crate::lines::no_effect::NoEffect;
-use nx_envelope::LAST_MOMENT;
+use crate::lines::refusal::Refusal;
 use nx_fec::LineKind;
-use nx_memory::{LIFETIME, is_vital_subject};
+use nx_memory::LIFETIME;
+use nx_receiver::MomentFault;
 
 /// The moments with which a watch starts, in whole seconds since 1970-01-01 00:00:00 UTC.
 #[derive(Clone, Copy, Debug, PartialEq, Eq)]
@@ -41,10 +40,9 @@ pub struct LinesWatched {
 /// What is kept of the lines of a watch.
 #[derive(Clone, Copy, Debug)]
 pub(crate) struct LineEffects {
-    /// The moment in force.
-    moment: u64,
-    /// The moment at which the watch started.
-    started: u64,
+    /// The moment that elements set which come before any: the one at which the watch started, or
+    /// the newest one that it remembered, where that is later.
+    start: u64,
     /// Whether a line said a moment in range, or set the one of the start.
     has_moment: bool,
     /// Whether the last moment in range went back by 66 hours or more.
@@ -62,8 +60,6 @@ pub(crate) struct LineEffects {
 pub(crate) enum Effect {
     /// It acts.
     Acts,
-    /// It acts, behind this moment, which it sets.
-    Sets(u64),
     /// It has no effect, for this reason.
     Nothing(NoEffect),
     /// It has no effect, and ends the watch: it goes back from the last moment to the given one.
@@ -71,7 +67,7 @@ pub(crate) enum Effect {
 }
 
 // They hold a fixed number of bytes.
-const _: () = prove!(size_of::<LineEffects>() == 56);
+const _: () = prove!(size_of::<LineEffects>() == 48);
 
 impl LineEffects {
     /// Before the first line of a watch that starts so.
@@ -79,8 +75,7 @@ impl LineEffects {
         ensures { IsKept first [] result }
     {
         LineEffects {
-            moment: first.newest,
-            started: first.started,
+            start: first.newest.max(first.started),
             has_moment: false,
             went_far_back: false,
             lines: 0,
@@ -122,15 +117,51 @@ impl LineEffects {
         }
     }
 
-    /// Keeps what a line of an air file says, and answers what it does.
+    /// The moment that this line sets before it acts: that of the start, where these are elements
+    /// and no moment in range came before them.
     #[inline(always)]
-    pub(crate) fn line(&mut self, kind: LineKind) -> Effect
+    pub(crate) fn start_before(&self, kind: LineKind) -> Option<u64>
+        ensures { (first : TheStart) (moments : List ℕ) (line : Line) → kind_of line ≡ kind
+            → KeepsMoments first moments self.now → IsStartBefore first moments line result }
+    {
+        if self.has_moment {
+            return None;
+        }
+        match kind {
+            LineKind::Elements(_) => Some(self.start),
+            LineKind::Moment(_)
+            | LineKind::RefuseStation(_, _)
+            | LineKind::AcceptStation(_, _)
+            | LineKind::RefuseSubject(_, _)
+            | LineKind::AcceptSubject(_, _) => None,
+        }
+    }
+
+    /// Keeps whether the receivers set the moment of the start.
+    pub(crate) fn start_set(&mut self, answer: Result<(), MomentFault>)
+        ensures set { (first : TheStart) (n : ℕ) → n ≡ given first → KeepsMoments first [] self.old
+            → MatchResult answer (λ _. KeepsMoments first (n ∷ []) self.new)
+            (λ _. KeepsMoments first [] self.new) }
+        ensures counts { SameCounts self.old self.new }
+    {
+        self.has_moment = answer.is_ok();
+    }
+
+    /// Keeps what a line of an air file did, to which the receivers answered so, and answers that.
+    #[inline(always)]
+    pub(crate) fn line(&mut self, kind: LineKind, answer: Result<(), Refusal>) -> Effect
         requires room { self.old.lines < 2 ^ 63 }
         requires fewer { self.old.without_effect ≤ self.old.lines }
         ensures kept { (first : TheStart) (lines : List (Option Line)) (line : Line)
-            → kind_of line ≡ kind → IsKept first lines self.old
+            (before : TheEffects) → kind_of line ≡ kind
+            → IsAnswer (in_force first.newest (moments_behind first lines)) line answer
+            → IsKept first lines before → SameCounts before self.old
+            → KeepsMoments first
+            (moments_behind first lines ++ set_by first (moments_behind first lines) line)
+            self.old
             → IsKept first (lines ++ Some line ∷ []) self.new
             × IsEffect first (moments_behind first lines) (Some line) result }
+        ensures taken { OnOk answer (is_acting result ≡ true) }
         ensures lines { self.new.lines ≡ self.old.lines + 1 }
         ensures fewer { self.new.without_effect ≤ self.new.lines }
         ensures first { IsSome self.old.first_without
@@ -139,7 +170,7 @@ impl LineEffects {
             → self.new.first_without ≡ Some self.new.lines }
         ensures acting { is_acting result ≡ true → self.new.first_without ≡ self.old.first_without }
     {
-        let effect = self.effect_of(kind);
+        let effect = self.effect_of(kind, answer);
         self.count(effect.is_acting());
         effect
     }
@@ -160,68 +191,99 @@ impl LineEffects {
         self.count(false);
     }
 
-    /// Keeps the moment that a line says or sets, if it does, and answers what the line does.
+    /// What a line does to which the receivers answered so; keeps the moment in range that it says,
+    /// if it says one.
     #[inline(always)]
-    fn effect_of(&mut self, kind: LineKind) -> Effect
+    fn effect_of(&mut self, kind: LineKind, answer: Result<(), Refusal>) -> Effect
         ensures kept { (first : TheStart) (moments : List ℕ) (line : Line)
-            → kind_of line ≡ kind → KeepsMoments first moments self.old
+            → kind_of line ≡ kind → IsAnswer (in_force first.newest moments) line answer
+            → KeepsMoments first (moments ++ set_by first moments line) self.old
+            → KeepsMoments first (moments ++ said_behind first moments (Some line)) self.new
+            × IsEffect first moments (Some line) result }
+        ensures taken { OnOk answer (is_acting result ≡ true) }
+        ensures counts { SameCounts self.old self.new }
+    {
+        match answer {
+            Ok(()) => {
+                self.keep_said(kind);
+                Effect::Acts
+            }
+            Err(why) => self.effect_of_refusal(why),
+        }
+    }
+
+    /// Keeps the moment of a line that the receivers took, if it says one.
+    #[inline(always)]
+    fn keep_said(&mut self, kind: LineKind)
+        ensures kept { (first : TheStart) (moments : List ℕ) (line : Line)
+            → kind_of line ≡ kind → MayAct (in_force first.newest moments) [] line
+            → KeepsMoments first (moments ++ set_by first moments line) self.old
+            → KeepsMoments first (moments ++ said_behind first moments (Some line)) self.new }
+        ensures counts { SameCounts self.old self.new }
+    {
+        match kind {
+            LineKind::Moment(_) => {
+                self.keep_moment(false);
+            }
+            LineKind::Elements(_)
+            | LineKind::RefuseStation(_, _)
+            | LineKind::AcceptStation(_, _)
+            | LineKind::RefuseSubject(_, _)
+            | LineKind::AcceptSubject(_, _) => {}
+        }
+    }
+
+    /// What a line does that the receivers refuse so; keeps the moment in range that it says, if it
+    /// says one.
+    fn effect_of_refusal(&mut self, why: Refusal) -> Effect
+        ensures kept { (first : TheStart) (moments : List ℕ) (line : Line)
+            → IsAnswer (in_force first.newest moments) line (Err why)
+            → KeepsMoments first (moments ++ set_by first moments line) self.old
             → KeepsMoments first (moments ++ said_behind first moments (Some line)) self.new
             × IsEffect first moments (Some line) result }
         ensures counts { SameCounts self.old self.new }
     {
-        match kind {
-            LineKind::Elements(_) => self.effect_of_elements(),
-            LineKind::Moment(given) => self.effect_of_moment(given),
-            LineKind::RefuseSubject(_, byte) => effect_of_refusal(byte),
-            LineKind::RefuseStation(_, _)
-            | LineKind::AcceptStation(_, _)
-            | LineKind::AcceptSubject(_, _) => Effect::Acts,
+        match why {
+            Refusal::Moment(fault) => self.effect_of_fault(fault),
+            Refusal::Vital => Effect::Nothing(NoEffect::Vital),
         }
     }
 
-    /// Keeps the moment that elements set, where they come first, and answers what they do.
-    #[inline(always)]
-    fn effect_of_elements(&mut self) -> Effect
-        ensures kept { (first : TheStart) (moments : List ℕ) (mark : Option Channel)
-            (bits : List Bool) → KeepsMoments first moments self.old
-            → KeepsMoments first
-            (moments ++ said_behind first moments (Some (elements mark bits))) self.new
-            × IsEffect first moments (Some (elements mark bits)) result }
+    /// What a moment does that the receivers refuse so; keeps one in range, which goes back.
+    fn effect_of_fault(&mut self, fault: MomentFault) -> Effect
+        ensures kept { (first : TheStart) (moments : List ℕ) (n : ℕ)
+            → Refuses (in_force first.newest moments) n fault → KeepsMoments first moments self.old
+            → KeepsMoments first (moments ++ moment_said (Some (moment n))) self.new
+            × IsEffect first moments (Some (moment n)) result }
         ensures counts { SameCounts self.old self.new }
     {
-        if self.has_moment {
-            return Effect::Acts;
+        match fault {
+            MomentFault::Range { given: _ } => Effect::Nothing(NoEffect::PastLast),
+            MomentFault::Back { last, given } => {
+                let is_far_back = last.saturating_sub(given) >= LIFETIME;
+                let went_far_back = self.keep_moment(is_far_back);
+                if is_far_back && went_far_back {
+                    return Effect::Ends { last, given };
+                }
+                Effect::Nothing(NoEffect::GoesBack)
+            }
         }
-        let given = self.moment.max(self.started);
-        if !self.effect_of_moment(given).is_acting() {
-            return Effect::Acts;
-        }
-        Effect::Sets(given)
     }
 
-    /// Keeps the moment that a line says, and answers what the line does.
-    fn effect_of_moment(&mut self, given: u64) -> Effect
-        ensures kept { (first : TheStart) (moments : List ℕ) → KeepsMoments first moments self.old
-            → KeepsMoments first (moments ++ moment_said (Some (moment given))) self.new
-            × IsEffect first moments (Some (moment given)) result }
+    /// Keeps that a moment in range was said, and whether it went back by 66 hours or more. Answers
+    /// whether the one before it did.
+    fn keep_moment(&mut self, is_far_back: bool) -> bool
+        ensures far { result ≡ self.old.went_far_back }
+        ensures kept { (first : TheStart) (moments : List ℕ) (n : ℕ)
+            → is_far_back ≡ far_back first.newest moments n
+            → KeepsMoments first moments self.old
+            → KeepsMoments first (moments ++ n ∷ []) self.new }
         ensures counts { SameCounts self.old self.new }
     {
-        if given > LAST_MOMENT {
-            return Effect::Nothing(NoEffect::PastLast);
-        }
-        let last = self.moment;
-        let is_far_back = given + LIFETIME <= last;
         let went_far_back = self.went_far_back;
         self.has_moment = true;
         self.went_far_back = is_far_back;
-        if given >= last {
-            self.moment = given;
-            return Effect::Acts;
-        }
-        if is_far_back && went_far_back {
-            return Effect::Ends { last, given };
-        }
-        Effect::Nothing(NoEffect::GoesBack)
+        went_far_back
     }
 
     /// Counts a line.
@@ -261,18 +323,6 @@ impl Effect {
     fn is_acting(self) -> bool
         ensures { result ≡ is_acting self }
     {
-        matches!(self, Effect::Acts | Effect::Sets(_))
-    }
-}
-
-/// What the refusal of the subject of this byte does.
-#[inline(always)]
-fn effect_of_refusal(byte: u8) -> Effect
-    ensures { result ≡ (if is_vital byte then Effect.Nothing Vital else Effect.Acts) }
-{
-    if is_vital_subject(byte) {
-        Effect::Nothing(NoEffect::Vital)
-    } else {
-        Effect::Acts
+        matches!(self, Effect::Acts)
     }
 }

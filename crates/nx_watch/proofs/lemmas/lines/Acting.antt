@@ -1,16 +1,22 @@
 -- One more line, and what it does.
 use Rattle.std.proofs.Common.{◌≡◌, ℕ, ◌+◌, ◌-◌, ◌≤◌, ◌<◌, suc, Bool, true, false, not, cond, ◌&&◌}
-use Rattle.std.proofs.Common.{List, [], ◌∷◌, ◌++◌, length, take, get_or, Option, Some, None, max}
+use Rattle.std.proofs.Common.{List, [], ◌∷◌, ◌++◌, length, take, get_or, Option, Some, None}
+use Rattle.std.proofs.Common.{Result, Ok, Err}
 use Rattle.std.proofs.Common.{nat_lt, nat_le, refl, sym, ap, ap₂, ◌∙◌, subst, append_assoc, append-nil}
-use Rattle.std.proofs.Common.{arith, length-append, zero-add, add-zero, ◌⊎◌, inl, inr}
+use Rattle.std.proofs.Common.{arith, length-append, zero-add, add-zero}
 use Rattle.std.specs.List.{count_by, position_from}
+use Rattle.std.specs.Prelude.{OnErr, OnOk}
 use Rattle.std.specs.Option.{is_some}
 use Rattle.std.proofs.Math.Seq.{get_or-append_seam}
-use Rattle.std.proofs.lemmas.Bool.{le-leb}
+use Rattle.std.proofs.lemmas.Bool.{le-leb, leb-false, leb-true}
 use Rattle.std.proofs.lemmas.Bool.Decides.{nat_tests}
 use Rattle.std.proofs.lemmas.List.{take-append-le, take_all}
 use Rattle.std.proofs.lemmas.List.Sums.{sum_by-append}
 use Rattle.nx_envelope.specs.Moment.{last_moment}
+use Rattle.nx_memory.specs.Memory.{seconds_known}
+use Rattle.nx_receiver.specs.Events.{Refuses}
+use Rattle.nx_receiver.specs.declared.fault.MomentFault.{MomentFault}
+use Rattle.nx_receiver.specs.declared.fault.MomentFault.TheVariants.{Back, Range}
 use Rattle.nx_fec.specs.air_files.AirFile.{Line, moment, elements, refuse_station, accept_station}
 use Rattle.nx_fec.specs.air_files.AirFile.{refuse_subject, accept_subject}
 use Rattle.nx_fec.specs.air_files.Scanner.{kind_of}
@@ -22,19 +28,18 @@ use Rattle.nx_watch.specs.Acting.{moment_said, moments_behind, went_far_back}
 use Rattle.nx_watch.specs.declared.lines.line_effects.StartMoments.{StartMoments}
 use Rattle.nx_watch.specs.declared.lines.line_effects.LineEffects.{LineEffects}
 use Rattle.nx_watch.specs.declared.lines.line_effects.Effect.{Effect}
-use Rattle.nx_watch.specs.declared.lines.line_effects.Effect.TheVariants.{Acts, Nothing, Sets, Ends}
-use Rattle.nx_watch.specs.private.Effects.{is_acting, IsEffect, IsKept, KeepsMoments}
-use Rattle.nx_watch.specs.private.Effects.{SameCounts, said_behind, sets}
-use Rattle.nx_watch.proofs.lemmas.lines.Starting.{is-setting, moments_behind-more, more-than-none}
+use Rattle.nx_watch.specs.declared.lines.line_effects.Effect.TheVariants.{Acts, Nothing, Ends}
+use Rattle.nx_watch.specs.declared.lines.no_effect.NoEffect.TheVariants.{PastLast}
+use Rattle.nx_watch.specs.LineRun.{MayAct}
+use Rattle.nx_watch.specs.declared.lines.refusal.Refusal.{Refusal}
+use Rattle.nx_watch.specs.declared.lines.refusal.Refusal.TheVariants as refusal
+use Rattle.nx_watch.specs.private.Effects.{is_acting, IsAnswer, IsEffect, IsKept, KeepsMoments}
+use Rattle.nx_watch.specs.private.Effects.{SameCounts, lines_taken, said_behind, sets}
+use Rattle.nx_watch.proofs.lemmas.lines.Starting.{moments_behind-more, more-than-none}
 
 -- ---- one more moment
 
-pub in_force-more : (first : ℕ) (moments : List ℕ) (n : ℕ)
-    → in_force first (moments ++ n ∷ []) ≡ max (in_force first moments) n
-in_force-more first [] n = refl
-in_force-more first (m ∷ moments) n = in_force-more (max first m) moments n
-
-said-in : (n : ℕ) → n ≤ last_moment → moment_said (Some (moment n)) ≡ n ∷ []
+pub said-in : (n : ℕ) → n ≤ last_moment → moment_said (Some (moment n)) ≡ n ∷ []
 said-in n h = ap (λ (b : Bool). cond b (n ∷ []) []) (le-leb n last_moment h)
 
 -- the list has one more than these, and it is the last
@@ -69,27 +74,22 @@ has-more moments n =
 
 -- a moment in range
 pub next-moment : (first : StartMoments) (moments : List ℕ) (kept now : LineEffects) (n : ℕ)
-    → n ≤ last_moment → KeepsMoments first moments kept → now.moment ≡ max kept.moment n
-    → now.started ≡ kept.started → now.has_moment ≡ true
-    → now.went_far_back ≡ nat_le (n + 237600) kept.moment
-    → KeepsMoments first (moments ++ moment_said (Some (moment n))) now
-next-moment first moments kept now n h k force started has far =
-    subst (λ l. KeepsMoments first (moments ++ l) now) (sym (said-in n h)) (record {
-      moment = force ∙ ap (λ m. max m n) k.moment ∙ sym (in_force-more first.newest moments n);
-      started = started ∙ k.started;
-      has_moment = has ∙ sym (has-more moments n);
-      far_back = far ∙ ap (λ m. nat_le (n + 237600) m) k.moment
-          ∙ sym (went-more first.newest moments n);
-    })
+    → KeepsMoments first moments kept → now.start ≡ kept.start → now.has_moment ≡ true
+    → now.went_far_back ≡ is_far_back first.newest moments n
+    → KeepsMoments first (moments ++ n ∷ []) now
+next-moment first moments kept now n k start has far = record {
+  start_is = start ∙ k.start_is;
+  has_moment = has ∙ sym (has-more moments n);
+  far_back = far ∙ sym (went-more first.newest moments n);
+}
 
 -- nothing changed in what is kept of moments
 pub keeps-on : (first : StartMoments) (moments : List ℕ) (old new : LineEffects)
-    → KeepsMoments first moments old → new.moment ≡ old.moment → new.started ≡ old.started
+    → KeepsMoments first moments old → new.start ≡ old.start
     → new.has_moment ≡ old.has_moment → new.went_far_back ≡ old.went_far_back
     → KeepsMoments first moments new
-keeps-on first moments old new k force started has far = record {
-  moment = force ∙ k.moment;
-  started = started ∙ k.started;
+keeps-on first moments old new k start has far = record {
+  start_is = start ∙ k.start_is;
   has_moment = has ∙ k.has_moment;
   far_back = far ∙ k.far_back;
 }
@@ -106,34 +106,94 @@ pub not_second : (a b : Bool) → b ≡ false → (a && b) ≡ false
 not_second true b h = h
 not_second false b h = refl
 
--- a moment in range that goes back, and doesn't end the watch
-pub goes-back : (first : StartMoments) (moments : List ℕ) (kept : LineEffects) (n : ℕ)
-    → KeepsMoments first moments kept → n < kept.moment
-    → ((n + 237600 ≤ kept.moment) × (kept.went_far_back ≡ false)) ⊎ (kept.moment < n + 237600)
-    → ((nat_le n last_moment && nat_le (in_force first.newest moments) n) ≡ false)
-    × ((nat_le n last_moment && is_far_back first.newest moments n
-    && went_far_back first.newest moments) ≡ false)
-goes-back first moments kept n k back (inl h) =
-    let lt : n < in_force first.newest moments = omega (arith, k.moment, back) in (
-      not_second (nat_le n last_moment) (nat_le (in_force first.newest moments) n)
-          (grind (arith, nat_tests)),
-      not_second _ _ (sym k.far_back ∙ h.1),
+-- a moment that isn't before the one in force doesn't go far back
+pub taken-near : (first : ℕ) (moments : List ℕ) (n : ℕ) → in_force first moments ≤ n
+    → is_far_back first moments n ≡ false
+taken-near first moments n h =
+    let later : in_force first moments < n + seconds_known = omega (arith, h) in
+    grind (arith, nat_tests)
+
+pub near-leb : (n : ℕ) → n < seconds_known → nat_le seconds_known n ≡ false
+near-leb n near = grind (arith, nat_tests)
+
+-- a moment goes far back by how far it lies before the one in force
+pub far-same : (last given force n : ℕ) → last ≡ force → given ≡ n → n < force
+    → nat_le seconds_known (last - given) ≡ nat_le (n + seconds_known) force
+far-same last given force n is at back =
+    ap₂ (λ a b. nat_le seconds_known (a - b)) is at
+    ∙ elim (nat_le seconds_known (force - n)) as (λ b. nat_le seconds_known (force - n) ≡ b
+    → b ≡ nat_le (n + seconds_known) force) [
+      | true ↦ λ e.
+          let far : seconds_known ≤ force - n = leb-true seconds_known (force - n) e in
+          let past : n + seconds_known ≤ force = omega (arith, back, far) in
+          sym (le-leb (n + seconds_known) force past)
+      | false ↦ λ e.
+          let near : force - n < seconds_known = leb-false seconds_known (force - n) e in
+          let later : force < n + seconds_known = omega (arith, back, near) in
+          let out : nat_le (n + seconds_known) force ≡ false = grind (arith, nat_tests) in sym out
+    ] refl
+
+-- a line acts that the receivers take
+pub taken-acts : (first : StartMoments) (moments : List ℕ) (line : Line)
+    → MayAct (in_force first.newest moments) [] line → IsEffect first moments (Some line) Acts
+taken-acts first moments (moment n) h = (
+  both _ _ (le-leb n last_moment h.1) (le-leb (in_force first.newest moments) n h.0),
+  not_first _ _ (not_second _ _ (taken-near first.newest moments n h.0)),
+)
+taken-acts first moments (elements mark bits) h = (refl, refl)
+taken-acts first moments (refuse_station mark letter) h = (refl, refl)
+taken-acts first moments (accept_station mark letter) h = (refl, refl)
+taken-acts first moments (refuse_subject mark letter) h = (ap not h, refl)
+taken-acts first moments (accept_subject mark letter) h = (refl, refl)
+
+-- and not a moment that they refuse
+pub past-idle : (first : StartMoments) (moments : List ℕ) (n : ℕ) → last_moment < n
+    → IsEffect first moments (Some (moment n)) (Nothing PastLast)
+past-idle first moments n past =
+    let out : nat_le n last_moment ≡ false = grind (arith, nat_tests) in (
+      not_first _ _ out,
+      not_first _ _ (not_first _ _ out),
+      λ bytes before. past,
     )
-goes-back first moments kept n k back (inr h) =
-    let lt : n < in_force first.newest moments = omega (arith, k.moment, back) in
-    let near : in_force first.newest moments < n + 237600 = omega (arith, k.moment, h) in
-    let not_far : is_far_back first.newest moments n ≡ false = grind (arith, nat_tests) in (
-      not_second (nat_le n last_moment) (nat_le (in_force first.newest moments) n)
-          (grind (arith, nat_tests)),
-      not_first _ _ (not_second _ _ not_far),
-    )
+
+pub back-idle : (first : ℕ) (moments : List ℕ) (n : ℕ) → n < in_force first moments
+    → acts first moments (Some (moment n)) ≡ false
+back-idle first moments n back =
+    let early : nat_le (in_force first moments) n ≡ false = grind (arith, nat_tests) in
+    not_second _ _ early
+
+pub past-keeps : (first : StartMoments) (moments : List ℕ) (n : ℕ) (kept : LineEffects)
+    → last_moment < n → KeepsMoments first moments kept
+    → KeepsMoments first (moments ++ moment_said (Some (moment n))) kept
+past-keeps first moments n kept past k =
+    let out : nat_le n last_moment ≡ false = grind (arith, nat_tests) in
+    subst (λ l. KeepsMoments first l kept)
+    (sym (ap (λ (b : Bool). moments ++ cond b (n ∷ []) []) out ∙ append-nil moments)) k
+
+refused-idle : (first : ℕ) (moments : List ℕ) (n : ℕ) (fault : MomentFault)
+    → Refuses (in_force first moments) n fault → acts first moments (Some (moment n)) ≡ false
+refused-idle first moments n (Range at) h =
+    let past : last_moment < n = h.1 in
+    let out : nat_le n last_moment ≡ false = grind (arith, nat_tests) in not_first _ _ out
+refused-idle first moments n (Back from at) h = back-idle first moments n h.3
+
+-- a line acts where the receivers take it, and else not
+pub acts-taken : (first : StartMoments) (moments : List ℕ) (line : Line)
+    (answer : Result (Unit {0}) Refusal) → IsAnswer (in_force first.newest moments) line answer
+    → cond (acts first.newest moments (Some line)) (line ∷ []) [] ≡ lines_taken line answer
+acts-taken first moments line (Ok taken) h =
+    ap (λ b. cond b (line ∷ []) []) (taken-acts first moments line h).0
+acts-taken first moments line (Err (refusal.Moment fault)) h =
+    ap (λ b. cond b (line ∷ []) []) (ap (λ l. acts first.newest moments (Some l)) h.1
+    ∙ refused-idle first.newest moments h.0 fault h.2)
+acts-taken first moments line (Err refusal.Vital) h =
+    ap (λ b. cond b (line ∷ []) []) (ap (λ l. acts first.newest moments (Some l)) h.2
+    ∙ ap not h.3)
 
 -- an effect says whether a line acts
 pub acting-is : (first : StartMoments) (moments : List ℕ) (line : Option Line) (effect : Effect)
     → IsEffect first moments line effect → is_acting effect ≡ acts first.newest moments line
 acting-is first moments line Acts h = sym h.0
-acting-is first moments line (Sets n) h =
-    ap (acts first.newest moments) (sym (is-setting first moments line h.0).is)
 acting-is first moments line (Nothing why) h = sym h.0
 acting-is first moments line (Ends last given) h = sym h.0
 
@@ -146,51 +206,29 @@ moment-kind (accept_station mark letter) n h = cc
 moment-kind (refuse_subject mark letter) n h = cc
 moment-kind (accept_subject mark letter) n h = cc
 
--- whether both hold, where the second does
-first-only : (a b : Bool) → b ≡ true → (a && b) ≡ a
-first-only true b h = h
-first-only false b h = refl
+-- a line doesn't act where the receivers refuse it
+pub idle-refused : (answer : Result (Unit {0}) Refusal) (acting : Bool) (P : Type 0)
+    → OnOk answer (acting ≡ true) → OnErr answer P → acting ≡ false → P
+idle-refused (Ok taken) acting P acts kept idle = let both : false ≡ true = sym idle ∙ acts in cc
+idle-refused (Err why) acting P acts kept idle = kept
 
--- elements set the moment of the start where they come behind none, if it acts
-pub record SetsFirst (first : StartMoments) (moments : List ℕ) (line : Option Line)
-    (now : LineEffects) (n : ℕ) (acting : Bool)
-    : Type 0 where
-  pub keeps : KeepsMoments first (moments ++ said_behind first moments line) now
-  pub does : sets first moments line ≡ acting
-  pub is : n ≡ given first
+-- no moment is set behind one that was said
+pub unset-some : (first : StartMoments) (moments : List ℕ) (line : Line) (kept : LineEffects)
+    → kept.has_moment ≡ true → KeepsMoments first moments kept
+    → sets first moments (Some line) ≡ false
+unset-some first moments (moment n) kept some k = refl
+unset-some first moments (elements mark bits) kept some k =
+    ap (λ b. not b && nat_le (given first) last_moment) (sym k.has_moment ∙ some)
+unset-some first moments (refuse_station mark letter) kept some k = refl
+unset-some first moments (accept_station mark letter) kept some k = refl
+unset-some first moments (refuse_subject mark letter) kept some k = refl
+unset-some first moments (accept_subject mark letter) kept some k = refl
 
-pub sets-first : (first : StartMoments) (moments : List ℕ) (mark : Option Channel)
-    (bits : List Bool) (kept now : LineEffects) (effect : Effect) (n : ℕ)
-    → kept.has_moment ≡ false → KeepsMoments first moments kept → n ≡ max kept.moment kept.started
-    → KeepsMoments first (moments ++ moment_said (Some (moment n))) now
-    → IsEffect first moments (Some (moment n)) effect
-    → SetsFirst first moments (Some (elements mark bits)) now n (is_acting effect)
-sets-first first [] mark bits kept now effect n none k is next does =
-    let same : n ≡ given first = is ∙ ap₂ max k.moment k.started in
-    let low : first.newest ≤ n = omega (arith, same) in
-    record {
-      keeps = subst (λ m. KeepsMoments first (moment_said (Some (moment m))) now) same next;
-      does = ap (λ m. nat_le m last_moment) (sym same)
-          ∙ sym (first-only (nat_le n last_moment) (nat_le first.newest n)
-          (le-leb first.newest n low))
-          ∙ sym (acting-is first [] (Some (moment n)) effect does);
-      is = same;
-    }
-sets-first first (m ∷ moments) mark bits kept now effect n none k is next does =
+pub none-said : (first : StartMoments) (moments : List ℕ) (kept : LineEffects)
+    → kept.has_moment ≡ false → KeepsMoments first moments kept → moments ≡ []
+none-said first [] kept none k = refl
+none-said first (m ∷ moments) kept none k =
     let some : false ≡ true = sym none ∙ k.has_moment ∙ more-than-none (length moments) in cc
-
--- and not where they come behind one
-pub sets-none : (first : StartMoments) (moments : List ℕ) (mark : Option Channel) (bits : List Bool)
-    (kept : LineEffects) → kept.has_moment ≡ true → KeepsMoments first moments kept
-    → KeepsMoments first (moments ++ said_behind first moments (Some (elements mark bits))) kept
-    × (sets first moments (Some (elements mark bits)) ≡ false)
-sets-none first moments mark bits kept some k =
-    let idle : sets first moments (Some (elements mark bits)) ≡ false =
-    ap (λ b. not b && nat_le (given first) last_moment) (sym k.has_moment ∙ some) in (
-      subst (λ l. KeepsMoments first l kept)
-          (sym (ap (λ b. moments ++ cond b (given first ∷ []) []) idle ∙ append-nil moments)) k,
-      idle,
-    )
 
 -- a line that doesn't act sets none
 pub idle-unset : (first : StartMoments) (moments : List ℕ) (line : Option Line)
@@ -205,8 +243,8 @@ idle-unset first moments (Some (accept_subject mark letter)) h = refl
 
 -- a line that is one of elements
 pub elements-kind : (line : Line) (mark : Option Channel) → kind_of line ≡ Elements mark
-    → (bits : List Bool) × (line ≡ elements mark bits)
-elements-kind (elements other bits) mark h = (bits, cc)
+    → (mark : Option Channel) × (bits : List Bool) × (line ≡ elements mark bits)
+elements-kind (elements other bits) mark h = (other, bits, refl)
 elements-kind (moment m) mark h = cc
 elements-kind (refuse_station other letter) mark h = cc
 elements-kind (accept_station other letter) mark h = cc
@@ -309,6 +347,14 @@ counts-idle first lines line before old new kept same idle moments more without 
           ∙ sym (ap (count_by not) behind ∙ sum_by-append (λ e. cond (not e) 1 0) es (false ∷ []));
       first_one = sym (ap (position_from not 1) behind ∙ one);
     }
+
+pub counts-on : (old mid new : LineEffects) → SameCounts old mid → SameCounts mid new
+    → SameCounts old new
+counts-on old mid new h k = record {
+  lines = k.lines ∙ h.lines;
+  without = k.without ∙ h.without;
+  first_one = k.first_one ∙ h.first_one;
+}
 
 -- it is the first one
 pub first-idle : (first : StartMoments) (lines : List (Option Line)) (before old : LineEffects)

@@ -2,10 +2,11 @@
 use Rattle.std.proofs.Common.{◌≡◌, ◌+◌, ℕ, ◌≤◌, ◌<◌, Bool, true, false, not, cond, ◌&&◌, List, Result, Ok}
 use Rattle.std.proofs.Common.{[], ◌∷◌, ◌++◌, map, take, drop, Option, Some, None, max}
 use Rattle.std.proofs.Common.{option_to_list, nat_le, refl, sym, ap, ◌∙◌, subst, append_assoc}
-use Rattle.std.proofs.Common.{append-nil, arith, Err, inl}
-use Rattle.std.specs.Prelude.{IfErr, IsSomeAnd, MatchResult}
+use Rattle.std.proofs.Common.{append-nil, arith, Err, inl, ap₂}
+use Rattle.std.specs.Prelude.{IsSomeAnd, MatchResult}
 use Rattle.std.specs.Io.KnownBytes.{Appends}
 use Rattle.std.proofs.lemmas.Bool.{and_parts, le-leb, leb-false, leb-true}
+use Rattle.std.proofs.lemmas.Bool.Decides.{nat_tests}
 use Rattle.std.proofs.lemmas.List.{map-append, take-append-drop}
 use Rattle.std.proofs.lemmas.List.Concat.{flat_map-append}
 use Rattle.nx_envelope.specs.Moment.{last_moment}
@@ -15,6 +16,11 @@ use Rattle.nx_fec.specs.air_files.Scanner.{kind_kept, kind_of}
 use Rattle.nx_fec.specs.declared.air_files.channel.Channel.{Channel}
 use Rattle.nx_fec.specs.declared.air_files.lines.LineKind.{LineKind}
 use Rattle.nx_memory.specs.Memory.{seconds_known}
+use Rattle.nx_receiver.specs.Events.{Refuses}
+use Rattle.nx_receiver.specs.Listener.{starts_of}
+use Rattle.nx_receiver.specs.declared.fault.MomentFault.{MomentFault}
+use Rattle.nx_receiver.specs.declared.fault.MomentFault.TheVariants as MomentFaults
+use Rattle.nx_receiver.specs.declared.fault.MomentFault.TheVariants.{Range}
 use Rattle.nx_memory.specs.Selection.{is_vital}
 use Rattle.nx_watch.specs.Acting.{acting_behind, acting_lines, acts, ends_watch, given, goes_on}
 use Rattle.nx_watch.specs.Acting.{goes_on_behind, in_force, is_far_back, moment_said, moments_behind}
@@ -22,20 +28,22 @@ use Rattle.nx_watch.specs.Acting.{moments_said, went_far_back, with_start}
 use Rattle.nx_watch.specs.declared.lines.line_effects.StartMoments.{StartMoments}
 use Rattle.nx_watch.specs.AnyLines.{AreLines, cut_line}
 use Rattle.nx_watch.specs.LineRun.{AnswersRun, AreCounted, HasTaken, HasTold, MayAct, RunOverLines}
-use Rattle.nx_watch.specs.LineRun.{Standing}
+use Rattle.nx_watch.specs.LineRun.{Standing, force_behind}
 use Rattle.nx_fec.specs.Transfers.{CountedDevice}
 use Rattle.nx_kept.specs.declared.disk.DiskFile.{Ghosts as TellsOfDisk}
 use Rattle.nx_watch.specs.declared.logging_listener.LoggingListener.{LoggingListener}
 use Rattle.nx_watch.specs.LinesTold.{IsFirstTold, IsReason}
 use Rattle.nx_watch.specs.declared.lines.no_effect.NoEffect.TheVariants.{GoesBack}
+use Rattle.nx_watch.specs.declared.lines.refusal.Refusal.{Refusal}
+use Rattle.nx_watch.specs.declared.lines.refusal.Refusal.TheVariants as refusal
 use Rattle.nx_watch.specs.declared.lines.line_effects.LinesWatched.{LinesWatched}
 use Rattle.nx_watch.specs.declared.line_run.WatchEnd.{WatchEnd}
 use Rattle.nx_watch.specs.declared.line_run.WatchEnd.TheVariants.{Read, Back, Write}
-use Rattle.nx_watch.specs.private.Effects.{IsKept, sets}
+use Rattle.nx_watch.specs.private.Effects.{IsAnswer, IsKept, KeepsMoments, acting_and_set, set_by, sets}
 use Rattle.nx_watch.specs.declared.lines.any_scanner.Ended.{Ended}
 use Rattle.nx_watch.specs.declared.lines.line_effects.LineEffects.{LineEffects}
 use Rattle.nx_watch.specs.declared.line_run.LineRun.{LineRun}
-use Rattle.nx_watch.specs.private.Running.{EndsInput, EndsRun, HasToldLines, IsRunning, TellsFirst, ToldBefore, ToldBeside, beside}
+use Rattle.nx_watch.specs.private.Running.{EndsInput, HasToldLines, IsRunning, TellsFirst, ToldBefore, ToldBeside, beside}
 use Rattle.nx_watch.specs.private.Scanning.{IsScanning, lines_ended}
 use Rattle.nx_watch.specs.private.LoggingListener.{KeepsLines, TakesLines, logging_to}
 use Rattle.nx_watch.proofs.lemmas.lines.Acting.{both, idle-unset, not_second}
@@ -161,29 +169,41 @@ on-set first lines line h on =
     ∙ goes_on-append first.newest [] (whole ++ set_line first ∷ []) line
     (goes_on-append first.newest [] whole (set_line first) on quiet) stays
 
-pub taken-acting : {T : Type 0} (stands : Standing T) (start now : T) (first : StartMoments)
-    (lines : List (Option Line)) (line : Line)
-    → goes_on first lines ≡ true
-    → acts first.newest (moments_behind first lines) (Some line) ≡ true
-    → ends_watch first.newest (moments_behind first lines) (Some line) ≡ false
-    → sets first (moments_behind first lines) (Some line) ≡ false
-    → stands start now (acting_lines first lines ++ line ∷ [])
-    → HasTaken stands start now first (lines ++ Some line ∷ [])
-taken-acting stands start now first lines line on acting stays unset stood = record {
-  on = on-unset first lines (Some line) unset on stays;
-  stood = subst (stands start now) (sym (acting-unset first lines (Some line) unset
-      ∙ ap (λ b. acting_lines first lines ++ cond b (line ∷ []) []) acting)) stood;
-}
+-- one more line, which sets a moment before it acts or doesn't
+pub acting-one : (first : StartMoments) (lines : List (Option Line)) (line : Line)
+    → acting_lines first (lines ++ Some line ∷ [])
+    ≡ acting_and_set first lines line
+    ++ cond (acts first.newest (moments_behind first lines) (Some line)) (line ∷ []) []
+acting-one first lines line =
+    elim (sets first (moments_behind first lines) (Some line)) as (λ b.
+    sets first (moments_behind first lines) (Some line) ≡ b
+    → acting_lines first (lines ++ Some line ∷ [])
+    ≡ (acting_lines first lines ++ map moment (cond b (given first ∷ []) []))
+    ++ cond (acts first.newest (moments_behind first lines) (Some line)) (line ∷ []) []) [
+      | true ↦ λ h.
+          acting-set first lines line h
+          ∙ ap (λ b. (acting_lines first lines ++ moment (given first) ∷ [])
+          ++ cond b (line ∷ []) [])
+          (sym (ap (acts first.newest (moments_behind first lines))
+          (is-setting first (moments_behind first lines) (Some line) h).is))
+      | false ↦ λ h.
+          acting-unset first lines (Some line) h
+          ∙ ap (λ l. l ++ cond (acts first.newest (moments_behind first lines) (Some line))
+          (line ∷ []) []) (sym (append-nil (acting_lines first lines)))
+    ] refl
 
-pub taken-set : {T : Type 0} (stands : Standing T) (start now : T) (first : StartMoments)
-    (lines : List (Option Line)) (line : Line)
-    → goes_on first lines ≡ true → sets first (moments_behind first lines) (Some line) ≡ true
-    → stands start now ((acting_lines first lines ++ moment (given first) ∷ []) ++ line ∷ [])
-    → HasTaken stands start now first (lines ++ Some line ∷ [])
-taken-set stands start now first lines line on h stood = record {
-  on = on-set first lines (Some line) h on;
-  stood = subst (stands start now) (sym (acting-set first lines line h)) stood;
-}
+-- the run goes on behind a line that doesn't end it
+pub on-one : (first : StartMoments) (lines : List (Option Line)) (line : Option Line)
+    → goes_on first lines ≡ true
+    → ends_watch first.newest (moments_behind first lines) line ≡ false
+    → goes_on first (lines ++ line ∷ []) ≡ true
+on-one first lines line on stays =
+    elim (sets first (moments_behind first lines) line) as (λ b.
+    sets first (moments_behind first lines) line ≡ b
+    → goes_on first (lines ++ line ∷ []) ≡ true) [
+      | true ↦ λ h. on-set first lines line h on
+      | false ↦ λ h. on-unset first lines line h on stays
+    ] refl
 
 pub taken-idle : {T : Type 0} (stands : Standing T) (start now : T) (first : StartMoments)
     (lines : List (Option Line)) (line : Option Line)
@@ -202,7 +222,7 @@ taken-idle stands start now first lines line taken idle stays =
 
 -- ---- a line that acts may act behind those that acted
 
-in_force-append : (first : ℕ) (a b : List ℕ)
+pub in_force-append : (first : ℕ) (a b : List ℕ)
     → in_force first (a ++ b) ≡ in_force (in_force first a) b
 in_force-append first [] b = refl
 in_force-append first (n ∷ a) b = in_force-append (max first n) a b
@@ -243,12 +263,12 @@ force-line force first moments (Some (refuse_subject mark letter)) is =
     ap (in_force force) (acted-none (not (is_vital letter)) (refuse_subject mark letter) refl)
 force-line force first moments (Some (accept_subject mark letter)) is = refl
 
-force-behind : (first : ℕ) (moments : List ℕ) (lines : List (Option Line))
+force-said : (first : ℕ) (moments : List ℕ) (lines : List (Option Line))
     → in_force (in_force first moments)
     (moments_said (map Some (acting_behind first moments lines)))
     ≡ in_force (in_force first moments) (moments_said lines)
-force-behind first moments [] = refl
-force-behind first moments (line ∷ lines) =
+force-said first moments [] = refl
+force-said first moments (line ∷ lines) =
     let force = in_force first moments in
     let head = cond (acts first moments line) (option_to_list line) [] in
     let next = moments ++ moment_said line in
@@ -260,7 +280,7 @@ force-behind first moments (line ∷ lines) =
     ∙ in_force-append force (moments_said (map Some head)) (moments_said (map Some rest))
     ∙ ap (λ f. in_force f (moments_said (map Some rest)))
     (force-line force first moments line refl ∙ after)
-    ∙ force-behind first next lines
+    ∙ force-said first next lines
     ∙ ap (λ f. in_force f (moments_said lines)) (sym after)
     ∙ sym (in_force-append force (moment_said line) (moments_said lines))
 
@@ -270,7 +290,7 @@ pub may-act : (first : ℕ) (lines : List (Option Line)) (line : Line)
 may-act first lines (moment n) h =
     let parts = and_parts (nat_le n last_moment) (nat_le (in_force first (moments_said lines)) n) h
     in (
-      subst (λ f. f ≤ n) (sym (force-behind first [] lines))
+      subst (λ f. f ≤ n) (sym (force-said first [] lines))
           (leb-true (in_force first (moments_said lines)) n parts.1),
       leb-true n last_moment parts.0,
     )
@@ -284,44 +304,119 @@ may-act first lines (refuse_subject mark letter) h = not-true (is_vital letter) 
     not-true false k = refl
 may-act first lines (accept_subject mark letter) h = tt
 
--- elements may
-pub elements-may : (first : ℕ) (lines : List Line) (line : Line) (mark : Option Channel)
-    (bits : List Bool) → Some line ≡ Some (elements mark bits) → MayAct first lines line
-elements-may first lines line mark bits is =
-    let same : line ≡ elements mark bits = cc in
-    subst (MayAct first lines) (sym same) tt
+-- the moment in force behind the lines that acted is that behind all
+pub force-acting : (first : StartMoments) (lines : List (Option Line))
+    → force_behind first.newest (acting_lines first lines)
+    ≡ in_force first.newest (moments_behind first lines)
+force-acting first lines = force-said first.newest [] (with_start first lines)
 
--- and so may the moment that is set
-pub may-set : (first : StartMoments) (lines : List (Option Line)) (line : Option Line)
-    → sets first (moments_behind first lines) line ≡ true
-    → MayAct first.newest (acting_lines first lines) (moment (given first))
-may-set first lines line h =
-    may-act first.newest (with_start first lines) (moment (given first))
-    (set-acts first lines line h)
+-- what is answered to elements doesn't depend on it
+answer-elements : (force other : ℕ) (mark : Option Channel) (bits : List Bool)
+    (answer : Result (Unit {0}) Refusal) → IsAnswer force (elements mark bits) answer
+    → IsAnswer other (elements mark bits) answer
+answer-elements force other mark bits (Ok taken) h = h
+answer-elements force other mark bits (Err (refusal.Moment fault)) h =
+    let no : elements mark bits ≡ moment h.0 = h.1 in cc
+answer-elements force other mark bits (Err refusal.Vital) h = h
 
--- a line that acts was taken, and the run goes on or is over
-pub known-ends : {T : Type 0} (stands : Standing T) (start now : T) (first : StartMoments)
-    (lines : List (Option Line)) (line : Line) (kept : LineEffects) (old : ToldBeside)
-    (new : Option (List ℕ)) (failures : ℕ) (bytes : List ℕ) (result : Result (Unit {0}) WatchEnd)
-    → IfErr result (λ end. end ≡ Write) → goes_on first lines ≡ true
-    → HasTaken stands start now first (lines ++ Some line ∷ [])
-    → TellsFirst first kept old new failures bytes (lines ++ Some line ∷ [])
-    → MatchResult result (λ _. HasTaken stands start now first (lines ++ Some line ∷ [])
-    × TellsFirst first kept old new failures bytes (lines ++ Some line ∷ []))
-    (λ end. (front : List ℕ) → AreLines front (lines ++ Some line ∷ []) []
-    → (more : List ℕ) → bytes ≡ front ++ more
-    → EndsRun stands start now first kept old new failures end bytes)
-known-ends stands start now first lines line kept old new failures bytes (Ok done) is on taken
-    tells = (taken, tells)
-known-ends stands start now first lines line kept old new failures bytes (Err end) is on taken
-    tells = λ front are more whole.
-    subst (λ e. EndsRun stands start now first kept old new failures e bytes) (sym is) (
-      lines,
-      line,
-      record { front = front; more = more; whole = whole; are = are; on = on },
-      taken,
-      tells,
+-- what the receivers answer to one more line is what they answer behind all lines
+pub answer-behind : (first : StartMoments) (lines : List (Option Line)) (line : Line)
+    (answer : Result (Unit {0}) Refusal)
+    → IsAnswer (force_behind first.newest (acting_and_set first lines line)) line answer
+    → IsAnswer (in_force first.newest (moments_behind first lines)) line answer
+answer-behind first lines line answer =
+    elim (sets first (moments_behind first lines) (Some line)) as (λ b.
+    sets first (moments_behind first lines) (Some line) ≡ b
+    → IsAnswer (force_behind first.newest
+    (acting_lines first lines ++ map moment (cond b (given first ∷ []) []))) line answer
+    → IsAnswer (in_force first.newest (moments_behind first lines)) line answer) [
+      | true ↦ λ h a.
+          let s = is-setting first (moments_behind first lines) (Some line) h in
+          let same : line ≡ elements s.mark s.bits = some-same s.is in
+          subst (λ l. IsAnswer (in_force first.newest (moments_behind first lines)) l answer)
+          (sym same) (answer-elements _ _ s.mark s.bits answer
+          (subst (λ l. IsAnswer (force_behind first.newest
+          (acting_lines first lines ++ moment (given first) ∷ [])) l answer) same a))
+      | false ↦ λ h a.
+          subst (λ force. IsAnswer force line answer)
+          (ap (force_behind first.newest) (append-nil (acting_lines first lines))
+          ∙ force-acting first lines) a
+    ] refl
+  where
+    some-same : {a b : Line} → Some a ≡ Some b → a ≡ b
+    some-same e = cc
+
+-- elements come first, and the receivers answer to the moment of the start, by which it is kept or
+-- not whether it was set
+pub start-answered : {D : Type 0} (disk : TellsOfDisk D) (start old new : LoggingListener D)
+    (first : StartMoments) (lines : List (Option Line)) (line : Line) (mark : Option Channel)
+    (bits : List Bool) (bytes : List ℕ) (n : ℕ) (now : LineEffects)
+    (answer : Result (Unit {0}) MomentFault)
+    → n ≡ given first → moments_behind first lines ≡ [] → line ≡ elements mark bits
+    → (starts_of start.listener).moment ≡ first.newest
+    → MatchResult answer (λ _. KeepsMoments first (n ∷ []) now) (λ _. KeepsMoments first [] now)
+    → MatchResult answer
+    (λ _. MayAct (starts_of start.listener).moment (acting_lines first lines) (moment n)
+    × KeepsLines disk start new (acting_lines first lines ++ moment n ∷ []) bytes)
+    (λ fault. Refuses (force_behind (starts_of start.listener).moment (acting_lines first lines)) n
+    fault × (new ≡ old))
+    → KeepsLines disk start old (acting_lines first lines) bytes
+    → KeepsMoments first
+    (moments_behind first lines ++ set_by first (moments_behind first lines) line) now
+    × KeepsLines disk start new (acting_and_set first lines line) bytes
+start-answered disk start old new first lines line mark bits bytes n now answer is none same force =
+    so answer
+  where
+    behind : List ℕ
+    behind = moments_behind first lines
+
+    setting : sets first behind (Some line) ≡ nat_le (given first) last_moment
+    setting = ap₂ (λ m l. sets first m (Some l)) none same
+
+    by : (b : Bool) → nat_le (given first) last_moment ≡ b
+        → set_by first behind line ≡ cond b (given first ∷ []) []
+    by b e = ap (λ b. cond b (given first ∷ []) []) (setting ∙ e)
+
+    not-set : set_by first behind line ≡ [] → KeepsMoments first [] now → new ≡ old
+        → KeepsLines disk start old (acting_lines first lines) bytes
+        → KeepsMoments first (behind ++ set_by first behind line) now
+        × KeepsLines disk start new (acting_and_set first lines line) bytes
+    not-set e k unchanged s = (
+      subst (λ l. KeepsMoments first l now) (sym (ap₂ (λ a b. a ++ b) none e)) k,
+      subst (λ l. KeepsLines disk start l (acting_and_set first lines line) bytes) (sym unchanged)
+          (subst (λ l. KeepsLines disk start old l bytes)
+          (sym (ap (λ m. acting_lines first lines ++ map moment m) e
+          ∙ append-nil (acting_lines first lines))) s),
     )
+
+    so : (answer : Result (Unit {0}) MomentFault)
+        → MatchResult answer (λ _. KeepsMoments first (n ∷ []) now) (λ _. KeepsMoments first [] now)
+        → MatchResult answer
+        (λ _. MayAct (starts_of start.listener).moment (acting_lines first lines) (moment n)
+        × KeepsLines disk start new (acting_lines first lines ++ moment n ∷ []) bytes)
+        (λ fault. Refuses (force_behind (starts_of start.listener).moment
+        (acting_lines first lines)) n fault × (new ≡ old))
+        → KeepsLines disk start old (acting_lines first lines) bytes
+        → KeepsMoments first (behind ++ set_by first behind line) now
+        × KeepsLines disk start new (acting_and_set first lines line) bytes
+    so (Ok set) k a s =
+        let in_range : given first ≤ last_moment = omega (arith, is, a.0.1) in
+        let e : set_by first behind line ≡ n ∷ [] =
+        by true (le-leb (given first) last_moment in_range) ∙ ap (λ m. m ∷ []) (sym is) in (
+          subst (λ l. KeepsMoments first l now) (sym (ap₂ (λ a b. a ++ b) none e)) k,
+          subst (λ m. KeepsLines disk start new (acting_lines first lines ++ map moment m) bytes)
+              (sym e) a.1,
+        )
+    so (Err (Range at)) k a s =
+        let past : last_moment < given first = omega (arith, is, a.0.1) in
+        let out : nat_le (given first) last_moment ≡ false = grind (arith, nat_tests) in
+        not-set (by false out) k a.1 s
+    so (Err (MomentFaults.Back from at)) k a s =
+        let now : force_behind (starts_of start.listener).moment (acting_lines first lines)
+        ≡ first.newest =
+        ap (λ m. force_behind m (acting_lines first lines)) force ∙ force-acting first lines
+        ∙ ap (in_force first.newest) none in
+        absurd (omega (arith, now, a.0.3, is))
 
 -- the moment of the line that ends the watch is in range, so that it goes back
 pub ends-reason : (first : ℕ) (moments : List ℕ) (line : Option Line) (n : ℕ)

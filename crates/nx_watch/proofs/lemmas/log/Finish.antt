@@ -291,6 +291,7 @@ pub stands-first : {D : Type 0} (disk : TellsOfDisk D) (logging : LoggingListene
 stands-first disk logging range heard kept = record {
   first = range;
   in_range = All-nil IsLineInRange;
+  force = refl;
   copies = [];
   heard = heard;
   texts = [];

@@ -1,10 +1,10 @@
 -- The receivers of a watch take lines, and their entries are kept.
-use Rattle.std.proofs.Common.{◌≡◌, ℕ, ◌≤◌, ◌<◌, Bool, true, false, cond, List, [], ◌∷◌, ◌++◌}
-use Rattle.std.proofs.Common.{map, max, nat_le, Option, Some, None, Result, Ok, Err, refl, sym, ◌∙◌, ap, subst, arith}
+use Rattle.std.proofs.Common.{◌≡◌, ℕ, ◌≤◌, Bool, true, false, cond, List, [], ◌∷◌, ◌++◌}
+use Rattle.std.proofs.Common.{map, max, Option, Some, None, Result, Ok, Err, refl, sym, ◌∙◌, ap, subst, arith}
 use Rattle.std.proofs.Common.{append-nil}
-use Rattle.std.specs.Prelude.{IfSome, IsErr, IsTrue, MatchResult, OnOk}
+use Rattle.std.specs.Prelude.{IfSome, MatchResult}
 use Rattle.std.specs.List.{All, AllZip, concat}
-use Rattle.std.proofs.lemmas.Bool.{leb-false}
+use Rattle.std.proofs.lemmas.List.{map-append}
 use Rattle.std.proofs.lemmas.List.Concat.{flat_map-append}
 use Rattle.std.proofs.lemmas.List.Elements.{All-nil, All-cons, All-head, All-tail, All-append}
 use Rattle.nx_envelope.specs.Moment.{last_moment}
@@ -27,15 +27,17 @@ use Rattle.nx_receiver.specs.Receiver.{entry_list}
 use Rattle.nx_receiver.specs.declared.entry.Entry.{Entry}
 use Rattle.nx_receiver.specs.declared.listener.LastEntries.{LastEntries}
 use Rattle.nx_fec.specs.declared.air_files.channel.Channel.TheVariants.{Zero as OnZero, One, Two}
-use Rattle.nx_receiver.specs.Listener.{HearsGiven, IsSpelled, Listening, last_copies, moment_in_force, starts_of, then_command, then_elements}
+use Rattle.nx_receiver.specs.Listener.{HearsGiven, IsSpelled, Listening, last_copies, moment_in_force, starts_of, then_command, then_elements, then_moment}
 use Rattle.nx_receiver.specs.copies.Log.{IsEntry, IsLog}
 use Rattle.nx_receiver.specs.copies.Shares.{Given, MarkedCopy, Starts, events_for, marked, share, to_one}
 use Rattle.nx_receiver.specs.declared.fault.MomentFault.{MomentFault}
-use Rattle.nx_receiver.specs.declared.fault.MomentFault.TheVariants.{Back, Range}
-use Rattle.nx_receiver.proofs.lemmas.listening.Listener.{given_by-one}
+use Rattle.nx_receiver.proofs.lemmas.listening.Listener.{given_by-one, in_force-append as given-append}
+use Rattle.nx_watch.proofs.lemmas.lines.Acting.{said-in}
+use Rattle.nx_watch.proofs.lemmas.lines.Run.{in_force-append}
+use Rattle.nx_watch.proofs.lemmas.lines.Starting.{moments_said-more}
 use Rattle.nx_watch.proofs.lemmas.log.Heard.{none-heard}
-use Rattle.nx_watch.specs.Acting.{in_force, moments_said}
-use Rattle.nx_watch.specs.LineRun.{MayAct}
+use Rattle.nx_watch.specs.Acting.{in_force, moment_said, moments_said}
+use Rattle.nx_watch.specs.LineRun.{MayAct, force_behind}
 use Rattle.nx_watch.specs.private.Keeping.{HasKept, KeepsWith}
 use Rattle.nx_watch.specs.private.LoggingListener.{IsCopyInRange, IsLineInRange, KeepsHeard, KeepsLines, LoggingTo, TakesLines, logging_to}
 use Rattle.nx_watch.specs.declared.logging_listener.LoggingListener.{LoggingListener}
@@ -95,44 +97,48 @@ part_are given channel bits h on =
 
 -- ---- the moment in force
 
-force-moment : (first other n : ℕ) (lines : List Line) → n ≤ last_moment
-    → ((a b : ℕ) → a ≤ b → moment_in_force a (given_by lines)
-    ≤ in_force b (moments_said (map Some lines)))
-    → moment_in_force n (given_by lines)
-    ≤ in_force other (moments_said (map Some (moment n ∷ lines)))
-force-moment first other n lines within rest =
-    subst (λ b. moment_in_force n (given_by lines)
-    ≤ in_force other (cond b (n ∷ []) [] ++ moments_said (map Some lines)))
-    (sym (nat-le-true n last_moment within)) (rest n (max other n) (omega arith))
-  where
-    nat-le-true : (a b : ℕ) → a ≤ b → nat_le a b ≡ true
-    nat-le-true a b h = elim (nat_le a b) as (λ t. nat_le a b ≡ t → t ≡ true) [
-      | true ↦ λ e. refl
-      | false ↦ λ e. let less : b < a = leb-false a b e in absurd (omega arith)
-    ] refl
+behind-one : (first : ℕ) (lines : List Line) (line : Line)
+    → force_behind first (lines ++ line ∷ [])
+    ≡ in_force (force_behind first lines) (moment_said (Some line))
+behind-one first lines line =
+    ap (λ l. in_force first (moments_said l)) (map-append Some lines (line ∷ []))
+    ∙ ap (in_force first) (moments_said-more (map Some lines) (Some line))
+    ∙ in_force-append first (moments_said (map Some lines)) (moment_said (Some line))
 
-pub force-le : (first other : ℕ) (lines : List Line) → first ≤ other → All IsLineInRange lines
-    → moment_in_force first (given_by lines) ≤ in_force other (moments_said (map Some lines))
-force-le first other [] le h = le
-force-le first other (moment n ∷ lines) le h =
-    force-moment first other n lines (All-head IsLineInRange (moment n) lines h)
-    (λ a b le. force-le a b lines le (All-tail IsLineInRange (moment n) lines h))
-force-le first other (elements mark bits ∷ lines) le h =
-    force-le first other lines le (All-tail IsLineInRange (elements mark bits) lines h)
-force-le first other (refuse_station mark letter ∷ lines) le h =
-    force-le first other lines le (All-tail IsLineInRange (refuse_station mark letter) lines h)
-force-le first other (accept_station mark letter ∷ lines) le h =
-    force-le first other lines le (All-tail IsLineInRange (accept_station mark letter) lines h)
-force-le first other (refuse_subject mark letter ∷ lines) le h =
-    force-le first other lines le (All-tail IsLineInRange (refuse_subject mark letter) lines h)
-force-le first other (accept_subject mark letter ∷ lines) le h =
-    force-le first other lines le (All-tail IsLineInRange (accept_subject mark letter) lines h)
+-- a line that may act sets the moment in force of the receivers as it does that of the lines
+given-one : (first : ℕ) (lines : List Line) (line : Line) → MayAct first lines line
+    → moment_in_force (force_behind first lines) (given_of line ∷ [])
+    ≡ in_force (force_behind first lines) (moment_said (Some line))
+given-one first lines (moment n) may =
+    let greater : max (force_behind first lines) n ≡ n = omega (arith, may.0) in
+    sym (ap (in_force (force_behind first lines)) (said-in n may.1) ∙ greater)
+given-one first lines (elements mark bits) may = refl
+given-one first lines (refuse_station mark letter) may = refl
+given-one first lines (accept_station mark letter) may = refl
+given-one first lines (refuse_subject mark letter) may = refl
+given-one first lines (accept_subject mark letter) may = refl
 
--- a moment that is in range and isn't before the one in force isn't refused
-pub not-refused : (last n : ℕ) (why : MomentFault) → Refuses last n why → last ≤ n
-    → n ≤ last_moment → ⊥
-not-refused last n (Range at) h later within = omega (arith, h.1, within)
-not-refused last n (Back from at) h later within = omega (arith, h.3, later)
+-- both are the same behind one more line that may act
+force-one : (first : ℕ) (lines : List Line) (line : Line) → MayAct first lines line
+    → moment_in_force first (given_by lines) ≡ force_behind first lines
+    → moment_in_force first (given_by (lines ++ line ∷ []))
+    ≡ force_behind first (lines ++ line ∷ [])
+force-one first lines line may same =
+    ap (moment_in_force first) (given_by-one lines line)
+    ∙ given-append first (given_by lines) (given_of line ∷ [])
+    ∙ ap (λ force. moment_in_force force (given_of line ∷ [])) same
+    ∙ given-one first lines line may
+    ∙ sym (behind-one first lines line)
+
+-- the moment of a line that may act is in range
+may-range : (first : ℕ) (lines : List Line) (line : Line) → MayAct first lines line
+    → IsLineInRange line
+may-range first lines (moment n) may = may.1
+may-range first lines (elements mark bits) may = tt
+may-range first lines (refuse_station mark letter) may = tt
+may-range first lines (accept_station mark letter) may = tt
+may-range first lines (refuse_subject mark letter) may = tt
+may-range first lines (accept_subject mark letter) may = tt
 
 -- ---- entries of copies
 
@@ -174,16 +180,18 @@ log-of copies texts h = record { entries = texts; each = each-entry copies texts
 -- one line more, which brings no copies
 pub line-kept : {D : Type 0} (disk : TellsOfDisk D) (start old new : LoggingListener D)
     (lines : List Line) (given : List ℕ) (line : Line)
-    → new.keeper ≡ old.keeper → IsLineInRange line
+    → new.keeper ≡ old.keeper → MayAct (starts_of start.listener).moment lines line
     → ((copies : List MarkedCopy)
     → HearsGiven (starts_of start.listener) old.listener (given_by lines) copies
     → HearsGiven (starts_of start.listener) new.listener (given_by lines ++ given_of line ∷ [])
     copies)
     → KeepsLines disk start old lines given → KeepsLines disk start new (lines ++ line ∷ []) given
-line-kept disk start old new lines given line same within step s = record {
+line-kept disk start old new lines given line same may step s = record {
   first = s.first;
   in_range = All-append IsLineInRange lines (line ∷ []) s.in_range
-      (All-cons IsLineInRange line [] within (All-nil IsLineInRange));
+      (All-cons IsLineInRange line []
+      (may-range (starts_of start.listener).moment lines line may) (All-nil IsLineInRange));
+  force = force-one (starts_of start.listener).moment lines line may s.force;
   copies = s.copies;
   heard = subst (λ g. HearsGiven (starts_of start.listener) new.listener g s.copies)
       (sym (given_by-one lines line)) (step s.copies s.heard);
@@ -192,63 +200,82 @@ line-kept disk start old new lines given line same within step s = record {
   kept = subst (λ k. HasKept disk start.keeper k s.texts given) (sym same) s.kept;
 }
 
--- a line that gives a command has no moment out of range, and refuses no vital subject where it may
--- act
-command-in-range : (line : Line) (channel : Channel) (given : Command)
-    → given_of line ≡ to_one channel (command given ∷ []) → IsLineInRange line
-command-in-range (moment n) channel given e = cc
-command-in-range (elements mark bits) channel given e = tt
-command-in-range (refuse_station mark letter) channel given e = tt
-command-in-range (accept_station mark letter) channel given e = tt
-command-in-range (refuse_subject mark letter) channel given e = tt
-command-in-range (accept_subject mark letter) channel given e = tt
+-- a line that gives a command may act, but for the refusal of a vital subject
+command-acts : (line : Line) (channel : Channel) (given : Command)
+    → given_of line ≡ to_one channel (command given ∷ []) → refuses_vital given ≡ false
+    → (force : ℕ) (before : List Line) → MayAct force before line
+command-acts (moment n) channel given e spared force before = absurd cc
+command-acts (elements mark bits) channel given e spared force before = tt
+command-acts (refuse_station mark letter) channel given e spared force before = tt
+command-acts (accept_station mark letter) channel given e spared force before = tt
+command-acts (refuse_subject mark letter) channel given e spared force before =
+    let same : given ≡ fed.refuse_subject letter = cc in sym (ap refuses_vital same) ∙ spared
+command-acts (accept_subject mark letter) channel given e spared force before = tt
 
-spares : (first : ℕ) (lines : List Line) (line : Line) (channel : Channel) (given : Command)
-    → given_of line ≡ to_one channel (command given ∷ []) → MayAct first lines line
-    → refuses_vital given ≡ false
-spares first lines (moment n) channel given e may = cc
-spares first lines (elements mark []) channel given e may = cc
-spares first lines (elements mark (bit ∷ bits)) channel given e may = cc
-spares first lines (refuse_station mark letter) channel given e may =
-    let same : given ≡ fed.refuse_station letter = cc in ap refuses_vital same
-spares first lines (accept_station mark letter) channel given e may =
-    let same : given ≡ fed.accept_station letter = cc in ap refuses_vital same
-spares first lines (refuse_subject mark letter) channel given e may =
-    let same : given ≡ fed.refuse_subject letter = cc in ap refuses_vital same ∙ may
-spares first lines (accept_subject mark letter) channel given e may =
-    let same : given ≡ fed.accept_subject letter = cc in ap refuses_vital same
+-- a moment that was set, or refused
+pub moment-answered : {D : Type 0} (disk : TellsOfDisk D) (start old : LoggingListener D)
+    (now : Listening) (lines : List Line) (given : List ℕ) (n : ℕ)
+    (answer : Result (Unit {0}) MomentFault)
+    → ((copies : List MarkedCopy)
+    → HearsGiven (starts_of start.listener) old.listener (given_by lines) copies
+    → MatchResult answer
+    (λ _. (moment_in_force (starts_of start.listener).moment (given_by lines) ≤ n)
+    × (n ≤ last_moment)
+    × HearsGiven (starts_of start.listener) now (then_moment (given_by lines) n) copies)
+    (λ fault. Refuses (moment_in_force (starts_of start.listener).moment (given_by lines)) n fault
+    × (now ≡ old.listener)))
+    → KeepsLines disk start old lines given
+    → MatchResult answer (λ _. MayAct (starts_of start.listener).moment lines (moment n)
+    × KeepsLines disk start (with_listener old now) (lines ++ moment n ∷ []) given)
+    (λ fault. Refuses (force_behind (starts_of start.listener).moment lines) n fault
+    × (with_listener old now ≡ old))
+moment-answered disk start old now lines given n (Ok set) step s =
+    let set = step s.copies s.heard in
+    let may : MayAct (starts_of start.listener).moment lines (moment n) =
+    (subst (λ force. force ≤ n) s.force set.0, set.1) in (
+      may,
+      line-kept disk start old (with_listener old now) lines given (moment n) refl may
+          (λ copies heard. (step copies heard).2) s,
+    )
+moment-answered disk start old now lines given n (Err fault) step s =
+    let refused = step s.copies s.heard in (
+      subst (λ force. Refuses force n fault) s.force refused.0,
+      ap (with_listener old) refused.1,
+    )
 
 module _ {D W : Type 0} (disk : TellsOfDisk D) (contents : W → Option (List ℕ)) where
   -- the same beside a writer
   pub next-line : (start : LoggingTo D W) (old new : LoggingListener D)
       (writer : CountedDevice W) (lines : List Line) (line : Line)
-      → new.keeper ≡ old.keeper → IsLineInRange line
+      → new.keeper ≡ old.keeper → MayAct (starts_of start.logging.listener).moment lines line
       → ((copies : List MarkedCopy)
       → HearsGiven (starts_of start.logging.listener) old.listener (given_by lines) copies
       → HearsGiven (starts_of start.logging.listener) new.listener
       (given_by lines ++ given_of line ∷ []) copies)
       → TakesLines disk contents start (logging_to old writer) lines
       → TakesLines disk contents start (logging_to new writer) (lines ++ line ∷ [])
-  next-line start old new writer lines line same within step h =
-      (h.0, line-kept disk start.logging old new lines h.0 line same within step h.1, h.2)
+  next-line start old new writer lines line same may step h =
+      (h.0, line-kept disk start.logging old new lines h.0 line same may step h.1, h.2)
 
   -- the same of a line that gives a command, which was taken
   pub next-command : (start : LoggingTo D W) (old new : LoggingListener D)
       (writer : CountedDevice W) (lines : List Line) (line : Line) (channel : Channel)
       (given : Command) → given_of line ≡ to_one channel (command given ∷ [])
-      → MayAct (starts_of start.logging.listener).moment lines line → new.keeper ≡ old.keeper
-      → ((copies : List MarkedCopy) → refuses_vital given ≡ false
+      → refuses_vital given ≡ false → new.keeper ≡ old.keeper
+      → ((copies : List MarkedCopy)
       → HearsGiven (starts_of start.logging.listener) old.listener (given_by lines) copies
       → HearsGiven (starts_of start.logging.listener) new.listener
       (then_command (given_by lines) channel given) copies)
       → TakesLines disk contents start (logging_to old writer) lines
-      → TakesLines disk contents start (logging_to new writer) (lines ++ line ∷ [])
-  next-command start old new writer lines line channel given gives may kept step h =
-      let starts = starts_of start.logging.listener in
-      next-line start old new writer lines line kept (command-in-range line channel given gives)
-      (λ copies heard. subst (λ one. HearsGiven starts new.listener (given_by lines ++ one ∷ [])
-      copies) (sym gives)
-      (step copies (spares starts.moment lines line channel given gives may) heard)) h
+      → MayAct (force_behind (starts_of start.logging.listener).moment lines) [] line
+      × TakesLines disk contents start (logging_to new writer) (lines ++ line ∷ [])
+  next-command start old new writer lines line channel given gives spared kept step h = (
+    command-acts line channel given gives spared _ [],
+    next-line start old new writer lines line kept
+        (command-acts line channel given gives spared _ lines)
+        (λ copies heard. subst (λ one. HearsGiven (starts_of start.logging.listener) new.listener
+        (given_by lines ++ one ∷ []) copies) (sym gives) (step copies heard)) h,
+  )
 
   -- a line of elements, of which nothing was heard yet
   pub none-yet : (start : LoggingTo D W) (now : LoggingListener D)
@@ -283,6 +310,7 @@ module _ {D W : Type 0} (disk : TellsOfDisk D) (contents : W → Option (List �
           first = s.first;
           in_range = All-append IsLineInRange lines (line ∷ []) s.in_range
               (All-cons IsLineInRange line [] tt (All-nil IsLineInRange));
+          force = force-one (starts_of start.logging.listener).moment lines line tt s.force;
           copies = k.copies;
           heard = subst (λ g. HearsGiven (starts_of start.logging.listener) now.listener g k.copies)
               (ap (λ (c : Channel). then_elements (given_by lines) c bits) is
@@ -387,17 +415,10 @@ end-spelled starts lines copies rest one bytes first within printed entry = reco
 
 -- ---- what a call answers
 
-pub where-taken : {A B : Type 0} (r : Result A B) (P : Type 0) (F : B → Type 0)
-    → MatchResult r (λ _. P) F → ((why : B) → F why → ⊥) → P
-where-taken (Ok done) P F h never = h
-where-taken (Err why) P F h never = absurd (never why h)
-
-pub where-ok : {A B : Type 0} (r : Result A B) (P : Type 0) → OnOk r P → (IsErr r → ⊥) → P
-where-ok (Ok done) P h never = h
-where-ok (Err why) P h never = absurd (never refl)
-
-pub not-vital : (b : Bool) → b ≡ false → IsTrue b → ⊥
-not-vital b e h = let both : false ≡ true = sym e ∙ h in cc
+-- a subject isn't vital whose refusal isn't refused
+pub spared : (b : Bool) → (b ≡ true → false ≡ true) → b ≡ false
+spared true h = sym (h refl)
+spared false h = refl
 
 pub none-spelled : (channel : Channel) (b : Bool) (next : List TaggedCopy) (bytes : List ℕ)
     → b ≡ false → IsSpelled channel b next bytes → next ≡ []

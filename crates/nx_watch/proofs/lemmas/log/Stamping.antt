@@ -178,6 +178,7 @@ module _ {D W N : Type 0} (disk : TellsOfDisk D) (contents : W → Option (List 
       record {
         first = s.1.first;
         in_range = s.1.in_range;
+        force = s.1.force;
         copies = s.1.copies;
         heard = s.1.heard;
         texts = s.1.texts;

@@ -36,19 +36,8 @@ loop-at-preserved g c =
           h.1.first h.1.in_range (c.loop-at.invariant.heard start lines h));
     }
 
-pub returns-then-failures-gt0-clause-taken : goal.returns-then-failures-gt0-clause-taken
-returns-then-failures-gt0-clause-taken g c = λ start lines h.
-    let disk = g.D.DiskFile in
-    let bits = c.args.packed.now in
-    let all : take c.loop-at.at bits ≡ bits = take_all c.loop-at.at bits (search rules) in
-    line-heard disk g.W.Write.contents start c.args.self.now c.loop-at.self c.args.writer.now
-    c.loop-at.writer lines c.args.mark c.of-channel.result bits c.of-channel.ensures h
-    (subst (λ bs. KeepsHeard disk g.W.Write.contents start.logging c.loop-at.self start.writer
-    c.loop-at.writer (then_elements (given_by lines) c.of-channel.result bs)) all
-    (c.loop-at.invariant.heard start lines h))
-
-pub returns-else-failures-gt0-clause-taken : goal.returns-else-failures-gt0-clause-taken
-returns-else-failures-gt0-clause-taken g c = λ start lines h.
+pub returns-clause-taken : goal.returns-clause-taken
+returns-clause-taken g c = λ start lines h.
     let disk = g.D.DiskFile in
     let bits = c.args.packed.now in
     let all : take c.loop-at.at bits ≡ bits = take_all c.loop-at.at bits (search rules) in

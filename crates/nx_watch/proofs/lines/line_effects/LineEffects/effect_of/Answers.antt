@@ -1,19 +1,15 @@
-use Rattle.std.proofs.Common.{◌∙◌, ◌++◌, Some, sym, subst}
-use Rattle.nx_fec.specs.air_files.AirFile.{Line}
-use Rattle.nx_watch.specs.private.Effects.{IsEffect, KeepsMoments, said_behind}
-use Rattle.nx_watch.proofs.lemmas.lines.Acting.{elements-kind, moment-kind}
+use Rattle.nx_watch.specs.Acting.{in_force}
+use Rattle.nx_watch.specs.private.Effects.{IsAnswer}
+use Rattle.nx_watch.proofs.lemmas.lines.Acting.{taken-acts}
 use Rattle.nx_watch.proofs.lines.line_effects.LineEffects.effect_of.Goals as goal
+use Rattle.std.proofs.Common.{subst}
 
-pub returns-in-Elements-clause-kept : goal.returns-in-Elements-clause-kept
-returns-in-Elements-clause-kept c = λ first moments line is k.
-    let e = elements-kind line _ (is ∙ c.in-Elements.is) in
-    subst (λ (l : Line). KeepsMoments first (moments ++ said_behind first moments (Some l))
-    c.effect_of_elements.new.self × IsEffect first moments (Some l) c.effect_of_elements.result)
-    (sym e.1) (c.effect_of_elements.ensures.kept first moments _ e.0 k)
+pub returns-in-Ok-clause-kept : goal.returns-in-Ok-clause-kept
+returns-in-Ok-clause-kept c = λ first moments line kind answer k.
+    let may = subst (IsAnswer (in_force first.newest moments) line) c.in-Ok.is answer in
+    (c.keep_said.ensures.kept first moments line kind may k, taken-acts first moments line may)
 
-pub returns-in-Moment-clause-kept : goal.returns-in-Moment-clause-kept
-returns-in-Moment-clause-kept c = λ first moments line is k.
-    subst (λ (l : Line). KeepsMoments first (moments ++ said_behind first moments (Some l))
-    c.effect_of_moment.new.self × IsEffect first moments (Some l) c.effect_of_moment.result)
-    (sym (moment-kind line c.in-Moment.given (is ∙ c.in-Moment.is)))
-    (c.effect_of_moment.ensures.kept first moments k)
+pub returns-in-Err-clause-kept : goal.returns-in-Err-clause-kept
+returns-in-Err-clause-kept c = λ first moments line kind answer k.
+    c.effect_of_refusal.ensures.kept first moments line
+    (subst (IsAnswer (in_force first.newest moments) line) c.in-Err.is answer) k

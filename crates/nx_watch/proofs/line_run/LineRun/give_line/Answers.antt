@@ -1,0 +1,35 @@
+use Rattle.std.proofs.Common.{◌++◌, ◌∙◌, ap, subst, sym}
+use Rattle.nx_watch.specs.Acting.{moments_behind}
+use Rattle.nx_watch.specs.LineRun.{force_behind}
+use Rattle.nx_watch.specs.private.Effects.{IsAnswer, acting_and_set}
+use Rattle.nx_watch.specs.private.LoggingListener.{TakesLines, logging_to}
+use Rattle.nx_watch.proofs.lemmas.lines.Acting.{acts-taken, idle-refused}
+use Rattle.nx_watch.proofs.lemmas.lines.Run.{acting-one, answer-behind, kind-is}
+use Rattle.nx_watch.proofs.line_run.LineRun.give_line.Goals as goal
+
+pub returns-clause-taken : goal.returns-clause-taken
+returns-clause-taken g c = λ start first lines line force is kept stood.
+    let kind = kind-is c.args.self.now.scanner.scanner.latest c.latest.result line c.in-Some.kind
+    c.latest.ensures c.in-Some.is is in
+    let answer = c.take-answer.result in
+    let set = c.set_start.ensures.set start.logging first lines line stood.0 kind force kept.moments
+    stood.1 in
+    let taken = c.take-answer.ensures.taken start (acting_and_set first lines line) line is
+    (stood.0, set.1, stood.2) in
+    let is_answer = answer-behind first lines line answer
+    (subst (λ m. IsAnswer (force_behind m (acting_and_set first lines line)) line answer) force
+    taken.0) in
+    let did = c.line.ensures.kept first lines line c.args.self.now.effects kind is_answer kept
+    c.set_start.ensures.counts set.0 in (
+      did.0,
+      did.1,
+      subst (TakesLines g.D.DiskFile g.W.Write.contents start
+          (logging_to c.take-answer.new.self c.take-answer.new.writer))
+          (sym (acting-one first lines line
+          ∙ ap (λ l. acting_and_set first lines line ++ l)
+          (acts-taken first (moments_behind first lines) line answer is_answer))) taken.1,
+    )
+
+pub returns-clause-idle : goal.returns-clause-idle
+returns-clause-idle g c = λ idle.
+    idle-refused c.take-answer.result _ _ c.line.ensures.taken c.take-answer.ensures.refused idle
