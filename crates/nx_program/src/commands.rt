@@ -166,7 +166,10 @@ is left out.";
 const WATCH_EXAMPLE: &str = "Example, live from the sound of a radio (rec is a part of sox):
   $ rec -q -t raw -r 8000 -c 1 -e signed -b 16 - |
       navtex-elements | navtex watch watch.log \"$(date +%s)\"
-navtex-watch(8) is a script and a service that do this, and start it again.";
+navtex-watch is a script and a service that do this, and start it again; its man
+page is navtex-watch(8), and its settings are in /etc/default/navtex-watch.
+Examples lie in share/doc/navtex/examples below /usr, or below /usr/local after
+make install. Of them sound/alarm runs a command for each new message.";
 
 const WATCH: Row = Row {
     name: "watch",
