@@ -36,6 +36,12 @@ pub enum OpenFault {
     /// It is a link that leads to no file.
     #[error("the file is a link that leads nowhere")]
     DeadLink,
+    /// Its name is that of a folder: it ends in `/`.
+    #[error("the name of the file is that of a folder")]
+    FolderName,
+    /// Its name, or that of a folder that it leads through, is longer than the disk takes.
+    #[error("the name of the file is too long")]
+    LongName,
     /// The disk is full, or what its owner may have of it.
     #[error("there is no room on the disk")]
     NoRoom,
@@ -91,6 +97,8 @@ impl FileFault {
             ErrorKind::NotFound | ErrorKind::NotADirectory => FileFault::Open(OpenFault::NoFolder),
             ErrorKind::PermissionDenied => FileFault::Open(OpenFault::NoLeave),
             ErrorKind::FilesystemLoop => FileFault::Open(OpenFault::DeadLink),
+            ErrorKind::IsADirectory => FileFault::Open(OpenFault::FolderName),
+            ErrorKind::InvalidFilename => FileFault::Open(OpenFault::LongName),
             ErrorKind::StorageFull | ErrorKind::QuotaExceeded => FileFault::Open(OpenFault::NoRoom),
             ErrorKind::ReadOnlyFilesystem => FileFault::Open(OpenFault::OnlyRead),
             ErrorKind::OutOfMemory => FileFault::Memory,

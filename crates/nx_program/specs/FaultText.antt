@@ -192,6 +192,8 @@ abbrev pub open_reason : OpenFault → List ℕ
 open_reason file.NoFolder = codes ": its folder isn't there"
 open_reason file.NoLeave = codes ": there is no leave to read and write it"
 open_reason file.DeadLink = codes ": it is a link that leads nowhere"
+open_reason file.FolderName = codes ": its name is that of a folder"
+open_reason file.LongName = codes ": its name is too long"
 open_reason file.NoRoom = codes ": there is no room on the disk"
 open_reason file.OnlyRead = codes ": its disk can only be read"
 open_reason file.NotRegular = codes ": it is no regular file"

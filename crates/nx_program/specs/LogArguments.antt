@@ -29,6 +29,11 @@ option_name OfChannel = codes "channel"
 option_name Since = codes "since"
 option_name Until = codes "until"
 
+-- what a TIME has to be
+abbrev pub time_wanted : Text
+time_wanted =
+    codes "TIME is 2025-01-01 or '2025-01-01 00:40', in UTC, or seconds since 1970, but not 4 or 8 digits"
+
 -- what help calls its value
 abbrev pub value_name : LogOption → Text
 value_name Station = codes "LETTERS"
@@ -36,6 +41,14 @@ value_name Subject = codes "LETTERS"
 value_name OfChannel = codes "N"
 value_name Since = codes "TIME"
 value_name Until = codes "TIME"
+
+-- what its value has to be
+abbrev pub value_wanted : LogOption → Text
+value_wanted Station = codes "LETTERS are one letter A to Z or more, as AE"
+value_wanted Subject = codes "LETTERS are one letter A to Z or more, as AE"
+value_wanted OfChannel = codes "N is 0, 1 or 2"
+value_wanted Since = time_wanted
+value_wanted Until = time_wanted
 
 -- an option with a value, which is any text to clap; it may be left out, and is given at most once
 abbrev pub option_rule : LogOption → Rule
@@ -131,13 +144,13 @@ pub record IsUnfit (values : List Row) (option : LogOption) (text : Text) : Type
   pub given : given_to option values ≡ Some text
   pub nothing : NamesNothing option text
 
--- the text that reports it, as clap reports a wrong value: two lines, with an empty one between
--- them
+-- the text that reports it, as clap reports a wrong value: three lines, with an empty one between
+-- two of them; the second says what is wanted
 abbrev pub value_report : LogOption → Text → Text
 value_report option text =
     codes "error: invalid value '" ++ text ++ codes "' for '--" ++ option_name option ++ codes " <"
-    ++ value_name option ++ codes ">'" ++ newline ∷ newline
-    ∷ codes "For more information, try '--help'." ++ newline ∷ []
+    ++ value_name option ++ codes ">'" ++ newline ∷ newline ∷ codes "  tip: " ++ value_wanted option
+    ++ newline ∷ newline ∷ codes "For more information, try '--help'." ++ newline ∷ []
 
 -- an option was given a text that names nothing, and this is its report
 pub record IsReported (values : List Row) (report : Text) : Type 0 where

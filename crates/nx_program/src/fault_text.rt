@@ -396,6 +396,8 @@ pub(crate) fn open_reason(why: OpenFault) -> &'static [u8]
         OpenFault::NoFolder => b": its folder isn't there",
         OpenFault::NoLeave => b": there is no leave to read and write it",
         OpenFault::DeadLink => b": it is a link that leads nowhere",
+        OpenFault::FolderName => b": its name is that of a folder",
+        OpenFault::LongName => b": its name is too long",
         OpenFault::NoRoom => b": there is no room on the disk",
         OpenFault::OnlyRead => b": its disk can only be read",
         OpenFault::NotRegular => b": it is no regular file",

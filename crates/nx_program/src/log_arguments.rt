@@ -6,6 +6,7 @@ ghost use Rattle.nx_log.specs.Times.{IsSince, IsUntil};
 ghost use Rattle.nx_program.specs.LogArguments.{Asks, IsDamaged, IsForm, IsQuery, IsReported, NamesChannel, NamesLetters};
 ghost use Rattle.nx_program.specs.LogArguments.{given_to, has_flag, option_name};
 ghost use Rattle.nx_program.specs.LogArguments.{value_name as the_value_name, value_report as the_report};
+ghost use Rattle.nx_program.specs.LogArguments.{value_wanted as the_value_wanted};
 ghost use Rattle.nx_program.specs.private.LogReading.{IsUnfitAs, IsWrong};
 ghost use Rattle.nx_fec.specs.declared.air_files.channel.Channel.{Channel};
 ghost use Rattle.nx_program.specs.declared.log_arguments.LogOption.TheVariants as option;
@@ -30,6 +31,10 @@ pub enum LogOption {
     Until,
 }
 
+/// What a TIME has to be.
+const TIME_WANTED: &str =
+    "TIME is 2025-01-01 or '2025-01-01 00:40', in UTC, or seconds since 1970, but not 4 or 8 digits";
+
 impl LogOption {
     /// The name of the option on the command line.
     pub fn name(self) -> &'static str
@@ -52,6 +57,19 @@ impl LogOption {
             LogOption::Station | LogOption::Subject => "LETTERS",
             LogOption::Channel => "N",
             LogOption::Since | LogOption::Until => "TIME",
+        }
+    }
+
+    /// What its value has to be, as it is told where it is wrong.
+    pub fn value_wanted(self) -> &'static str
+        ensures { result.now ≡ the_value_wanted self }
+    {
+        match self {
+            LogOption::Station | LogOption::Subject => {
+                "LETTERS are one letter A to Z or more, as AE"
+            }
+            LogOption::Channel => "N is 0, 1 or 2",
+            LogOption::Since | LogOption::Until => TIME_WANTED,
         }
     }
 
@@ -85,7 +103,9 @@ impl LogOption {
         report.push_str(self.name())?;
         report.push_str(" <")?;
         report.push_str(self.value_name())?;
-        report.push_str(">'\n\nFor more information, try '--help'.\n")?;
+        report.push_str(">'\n\n  tip: ")?;
+        report.push_str(self.value_wanted())?;
+        report.push_str("\n\nFor more information, try '--help'.\n")?;
         Ok(report)
     }
 }

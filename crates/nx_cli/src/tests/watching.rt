@@ -250,6 +250,14 @@ fn its_log_cannot_be_opened(rt: HostRuntime) {
             "navtex: the log x.log can't be opened: it is a link that leads nowhere\n",
         ),
         (
+            OpenFault::FolderName,
+            "navtex: the log x.log can't be opened: its name is that of a folder\n",
+        ),
+        (
+            OpenFault::LongName,
+            "navtex: the log x.log can't be opened: its name is too long\n",
+        ),
+        (
             OpenFault::NoRoom,
             "navtex: the log x.log can't be opened: there is no room on the disk\n",
         ),

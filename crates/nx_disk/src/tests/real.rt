@@ -43,10 +43,16 @@ fn a_file_that_cannot_be_opened_is_told_why(rt: HostRuntime) -> Result<(), Fail>
     let link = "nx_disk_test_link";
     let _ = fs::remove_file(&rt, link);
     symlink(&rt, "nx_disk_test_of_none", link)?;
+    let mut long = String::new(rt.alloc());
+    for _ in 0..256 {
+        long.push_str("x")?;
+    }
     for (path, why) in [
         (".", OpenFault::NotRegular),
         ("nx_disk_test_of_none/x.log", OpenFault::NoFolder),
         (link, OpenFault::DeadLink),
+        ("nx_disk_test_of_none/", OpenFault::FolderName),
+        (long.as_str(), OpenFault::LongName),
     ] {
         assert_eq!(rt;
             open(rt.alloc(), &rt, path, LeftBefore::any()).err(),
