@@ -36,9 +36,13 @@ function giveFile(piece) {
 function speed(piece, times) {
   const elements = elementsOf(readFileSync(0, "latin1").replace(/[^01]/g, ""));
   receiver.open(0);
+  const hearAll = (passes) => {
+    for (let pass = 0; pass < passes; pass++)
+      for (let at = 0; at < elements.length; at += piece) receiver.hear(0, elements.subarray(at, at + piece));
+  };
+  hearAll(times / 10); // until the engine has compiled it
   const began = process.cpuUsage();
-  for (let time = 0; time < times; time++)
-    for (let at = 0; at < elements.length; at += piece) receiver.hear(0, elements.subarray(at, at + piece));
+  hearAll(times);
   const { user } = process.cpuUsage(began);
   console.log(`${((user * 1000) / elements.length / times).toFixed(2)} ns an element`);
 }
