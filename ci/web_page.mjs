@@ -12,7 +12,7 @@ const PAGE = pathToFileURL(`${room}/navtex.html`).href;
 const EXAMPLES = new URL('../examples/', import.meta.url);
 const RATE = 48000;
 const SILENCE = 1; // seconds before and behind an emission
-const HEARD = 60000; // milliseconds in which an emission is heard by the microphone
+const HEARD = 60000; // milliseconds in which an emission is heard, by the microphone or of a file
 
 const path = (name) => new URL(name, EXAMPLES).pathname;
 const example = (name) => readFileSync(new URL(name, EXAMPLES), 'latin1');
@@ -73,7 +73,7 @@ async function drop(file) {
 async function hear(file, open = choose) {
     await browser.value("document.getElementById('source').textContent = ''");
     await open(file);
-    await browser.until("document.getElementById('source').textContent.startsWith('Heard')");
+    await browser.until("document.getElementById('source').textContent.startsWith('Heard')", HEARD);
 }
 
 async function expectFault(words, action) {
