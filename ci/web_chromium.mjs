@@ -1,7 +1,7 @@
 // A Chromium without a window, led by its debugging protocol over a pipe.
 import { spawn } from 'node:child_process';
 
-const PATIENCE = 30000; // milliseconds
+const PATIENCE = 60000; // milliseconds
 
 const pause = (milliseconds) => new Promise((resolve) => setTimeout(resolve, milliseconds));
 
