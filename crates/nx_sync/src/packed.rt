@@ -11,7 +11,7 @@ ghost use Rattle.nx_sync.specs.private.Windows.{IsBeforeLockIn};
 
 use crate::phasing::{PATTERN, is_block, is_lock_window};
 use crate::windows_after::joined;
-use nx_code::{ELEMENTS, WORDS_AT_ONCE, Word, elements_at, packed_word, words_of};
+use nx_code::{ELEMENTS, WORDS_AT_ONCE, Word, elements_at, words_of};
 
 /// So few elements are looked at window by window at once, which costs less than the tests of
 /// blocks (this project's own).
@@ -24,15 +24,6 @@ pub(crate) fn element(numbers: &[u64], place: usize) -> bool
     ensures { result ∷ [] ≡ packed_part numbers.now place 1 }
 {
     elements_at(numbers, place, 1) % 2 == 1
-}
-
-/// The word of the seven elements from a place on.
-#[inline(always)]
-pub(crate) fn word_in(numbers: &[u64], place: usize) -> Word
-    requires { place + 7 ≤ packed_elements * length numbers.now }
-    ensures { elements result ≡ packed_part numbers.now place 7 }
-{
-    packed_word(elements_at(numbers, place, ELEMENTS))
 }
 
 /// The words of the elements from a place on, at most eight: the first `count` of these. Those

@@ -8,7 +8,7 @@ ghost use Rattle.nx_sync.specs.declared.step.Role.TheVariants.{Dx};
 ghost use Rattle.nx_code.specs.Word.{elements};
 ghost use Rattle.nx_sync.specs.Locks.{pattern_elements};
 ghost use Rattle.nx_sync.specs.Steps.{IsWordStep, AreQuietWords};
-ghost use Rattle.nx_sync.specs.private.Calls.{fills_dx, held_at_words};
+ghost use Rattle.nx_sync.specs.private.Calls.{held_at_words};
 ghost use Rattle.nx_sync.specs.Synchroniser as held;
 ghost use Rattle.nx_sync.specs.Synchroniser.{StandsAfter, is_between_words, keeps_lock};
 ghost use Rattle.nx_sync.specs.Ahead.{ArePairs};
@@ -108,17 +108,6 @@ impl WordSynchroniser {
         match self.track {
             None => false,
             Some(track) => track.filled == 0,
-        }
-    }
-
-    /// Whether a lock stands, and the word that is being filled, or comes next, is a DX word.
-    #[inline(always)]
-    pub(crate) fn awaits_dx(&self) -> bool
-        ensures { result ≡ fills_dx self.now.track }
-    {
-        match self.track {
-            None => false,
-            Some(track) => track.role == Role::Dx,
         }
     }
 

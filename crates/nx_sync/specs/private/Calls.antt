@@ -1,7 +1,7 @@
 -- What the parts of a push, a word and a hunt answer, for the contracts of the synchroniser's
 -- private functions. The contracts of the public ones speak of the locks over all bits.
 use Rattle.std.specs.Prelude.{◌≡◌, ℕ, ◌+◌, ◌*◌, ◌/◌, ◌%◌, ◌^◌, ◌<◌, ◌≤◌, ◌==◌, nat_le, min, Bool}
-use Rattle.std.specs.Prelude.{false, ◌&&◌, ◌⊎◌, List, [], ◌∷◌, ◌++◌, length, take, count_by, Option}
+use Rattle.std.specs.Prelude.{◌&&◌, ◌⊎◌, List, [], ◌∷◌, ◌++◌, length, take, count_by, Option}
 use Rattle.std.specs.Prelude.{Some, None, if◌then◌else◌}
 use Rattle.circular_buffer.specs.Buffer.{keep_last}
 use Rattle.nx_code.specs.Table.{phasing_1}
@@ -25,11 +25,6 @@ track_from role = record { role = role; filled = 0; was_p1 = 0 }
 abbrev pub held_at_words : ℕ → Option Track → List Bool → Held
 held_at_words recent track wrong =
     record { recent = recent; seen = pattern_elements; track = track; wrong = wrong }
-
--- whether a lock is followed, and the word that its track fills is a DX word
-abbrev pub fills_dx : Option Track → Bool
-fills_dx None = false
-fills_dx (Some track) = is_dx track.role
 
 -- the track after a word
 abbrev pub track_after : Track → ℕ → Track
