@@ -3,7 +3,7 @@ use Rattle.std.specs.Option.{option_to_list}
 use Rattle.nx_envelope.specs.Finder.{StandsAfter}
 use Rattle.nx_receiver.specs.LockReader.{ReadsLock}
 use Rattle.nx_receiver.specs.copies.LockText.{text_after}
-use Rattle.nx_receiver.proofs.lemmas.locks.ReaderWords.{prints_lock, reads_on}
+use Rattle.nx_receiver.proofs.lemmas.locks.ReaderWords.{prints_lock}
 use Rattle.nx_receiver.proofs.lock_reader.LockReader.read_word.Goals as goal
 
 pub returns-in-Some-clause-reads : goal.returns-in-Some-clause-reads
