@@ -1,6 +1,7 @@
-//! The taker of copies: it reads the words that a synchroniser hears, and says what is over with
-//! them. What runs for each element or each word is inlined always, since its answers would go
-//! through memory otherwise.
+//! The taker of copies: it has the loop over elements, asks a synchroniser for the words that they
+//! bring, reads these, and says what is over with them. What runs for each word is inlined always,
+//! since its answers would go through memory otherwise. Each loop is a call of its own, and so is
+//! what few words need, so that a loop has the registers to itself.
 
 ghost use Rattle.std.specs.Prelude.{◌≡◌, ℕ, ◌+◌, ◌*◌, ◌%◌, ◌<◌, ◌≤◌, false, length, take, IsTrue};
 ghost use Rattle.std.specs.List.{flat_map};

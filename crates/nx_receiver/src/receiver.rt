@@ -309,8 +309,8 @@ impl<M: Recall> Receiver<M> {
     }
 
     /// Hears elements up to and with the first one with which something is over, all of them where
-    /// nothing is. Says how many, and what is over. `finish` or `give` is due then, before anything
-    /// else is heard.
+    /// nothing is. Says how many, and what is over. `finish`, `give`, `spell` or `finish_unlogged`
+    /// is due then, before anything else is heard.
     #[inline(always)]
     pub(crate) fn hear(&mut self, packed: &PackedElements, from: usize) -> (usize, Option<Over>)
         requires { from ≤ length packed.now }
