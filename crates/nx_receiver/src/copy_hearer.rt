@@ -1,6 +1,6 @@
 //! What a receiver keeps but its memory: it turns elements into copies, each with the moment and
-//! the selection in force at its second digit. What runs for each line of elements is inlined
-//! always.
+//! the selection in force at its second digit. What runs for each line of elements, or of a
+//! command, is inlined always.
 
 ghost use Rattle.std.specs.Prelude.{◌≡◌, ◌+◌, ◌<◌, ◌≤◌, List, Bool, [], ◌++◌, ◌↔◌, length, take, drop, false, true, None, Some, IfOk, IfErr, IsErr, IsTrue, OnErr, OnOk};
 ghost use Rattle.nx_envelope.specs.Finder.{is_ready};
@@ -193,6 +193,7 @@ impl CopyHearer {
 
     /// Does what the command says. `Vital` where it is to refuse a vital subject: the hearer then
     /// stays as it was.
+    #[inline(always)]
     pub(crate) fn command(&mut self, command: Command) -> Result<(), Vital>
         ensures vital { IsErr result ↔ IsTrue (refuses_vital (said command)) }
         ensures fault { IfErr result (λ vital. command ≡ RefuseSubject vital.subject) }

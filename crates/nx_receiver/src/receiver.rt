@@ -1,6 +1,6 @@
 //! The receiver: elements, moments and commands in, entries out. What runs for each line of
-//! elements is inlined always. What finishes a copy is not, so that no loop over elements has a
-//! place for an entry or its head.
+//! elements, or of a command, is inlined always. What finishes a copy is not, so that no loop over
+//! elements has a place for an entry or its head.
 
 ghost use Rattle.std.specs.Prelude.{◌≡◌, ◌↔◌, ℕ, Option, MatchResult, false, ◌+◌, ◌<◌, ◌≤◌, ◌==◌, ◌||◌, List, [], ◌++◌, length, take, drop, IfErr, IfOk, IfSome, IsErr, IsNone, IsSome, IsTrue, None, OnErr, OnOk, Some, Bool, true};
 ghost use Rattle.nx_envelope.specs.Moment.{last_moment};
@@ -141,6 +141,7 @@ impl<M: Recall> Receiver<M> {
 
     /// Does what the command says, from here on. `Vital` where it is to refuse subject A, B, D or L
     /// (ITU-R M.540); the receiver then stays as it was.
+    #[inline(always)]
     pub fn command(&mut self, command: Command) -> Result<(), Vital>
         ensures stands { OnOk result (TakesEvent M.content self.old self.new
             (events.command (said command))) }
