@@ -1,4 +1,4 @@
-use Rattle.std.proofs.Common.{◌≡◌, ◌++◌, ◌∷◌, [], append-nil, refl, sym, subst}
+use Rattle.std.proofs.Common.{◌++◌, ◌∷◌, [], append-nil, refl, sym, subst}
 use Rattle.std.proofs.lemmas.Result.{err_from_is_err_and}
 use Rattle.nx_receiver.specs.Commands.{said}
 use Rattle.nx_receiver.specs.air_file_runs.Listen.{given_by}
