@@ -226,16 +226,13 @@ impl LockTaker {
         ensures { HearsPart synchroniser.old self.old numbers.now from count synchroniser.new
             self.new result }
     {
-        if !synchroniser.is_locked() {
-            return self.hunt(synchroniser, numbers, from, count);
-        }
         let (many, eight) = synchroniser.words_ahead(numbers, from, count);
         // A number that the compiler knows, so that it makes a form for each.
         match many {
             8 => self.hear_words(synchroniser, &eight[..8]),
             6 => self.hear_words(synchroniser, &eight[..6]),
             2 => self.hear_words(synchroniser, &eight[..2]),
-            _ => self.hear_word(synchroniser, numbers, from, count),
+            _ => self.hear_part(synchroniser, numbers, from, count),
         }
     }
 
@@ -263,44 +260,23 @@ impl LockTaker {
         ELEMENTS * 2
     }
 
-    /// Hunts through elements: hears those up to and with the one that locks, all where none does.
-    fn hunt(
-        &mut self,
-        synchroniser: &mut Synchroniser,
-        numbers: &[u64],
-        from: usize,
-        count: usize,
-    ) -> usize
-        requires hunting { IsTrue (is_hunting synchroniser.old) }
-        requires some { 0 < count }
-        requires part { HasPart numbers.now from count }
-        requires room { HasRoom self.old count }
-        ensures { HearsPart synchroniser.old self.old numbers.now from count synchroniser.new
-            self.new result }
-    {
-        let (heard, step) = synchroniser.seek(numbers, from, count);
-        self.take(heard, step);
-        heard
-    }
-
-    /// Hears the next elements up to the end of a word of the lock. Never inlined, so that a loop
-    /// over words at once has the registers to itself.
+    /// Hears some of these elements: those of a hunt, one word of a lock, or a part of one. Never
+    /// inlined, so that a loop over words at once has the registers to itself.
     #[inline(never)]
-    fn hear_word(
+    fn hear_part(
         &mut self,
         synchroniser: &mut Synchroniser,
         numbers: &[u64],
         from: usize,
         count: usize,
     ) -> usize
-        requires locked { is_hunting synchroniser.old ≡ false }
         requires some { 0 < count }
         requires part { HasPart numbers.now from count }
         requires room { HasRoom self.old count }
         ensures { HearsPart synchroniser.old self.old numbers.now from count synchroniser.new
             self.new result }
     {
-        let (heard, step) = synchroniser.push_part(numbers, from, count);
+        let (heard, step) = synchroniser.push_some(numbers, from, count);
         self.take(heard, step);
         heard
     }

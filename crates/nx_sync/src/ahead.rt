@@ -1,5 +1,5 @@
 //! What lies ahead among packed elements. A caller asks for words that bring no change, and says
-//! how many of these it took. Else it hunts, or has the next word pushed, or a part of one. What
+//! how many of these it took. Else it has the next word pushed, a part of one, or a hunt. What
 //! runs for each word is inlined always, since its answers would go through memory otherwise.
 
 ghost use Rattle.std.specs.Prelude.{◌≡◌, ◌+◌, ◌*◌, ◌%◌, ◌<◌, ◌≤◌, length, IsTrue};
@@ -93,10 +93,28 @@ impl Synchroniser {
         self.push(element(numbers, place))
     }
 
+    /// Hears packed elements, so many from a place on, up to and with the first one that may bring
+    /// something, all where none may: in a lock those of one word, else those of a hunt. Says how
+    /// many, and what the last one brings; those before it bring nothing.
+    #[inline(always)]
+    pub fn push_some(&mut self, numbers: &[u64], from: usize, count: usize) -> (usize, Step)
+        requires some { 0 < count }
+        requires part { HasPart numbers.now from count }
+        ensures within { result.0 ≤ count }
+        ensures some { 0 < result.0 }
+        ensures brings { BringsStep self.old self.new (packed_part numbers.now from result.0)
+            result.1 }
+    {
+        if self.is_locked() {
+            return self.push_part(numbers, from, count);
+        }
+        self.seek(numbers, from, count)
+    }
+
     /// Hunts through packed elements, so many from a place on: hears those up to and with the one
     /// that locks, all where none does. Says how many, and what the last one brings; those before
     /// it bring nothing.
-    pub fn seek(&mut self, numbers: &[u64], from: usize, count: usize) -> (usize, Step)
+    fn seek(&mut self, numbers: &[u64], from: usize, count: usize) -> (usize, Step)
         requires hunting { IsTrue (is_hunting self.old) }
         requires some { 0 < count }
         requires part { HasPart numbers.now from count }

@@ -276,7 +276,7 @@ impl Synchroniser {
     /// they stand, all where they are fewer: what as many pushes do. Says how many those are, and
     /// what the last one brings; those before it bring nothing.
     #[inline(always)]
-    pub fn push_part(&mut self, numbers: &[u64], from: usize, count: usize) -> (usize, Step)
+    pub(crate) fn push_part(&mut self, numbers: &[u64], from: usize, count: usize) -> (usize, Step)
         requires locked { is_hunting self.old ≡ false }
         requires some { 0 < count }
         requires room { from + count ≤ packed_elements * length numbers.now }

@@ -2,12 +2,12 @@ use Rattle.std.proofs.Common.{arith}
 use Rattle.nx_sync.proofs.lemmas.hunting.PackedParts.{length-part}
 use Rattle.nx_code.specs.Packed.{packed_part}
 use Rattle.nx_receiver.proofs.lemmas.copy_hearer.Hears.{step_taken}
-use Rattle.nx_receiver.proofs.copy_taker.CopyTaker.hunt.Goals as goal
+use Rattle.nx_receiver.proofs.copy_taker.CopyTaker.hear_part.Goals as goal
 
 pub returns : goal.returns
 returns c =
     let numbers = c.args.numbers.now in
-    let heard = c.seek-heard in
+    let heard = c.push_some-heard in
     let n = heard.result.0 in
     record {
       within = heard.ensures.within;
