@@ -6,11 +6,14 @@ ghost use Rattle.std.specs.Prelude.{◌≡◌, ◌+◌, ◌*◌, ◌%◌, ◌<�
 ghost use Rattle.nx_code.specs.Packed.{packed_elements, packed_part};
 ghost use Rattle.nx_code.specs.Word.{word_elements};
 ghost use Rattle.nx_sync.specs.Ahead.{ArePairs, BringsStep, BringsWords, HasPart, LieAhead};
+ghost use Rattle.nx_sync.specs.Synchroniser as spec;
 ghost use Rattle.nx_sync.specs.Synchroniser.{is_between_words, is_hunting, keeps_lock};
 
 use crate::packed::{element, words_in};
+use crate::phasing::PHASING_1;
 use crate::step::Step;
 use crate::synchroniser::Synchroniser;
+use crate::windows_after::window_after_words;
 use nx_code::{ELEMENTS, WORDS_AT_ONCE, Word, words_of};
 
 /// How many words are proposed where eight aren't left. Such a number is even, so that the roles
@@ -66,7 +69,7 @@ impl Synchroniser {
         ensures { LieAhead self.now numbers.now from (word_elements * count) result }
     {
         let words = words_in(numbers, from, count);
-        if !self.at_words().keeps_lock(&words[..count]) {
+        if !self.keeps_lock(&words[..count]) {
             return (0, words);
         }
         (count, words)
@@ -79,9 +82,24 @@ impl Synchroniser {
         requires keeps { IsTrue (keeps_lock self.old words.now) }
         ensures { BringsWords self.old self.new words.now }
     {
-        let mut at_words = self.at_words();
-        at_words.push_words(words);
-        self.go_on_from(&at_words);
+        // The track stays: the next word is a DX word again, and none of the DX words before it
+        // was phasing signal 1.
+        self.marks.push_words(words);
+        self.recent = window_after_words(self.recent, words);
+    }
+
+    /// Whether surely none of the next words, if they are these, brings a change, so that `accept`
+    /// may hear them. It says no to some that bring none: where a lock is in phasing the other way
+    /// round, where a DX word is phasing signal 1, and in a lock that is nearly lost.
+    #[inline(always)]
+    pub fn keeps_lock(&self, words: &[Word]) -> bool
+        requires { ArePairs words.now }
+        ensures { result ≡ keeps_lock self.now words.now }
+    {
+        let Some(track) = self.track else {
+            return false;
+        };
+        track.awaits_free_dx() & !has_dx_phasing_1(words) & self.marks.keeps_lock_for(words.len())
     }
 
     /// Hears the packed element at a place, as `push` does.
@@ -130,4 +148,17 @@ impl Synchroniser {
         let step = self.push(element(numbers, from + quiet));
         (quiet + 1, step)
     }
+}
+
+/// Whether one of the DX words among these, which are DX and RX by turns, is phasing signal 1.
+#[inline(always)]
+fn has_dx_phasing_1(words: &[Word]) -> bool
+    requires { ArePairs words.now }
+    ensures { result ≡ spec.has_dx_phasing_1 words.now }
+{
+    let mut found = false;
+    for pair in 0..words.len() / 2 {
+        found |= words[2 * pair].number() == PHASING_1;
+    }
+    found
 }

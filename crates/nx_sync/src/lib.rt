@@ -12,9 +12,7 @@ mod synchroniser;
 mod track;
 mod windows;
 mod windows_after;
-mod word_synchroniser;
 
 pub use step::{Change, Role, Step};
 pub use synchroniser::Synchroniser;
 pub use windows::first_lock;
-pub use word_synchroniser::WordSynchroniser;

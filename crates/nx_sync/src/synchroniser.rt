@@ -20,10 +20,9 @@ use crate::step::{Role, Step};
 use crate::track::Track;
 use crate::windows::count_before_lock;
 use crate::windows_after::{
-    STRIDE, last_word, next_window, window_after_few, window_after_number, window_after_stride,
-    window_after_whole, windows_after,
+    STRIDE, last_word, next_window, next_word_window, window_after_few, window_after_number,
+    window_after_stride, window_after_whole, windows_after,
 };
-use crate::word_synchroniser::WordSynchroniser;
 use nx_code::{ELEMENTS, PACKED, Word, elements_at};
 use std::alloc::{AllocError, Global};
 use std::marker::Model;
@@ -36,12 +35,12 @@ const BYTES: usize = 32;
 #[derive(Drop)]
 pub struct Synchroniser {
     /// The last 28 elements, the oldest in the least place.
-    recent: u32,
+    pub(crate) recent: u32,
     /// How many elements were heard, up to 28.
     seen: u32,
-    track: Option<Track>,
+    pub(crate) track: Option<Track>,
     /// Whether each of the last words of the lock was wrong.
-    marks: Marks,
+    pub(crate) marks: Marks,
 }
 
 impl Model for Synchroniser {
@@ -137,32 +136,15 @@ impl Synchroniser {
         ensures step { (h : List Bool) → StandsAfter self.old h → IsWordStep h bits.now result }
         ensures limit { result.change ≡ None → IsTrue (is_between_words self.new) }
     {
-        let mut words = self.at_words();
-        let step = words.push(Word::from_elements(*bits));
-        self.go_on_from(&words);
+        let Some(track) = self.track else {
+            unreachable!();
+        };
+        let word = Word::from_elements(*bits);
+        self.recent = next_word_window(self.recent, word);
+        // A word that brings a change gives the lock up.
+        let (next, step) = track.complete(word, &mut self.marks);
+        self.track = next;
         step
-    }
-
-    /// The same synchroniser at work on whole words, between two of which a lock stands. Once it
-    /// has heard them, `go_on_from` takes back what it holds.
-    #[inline(always)]
-    pub fn at_words(&self) -> WordSynchroniser
-        requires { IsTrue (is_between_words self.now) }
-        ensures { result ≡ self.now }
-    {
-        let _seen = self.seen;
-        WordSynchroniser::new(self.recent, self.track, self.marks)
-    }
-
-    /// Goes on from what a synchroniser at work on whole words holds.
-    #[inline(always)]
-    pub fn go_on_from(&mut self, words: &WordSynchroniser)
-        ensures { self.new ≡ words.now }
-    {
-        self.recent = words.recent();
-        self.seen = PATTERN;
-        self.track = words.track();
-        self.marks = words.marks();
     }
 
     /// Hunts through these elements: hears those before the first one that locks, all of them where

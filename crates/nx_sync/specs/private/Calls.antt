@@ -21,11 +21,6 @@ use Rattle.nx_sync.specs.Synchroniser.{Held}
 abbrev pub track_from : Role → Track
 track_from role = record { role = role; filled = 0; was_p1 = 0 }
 
--- what is held where a lock is followed by this track, since 28 elements were heard then
-abbrev pub held_at_words : ℕ → Option Track → List Bool → Held
-held_at_words recent track wrong =
-    record { recent = recent; seen = pattern_elements; track = track; wrong = wrong }
-
 -- the track after a word
 abbrev pub track_after : Track → ℕ → Track
 track_after track word = record {

@@ -359,10 +359,10 @@ runs_on (word ∷ words) held track before a is full limit within goes_on small 
     }
 
 -- what the test of several words says
-record Kept (held : Held) (words : List ℕ) : Type 0 where
-  is : held.track ≡ Some (track_from Dx)
-  free : has_dx_phasing_1 words ≡ false
-  few : count_by (λ b. b) held.wrong + length words < losing_count
+pub record Kept (held : Held) (words : List ℕ) : Type 0 where
+  pub is : held.track ≡ Some (track_from Dx)
+  pub free : has_dx_phasing_1 words ≡ false
+  pub few : count_by (λ b. b) held.wrong + length words < losing_count
 
 is_dx-true : (role : Role) → is_dx role ≡ true → role ≡ Dx
 is_dx-true Dx h = refl
@@ -389,7 +389,7 @@ awaits_dx (Some track) h =
     (is_dx-true track.role free.1)
     ∙ ap₂ plain (eqb-true track.filled 0 free.0) (eqb-true track.was_p1 0 free.2))
 
-kept : (held : Held) (words : List ℕ) → keeps_lock held words ≡ true → Kept held words
+pub kept : (held : Held) (words : List ℕ) → keeps_lock held words ≡ true → Kept held words
 kept held words h =
     let all = three_true (awaits_free_dx held.track) (has_dx_phasing_1 words)
     (nat_le (count_by (λ b. b) held.wrong + length words + 1) losing_count) h in

@@ -71,10 +71,8 @@ impl Run {
         }
         if self.sync.is_between_words() {
             if let Some(words) = eight_words(rest) {
-                let mut at_words = self.sync.at_words();
-                if at_words.keeps_lock(&words) {
-                    at_words.push_words(&words);
-                    self.sync.go_on_from(&at_words);
+                if self.sync.keeps_lock(&words) {
+                    self.sync.accept(&words);
                     self.note_eight(rt, &words);
                     return;
                 }

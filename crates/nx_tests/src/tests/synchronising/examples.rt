@@ -38,8 +38,8 @@ fn hunts(rt: HostRuntime) {
     assert!(rt; !sync.is_locked());
 }
 
-/// P2 P1 P2 P1 as packed elements, over the seam of two numbers and behind Y alone; then a word by
-/// its number, which is the first DX word of the lock.
+/// P2 P1 P2 P1 as packed elements, over the seam of two numbers and behind Y alone; then a word,
+/// which is the first DX word of the lock.
 #[test]
 fn hunts_packed_elements(rt: HostRuntime) {
     let numbers = [0x1F9_87E6 << 50, 0x1F9_87E6 >> 14];
@@ -47,9 +47,9 @@ fn hunts_packed_elements(rt: HostRuntime) {
     assert_eq!(rt; sync.hunt_packed(&numbers, 3, 125), 74);
     assert_eq!(rt; sync.push(false).change, Some(Change::Locked));
     if sync.is_between_words() {
-        let word = Word::from_elements([false, true, true, false, false, true, true]);
-        let step = sync.at_words().push(word);
-        assert_eq!(rt; step.word, Some((word, Role::Dx)));
+        let elements = [false, true, true, false, false, true, true];
+        let step = sync.push_word(&elements);
+        assert_eq!(rt; step.word, Some((Word::from_elements(elements), Role::Dx)));
     }
 }
 
@@ -66,24 +66,24 @@ fn hears_words_at_once(rt: HostRuntime) {
         sync.push(bit == b'1');
     }
     assert!(rt; sync.is_between_words());
-    let mut words = sync.at_words();
-    assert!(rt; !words.keeps_lock(&[p2, p1, p2, p1, p2, p1, p1, p1]));
-    assert!(rt; words.keeps_lock(&[p2, p1]));
-    assert!(rt; !words.keeps_lock(&[p1, p2]));
-    let keeps = words.keeps_lock(&phasing);
+    assert!(rt; !sync.keeps_lock(&[p2, p1, p2, p1, p2, p1, p1, p1]));
+    assert!(rt; sync.keeps_lock(&[p2, p1]));
+    assert!(rt; !sync.keeps_lock(&[p1, p2]));
+    let keeps = sync.keeps_lock(&phasing);
     assert!(rt; keeps);
     if keeps {
-        words.push_words(&phasing);
+        sync.accept(&phasing);
     }
     for (word, role, kept) in [
         (p1, Role::Dx, false),
         (p1, Role::Rx, false),
         (p2, Role::Dx, false),
     ] {
-        if words.is_between_words() {
-            assert_eq!(rt; words.push(word).word, Some((word, role)), "{role:?}");
+        if sync.is_between_words() {
+            let step = sync.push_word(&word.elements());
+            assert_eq!(rt; step.word, Some((word, role)), "{role:?}");
         }
-        assert_eq!(rt; words.keeps_lock(&phasing), kept, "{role:?}");
+        assert_eq!(rt; sync.keeps_lock(&phasing), kept, "{role:?}");
     }
 }
 

@@ -10,16 +10,14 @@ returns c =
     let count = c.args.count in
     let words : List ℕ = c.words_in-words.result in
     let size = length-take-le count words (omega arith) in
-    let held : Held = c.at_words.result in
+    let held : Held = c.args.self.now in
     let keeps : IsTrue (keeps_lock held (take count words)) = search rules in
     record {
       few = c.requires.few;
       even = c.requires.even;
       within = omega arith;
       are = c.words_in-words.ensures;
-      keeps = λ n some le. subst (λ (l : List ℕ). IsTrue (keeps_lock c.args.self.now l))
+      keeps = λ n some le. subst (λ (l : List ℕ). IsTrue (keeps_lock held l))
           (take-take n count words le)
-          (subst (λ (s : Held). IsTrue (keeps_lock s (take n (take count words))))
-          c.at_words.ensures
-          (keeps_first held (take count words) n (omega (arith, size, le)) keeps));
+          (keeps_first held (take count words) n (omega (arith, size, le)) keeps);
     }

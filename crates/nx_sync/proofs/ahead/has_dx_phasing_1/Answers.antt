@@ -3,7 +3,7 @@ use Rattle.std.proofs.lemmas.Grind.{get_or_default_zero}
 use Rattle.nx_code.specs.Table.{phasing_1}
 use Rattle.nx_sync.specs.Synchroniser.{has_dx_phasing_1}
 use Rattle.nx_sync.proofs.lemmas.words.WordsAtOnce.{dx_phasing_1-more}
-use Rattle.nx_sync.proofs.word_synchroniser.has_dx_phasing_1.Goals as goal
+use Rattle.nx_sync.proofs.ahead.has_dx_phasing_1.Goals as goal
 
 pub loop-pair-init : goal.loop-pair-init
 unfolding has_dx_phasing_1
