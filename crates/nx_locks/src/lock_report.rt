@@ -48,7 +48,7 @@ pub struct LocksReport {
 /// `written` bytes of the report of the lines read whole by then are written, closed if the file
 /// had ended. After `Memory` nothing was read.
 pub fn locks<R: Read, W: Write>(
-    alloc: Global,
+    _alloc: Global,
     reader: &mut Counting<R>,
     writer: &mut Counting<W>,
 ) -> Result<LocksReport, ListenFault>
@@ -59,7 +59,7 @@ pub fn locks<R: Read, W: Write>(
     ensures memory { (error : AllocError) → result ≡ Err (Memory error)
         → (reader.new ≡ reader.old) × (writer.new ≡ writer.old) }
 {
-    let mut report_writer = ReportWriter::new(alloc)?;
+    let mut report_writer = ReportWriter::new();
     let read = match show_lines(reader, writer, &mut report_writer) {
         Ok(read) => read,
         Err(fault) => return Err(run_fault(fault)),

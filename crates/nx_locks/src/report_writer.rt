@@ -24,7 +24,6 @@ use nx_fec::{
 use nx_memory::Selection;
 use nx_receiver::{LineRefusal, check_moment};
 use nx_sync::{Change, Synchroniser};
-use std::alloc::{AllocError, Global};
 use std::io::Write;
 use std::marker::Model;
 
@@ -64,17 +63,16 @@ impl Model for ReportWriter {
 }
 
 impl ReportWriter {
-    /// A taker that has taken no line. Fails where no synchroniser is made.
-    pub(crate) fn new(alloc: Global) -> Result<ReportWriter, AllocError>
-        ensures { IfOk result (λ report_writer. IsShowing report_writer [] []) }
+    /// A taker that has taken no line.
+    pub(crate) fn new() -> ReportWriter
+        ensures { IsShowing result [] [] }
     {
         prove!(size_of::<ReportWriter>() == size_of::<Synchroniser>() + size_of::<LockTaker>() + 8);
-        let synchroniser = Synchroniser::new(alloc)?;
-        Ok(ReportWriter {
-            synchroniser,
+        ReportWriter {
+            synchroniser: Synchroniser::hunting(),
             taker: LockTaker::new(),
             has_moment: false,
-        })
+        }
     }
 
     /// Takes a moment.

@@ -78,13 +78,21 @@ impl Synchroniser {
         ensures stands { IfOk result (λ s. StandsAfter s []) }
         ensures hunting { IfOk result (λ s. IsTrue (is_hunting s)) }
     {
+        Ok(Synchroniser::hunting())
+    }
+
+    /// A synchroniser that has heard nothing, and hunts.
+    pub fn hunting() -> Synchroniser
+        ensures stands { StandsAfter result [] }
+        ensures hunting { IsTrue (is_hunting result) }
+    {
         prove!(size_of::<Synchroniser>() == BYTES);
-        Ok(Synchroniser {
+        Synchroniser {
             recent: 0,
             seen: 0,
             track: None,
             marks: Marks::none(),
-        })
+        }
     }
 
     /// Whether a lock stands.

@@ -3,8 +3,6 @@ use Rattle.std.proofs.Common.{◌≡◌, inl, inr, ℕ, ◌+◌, ◌<◌, ◌≤
 use Rattle.std.proofs.Common.{map, Option, Result, Ok, Err, IsErr, IsErrAnd, refl, ap, ◌∙◌, arith}
 use Rattle.std.proofs.Common.{length-append, codes}
 use Rattle.std.specs.Io.KnownBytes.{Appends}
-use Rattle.std.specs.declared.alloc.AllocError.{AllocError}
-use Rattle.std.proofs.KnownBytes.{Consumes-nil}
 use Rattle.std.proofs.lemmas.List.{length-map}
 use Rattle.nx_fec.specs.air_files.AirFile.{Line, moment, elements, refuse_station, accept_station}
 use Rattle.nx_fec.specs.air_files.AirFile.{refuse_subject, accept_subject, element_digit, mark_bytes}
@@ -21,7 +19,7 @@ use Rattle.nx_fec.specs.declared.fault.LineFault.TheVariants as file
 use Rattle.nx_fec.specs.declared.air_files.line_runs.LinesFault.{LinesFault}
 use Rattle.nx_fec.specs.declared.air_files.line_runs.LinesFault.TheVariants as run
 use Rattle.nx_fec.specs.declared.air_files.line_runs.LinesRead.{LinesRead}
-use Rattle.nx_fec.proofs.lemmas.devices.TransferLaws.{Ok-not_err, Reads-on, Writes-none, read_failed-none}
+use Rattle.nx_fec.proofs.lemmas.devices.TransferLaws.{Ok-not_err, Reads-on, Writes-none}
 use Rattle.nx_receiver.specs.Events as events
 use Rattle.nx_receiver.specs.Events.{Command, command, elements_among}
 use Rattle.nx_receiver.specs.air_file_runs.Listen.{HasLoggedSome, events_on, given_of, lines_fault}
@@ -33,14 +31,14 @@ use Rattle.nx_locks.specs.private.ReportWriter.{IsShowing, RefusesLine, StandsFr
 use Rattle.nx_locks.specs.private.ReportWriter.{as_lines_fault, report_taker}
 use Rattle.nx_locks.specs.private.Showing.{Showing}
 use Rattle.nx_receiver.specs.declared.air_file_runs.listen_fault.ListenFault.{ListenFault}
-use Rattle.nx_receiver.specs.declared.air_file_runs.listen_fault.ListenFault.TheVariants.{Memory, Read, Write}
+use Rattle.nx_receiver.specs.declared.air_file_runs.listen_fault.ListenFault.TheVariants.{Read, Write}
 use Rattle.nx_receiver.specs.declared.air_file_runs.listen_fault.LineRefusal.TheVariants as reason
 use Rattle.nx_locks.specs.declared.report_writer.ReportRefusal.{ReportRefusal}
 use Rattle.nx_locks.specs.declared.report_writer.ReportRefusal.TheVariants as refusal
 use Rattle.nx_locks.specs.declared.lock_report.LocksReport.{LocksReport}
 use Rattle.nx_fec.proofs.lemmas.line_runs.LineRun.{StopsAt-map}
-use Rattle.nx_receiver.proofs.lemmas.listening.Runs.{as-err, err-of, memory-read, memory-write, next-refused}
-use Rattle.nx_receiver.proofs.lemmas.listening.Runs.{read-back, run-err-of, whatever, write-back}
+use Rattle.nx_receiver.proofs.lemmas.listening.Runs.{as-err, err-of, next-refused}
+use Rattle.nx_receiver.proofs.lemmas.listening.Runs.{read-back, run-err-of, write-back}
 use Rattle.nx_receiver.proofs.lemmas.listening.Runs.{write-not_read}
 use Rattle.nx_receiver.proofs.lemmas.receiver.Logged.{bits_of-append}
 use Rattle.nx_receiver.proofs.lemmas.receiver.Events.{bits_of-more}
@@ -303,25 +301,6 @@ shows-part remaining contents first now reader reader_after writer mid new read 
       writes = record { failed = (λ w. one, λ k. (written, refl)); once = omega (arith, one) };
       unwritten = tt;
     }
-
--- memory ran out before anything was read
-pub shows-memory : {R W : Type 0} (remaining : R → Option (List ℕ)) (contents : W → Option (List ℕ))
-    (reader : CountedDevice R) (writer : CountedDevice W) (error : AllocError)
-    → reader.failures ≡ 0 → writer.failures ≡ 0
-    → ShowsLocks (devices remaining contents reader reader writer writer) (Err (Memory error))
-shows-memory remaining contents reader writer error read written = record {
-  reads = record {
-    bytes = [];
-    consumed = Consumes-nil (remaining reader.inner);
-    answer = tt;
-    file = whatever (remaining reader.inner);
-    before = tt;
-    failed = read_failed-none _ _ _ (memory-read error) read;
-    once = omega (arith, read);
-  };
-  writes = Writes-none _ _ _ (memory-write error) written;
-  unwritten = tt;
-}
 
 -- an outcome that is this fault
 pub err-is : (outcome : Result LocksReport ListenFault) (fault : ListenFault) → IsErr outcome

@@ -4,6 +4,6 @@ use Rattle.nx_locks.proofs.report_writer.ReportWriter.new.Goals as goal
 
 pub returns : goal.returns
 returns c = nothing_taken _ (record {
-  synchroniser = c.in_ok-synchroniser.ensures.stands;
-  taker = c.new-2.ensures.shows;
-}) c.new-2.ensures.moment refl
+  synchroniser = c.hunting.ensures.stands;
+  taker = c.new.ensures.shows;
+}) c.new.ensures.moment refl

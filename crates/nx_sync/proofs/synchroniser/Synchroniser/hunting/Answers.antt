@@ -1,7 +1,7 @@
 use Rattle.std.proofs.Common.{refl, arith, []}
 use Rattle.nx_code.specs.Word.{number_of}
 use Rattle.nx_sync.specs.Locks.{hunting, Past}
-use Rattle.nx_sync.proofs.synchroniser.Synchroniser.new.Goals as goal
+use Rattle.nx_sync.proofs.synchroniser.Synchroniser.hunting.Goals as goal
 
 -- nothing was heard, so nothing is there to be found
 pub returns-clause-stands : goal.returns-clause-stands
