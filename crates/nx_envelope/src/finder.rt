@@ -22,8 +22,7 @@ const MARKER_LEN: usize = 4;
 /// Finds the copies of messages in a received text, of which it sees one byte after the other.
 ///
 /// It holds the last four bytes, how far a header has come, and the text of the copy that is open
-/// or can be taken. The bytes of one that has ended stay until the next begins, and nothing reads
-/// them.
+/// or can be taken. The text of one that has ended stays until the next begins.
 #[derive(Debug, Drop)]
 pub struct Finder {
     recent: [u8; MARKER_LEN],
@@ -215,17 +214,14 @@ impl Finder {
         })
     }
 
-    /// The text of the copy that can be taken, newlines and asterisks included, without the marker
-    /// that ended it; empty where none can be taken. The copy stays with the finder.
-    pub fn ready_text(&self) -> &[u8]
-        ensures text { (copy : Copy) → HasReady self.now copy → result.now ≡ copy.text }
-        ensures none { is_ready self.now ≡ false → result.now ≡ [] }
+    /// The text of the copy that stands open, or that ended last, newlines and asterisks included.
+    /// It stays until the next copy begins. That of a copy that can be taken is without the marker
+    /// that ended it.
+    pub fn text(&self) -> &[u8]
+        ensures text { result.now ≡ self.now.text }
         ensures short { length result.now ≤ MAX_FOUND }
     {
-        match self.copy {
-            HeldCopy::Ready(_, _) => self.text.as_slice(),
-            HeldCopy::Nothing | HeldCopy::Open(_, _) => &[],
-        }
+        self.text.as_slice()
     }
 
     /// Ends the text and leaves the copy that stands open with the finder, where it can be taken
@@ -234,6 +230,7 @@ impl Finder {
     pub fn close(&mut self)
         ensures closes { (text : List ℕ) → StandsAfter self.old text → ClosesHeld text self.new }
         ensures as_new { StandsAfter self.new [] }
+        ensures text { self.new.text ≡ self.old.text }
     {
         let copy = match self.copy {
             HeldCopy::Open(identity, _) => HeldCopy::Ready(identity, How::Cut),

@@ -14,7 +14,7 @@ use Rattle.nx_receiver.specs.Events.{Event, elements_among}
 use Rattle.nx_receiver.specs.copies.FoundCopies.{TaggedCopy}
 use Rattle.nx_receiver.specs.copies.InTurn.{PrintsInTurn}
 use Rattle.nx_receiver.specs.copies.Log.{IsEntry}
-use Rattle.nx_receiver.specs.Receiver.{Receiving, Stands, entry_list}
+use Rattle.nx_receiver.specs.Receiver.{Receiving, Stands, entry_list, text_of}
 use Rattle.nx_receiver.specs.copies.Shares.{Given, MarkedCopy, Starts, copies_on, marked, share}
 use Rattle.nx_receiver.specs.copies.Shares.{start_on}
 use Rattle.nx_receiver.specs.copies.Shares.{to_all, to_one}
@@ -43,6 +43,11 @@ abbrev pub receiver_on : {M : Type 0} → ListeningOver M → Channel → Receiv
 receiver_on listener Zero = listener.on_0
 receiver_on listener One = listener.on_1
 receiver_on listener Two = listener.on_2
+
+-- the text that the receiver of a channel has: of the copy that stands open there, or that ended
+-- last
+abbrev pub text_on : {M : Type 0} → ListeningOver M → Channel → List ℕ
+text_on listener channel = text_of (receiver_on listener channel)
 
 -- the same listener with this as the receiver of a channel
 abbrev pub with_receiver : {M : Type 0} → ListeningOver M → Channel → Receiving M

@@ -1,18 +1,20 @@
 -- What a receiver holds, and after which events: the layer contract (this profile).
-use Rattle.std.specs.Prelude.{◌≡◌, ◌⊎◌, ℕ, ◌<◌, ◌≤◌, Bool, List, [], ◌∷◌, ◌++◌, take, Option, Some}
-use Rattle.std.specs.Prelude.{None}
+use Rattle.std.specs.Prelude.{◌≡◌, ◌⊎◌, ℕ, ◌<◌, ◌≤◌, Bool, true, List, [], ◌∷◌, ◌++◌, take}
+use Rattle.std.specs.Prelude.{Option, Some, None}
 use Rattle.nx_code.specs.Lists.{last_of}
+use Rattle.nx_envelope.specs.Copies.{errors_of}
 use Rattle.nx_envelope.specs.Moment.{last_moment}
 use Rattle.nx_memory.specs.Memory.{most_entries}
 use Rattle.nx_memory.specs.declared.memories.entry.MemoryEntry.{MemoryEntry}
 use Rattle.nx_receiver.specs.declared.entry.Entry.{Entry}
+use Rattle.nx_receiver.specs.declared.entry.EntryHead.{EntryHead}
 use Rattle.nx_receiver.specs.declared.fault.ReceiverFault.{ReceiverFault}
 use Rattle.nx_receiver.specs.declared.fault.ReceiverFault.TheVariants.{MomentRange, Memory}
 use Rattle.nx_receiver.specs.Events.{Event, Start, Setting, elements_among, first_setting, settings}
 use Rattle.nx_receiver.specs.Events.{setting_after_all, elements}
 use Rattle.nx_receiver.specs.copies.Log.{HasPrinted}
 use Rattle.nx_receiver.specs.copies.Printing.{printed_copies, entries_after}
-use Rattle.nx_receiver.specs.copies.FoundCopies.{TaggedCopy, copy_of}
+use Rattle.nx_receiver.specs.copies.FoundCopies.{TaggedCopy, copy_of, headed_copy}
 use Rattle.nx_receiver.specs.private.CopyHearer.{HearerStands}
 use Rattle.nx_receiver.specs.CopyHearing.{CopyHearing, in_force}
 
@@ -61,6 +63,20 @@ HandsOutNoneBefore content old bits count =
 abbrev pub entry_list : Option Entry → List TaggedCopy
 entry_list None = []
 entry_list (Some entry) = copy_of entry ∷ []
+
+-- the copy that is printed, by its head and its text, where there is a head
+abbrev pub headed_list : Option EntryHead → List ℕ → List TaggedCopy
+headed_list None text = []
+headed_list (Some head) text = headed_copy head text true ∷ []
+
+-- the head says the errors of this text, and a moment that is in range
+pub record HeadsText (head : EntryHead) (text : List ℕ) : Type 0 where
+  pub errors : head.errors ≡ errors_of text
+  pub in_range : head.moment ≤ last_moment
+
+-- the text that a receiver has: of the copy that stands open, or that ended last
+abbrev pub text_of : {M : Type 0} → Receiving M → List ℕ
+text_of receiver = receiver.hearer.reader.finder.text
 
 -- why a receiver is not made: its first moment is past the last one, or before the newest of its
 -- memory; or else there is no memory for it

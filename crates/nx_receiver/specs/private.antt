@@ -2,7 +2,6 @@ pub mod Awaiting
 pub mod CopyHearer
 pub mod CopyTaker
 pub mod CopyTakerLaws
-pub mod Heads
 pub mod ListenFaults
 pub mod Listener
 pub mod ListenerBegins

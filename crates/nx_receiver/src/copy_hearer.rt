@@ -3,19 +3,18 @@
 //! command, is inlined always.
 
 ghost use Rattle.std.specs.Prelude.{◌≡◌, ◌+◌, ◌<◌, ◌≤◌, List, Bool, [], ◌++◌, ◌↔◌, length, take, drop, false, true, None, Some, IfOk, IfErr, IsErr, IsTrue, OnErr, OnOk};
-ghost use Rattle.nx_envelope.specs.Finder.{is_ready};
 ghost use Rattle.nx_memory.specs.Selection.{admits};
 ghost use Rattle.nx_receiver.specs.Commands.{refuses_vital, said};
 ghost use Rattle.nx_receiver.specs.declared.command.Command.TheVariants.{RefuseSubject};
 ghost use Rattle.nx_receiver.specs.Events.{Setting, Start, first_setting, refused_after};
 ghost use Rattle.nx_receiver.specs.copies.FoundCopies.{TaggedCopy};
-ghost use Rattle.nx_receiver.specs.private.CopyHearer.{HasEndedAll, HearerStands, HearsAll, IsOver, LockIsOver, TagGoesOn, handed_out, over_now, over_with};
+ghost use Rattle.nx_receiver.specs.private.CopyHearer.{HasEndedAll, HearerStands, HearsAll, IsOver, LockIsOver, TagGoesOn, over_now, ready_copies};
 ghost use Rattle.nx_receiver.specs.private.LockReader.{is_open};
 ghost use Rattle.nx_receiver.specs.CopyHearing.{in_force};
 
 use crate::command::Command;
 use crate::copy_taker::{CopyTag, CopyTaker, Over};
-use nx_envelope::{Finder, Found, Identity};
+use nx_envelope::{Finder, Identity};
 use nx_fec::PackedElements;
 use nx_memory::{Selection, Vital};
 use nx_sync::Synchroniser;
@@ -116,25 +115,6 @@ impl CopyHearer {
             .hear(&mut self.synchroniser, packed.numbers(), from, left)
     }
 
-    /// The copy that can be taken, where one can. Where the lock is over with it, the lock has
-    /// still to be left; no copy stands open then.
-    pub(crate) fn take_copy(&mut self) -> Option<Found>
-        ensures taken { (first : Setting) (h : List Bool) (s : List Setting)
-            (copies : List TaggedCopy) (is_lock_over : Bool)
-            → (IsTrue is_lock_over → is_ready self.old.reader.finder ≡ true)
-            → IsOver first self.old h s copies (over_now self.old is_lock_over)
-            → IsOver first self.new h s (copies ++ handed_out result self.new.tag)
-            (over_with false is_lock_over) }
-        ensures closed { (first : Setting) (h : List Bool) (s : List Setting)
-            (copies : List TaggedCopy) → is_ready self.old.reader.finder ≡ true
-            → IsOver first self.old h s copies (over_now self.old true)
-            → is_open self.new.reader.finder.copy ≡ false }
-        ensures force { in_force self.new ≡ in_force self.old }
-        ensures tag { self.new.tag ≡ self.old.tag }
-    {
-        self.taker.reader.take_found()
-    }
-
     /// The finder, which has the copy that is over.
     pub(crate) fn finder(&self) -> &Finder
         ensures { result.now ≡ self.now.reader.finder }
@@ -142,9 +122,12 @@ impl CopyHearer {
         &self.taker.reader.finder
     }
 
-    /// Ends the text of a lock that is over. The copy that stands open, if one does, is over then,
-    /// and can be taken.
+    /// Ends the text of a lock that is over, or that of the lock that stands, where all elements
+    /// end. The copy that stands open, if one does, is over then, and the finder has it.
     pub(crate) fn close_text(&mut self)
+        ensures all { (first : Setting) (h : List Bool) (s : List Setting)
+            (copies : List TaggedCopy) → HearerStands first self.old h s copies
+            → HasEndedAll first h s (copies ++ ready_copies self.new) }
         ensures lock { (first : Setting) (h : List Bool) (s : List Setting)
             (copies : List TaggedCopy) → LockIsOver first self.old h s copies
             → IsOver first self.new h s copies (over_now self.new false) }
@@ -154,18 +137,8 @@ impl CopyHearer {
         self.taker.reader.close();
     }
 
-    /// Ends the text of the lock, and answers the copy that stands open, which is over then.
-    pub(crate) fn end_text(&mut self) -> Option<Found>
-        ensures all { (first : Setting) (h : List Bool) (s : List Setting)
-            (copies : List TaggedCopy) → HearerStands first self.old h s copies
-            → HasEndedAll first h s (copies ++ handed_out result self.new.tag) }
-        ensures force { in_force self.new ≡ in_force self.old }
-        ensures tag { self.new.tag ≡ self.old.tag }
-    {
-        self.taker.reader.end()
-    }
-
-    /// Ends the text of a lock that is over, where no copy stands open: none is over then.
+    /// Ends the text of a lock that is over, where no copy stands open: none is over then. The
+    /// finder keeps the text of its last copy.
     pub(crate) fn restart(&mut self)
         ensures lock { (first : Setting) (h : List Bool) (s : List Setting)
             (copies : List TaggedCopy) →
@@ -173,6 +146,7 @@ impl CopyHearer {
             → HearerStands first self.new h s copies }
         ensures force { in_force self.new ≡ in_force self.old }
         ensures tag { self.new.tag ≡ self.old.tag }
+        ensures text { self.new.reader.finder.text ≡ self.old.reader.finder.text }
     {
         self.taker.reader.restart();
     }

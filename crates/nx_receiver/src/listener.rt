@@ -1,7 +1,7 @@
 //! Three receivers that hear elements as they come: the engine of `listen`. What runs for each line
 //! of elements, or of a command, is inlined always.
 
-ghost use Rattle.std.specs.Prelude.{◌≡◌, ◌+◌, ◌<◌, ◌≤◌, ◌↔◌, ◌∷◌, ℕ, Bool, true, false, List, [], ◌++◌, length, map, take, drop, IfErr, IfOk, IfSome, IsErr, IsNone, IsTrue, MatchOption, MatchResult, None, OnErr, OnOk};
+ghost use Rattle.std.specs.Prelude.{◌≡◌, ◌+◌, ◌<◌, ◌≤◌, ◌↔◌, ◌∷◌, ℕ, Bool, true, false, List, [], ◌++◌, length, map, take, drop, IfErr, IfOk, IfSome, IsErr, IsNone, IsSome, IsTrue, MatchOption, MatchResult, None, OnErr, OnOk, Some};
 ghost use Rattle.nx_envelope.specs.Moment.{last_moment};
 ghost use Rattle.nx_memory.specs.Memory.{newest_moment};
 ghost use Rattle.nx_memory.specs.Saved.{AreSavedEntries};
@@ -12,20 +12,20 @@ ghost use Rattle.nx_receiver.specs.Events as events;
 ghost use Rattle.nx_receiver.specs.Events.{Refuses, Start, at_moment};
 ghost use Rattle.nx_receiver.specs.copies.FoundCopies.{TaggedCopy, copy_of};
 ghost use Rattle.nx_receiver.specs.copies.InTurn.{PrintAllToEnd, PrintsInTurn};
-ghost use Rattle.nx_receiver.specs.Listener.{AreInRange, HearsOver, IsSpelled, last_copies, moment_in_force, receiver_on, starts_over, then_command, then_elements, then_moment, with_receiver};
-ghost use Rattle.nx_receiver.specs.Receiver.{Stands, TakesEvent};
+ghost use Rattle.nx_receiver.specs.Listener.{AreInRange, HearsOver, IsSpelled, last_copies, moment_in_force, receiver_on, starts_over, text_on, then_command, then_elements, then_moment, with_receiver};
+ghost use Rattle.nx_receiver.specs.Receiver.{HandsOutNoneBefore, HeadsText, Stands, TakesEvent, headed_list};
 ghost use Rattle.nx_receiver.specs.copies.Shares.{Given, MarkedCopy, Starts, marked, saved_of, share, start_on, starts_from};
-ghost use Rattle.nx_receiver.specs.private.Awaiting.{HearsUpTo};
-ghost use Rattle.nx_receiver.specs.private.Listener.{HearsTo};
+ghost use Rattle.nx_receiver.specs.private.Awaiting.{FinishesNext, HearsUpTo};
 
 use crate::command::Command;
 use crate::copy_taker::Over;
-use crate::entry::Entry;
+use crate::entry::{Entry, EntryHead};
 use crate::fault::{MomentFault, ReceiverFault};
 use crate::fresh_recall::FreshRecall;
 use crate::receiver::Receiver;
-use crate::writing::MAX_ENTRY;
+use crate::writing::{MAX_ENTRY, spell_entry};
 use arrayvec::ArrayVec;
+use nx_envelope::MAX_FOUND;
 use nx_fec::{Channel, PackedElements};
 use nx_memory::{Listed, Recall, RingRecall, Saved, SavedSet, Selection, Vital};
 use std::alloc::{AllocError, Global};
@@ -38,14 +38,14 @@ use std::marker::Model;
 /// rings with a table, which take a heap; or others, as the plain one, which takes none.
 #[derive(Drop)]
 pub struct Listener<M: Recall = RingRecall> {
-    pub(crate) on_0: Receiver<M>,
-    pub(crate) on_1: Receiver<M>,
-    pub(crate) on_2: Receiver<M>,
-    pub(crate) has_moment: bool,
+    on_0: Receiver<M>,
+    on_1: Receiver<M>,
+    on_2: Receiver<M>,
+    has_moment: bool,
     /// How many elements were heard, and how many entries were handed out, each at most the
     /// greatest u64.
-    pub(crate) elements: u64,
-    pub(crate) entries: u64,
+    elements: u64,
+    entries: u64,
 }
 
 impl<M: Recall> Model for Listener<M> {
@@ -214,10 +214,141 @@ impl<M: Recall> Listener<M> {
         }
     }
 
+    /// Whether there was a moment.
+    #[inline(always)]
+    pub fn has_moment(&self) -> bool
+        ensures { result ≡ self.now.has_moment }
+    {
+        self.has_moment
+    }
+
+    /// How many elements were heard, at most the greatest u64.
+    pub fn elements(&self) -> u64
+        ensures { result ≡ self.now.elements }
+    {
+        self.elements
+    }
+
+    /// How many entries were handed out, at most the greatest u64.
+    pub fn entries(&self) -> u64
+        ensures { result ≡ self.now.entries }
+    {
+        self.entries
+    }
+
     /// Hears elements of a channel, from a place on, up to and with the one that ends the first
-    /// copy that is printed; says how many it heard, and whether there is such a copy. Then `entry`
-    /// has the bytes of its entry, with the mark of the channel, in place of what it had. With
-    /// false it heard all, and `entry` is as it was.
+    /// copy that is printed; says how many it heard, and the head of the entry. Its text is `text`
+    /// of the channel, until more is heard there. With `None` it heard all.
+    #[inline(always)]
+    pub fn next_printed(
+        &mut self,
+        channel: Channel,
+        packed: &PackedElements,
+        from: usize,
+    ) -> (usize, Option<EntryHead>)
+        requires { from ≤ length packed.now }
+        ensures heard { (starts : Starts) (given : List Given) (part : List Bool)
+            (copies : List MarkedCopy)
+            → HearsOver M.content starts self.old (then_elements given channel part) copies
+            → HearsOver M.content starts self.new
+            (then_elements given channel (part ++ take result.0 (drop from packed.now)))
+            (copies ++ map (marked channel) (headed_list result.1 (text_on self.new channel))) }
+        ensures first { (starts : Starts) (given : List Given) (part : List Bool)
+            (copies : List MarkedCopy)
+            → HearsOver M.content starts self.old (then_elements given channel part) copies
+            → (k : ℕ) → k < result.0 → PrintsInTurn starts
+            (then_elements given channel (part ++ take k (drop from packed.now))) copies }
+        ensures within { from + result.0 ≤ length packed.now }
+        ensures all { IsNone result.1 → from + result.0 ≡ length packed.now }
+        ensures some { IsSome result.1 → 0 < result.0 }
+        ensures head { IfSome result.1 (λ head. HeadsText head (text_on self.new channel)) }
+        ensures moment { self.new.has_moment ≡ self.old.has_moment }
+    {
+        if from >= packed.len() {
+            return (0, None);
+        }
+        let (count, over) = self.hear_on(channel, packed, from);
+        // Mostly nothing is over: no place for a head is cleared.
+        let Some(over) = over else {
+            self.elements = self.elements.saturating_add(count as u64);
+            return (count, None);
+        };
+        let (more, head) = self.finish_next_on(channel, over, packed, from + count);
+        self.elements = self.elements.saturating_add((count + more) as u64);
+        self.entries = self.entries.saturating_add(u64::from(head.is_some()));
+        (count + more, head)
+    }
+
+    /// Hears elements of a channel up to and with the first one with which something is over that
+    /// may bring an entry; says how many, and what is over.
+    #[inline(always)]
+    fn hear_on(
+        &mut self,
+        channel: Channel,
+        packed: &PackedElements,
+        from: usize,
+    ) -> (usize, Option<Over>)
+        requires { from ≤ length packed.now }
+        ensures within { from + result.0 ≤ length packed.now }
+        ensures stands { HearsUpTo M.content (receiver_on self.old channel)
+            (receiver_on self.new channel) (take result.0 (drop from packed.now)) result.1 }
+        ensures first { HandsOutNoneBefore M.content (receiver_on self.old channel)
+            (drop from packed.now) result.0 }
+        ensures all { result.1 ≡ None → from + result.0 ≡ length packed.now }
+        ensures some { from < length packed.now → 0 < result.0 }
+        ensures only { self.new ≡ with_receiver self.old channel (receiver_on self.new channel) }
+    {
+        match channel {
+            Channel::Zero => self.on_0.hear(packed, from),
+            Channel::One => self.on_1.hear(packed, from),
+            Channel::Two => self.on_2.hear(packed, from),
+        }
+    }
+
+    /// Finishes what is over on a channel. Where that isn't printed it hears on there, from a place
+    /// on, as `next_printed` does, but counts nothing.
+    #[inline(always)]
+    fn finish_next_on(
+        &mut self,
+        channel: Channel,
+        over: Over,
+        packed: &PackedElements,
+        from: usize,
+    ) -> (usize, Option<EntryHead>)
+        requires { from ≤ length packed.now }
+        ensures within { from + result.0 ≤ length packed.now }
+        ensures finishes { FinishesNext M.content (receiver_on self.old channel)
+            (receiver_on self.new channel) over (drop from packed.now) result.0
+            (headed_list result.1 (text_on self.new channel)) }
+        ensures all { IsNone result.1 → from + result.0 ≡ length packed.now }
+        ensures head { IfSome result.1 (λ head. HeadsText head (text_on self.new channel)) }
+        ensures only { self.new ≡ with_receiver self.old channel (receiver_on self.new channel) }
+    {
+        match channel {
+            Channel::Zero => self.on_0.finish_next(over, packed, from),
+            Channel::One => self.on_1.finish_next(over, packed, from),
+            Channel::Two => self.on_2.finish_next(over, packed, from),
+        }
+    }
+
+    /// The text of the copy that stands open on a channel, or that ended last there: of the entry
+    /// whose head was answered last for it, until more is heard there.
+    // A call, so that the loop over elements has the registers to itself.
+    #[inline(never)]
+    pub fn text(&self, channel: Channel) -> &[u8]
+        ensures text { result.now ≡ text_on self.now channel }
+        ensures short { length result.now ≤ MAX_FOUND }
+    {
+        match channel {
+            Channel::Zero => self.on_0.text(),
+            Channel::One => self.on_1.text(),
+            Channel::Two => self.on_2.text(),
+        }
+    }
+
+    /// Hears elements of a channel as `next_printed` does; says how many it heard, and whether a
+    /// copy is printed. Then `entry` has the bytes of its entry, with the mark of the channel, in
+    /// place of what it had. With false it heard all, and `entry` is as it was.
     #[inline(always)]
     pub fn hear_spelled(
         &mut self,
@@ -244,59 +375,12 @@ impl<M: Recall> Listener<M> {
         ensures some { result.1 ≡ true → 0 < result.0 }
         ensures unchanged { result.1 ≡ false → entry.new ≡ entry.old }
     {
-        let (count, is_spelled) = self.next_spelled_on(channel, packed, from, entry);
-        self.elements = self.elements.saturating_add(count as u64);
-        self.entries = self.entries.saturating_add(u64::from(is_spelled));
-        (count, is_spelled)
-    }
-
-    /// Hears elements of a channel as `hear_spelled` does, but counts nothing.
-    #[inline(always)]
-    fn next_spelled_on(
-        &mut self,
-        channel: Channel,
-        packed: &PackedElements,
-        from: usize,
-        entry: &mut ArrayVec<u8, MAX_ENTRY>,
-    ) -> (usize, bool)
-        requires { from ≤ length packed.now }
-        ensures within { from + result.0 ≤ length packed.now }
-        ensures hears { (copies : List TaggedCopy)
-            × IsSpelled channel result.1 copies entry.new.items
-            × HearsTo M.content channel self.old self.new (drop from packed.now) result.0 copies }
-        ensures all { result.1 ≡ false → from + result.0 ≡ length packed.now }
-        ensures some { result.1 ≡ true → 0 < result.0 }
-        ensures unchanged { result.1 ≡ false → entry.new ≡ entry.old }
-        ensures only { self.new ≡ with_receiver self.old channel (receiver_on self.new channel) }
-    {
-        match channel {
-            Channel::Zero => self.on_0.next_spelled(packed, from, channel, entry),
-            Channel::One => self.on_1.next_spelled(packed, from, channel, entry),
-            Channel::Two => self.on_2.next_spelled(packed, from, channel, entry),
-        }
-    }
-
-    /// Hears elements of a channel up to and with the first one with which something is over that
-    /// may bring an entry; says how many, and what is over.
-    #[inline(always)]
-    pub(crate) fn hear_on(
-        &mut self,
-        channel: Channel,
-        packed: &PackedElements,
-        from: usize,
-    ) -> (usize, Option<Over>)
-        requires { from ≤ length packed.now }
-        ensures within { from + result.0 ≤ length packed.now }
-        ensures stands { HearsUpTo M.content (receiver_on self.old channel)
-            (receiver_on self.new channel) (take result.0 (drop from packed.now)) result.1 }
-        ensures some { from < length packed.now → 0 < result.0 }
-        ensures only { self.new ≡ with_receiver self.old channel (receiver_on self.new channel) }
-    {
-        match channel {
-            Channel::Zero => self.on_0.hear(packed, from),
-            Channel::One => self.on_1.hear(packed, from),
-            Channel::Two => self.on_2.hear(packed, from),
-        }
+        let (count, head) = self.next_printed(channel, packed, from);
+        let Some(head) = head else {
+            return (count, false);
+        };
+        spell_entry(&head, self.text(channel), channel, entry);
+        (count, true)
     }
 
     /// Ends the elements of all channels, and hands out what their end prints: the entry of the

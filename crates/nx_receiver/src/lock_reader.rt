@@ -1,6 +1,5 @@
 //! The text of one lock, read from its words. What runs for each word or for some at once is
-//! inlined always, since its answers would go through memory otherwise. What hands a copy out is
-//! not inlined, so that no loop over words has a place for a text of 4,100.
+//! inlined always, since its answers would go through memory otherwise.
 
 ghost use Rattle.std.specs.Prelude.{◌≡◌, ◌↔◌, ◌+◌, ◌*◌, ◌%◌, ◌<◌, ◌≤◌, ℕ, List, Some, None, false, [], ◌∷◌, length, take, IsNone, IsTrue, MatchOption};
 ghost use Rattle.std.specs.Option.{ForSome, option_map, option_to_list};
@@ -25,7 +24,7 @@ use std::marker::Model;
 /// it.
 ///
 /// It holds the latest three DX words, the shift in force, and what the finder holds. Of an earlier
-/// lock it holds nothing but the bytes of its last copy, which nothing reads.
+/// lock it holds nothing but the text of its last copy.
 #[derive(Drop)]
 pub struct LockReader {
     printer: LockPrinter,
@@ -172,19 +171,6 @@ impl LockReader {
         }
     }
 
-    /// The copy that the last word ended, where it was not taken yet.
-    #[inline(never)]
-    pub(crate) fn take_found(&mut self) -> Option<Found>
-        ensures stands { (first : Role) (words : ℕ → ℕ) (n : ℕ) → ReadsLock self.old first words n
-            → ReadsLock self.new first words n }
-        ensures found { (copy : Copy) → HasReady self.old.finder copy
-            → MatchOption result ⊥ (IsFound copy) }
-        ensures none { IsNone result ↔ (is_ready self.old.finder ≡ false) }
-        ensures taken { is_ready self.new.finder ≡ false }
-    {
-        self.finder.take_found()
-    }
-
     /// Ends the text; the reader is then as new, for the next lock, but for the copy that stood
     /// open, which can be taken then.
     pub(crate) fn close(&mut self)
@@ -192,29 +178,17 @@ impl LockReader {
             → ClosesHeld (text_after first words n) self.new.finder }
         ensures as_new { (first : Role) (words : ℕ → ℕ) → ReadsLock self.new first words 0 }
     {
-        self.printer = LockPrinter::new();
         self.finder.close();
-    }
-
-    /// Ends the text, as the lock or the bits end, and answers the copy that stands open; the
-    /// reader is then as new, for the next lock. A copy that could be taken is gone.
-    #[inline(never)]
-    pub(crate) fn end(&mut self) -> Option<Found>
-        ensures closes { (first : Role) (words : ℕ → ℕ) (n : ℕ) → ReadsLock self.old first words n
-            → Closes (text_after first words n) result }
-        ensures as_new { (first : Role) (words : ℕ → ℕ) → ReadsLock self.new first words 0 }
-    {
-        let found = self.finder.end();
-        self.restart();
-        found
+        self.printer = LockPrinter::new();
     }
 
     /// Ends the text; the reader is then as new, for the next lock. A copy that stands open or
-    /// could be taken is gone.
+    /// could be taken is gone, but for its text.
     pub fn restart(&mut self)
         ensures none { (first : Role) (words : ℕ → ℕ) (n : ℕ) → ReadsLock self.old first words n
             → is_open self.old.finder.copy ≡ false → ClosesNone (text_after first words n) }
         ensures as_new { (first : Role) (words : ℕ → ℕ) → ReadsLock self.new first words 0 }
+        ensures text { self.new.finder.text ≡ self.old.finder.text }
     {
         self.printer = LockPrinter::new();
         self.finder.restart();

@@ -1,6 +1,6 @@
 //! The receiver: elements, moments and commands in, entries out. What runs for each line of
-//! elements, or of a command, is inlined always. What finishes a copy is not, so that no loop over
-//! elements has a place for an entry or its head.
+//! elements, or of a command, is inlined always. What goes on where something is over is a call, so
+//! that no loop over elements has a place for an entry or its head.
 
 ghost use Rattle.std.specs.Prelude.{◌≡◌, ◌↔◌, ℕ, Option, MatchResult, false, ◌+◌, ◌<◌, ◌≤◌, ◌==◌, ◌||◌, List, [], ◌++◌, length, take, drop, IfErr, IfOk, IfSome, IsErr, IsNone, IsSome, IsTrue, None, OnErr, OnOk, Some, Bool, true};
 ghost use Rattle.nx_envelope.specs.Moment.{last_moment};
@@ -13,35 +13,25 @@ ghost use Rattle.nx_receiver.specs.Commands.{refuses_vital, said};
 ghost use Rattle.nx_receiver.specs.declared.command.Command.TheVariants.{RefuseSubject};
 ghost use Rattle.nx_receiver.specs.Events as events;
 ghost use Rattle.nx_receiver.specs.Events.{Event, Start, at_moment, first_setting, none_refused, setting_after_all, Refuses, elements};
-ghost use Rattle.nx_receiver.specs.Listener.{IsSpelled};
 ghost use Rattle.nx_receiver.specs.copies.Log.{PrintsToEnd};
 ghost use Rattle.nx_receiver.specs.copies.Printing.{entries_after, printed_copies};
-ghost use Rattle.nx_receiver.specs.Receiver.{HandsOutNoneBefore, RefusesStart, Stands, TakesEvent, entry_list};
-ghost use Rattle.nx_receiver.specs.private.Awaiting.{Awaits, HandsOut, HearsUpTo};
-ghost use Rattle.nx_receiver.specs.private.Heads.{headed_list};
+ghost use Rattle.nx_receiver.specs.Receiver.{HandsOutNoneBefore, HeadsText, RefusesStart, Stands, TakesEvent, entry_list, headed_list, text_of};
+ghost use Rattle.nx_receiver.specs.private.Awaiting.{Awaits, FinishesNext, HearsUpTo};
 ghost use Rattle.nx_receiver.specs.copies.FoundCopies.{TaggedCopy};
-ghost use Rattle.nx_receiver.specs.private.CopyHearer.{handed_out, over_now, over_with};
+ghost use Rattle.nx_receiver.specs.private.CopyHearer.{over_now, over_with, ready_copies};
 ghost use Rattle.nx_receiver.specs.private.LockReader.{is_open};
-ghost use Rattle.nx_envelope.specs.Copies.{Copy};
-ghost use Rattle.nx_envelope.specs.Finder.{HasReady, is_ready};
-ghost use Rattle.nx_envelope.specs.Found.{IsHeadOf};
-ghost use Rattle.nx_fec.specs.air_files.LineRuns.{HasGiven};
-ghost use Rattle.nx_fec.specs.declared.air_files.channel.Channel.{Channel};
-ghost use Rattle.nx_fec.specs.Transfers.{FailsOnce, WroteSome};
+ghost use Rattle.nx_envelope.specs.Finder.{is_ready};
 
 use crate::command::Command;
 use crate::copy_hearer::CopyHearer;
 use crate::copy_taker::{CopyTag, Over};
-use crate::entry::Entry;
+use crate::entry::{Entry, EntryHead};
 use crate::fault::{MomentFault, ReceiverFault, check_moment};
-use crate::judging::{judge, judge_head};
-use crate::writing::{MAX_ENTRY, give_entry, spell_entry};
-use arrayvec::ArrayVec;
-use nx_envelope::{Found, FoundHead, Identity, LAST_MOMENT, Letter};
-use nx_fec::{Batch, Channel, Counting, MAX_ELEMENTS, PackedElements, WriteFault};
+use crate::judging::judge;
+use nx_envelope::{Identity, LAST_MOMENT, Letter, MAX_FOUND};
+use nx_fec::{MAX_ELEMENTS, PackedElements};
 use nx_memory::{Listed, Recall, RingRecall, Saved, Selection, Vital};
 use std::alloc::Global;
-use std::io::Write;
 use std::marker::Model;
 
 /// A receiver of NAVTEX, which is given elements, moments and commands, and hands out an entry for
@@ -226,71 +216,54 @@ impl<M: Recall> Receiver<M> {
             let Some(over) = over else {
                 return (at, None);
             };
-            let entry = self.finish(over);
-            if entry.is_some() {
-                return (at, entry);
+            if let Some(head) = self.finish(over) {
+                return (at, Some(Entry::of(&head, self.text())));
             }
         }
         (at, None)
     }
 
     /// Hears packed elements from a place on, up to and with the one that ends the first copy that
-    /// is printed, as `feed` does. Spells the entry of that copy on a channel in place of what
-    /// `spelled` had, and says whether there is one.
-    #[inline(always)]
-    pub(crate) fn next_spelled(
+    /// is printed; says how many it heard, and the head of the entry. Its text is `text`, until
+    /// more is heard. With `None` it heard all.
+    pub fn next_printed(
         &mut self,
         packed: &PackedElements,
         from: usize,
-        channel: Channel,
-        spelled: &mut ArrayVec<u8, MAX_ENTRY>,
-    ) -> (usize, bool)
+    ) -> (usize, Option<EntryHead>)
         requires { from ≤ length packed.now }
         ensures within { from + result.0 ≤ length packed.now }
-        ensures stands { (copies : List TaggedCopy)
-            × IsSpelled channel result.1 copies spelled.new.items
-            × ((start : Start) (history : List Event) (log : List TaggedCopy)
-            → Stands M.content start self.old history log → Stands M.content start self.new
-            (history ++ elements (take result.0 (drop from packed.now))) (log ++ copies)) }
+        ensures stands { (start : Start) (history : List Event) (log : List TaggedCopy) →
+            Stands M.content start self.old history log → Stands M.content start self.new
+            (history ++ elements (take result.0 (drop from packed.now)))
+            (log ++ headed_list result.1 (text_of self.new)) }
         ensures first { HandsOutNoneBefore M.content self.old (drop from packed.now) result.0 }
-        ensures all { result.1 ≡ false → from + result.0 ≡ length packed.now }
-        ensures some { result.1 ≡ true → 0 < result.0 }
-        ensures unchanged { result.1 ≡ false → spelled.new ≡ spelled.old }
+        ensures all { IsNone result.1 → from + result.0 ≡ length packed.now }
+        ensures some { IsSome result.1 → 0 < result.0 }
+        ensures head { IfSome result.1 (λ head. HeadsText head (text_of self.new)) }
     {
         let mut heard = 0;
         while heard < packed.len() - from {
             let (count, over) = self.hear(packed, from + heard);
             heard += count;
             let Some(over) = over else {
-                return (heard, false);
+                return (heard, None);
             };
-            if self.spell(over, channel, spelled) {
-                return (heard, true);
+            let head = self.finish(over);
+            if head.is_some() {
+                return (heard, head);
             }
         }
-        (heard, false)
+        (heard, None)
     }
 
-    /// Finishes what is over, and spells the entry that it brings on a channel, if it brings one,
-    /// in place of what `spelled` had: says whether it does. The text goes from the finder to its
-    /// place.
-    #[inline(never)]
-    fn spell(&mut self, over: Over, channel: Channel, spelled: &mut ArrayVec<u8, MAX_ENTRY>) -> bool
-        ensures stands { (copies : List TaggedCopy)
-            × IsSpelled channel result copies spelled.new.items
-            × ((start : Start) (history : List Event) (log : List TaggedCopy)
-            → Awaits M.content start self.old history log (Some over)
-            → Stands M.content start self.new history (log ++ copies)) }
-        ensures unchanged { result ≡ false → spelled.new ≡ spelled.old }
+    /// The text of the copy that stands open, or that ended last: of the entry whose head was
+    /// answered last, until more is heard.
+    pub fn text(&self) -> &[u8]
+        ensures text { result.now ≡ text_of self.now }
+        ensures short { length result.now ≤ MAX_FOUND }
     {
-        let is_lock_over = self.close_lock(over);
-        let judged = self.judge_ready();
-        if let Some(head) = &judged {
-            let text = self.hearer.finder().ready_text();
-            spell_entry(head, text, self.hearer.tag().moment, channel, spelled);
-        }
-        self.leave_lock(is_lock_over);
-        judged.is_some()
+        self.hearer.finder().text()
     }
 
     /// Ends the elements, and hands out the entry that their end prints: that of the open copy,
@@ -301,17 +274,15 @@ impl<M: Recall> Receiver<M> {
             → PrintsToEnd start history (log ++ entry_list result) }
         ensures moment { IfSome result (λ entry. entry.moment ≤ last_moment) }
     {
-        let Receiver {
-            mut hearer,
-            mut memory,
-        } = self;
-        let found = hearer.end_text();
-        print_copy(found, hearer.tag(), &mut memory)
+        let mut receiver = self;
+        receiver.hearer.close_text();
+        let head = receiver.judge_ready()?;
+        Some(Entry::of(&head, receiver.text()))
     }
 
     /// Hears elements up to and with the first one with which something is over, all of them where
-    /// nothing is. Says how many, and what is over. `finish`, `give`, `spell` or `finish_unlogged`
-    /// is due then, before anything else is heard.
+    /// nothing is. Says how many, and what is over. `finish` is due then, before anything else is
+    /// heard.
     #[inline(always)]
     pub(crate) fn hear(&mut self, packed: &PackedElements, from: usize) -> (usize, Option<Over>)
         requires { from ≤ length packed.now }
@@ -356,57 +327,49 @@ impl<M: Recall> Receiver<M> {
         self.hear(&packed, 0)
     }
 
-    /// The entry of the copy that is over, where one is and it is printed.
-    #[inline(never)]
-    pub(crate) fn finish(&mut self, over: Over) -> Option<Entry>
+    /// Finishes what is over, and says the head of the entry that it brings, if it brings one. Its
+    /// text is `text`, until more is heard.
+    #[inline(always)]
+    fn finish(&mut self, over: Over) -> Option<EntryHead>
         ensures stands { (start : Start) (history : List Event) (log : List TaggedCopy) →
             Awaits M.content start self.old history log (Some over)
-            → Stands M.content start self.new history (log ++ entry_list result) }
-        ensures moment { IfSome result (λ entry. entry.moment ≤ last_moment) }
+            → Stands M.content start self.new history
+            (log ++ headed_list result (text_of self.new)) }
+        ensures head { IfSome result (λ head. HeadsText head (text_of self.new)) }
     {
         let is_lock_over = self.close_lock(over);
-        let entry = self.take_ready();
+        let head = self.judge_ready();
         self.leave_lock(is_lock_over);
-        entry
+        head
     }
 
-    /// Finishes what is over, and gives the entry that it brings on a channel, if it brings one:
-    /// says whether it does. The text goes from the finder to the batch.
+    /// Finishes what is over. Where that isn't printed it hears on, from a place on, as
+    /// `next_printed` does.
+    // A call, as few elements end anything.
     #[inline(never)]
-    pub(crate) fn give<W: Write>(
+    pub(crate) fn finish_next(
         &mut self,
         over: Over,
-        channel: Channel,
-        writer: &mut Counting<W>,
-        batch: &mut Batch,
-    ) -> (bool, Result<(), WriteFault>)
-        requires { writer.old.failures ≡ 0 }
-        ensures given { (bytes : List ℕ)
-            × HandsOut M.content self.old self.new channel over result.0 bytes
-            × ((old : Option (List ℕ)) (before : List ℕ)
-            → HasGiven old (W.contents writer.old.inner) batch.old before
-            → MatchResult result.1
-            (λ _. HasGiven old (W.contents writer.new.inner) batch.new (before ++ bytes))
-            (λ fault. WroteSome old (W.contents writer.new.inner) (before ++ bytes)
-            fault.written)) }
-        ensures counts { FailsOnce writer.new result.1 }
+        packed: &PackedElements,
+        from: usize,
+    ) -> (usize, Option<EntryHead>)
+        requires { from ≤ length packed.now }
+        ensures within { from + result.0 ≤ length packed.now }
+        ensures finishes { FinishesNext M.content self.old self.new over (drop from packed.now)
+            result.0 (headed_list result.1 (text_of self.new)) }
+        ensures all { IsNone result.1 → from + result.0 ≡ length packed.now }
+        ensures head { IfSome result.1 (λ head. HeadsText head (text_of self.new)) }
     {
-        let is_lock_over = self.close_lock(over);
-        let judged = self.judge_ready();
-        let given = match &judged {
-            Some(head) => {
-                let text = self.hearer.finder().ready_text();
-                give_entry(head, text, self.hearer.tag().moment, channel, writer, batch)
-            }
-            None => Ok(()),
-        };
-        self.leave_lock(is_lock_over);
-        (judged.is_some(), given)
+        let head = self.finish(over);
+        if head.is_some() {
+            return (0, head);
+        }
+        self.next_printed(packed, from)
     }
 
-    /// Ends the text where the lock alone is over: the copy that stood open, if one did, can be
-    /// taken then. Answers whether the lock is over together with the copy: it has to be left once
-    /// the copy was handed out.
+    /// Ends the text where the lock alone is over: the finder then has the copy that stood open, if
+    /// one did. Answers whether the lock is over together with the copy: it has to be left once the
+    /// copy was judged.
     #[inline(always)]
     fn close_lock(&mut self, over: Over) -> bool
         ensures stands { (start : Start) (history : List Event) (log : List TaggedCopy)
@@ -426,70 +389,47 @@ impl<M: Recall> Receiver<M> {
         }
     }
 
-    /// Leaves the lock where it was over with the copy, which was handed out.
+    /// Leaves the lock where it was over with the copy, which was judged.
     #[inline(always)]
     fn leave_lock(&mut self, is_lock_over: bool)
-        ensures { (start : Start) (history : List Event) (log : List TaggedCopy)
+        ensures stands { (start : Start) (history : List Event) (log : List TaggedCopy)
             → (IsTrue is_lock_over → is_open self.old.hearer.reader.finder.copy ≡ false)
             → Awaits M.content start self.old history log (over_with false is_lock_over)
             → Stands M.content start self.new history log }
+        ensures text { text_of self.new ≡ text_of self.old }
     {
         if is_lock_over {
             self.hearer.restart();
         }
     }
 
-    /// Finishes what is over, and says whether it brings an entry. The entry is let go.
-    pub(crate) fn finish_unlogged(&mut self, over: Over) -> bool
-        ensures { (channel : Channel) → (bytes : List ℕ)
-            × HandsOut M.content self.old self.new channel over result bytes }
-    {
-        self.finish(over).is_some()
-    }
-
-    /// Takes the copy that can be taken, where one can, and judges it. Answers its entry where it
-    /// is printed.
-    fn take_ready(&mut self) -> Option<Entry>
-        ensures stands { (start : Start) (history : List Event) (log : List TaggedCopy)
-            (is_lock_over : Bool)
-            → (IsTrue is_lock_over → is_ready self.old.hearer.reader.finder ≡ true)
-            → Awaits M.content start self.old history log
-            (over_now self.old.hearer is_lock_over)
-            → Awaits M.content start self.new history (log ++ entry_list result)
-            (over_with false is_lock_over) }
-        ensures closed { (start : Start) (history : List Event) (log : List TaggedCopy)
-            → is_ready self.old.hearer.reader.finder ≡ true
-            → Awaits M.content start self.old history log (over_now self.old.hearer true)
-            → is_open self.new.hearer.reader.finder.copy ≡ false }
-        ensures moment { IfSome result (λ entry. entry.moment ≤ last_moment) }
-    {
-        let found = self.hearer.take_copy();
-        print_copy(found, self.hearer.tag(), &mut self.memory)
-    }
-
-    /// Judges the copy that can be taken, where one can. Answers its head where it is printed. The
-    /// copy stays with the hearer.
-    fn judge_ready(&mut self) -> Option<FoundHead>
-        ensures stands { (start : Start) (history : List Event) (log : List TaggedCopy)
-            (is_lock_over : Bool)
-            → Awaits M.content start self.old history log
-            (over_now self.old.hearer is_lock_over)
-            → Awaits M.content start self.new history
-            (log
-            ++ headed_list result self.old.hearer.reader.finder.text self.old.hearer.tag.moment)
-            (over_with false is_lock_over) }
+    /// Judges the copy that the finder has, where it has one. Answers the head of its entry where
+    /// it is printed.
+    fn judge_ready(&mut self) -> Option<EntryHead>
+        ensures printed { (entries : List MemoryEntry)
+            → M.content self.old.memory ≡ last_of most_entries entries
+            → headed_list result (text_of self.old)
+            ≡ printed_copies entries (ready_copies self.old.hearer) }
+        ensures entered { (entries : List MemoryEntry)
+            → M.content self.old.memory ≡ last_of most_entries entries
+            → M.content self.new.memory
+            ≡ last_of most_entries (entries_after entries (ready_copies self.old.hearer)) }
         ensures hearer { self.new.hearer ≡ self.old.hearer }
-        ensures ready { IfSome result (λ head. (copy : Copy)
-            × HasReady self.old.hearer.reader.finder copy × IsHeadOf copy head) }
+        ensures head { IfSome result (λ head. HeadsText head (text_of self.old)) }
     {
         let CopyTag {
             moment,
             is_selected,
         } = self.hearer.tag();
         let finder = self.hearer.finder();
-        let head = finder.ready_head()?;
-        let text = finder.ready_text();
-        if !judge_head(&head, text, moment, is_selected, &mut self.memory) {
+        let found = finder.ready_head()?;
+        let head = EntryHead {
+            identity: found.identity,
+            moment,
+            how: found.how,
+            errors: found.errors,
+        };
+        if !judge(&head, finder.text(), is_selected, &mut self.memory) {
             return None;
         }
         Some(head)
@@ -507,25 +447,4 @@ impl<M: Listed> Receiver<M> {
     {
         Saved::of(&self.hearer.selection(), &self.memory)
     }
-}
-
-/// The entry of a copy that was handed out, where one was and it is printed.
-fn print_copy<M: Recall>(found: Option<Found>, tag: CopyTag, memory: &mut M) -> Option<Entry>
-    requires { newest_moment (M.content memory.old) ≤ tag.moment }
-    ensures printed { (entries : List MemoryEntry)
-        → M.content memory.old ≡ last_of most_entries entries
-        → entry_list result ≡ printed_copies entries (handed_out found tag) }
-    ensures entered { (entries : List MemoryEntry)
-        → M.content memory.old ≡ last_of most_entries entries
-        → M.content memory.new
-        ≡ last_of most_entries (entries_after entries (handed_out found tag)) }
-    ensures not_before { newest_moment (M.content memory.new) ≤ tag.moment }
-    ensures moment { IfSome result (λ entry. entry.moment ≡ tag.moment) }
-    ensures none { IsNone found → IsNone result }
-{
-    let found = found?;
-    if !judge(&found, tag.moment, tag.is_selected, memory) {
-        return None;
-    }
-    Some(Entry::new(found, tag.moment))
 }

@@ -10,15 +10,14 @@ ghost use Rattle.nx_fec.specs.air_files.LineRuns.{HasGiven};
 ghost use Rattle.nx_fec.specs.Transfers.{FailsOnce, WroteSome};
 ghost use Rattle.nx_fec.specs.declared.air_files.channel.Channel.TheVariants.{Zero};
 ghost use Rattle.nx_receiver.specs.copies.Log.{IsEntry, channel_mark, entry_head, how_name, missing_newline};
-ghost use Rattle.nx_receiver.specs.copies.FoundCopies.{copy_of};
+ghost use Rattle.nx_receiver.specs.copies.FoundCopies.{copy_of, headed_copy};
 ghost use Rattle.nx_receiver.specs.copies.Shares.{marked};
-ghost use Rattle.nx_receiver.specs.private.Heads.{headed_copy};
 
-use crate::entry::Entry;
+use crate::entry::{Entry, EntryHead};
 use arrayvec::ArrayVec;
 use itoa::Buffer;
 use nx_code::NEWLINE;
-use nx_envelope::{CIVIL_LEN, FoundHead, How, MAX_FOUND, civil};
+use nx_envelope::{CIVIL_LEN, How, MAX_FOUND, civil};
 use nx_fec::{Batch, Channel, Counting, WriteFault, append, write_out};
 use std::io::Write;
 
@@ -68,28 +67,31 @@ pub fn entry_text_on<W: Write>(
     write_out(writer, &entry_bytes(entry, channel))
 }
 
-/// Gives the bytes of the entry of a copy that is printed, by its head and its text, which aren't
-/// copied on the way. The moment is at most the last one.
-pub(crate) fn give_entry<W: Write>(
-    head: &FoundHead,
+/// Gives a batch the entry of a copy that is printed, by its head and its text, which isn't copied
+/// on the way, as `entry_text_on` writes it. The moment is at most the last one.
+///
+/// Where a write fails, `written` bytes were written of all that was given, the entry last.
+// A call, so that no loop over elements has a place for what it needs.
+#[inline(never)]
+pub fn give_entry<W: Write>(
+    head: &EntryHead,
     text: &[u8],
-    moment: u64,
     channel: Channel,
     writer: &mut Counting<W>,
     batch: &mut Batch,
 ) -> Result<(), WriteFault>
     requires unused { writer.old.failures ≡ 0 }
-    requires moment { moment ≤ last_moment }
+    requires moment { head.now.moment ≤ last_moment }
     requires errors { head.now.errors ≡ errors_of text.now }
     ensures given { (bytes : List ℕ)
-        × IsEntry (marked channel (headed_copy head.now text.now moment true)) bytes
+        × IsEntry (marked channel (headed_copy head.now text.now true)) bytes
         × ((old : Option (List ℕ)) (before : List ℕ)
         → HasGiven old (W.contents writer.old.inner) batch.old before → MatchResult result
         (λ _. HasGiven old (W.contents writer.new.inner) batch.new (before ++ bytes))
         (λ fault. WroteSome old (W.contents writer.new.inner) (before ++ bytes) fault.written)) }
     ensures counts { FailsOnce writer.new result }
 {
-    let line = head_line(head, text, moment, channel);
+    let line = head_line(head, text, channel);
     batch.give(writer, line.as_slice())?;
     batch.give(writer, text)?;
     batch.give(writer, entry_end(text))
@@ -101,31 +103,33 @@ pub fn entry_bytes(entry: &Entry, channel: Channel) -> ArrayVec<u8, MAX_ENTRY>
     requires { entry.now.moment ≤ last_moment }
     ensures { IsEntry (marked channel (copy_of entry.now)) result.items }
 {
-    let head = FoundHead {
+    let head = EntryHead {
         identity: entry.identity,
-        errors: entry.errors,
+        moment: entry.moment,
         how: entry.how,
+        errors: entry.errors,
     };
     let mut bytes = ArrayVec::new();
-    spell_entry(&head, &entry.text, entry.moment, channel, &mut bytes);
+    spell_entry(&head, &entry.text, channel, &mut bytes);
     bytes
 }
 
 /// Puts the bytes of the entry of a copy that is printed, by its head and its text, in place of
 /// those that were there. The moment is at most the last one.
+// A call, so that no loop over elements has a place for what it needs.
+#[inline(never)]
 pub(crate) fn spell_entry(
-    head: &FoundHead,
+    head: &EntryHead,
     text: &[u8],
-    moment: u64,
     channel: Channel,
     bytes: &mut ArrayVec<u8, MAX_ENTRY>,
 )
-    requires moment { moment ≤ last_moment }
+    requires moment { head.now.moment ≤ last_moment }
     requires errors { head.now.errors ≡ errors_of text.now }
     requires short { length text.now ≤ MAX_FOUND }
-    ensures { IsEntry (marked channel (headed_copy head.now text.now moment true)) bytes.new.items }
+    ensures { IsEntry (marked channel (headed_copy head.now text.now true)) bytes.new.items }
 {
-    let line = head_line(head, text, moment, channel);
+    let line = head_line(head, text, channel);
     bytes.clear();
     append(bytes, line.as_slice());
     append(bytes, text);
@@ -133,13 +137,13 @@ pub(crate) fn spell_entry(
 }
 
 /// The line that heads an entry.
-fn head_line(head: &FoundHead, text: &[u8], moment: u64, channel: Channel) -> ArrayVec<u8, MAX_HEAD>
-    requires moment { moment ≤ last_moment }
+fn head_line(head: &EntryHead, text: &[u8], channel: Channel) -> ArrayVec<u8, MAX_HEAD>
+    requires moment { head.now.moment ≤ last_moment }
     requires errors { head.now.errors ≡ errors_of text.now }
-    ensures { (civil : List ℕ) × IsShownAs moment civil
-        × (result.items ≡ entry_head channel (headed_copy head.now text.now moment true) civil) }
+    ensures { (civil : List ℕ) × IsShownAs head.now.moment civil
+        × (result.items ≡ entry_head channel (headed_copy head.now text.now true) civil) }
 {
-    let Some(time) = civil(moment) else {
+    let Some(time) = civil(head.moment) else {
         unreachable!()
     };
     let name = head.identity.bytes();

@@ -13,6 +13,7 @@ use Rattle.nx_memory.specs.Selection.{admits}
 use Rattle.nx_sync.specs.Locks.{IsNow, Lock, Now, hunting, locked}
 use Rattle.nx_sync.specs.Words.{whole_words}
 use Rattle.nx_receiver.specs.declared.entry.Entry.{Entry}
+use Rattle.nx_receiver.specs.declared.entry.EntryHead.{EntryHead}
 use Rattle.nx_receiver.specs.Events.{Event, Setting, elements_among, setting_at}
 use Rattle.nx_receiver.specs.copies.LockText.{PlacedByte, bytes_of, lock_text}
 
@@ -129,4 +130,14 @@ copy_of entry = record {
   text = entry.text.items;
   moment = entry.moment;
   selected = true;
+}
+
+-- the copy of a head and a text, selected or not
+abbrev pub headed_copy : EntryHead → List ℕ → Bool → TaggedCopy
+headed_copy head text selected = record {
+  identity = head.identity;
+  how = head.how;
+  text = text;
+  moment = head.moment;
+  selected = selected;
 }

@@ -1,7 +1,6 @@
 -- What a receiver holds between its calls: what is over and awaits to be finished, and in which
 -- order its moments stand (this profile).
-use Rattle.std.specs.Prelude.{◌≡◌, ℕ, ◌≤◌, Bool, if◌then◌else◌, List, ◌++◌, length, map}
-use Rattle.std.specs.Prelude.{Option, Some}
+use Rattle.std.specs.Prelude.{◌≡◌, ℕ, ◌<◌, ◌≤◌, Bool, List, ◌++◌, Option, Some, take}
 use Rattle.nx_code.specs.Lists.{last_of}
 use Rattle.nx_envelope.specs.Moment.{last_moment}
 use Rattle.nx_memory.specs.Memory.{most_entries}
@@ -9,12 +8,10 @@ use Rattle.nx_memory.specs.declared.memories.entry.MemoryEntry.{MemoryEntry}
 use Rattle.nx_receiver.specs.Events.{Event, Start, Setting, elements_among, first_setting, settings}
 use Rattle.nx_receiver.specs.Events.{setting_after_all, elements}
 use Rattle.nx_receiver.specs.copies.FoundCopies.{TaggedCopy}
+use Rattle.nx_receiver.specs.copies.Log.{HasPrinted}
 use Rattle.nx_receiver.specs.copies.Printing.{printed_copies, entries_after}
 use Rattle.nx_receiver.specs.Receiver.{Receiving, Stands}
 use Rattle.nx_receiver.specs.declared.copy_taker.Over.{Over}
-use Rattle.nx_receiver.specs.copies.Log.{IsLog}
-use Rattle.nx_receiver.specs.copies.Shares.{marked}
-use Rattle.nx_fec.specs.declared.air_files.channel.Channel.{Channel}
 use Rattle.nx_receiver.specs.private.CopyHearer.{IsOver}
 use Rattle.nx_receiver.specs.CopyHearing.{in_force}
 
@@ -45,17 +42,17 @@ HearsUpTo content old new bits over =
     → Stands content start old history log
     → Awaits content start new (history ++ elements bits) log over
 
--- Whatever a receiver of this channel was given before, what awaited to be finished was: it handed
--- out these copies, one where it says so and else none, and these bytes are their log.
-pub record HandsOut {M : Type 0} (content : M → List MemoryEntry) (old new : Receiving M)
-    (channel : Channel) (over : Over) (is_some : Bool) (bytes : List ℕ)
-    : Type 0 where
-  pub copies : List TaggedCopy
-  pub stands : (start : Start) (events : List Event) (log : List TaggedCopy)
-      → Awaits content start old events log (Some over)
-      → Stands content start new events (log ++ copies)
-  pub spelled : IsLog (map (marked channel) copies) bytes
-  pub counted : length copies ≡ (if is_some then 1 else 0)
+-- Whatever the receiver was given before, what awaited to be finished was. Where that brought
+-- nothing, it heard so many of these elements. With the last of them it handed out these copies,
+-- and none before.
+pub record FinishesNext {M : Type 0} (content : M → List MemoryEntry) (old new : Receiving M)
+    (over : Over) (bits : List Bool) (count : ℕ) (copies : List TaggedCopy) : Type 0 where
+  pub stands : (start : Start) (history : List Event) (log : List TaggedCopy)
+      → Awaits content start old history log (Some over)
+      → Stands content start new (history ++ elements (take count bits)) (log ++ copies)
+  pub first : (start : Start) (history : List Event) (log : List TaggedCopy)
+      → Awaits content start old history log (Some over)
+      → (k : ℕ) → k < count → HasPrinted start (history ++ elements (take k bits)) log
 
 -- the moment of the memory's newest entry, that of the header that was heard last, the one in force
 -- and the last one rise in this order

@@ -13,6 +13,8 @@ use Rattle.nx_envelope.specs.Copies.{Copy, open_headers}
 use Rattle.nx_envelope.specs.Header.{Header}
 use Rattle.nx_envelope.specs.Finder.{HasReady, is_ready}
 use Rattle.nx_envelope.specs.declared.found.Found.{Found}
+use Rattle.nx_envelope.specs.declared.found.HeldCopy.{HeldCopy}
+use Rattle.nx_envelope.specs.declared.found.HeldCopy.TheVariants as held
 use Rattle.nx_envelope.specs.declared.identity.Identity.{Identity}
 use Rattle.nx_memory.specs.Selection.{admits}
 use Rattle.nx_receiver.specs.declared.copy_taker.Over.{Over}
@@ -171,6 +173,23 @@ pub record HearsAll (old new : CopyHearing) (heard : List Bool) (answer : Option
 abbrev pub handed_out : Option Found → CopyTag → List TaggedCopy
 handed_out None kept = []
 handed_out (Some found) kept = tagged_found found kept.moment kept.is_selected ∷ []
+
+-- the copy that can be taken, of what a finder holds, with its tag; none where none can
+abbrev pub ready_in : HeldCopy → List ℕ → CopyTag → List TaggedCopy
+ready_in held.Nothing text kept = []
+ready_in (held.Open identity fresh) text kept = []
+ready_in (held.Ready identity how) text kept =
+    record {
+      identity = identity;
+      how = how;
+      text = text;
+      moment = kept.moment;
+      selected = kept.is_selected;
+    } ∷ []
+
+-- the same of the finder of a hearer
+abbrev pub ready_copies : CopyHearing → List TaggedCopy
+ready_copies hearer = ready_in hearer.reader.finder.copy hearer.reader.finder.text hearer.tag
 
 -- what is over with a word, by whether a copy is and whether the word brings a change
 abbrev pub over_with : Bool → Bool → Option Over

@@ -1,11 +1,10 @@
 -- How the taker of lines behind a run that listens stands after lines (this profile).
-use Rattle.std.specs.Prelude.{◌≡◌, ℕ, ◌+◌, ◌-◌, ◌^◌, ◌≤◌, Bool, false, List, ◌++◌, length}
-use Rattle.std.specs.Prelude.{map, take, Option, Some, IsTrue}
+use Rattle.std.specs.Prelude.{◌≡◌, ℕ, ◌+◌, ◌≤◌, Bool, false, List, ◌++◌, length, take, Option}
+use Rattle.std.specs.Prelude.{IsTrue}
 use Rattle.std.specs.Io.KnownBytes.{Appends}
 use Rattle.nx_envelope.specs.declared.letter.Letter.{Letter}
 use Rattle.nx_fec.specs.air_files.LineRuns.{Taker, taker_of}
 use Rattle.nx_fec.specs.air_files.AirFile.{Line, moment, elements, refuse_subject}
-use Rattle.nx_fec.specs.air_files.Channels.{same_channel}
 use Rattle.nx_fec.specs.Transfers.{WroteSome, count_of}
 use Rattle.nx_fec.specs.declared.air_files.channel.Channel.{Channel}
 use Rattle.nx_memory.specs.Selection.{is_vital}
@@ -15,11 +14,10 @@ use Rattle.nx_receiver.specs.Events.{Event, Start, elements_among, Refuses}
 use Rattle.nx_receiver.specs.copies.InTurn.{PrintAllToEnd, PrintsInTurn}
 use Rattle.nx_receiver.specs.air_file_runs.Listen.{AreTaken, given_by, has_moment, moment_after}
 use Rattle.nx_receiver.specs.copies.Log.{IsLog}
-use Rattle.nx_receiver.specs.Listener.{HearsGiven, Listening, ListeningOver, content}
+use Rattle.nx_receiver.specs.Listener.{HearsGiven, Listening, ListeningOver}
 use Rattle.nx_receiver.specs.Listener.{elements_given, receiver_on, starts_of}
 use Rattle.nx_receiver.specs.Receiver.{HandsOutNoneBefore, Stands}
-use Rattle.nx_receiver.specs.copies.Shares.{Given, MarkedCopy, Starts, marked}
-use Rattle.nx_receiver.specs.private.Awaiting.{Awaits}
+use Rattle.nx_receiver.specs.copies.Shares.{Given, MarkedCopy, Starts}
 use Rattle.nx_receiver.specs.copies.FoundCopies.{TaggedCopy}
 use Rattle.nx_receiver.specs.declared.fault.MomentFault.{MomentFault}
 use Rattle.nx_receiver.specs.declared.air_file_runs.listening.Report.{Report}
@@ -27,7 +25,6 @@ use Rattle.nx_receiver.specs.declared.air_file_runs.listen_fault.LineRefusal.{Li
 use Rattle.nx_receiver.specs.declared.air_file_runs.listen_fault.LineRefusal.TheVariants.{NoMoment}
 use Rattle.nx_receiver.specs.declared.air_file_runs.listen_fault.LineRefusal.TheVariants.{Moment}
 use Rattle.nx_receiver.specs.declared.air_file_runs.listen_fault.LineRefusal.TheVariants.{Vital}
-use Rattle.nx_receiver.specs.declared.copy_taker.Over.{Over}
 
 -- The receiver of a channel, whatever it was given before, hears so many of these elements, and
 -- hands out these copies with the last of them, and none before.
@@ -69,22 +66,6 @@ pub record HeardSome (starts : Starts) (given : List Given) (old new : Option (L
   pub bytes : List ℕ
   pub begun : BeginsLog starts given bytes
   pub some : WroteSome old new bytes written
-
--- What was over on a channel was finished, whatever the start: it brought these copies, at most
--- one, which were counted, and these are their bytes.
-pub record HasFinished (old new : Listening) (channel : Channel) (over : Over) (bytes : List ℕ)
-    : Type 0 where
-  pub copies : List TaggedCopy
-  pub one : length copies ≤ 1
-  pub stands : (start : Start) (events : List Event) (log : List TaggedCopy)
-      → Awaits content start (receiver_on old channel) events log (Some over)
-      → Stands content start (receiver_on new channel) events (log ++ copies)
-  pub others : (other : Channel) → same_channel channel other ≡ false
-      → receiver_on new other ≡ receiver_on old other
-  pub spelled : IsLog (map (marked channel) copies) bytes
-  pub elements : new.elements ≡ old.elements
-  pub entries : old.entries ≤ 2 ^ 64 - 1
-      → new.entries ≡ count_of (old.entries + length copies)
 
 -- The listener stands so after these lines, with what it started, each taken after those before it;
 -- these bytes are their log.

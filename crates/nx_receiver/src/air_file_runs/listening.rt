@@ -13,8 +13,7 @@ ghost use Rattle.nx_receiver.specs.laws.ListenOnce.{ListensOnce};
 ghost use Rattle.nx_receiver.specs.copies.Log.{IsLog};
 ghost use Rattle.nx_receiver.specs.Receiver.{entry_list};
 ghost use Rattle.nx_receiver.specs.copies.Shares.{Given, Starts, all_at_zero, marked, starts_from};
-ghost use Rattle.nx_receiver.specs.private.Awaiting.{HandsOut};
-ghost use Rattle.nx_receiver.specs.Listener.{Listening, content, receiver_on, starts_of, then_elements, with_receiver};
+ghost use Rattle.nx_receiver.specs.Listener.{Listening, starts_of, then_elements};
 ghost use Rattle.nx_receiver.specs.private.Listener.{HasClosed, HasClosedSome, HeardSome, HearsLog, IsHearing, IsListening, RefusesLine, StandsFrom, listener_taker};
 ghost use Rattle.nx_receiver.specs.declared.air_file_runs.listen_fault.ListenFault.TheVariants.{Memory};
 
@@ -23,10 +22,9 @@ mod unlogged;
 
 use crate::air_file_runs::listen_fault::{LineRefusal, ListenFault};
 use crate::command::Command;
-use crate::copy_taker::Over;
 use crate::entry::Entry;
 use crate::listener::Listener;
-use crate::writing::entry_bytes;
+use crate::writing::{entry_bytes, give_entry};
 use logged::listen_lines;
 use nx_fec::{Batch, Channel, Counting, LineKind, LinesRead, PackedElements, WriteFault, write_on};
 use nx_memory::SavedSet;
@@ -112,7 +110,7 @@ pub fn listen_from<R: Read, W: Write>(
     let read = listen_lines(reader, writer, &mut listener)?;
     // Before the end: the copy that the end closes is cut, and makes no entry.
     let left = listener.saved();
-    let report = listener.close_log(writer, read)?;
+    let report = close_log(listener, writer, read)?;
     Ok((report, left))
 }
 
@@ -125,172 +123,132 @@ fn line_listener(alloc: Global, saved: &SavedSet) -> Result<Listener, AllocError
     Listener::starting(alloc, saved)
 }
 
-impl Listener {
-    /// Takes a line that sets what is in force: a moment, or a command of selection.
-    #[inline(always)]
-    pub(crate) fn take_setting(&mut self, kind: LineKind) -> Result<(), LineRefusal>
-        requires { IsLine (line_with kind []) }
-        ensures { (starts : Starts) (lines : List Line) (line : Line) (bytes : List ℕ)
-            → kind_of line ≡ kind → IsListening starts self.old lines bytes
-            → MatchResult result (λ _. IsListening starts self.new (lines ++ line ∷ []) bytes)
-            (λ why. RefusesLine starts lines line why × (self.new ≡ self.old)) }
-    {
-        match kind {
-            LineKind::Moment(moment) => self.take_moment(moment),
-            _ => {
-                let (channel, command) = Command::of_line(kind);
-                self.command(channel, command)?;
-                Ok(())
-            }
+/// Takes a line that sets what is in force: a moment, or a command of selection.
+#[inline(always)]
+fn take_setting(listener: &mut Listener, kind: LineKind) -> Result<(), LineRefusal>
+    requires { IsLine (line_with kind []) }
+    ensures { (starts : Starts) (lines : List Line) (line : Line) (bytes : List ℕ)
+        → kind_of line ≡ kind → IsListening starts listener.old lines bytes
+        → MatchResult result (λ _. IsListening starts listener.new (lines ++ line ∷ []) bytes)
+        (λ why. RefusesLine starts lines line why × (listener.new ≡ listener.old)) }
+{
+    match kind {
+        LineKind::Moment(moment) => take_moment(listener, moment),
+        _ => {
+            let (channel, command) = Command::of_line(kind);
+            listener.command(channel, command)?;
+            Ok(())
         }
     }
+}
 
-    /// Takes a moment, which belongs to all channels.
-    fn take_moment(&mut self, moment: u64) -> Result<(), LineRefusal>
-        ensures { (starts : Starts) (lines : List Line) (bytes : List ℕ)
-            → IsListening starts self.old lines bytes
-            → MatchResult result
-            (λ _. IsListening starts self.new (lines ++ line.moment moment ∷ []) bytes)
-            (λ why. RefusesLine starts lines (line.moment moment) why × (self.new ≡ self.old)) }
-    {
-        self.set_moment(moment)?;
-        Ok(())
-    }
+/// Takes a moment, which belongs to all channels.
+fn take_moment(listener: &mut Listener, moment: u64) -> Result<(), LineRefusal>
+    ensures { (starts : Starts) (lines : List Line) (bytes : List ℕ)
+        → IsListening starts listener.old lines bytes
+        → MatchResult result
+        (λ _. IsListening starts listener.new (lines ++ line.moment moment ∷ []) bytes)
+        (λ why. RefusesLine starts lines (line.moment moment) why
+        × (listener.new ≡ listener.old)) }
+{
+    listener.set_moment(moment)?;
+    Ok(())
+}
 
-    /// Finishes what is over on a channel, and gives the entry that it brings, if it brings one:
-    /// says whether it does.
-    fn finish_on<W: Write>(
-        &mut self,
-        channel: Channel,
-        over: Over,
-        writer: &mut Counting<W>,
-        batch: &mut Batch,
-    ) -> (bool, Result<(), WriteFault>)
-        requires { writer.old.failures ≡ 0 }
-        ensures given { (bytes : List ℕ)
-            × HandsOut content (receiver_on self.old channel) (receiver_on self.new channel)
-            channel over result.0 bytes
-            × ((old : Option (List ℕ)) (before : List ℕ)
-            → HasGiven old (W.contents writer.old.inner) batch.old before
-            → MatchResult result.1
-            (λ _. HasGiven old (W.contents writer.new.inner) batch.new (before ++ bytes))
-            (λ fault. WroteSome old (W.contents writer.new.inner) (before ++ bytes)
-            fault.written)) }
-        ensures only { self.new ≡ with_receiver self.old channel (receiver_on self.new channel) }
-        ensures counts { FailsOnce writer.new result.1 }
-    {
-        match channel {
-            Channel::Zero => self.on_0.give(over, channel, writer, batch),
-            Channel::One => self.on_1.give(over, channel, writer, batch),
-            Channel::Two => self.on_2.give(over, channel, writer, batch),
-        }
+/// Takes the elements of a line, for the channel that it names: hears them, and gives the entries
+/// of the copies that they end. There was a moment before them.
+fn take_elements<W: Write>(
+    listener: &mut Listener,
+    mark: Option<Channel>,
+    packed: &PackedElements,
+    writer: &mut Counting<W>,
+    batch: &mut Batch,
+) -> Result<(), WriteFault>
+    requires moment { listener.old.has_moment ≡ true }
+    requires none { writer.old.failures ≡ 0 }
+    ensures taken { (first : Listening) (old : Option (List ℕ)) (lines : List Line)
+        → HasTaken StandsFrom first listener.old lines
+        (HasGiven old (W.contents writer.old.inner) batch.old) → MatchResult result
+        (λ _. HasTaken StandsFrom first listener.new
+        (lines ++ line.elements mark packed.now ∷ [])
+        (HasGiven old (W.contents writer.new.inner) batch.new))
+        (λ fault. HasTakenSome (line_run listener_taker first listener.new old
+        (W.contents writer.new.inner)) (lines ++ line.elements mark packed.now ∷ [])
+        fault.written) }
+    ensures counts { FailsOnce writer.new result }
+{
+    let channel = Channel::of(mark);
+    let mut at = 0;
+    while at < packed.len() {
+        at += hear_next(listener, channel, packed, at, writer, batch)?;
     }
+    Ok(())
+}
 
-    /// Hears elements of a channel up to and with the one that ends the first copy that is printed,
-    /// and gives its entry. Answers how many it heard.
-    fn hear_next<W: Write>(
-        &mut self,
-        channel: Channel,
-        packed: &PackedElements,
-        from: usize,
-        writer: &mut Counting<W>,
-        batch: &mut Batch,
-    ) -> Result<usize, WriteFault>
-        requires some { from < length packed.now }
-        requires none { writer.old.failures ≡ 0 }
-        ensures heard { (starts : Starts) (old : Option (List ℕ)) (given : List Given)
-            (part : List Bool) → IsHearing starts self.old (then_elements given channel part)
-            (HasGiven old (W.contents writer.old.inner) batch.old)
-            → MatchResult result
-            (λ count. IsHearing starts self.new
-            (then_elements given channel (part ++ take count (drop from packed.now)))
-            (HasGiven old (W.contents writer.new.inner) batch.new))
-            (λ fault. HeardSome starts
-            (then_elements given channel (part ++ drop from packed.now)) old
-            (W.contents writer.new.inner) fault.written) }
-        ensures within { IfOk result (λ count. (0 < count)
-            × (from + count ≤ length packed.now)) }
-        ensures moment { self.new.has_moment ≡ self.old.has_moment }
-        ensures counts { FailsOnce writer.new result }
-    {
-        let (count, over) = self.hear_on(channel, packed, from);
-        self.elements = self.elements.saturating_add(count as u64);
-        let Some(over) = over else {
-            return Ok(count);
-        };
-        let (is_printed, given) = self.finish_on(channel, over, writer, batch);
-        self.entries = self.entries.saturating_add(u64::from(is_printed));
-        given?;
-        Ok(count)
-    }
+/// Hears elements of a channel up to and with the one that ends the first copy that is printed, and
+/// gives its entry. Answers how many it heard.
+fn hear_next<W: Write>(
+    listener: &mut Listener,
+    channel: Channel,
+    packed: &PackedElements,
+    from: usize,
+    writer: &mut Counting<W>,
+    batch: &mut Batch,
+) -> Result<usize, WriteFault>
+    requires some { from < length packed.now }
+    requires none { writer.old.failures ≡ 0 }
+    ensures heard { (starts : Starts) (old : Option (List ℕ)) (given : List Given)
+        (part : List Bool) → IsHearing starts listener.old (then_elements given channel part)
+        (HasGiven old (W.contents writer.old.inner) batch.old)
+        → MatchResult result
+        (λ count. IsHearing starts listener.new
+        (then_elements given channel (part ++ take count (drop from packed.now)))
+        (HasGiven old (W.contents writer.new.inner) batch.new))
+        (λ fault. HeardSome starts
+        (then_elements given channel (part ++ drop from packed.now)) old
+        (W.contents writer.new.inner) fault.written) }
+    ensures within { IfOk result (λ count. (0 < count) × (from + count ≤ length packed.now)) }
+    ensures moment { listener.new.has_moment ≡ listener.old.has_moment }
+    ensures counts { FailsOnce writer.new result }
+{
+    let (count, head) = listener.next_printed(channel, packed, from);
+    let Some(head) = head else {
+        return Ok(count);
+    };
+    give_entry(&head, listener.text(channel), channel, writer, batch)?;
+    Ok(count)
+}
 
-    /// Takes the elements of a line, for the channel that it names: hears them, and gives the
-    /// entries of the copies that they end. There was a moment before them.
-    fn take_elements<W: Write>(
-        &mut self,
-        mark: Option<Channel>,
-        packed: &PackedElements,
-        writer: &mut Counting<W>,
-        batch: &mut Batch,
-    ) -> Result<(), WriteFault>
-        requires moment { self.old.has_moment ≡ true }
-        requires none { writer.old.failures ≡ 0 }
-        ensures taken { (first : Listening) (old : Option (List ℕ)) (lines : List Line)
-            → HasTaken StandsFrom first self.old lines
-            (HasGiven old (W.contents writer.old.inner) batch.old) → MatchResult result
-            (λ _. HasTaken StandsFrom first self.new (lines ++ line.elements mark packed.now ∷ [])
-            (HasGiven old (W.contents writer.new.inner) batch.new))
-            (λ fault. HasTakenSome (line_run listener_taker first self.new old
-            (W.contents writer.new.inner)) (lines ++ line.elements mark packed.now ∷ [])
-            fault.written) }
-        ensures counts { FailsOnce writer.new result }
-    {
-        let channel = Channel::of(mark);
-        let mut at = 0;
-        while at < packed.len() {
-            at += self.hear_next(channel, packed, at, writer, batch)?;
-        }
-        Ok(())
-    }
-
-    /// Ends the file: writes, channel by channel, the entry of the copy that its end closes, where
-    /// that is printed, and counts.
-    fn close_log<W: Write>(
-        self,
-        writer: &mut Counting<W>,
-        read: LinesRead,
-    ) -> Result<Report, WriteFault>
-        requires { writer.old.failures ≡ 0 }
-        ensures closed { (starts : Starts) (old : Option (List ℕ)) (given : List Given)
-            (bytes : List ℕ) → HearsLog starts self given bytes
-            → HasWritten old (W.contents writer.old.inner) bytes read.written → MatchResult result
-            (λ report. HasClosed starts old (W.contents writer.new.inner) given report)
-            (λ fault. HasClosedSome starts old (W.contents writer.new.inner) given fault.written) }
-        ensures lines { IfOk result (λ report. report.lines ≡ read.lines) }
-        ensures counts { FailsOnce writer.new result }
-    {
-        let Listener {
-            on_0,
-            on_1,
-            on_2,
-            has_moment: _,
-            elements,
-            entries,
-        } = self;
-        let at_end = Ending {
-            written: read.written,
-            entries,
-        };
-        let (end_0, end_1, end_2) = (on_0.close(), on_1.close(), on_2.close());
-        let at_end = at_end.with(&end_0, Channel::Zero, writer)?;
-        let at_end = at_end.with(&end_1, Channel::One, writer)?;
-        let at_end = at_end.with(&end_2, Channel::Two, writer)?;
-        Ok(Report {
-            lines: read.lines,
-            bits: elements,
-            printed: at_end.entries,
-        })
-    }
+/// Ends the file: writes, channel by channel, the entry of the copy that its end closes, where that
+/// is printed, and counts.
+fn close_log<W: Write>(
+    listener: Listener,
+    writer: &mut Counting<W>,
+    read: LinesRead,
+) -> Result<Report, WriteFault>
+    requires { writer.old.failures ≡ 0 }
+    ensures closed { (starts : Starts) (old : Option (List ℕ)) (given : List Given)
+        (bytes : List ℕ) → HearsLog starts listener given bytes
+        → HasWritten old (W.contents writer.old.inner) bytes read.written → MatchResult result
+        (λ report. HasClosed starts old (W.contents writer.new.inner) given report)
+        (λ fault. HasClosedSome starts old (W.contents writer.new.inner) given fault.written) }
+    ensures lines { IfOk result (λ report. report.lines ≡ read.lines) }
+    ensures counts { FailsOnce writer.new result }
+{
+    let bits = listener.elements();
+    let at_end = Ending {
+        written: read.written,
+        entries: listener.entries(),
+    };
+    let last = listener.close();
+    let at_end = at_end.with(&last.on_0, Channel::Zero, writer)?;
+    let at_end = at_end.with(&last.on_1, Channel::One, writer)?;
+    let at_end = at_end.with(&last.on_2, Channel::Two, writer)?;
+    Ok(Report {
+        lines: read.lines,
+        bits,
+        printed: at_end.entries,
+    })
 }
 
 /// How many bytes of the log are written at the end of a file, and how many entries were given.

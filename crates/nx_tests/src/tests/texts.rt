@@ -41,7 +41,7 @@ fn plain_bytes_are_heard_at_once(rt: HostRuntime) {
         assert_eq!(rt; one.hear(byte), other.hear(byte), "{byte}");
     }
     assert_eq!(rt; one.ready_head(), other.ready_head());
-    expect_text(&rt, "heard", one.ready_text(), b"ALL ");
+    expect_text(&rt, "heard", one.text(), b"ALL ");
 }
 
 #[test]
@@ -56,7 +56,7 @@ fn plain_bytes_begin_a_text_at_once(rt: HostRuntime) {
     for byte in *b"NNNN" {
         finder.hear(byte);
     }
-    expect_text(&rt, "begun", finder.ready_text(), b"ALL\n");
+    expect_text(&rt, "begun", finder.text(), b"ALL\n");
 }
 
 #[test]
@@ -89,7 +89,7 @@ fn copies_are_told_in_place(rt: HostRuntime) {
         how: How::Full,
     };
     assert_eq!(rt; finder.ready_head(), Some(full));
-    expect_text(&rt, "full", finder.ready_text(), b"A*");
+    expect_text(&rt, "full", finder.text(), b"A*");
     for byte in *b"ZCZC EA01\nNN" {
         finder.hear(byte);
     }
@@ -101,7 +101,7 @@ fn copies_are_told_in_place(rt: HostRuntime) {
         how: How::Cut,
     };
     assert_eq!(rt; finder.ready_head(), Some(cut));
-    expect_text(&rt, "cut", finder.ready_text(), b"NN");
+    expect_text(&rt, "cut", finder.text(), b"NN");
 }
 
 #[test]

@@ -1,15 +1,16 @@
--- A copy that is over is taken, and a text ends.
+-- What a finder has when a copy or a text is over.
 use Rattle.std.proofs.Common.{◌≡◌, ℕ, zero, ◌+◌, Bool, true, false, refl, List, [], ◌∷◌, ◌++◌}
 use Rattle.std.proofs.Common.{map, Option, Some, None, sym, ap, ◌∙◌, subst, append-nil}
 use Rattle.std.proofs.Common.{append_assoc}
-use Rattle.std.specs.Prelude.{IsNone, MatchOption}
+use Rattle.std.specs.Prelude.{MatchOption}
 use Rattle.std.specs.List.{All}
 use Rattle.std.proofs.lemmas.List.Elements.{All-head}
 use Rattle.nx_sync.specs.Locks.{Now, hunting, locked}
 use Rattle.nx_sync.specs.Words.{word_of_lock, first_role, whole_words}
 use Rattle.nx_sync.specs.declared.step.Role.{Role}
 use Rattle.nx_envelope.specs.Copies.{Copy, closed_copy, errors_of, open_headers}
-use Rattle.nx_envelope.specs.Finder.{Closes, ClosesHeld, ClosesReady, HasReady, HoldsCopy, is_ready}
+use Rattle.nx_envelope.specs.Finder.{Closes, ClosesHeld, ClosesReady, HasReady, is_ready, is_ready_copy}
+use Rattle.nx_envelope.specs.declared.finder.Finder.{Finder}
 use Rattle.nx_envelope.specs.Found.{IsFound}
 use Rattle.nx_envelope.specs.Header.{Header}
 use Rattle.nx_envelope.specs.declared.found.Found.{Found}
@@ -21,13 +22,13 @@ use Rattle.nx_receiver.specs.Events.{Setting}
 use Rattle.nx_receiver.specs.copies.FoundCopies.{ended_in, open_in, past_copies, past_text, standing_text}
 use Rattle.nx_receiver.specs.copies.FoundCopies.{ended_so_far, open_so_far, found_copy, TaggedCopy, tag}
 use Rattle.nx_receiver.specs.LockReader.{ReadsLock}
-use Rattle.nx_receiver.specs.private.LockReader.{is_open}
 use Rattle.nx_receiver.specs.copies.LockText.{text_after}
 use Rattle.nx_receiver.specs.CopyHearing.{LockReading, CopyHearing}
 use Rattle.nx_receiver.specs.copies.LockText.{PlacedByte, bytes_of, text_by}
-use Rattle.nx_receiver.specs.private.CopyHearer.{BothAreOver, CopyIsOver, HasEndedAll, HasTag, IsFresh}
+use Rattle.nx_receiver.specs.private.CopyHearer.{CopyIsOver, HasEndedAll, HasTag, IsFresh}
 use Rattle.nx_receiver.specs.private.CopyHearer.{IsOver, LockIsOver, ReadsNow, HearerStands, copies_by}
-use Rattle.nx_receiver.specs.private.CopyHearer.{handed_out, over_now, over_with, ready_copy}
+use Rattle.nx_receiver.specs.private.CopyHearer.{handed_out, over_now, over_with, ready_copies}
+use Rattle.nx_receiver.specs.private.CopyHearer.{ready_copy, ready_in}
 use Rattle.nx_receiver.specs.private.CopyHearer.{setting_in, tag_of}
 use Rattle.nx_receiver.specs.private.CopyHearer.{place_of_header}
 use Rattle.nx_receiver.proofs.lemmas.locks.Found.{all_in-parts}
@@ -41,18 +42,6 @@ pub tag-hunting : (first : Setting) (settings : List Setting) (kept : CopyTag)
     → HasTag first settings [] kept
 unfolding bytes_of
 tag-hunting first settings kept = tag-none first settings [] kept open_headers-nil
-
--- a reader that stands where another one stood
-abbrev pub StandsWhere : LockReading → LockReading → Type 0
-StandsWhere old new = (first : Role) (words : ℕ → ℕ) (n : ℕ) → ReadsLock old first words n
-    → ReadsLock new first words n
-
-reads_on : (old new : LockReading) → StandsWhere old new → (bits : List Bool) (now : Now)
-    → ReadsNow old bits now → ReadsNow new bits now
-reads_on old new on bits (hunting p) r =
-    record { fresh = λ first words. on first words 0 (r.fresh first words) }
-reads_on old new on bits (locked p t) r =
-    on (first_role bits t) (word_of_lock bits t) (whole_words bits t) r
 
 -- the copy that was taken is the one that the finder had
 taken : (copy : Copy) (found : Option Found) (kept : CopyTag) → MatchOption found ⊥ (IsFound copy)
@@ -84,125 +73,40 @@ taken copy (Some found) kept h =
       selected = kept.is_selected;
     } ∷ []) h.text
 
-copy_taken : (first : Setting) (hearer : CopyHearing) (reader : LockReading)
-    (found : Option Found) (h : List Bool) (s : List Setting) (copies : List TaggedCopy)
-    → StandsWhere hearer.reader reader
-    → ((copy : Copy) → HasReady hearer.reader.finder copy → MatchOption found ⊥ (IsFound copy))
-    → CopyIsOver first hearer h s copies
-    → HearerStands first (record hearer { reader = reader }) h s
-    (copies ++ handed_out found hearer.tag)
-copy_taken first hearer reader found h s copies on is over =
-    let r = over.stands.reads in
-    record {
-      synchroniser = over.stands.synchroniser;
-      reads = record {
-        locks = r.locks;
-        now = r.now;
-        stands = r.stands;
-        many = r.many;
-        ended = ap (λ l. copies ++ l) (taken over.copy found hearer.tag (is over.copy over.ready))
-            ∙ r.ended;
-        reads = reads_on hearer.reader reader on h r.now r.reads;
-        has_tag = r.has_tag;
-      };
-    }
+-- what a finder has to hand out is the copy that it has
+ready_is : (finder : Finder) (copy : Copy) (kept : CopyTag) → HasReady finder copy
+    → ready_in finder.copy finder.text kept ≡ ready_copy copy kept ∷ []
+ready_is finder copy kept ready =
+    ap (λ one. ready_in one finder.text kept) ready.held
+    ∙ ap (λ text. ready_in (held.Ready copy.header.identity copy.how) text kept) ready.text
 
-both_taken : (first : Setting) (hearer : CopyHearing) (reader : LockReading)
-    (found : Option Found) (h : List Bool) (s : List Setting) (copies : List TaggedCopy)
-    → StandsWhere hearer.reader reader
-    → ((copy : Copy) → HasReady hearer.reader.finder copy → MatchOption found ⊥ (IsFound copy))
-    → BothAreOver first hearer h s copies
-    → LockIsOver first (record hearer { reader = reader }) h s
-    (copies ++ handed_out found hearer.tag)
-both_taken first hearer reader found h s copies on is both =
-    let r = both.lock in
-    record {
-      synchroniser = r.synchroniser;
-      lock = r.lock;
-      older = r.older;
-      from = r.from;
-      stands = r.stands;
-      many = r.many;
-      ended = ap (λ l. copies ++ l) (taken both.copy found hearer.tag (is both.copy both.ready))
-          ∙ r.ended;
-      reads = on (first_role h r.lock.at) (word_of_lock h r.lock.at) (r.lock.last + 1) r.reads;
-      has_tag = r.has_tag;
-    }
+pub none_ready : (copy : HeldCopy) (text : List ℕ) (kept : CopyTag) → is_ready_copy copy ≡ false
+    → ready_in copy text kept ≡ []
+none_ready held.Nothing text kept none = refl
+none_ready (held.Open identity fresh) text kept none = refl
+none_ready (held.Ready identity how) text kept none = cc
 
-none_taken : (first : Setting) (hearer : CopyHearing) (reader : LockReading)
-    (found : Option Found) (h : List Bool) (s : List Setting) (copies : List TaggedCopy)
-    → StandsWhere hearer.reader reader → IsNone found
-    → HearerStands first hearer h s copies
-    → HearerStands first (record hearer { reader = reader }) h s
-    (copies ++ handed_out found hearer.tag)
-none_taken first hearer reader (Some found) h s copies on none stands = cc
-none_taken first hearer reader None h s copies on none stands =
-    let r = stands.reads in
-    record {
-      synchroniser = stands.synchroniser;
-      reads = record {
-        locks = r.locks;
-        now = r.now;
-        stands = r.stands;
-        many = r.many;
-        ended = append-nil copies ∙ r.ended;
-        reads = reads_on hearer.reader reader on h r.now r.reads;
-        has_tag = r.has_tag;
-      };
-    }
-
--- The copy that can be taken was taken, where one can: where the lock was over with it, that is
--- left.
-pub over_taken : (first : Setting) (hearer : CopyHearing) (reader : LockReading)
-    (found : Option Found) (h : List Bool) (s : List Setting) (copies : List TaggedCopy)
-    (is_copy_over is_lock_over : Bool)
-    → StandsWhere hearer.reader reader
-    → ((copy : Copy) → HasReady hearer.reader.finder copy → MatchOption found ⊥ (IsFound copy))
-    → (is_copy_over ≡ false → IsNone found)
-    → (is_lock_over ≡ true → is_copy_over ≡ true)
+-- Where the copy that the finder has, if it has one, counts among those that have ended, the lock
+-- alone may be over.
+pub over_ready : (first : Setting) (hearer : CopyHearing) (h : List Bool) (s : List Setting)
+    (copies : List TaggedCopy) (is_copy_over is_lock_over : Bool)
+    → is_ready hearer.reader.finder ≡ is_copy_over
     → IsOver first hearer h s copies (over_with is_copy_over is_lock_over)
-    → IsOver first (record hearer { reader = reader }) h s
-    (copies ++ handed_out found hearer.tag) (over_with false is_lock_over)
-over_taken first hearer reader found h s copies true false on is none with_copy over =
-    copy_taken first hearer reader found h s copies on is over
-over_taken first hearer reader found h s copies true true on is none with_copy over =
-    both_taken first hearer reader found h s copies on is over
-over_taken first hearer reader found h s copies false false on is none with_copy over =
-    none_taken first hearer reader found h s copies on (none refl) over
-over_taken first hearer reader found h s copies false true on is none with_copy over =
-    let wrong : false ≡ true = with_copy refl in cc
-
--- a finder that stands after a text in which no copy is open holds no open one
-not_open : (copy : HeldCopy) (kept text : List ℕ) → HoldsCopy copy kept text
-    → open_headers text ≡ [] → is_open copy ≡ false
-not_open held.Nothing kept text holds none = refl
-not_open (held.Open identity fresh) kept text holds none =
-    let wrong : holds.header ∷ [] ≡ [] = sym holds.stands_open ∙ none in cc
-not_open (held.Ready identity how) kept text holds none = refl
-
--- a copy ended with the element that released the lock, so none stands open behind it
-both_open_none : (first : Setting) (hearer : CopyHearing) (reader : LockReading) (h : List Bool)
-    (s : List Setting) (copies : List TaggedCopy)
-    → StandsWhere hearer.reader reader → BothAreOver first hearer h s copies
-    → is_open reader.finder.copy ≡ false
-both_open_none first hearer reader h s copies on both =
-    let lock = both.lock.lock in
-    let words = word_of_lock h lock.at in
-    let n = lock.last + 1 in
-    let none : open_headers (text_after (first_role h lock.at) words n) ≡ [] =
-    subst (λ held. HoldsCopy held hearer.reader.finder.text
-    (text_after (first_role h lock.at) words n)) both.ready.held both.lock.reads.finder.copy in
-    not_open reader.finder.copy reader.finder.text _
-    (on (first_role h lock.at) words n both.lock.reads).finder.copy none
-
-pub none_opens : (first : Setting) (hearer : CopyHearing) (reader : LockReading) (h : List Bool)
-    (s : List Setting) (copies : List TaggedCopy) (is_copy_over : Bool)
-    → StandsWhere hearer.reader reader → is_copy_over ≡ true
-    → IsOver first hearer h s copies (over_with is_copy_over true)
-    → is_open reader.finder.copy ≡ false
-none_opens first hearer reader h s copies true on is over =
-    both_open_none first hearer reader h s copies on over
-none_opens first hearer reader h s copies false on is over = cc
+    → IsOver first hearer h s (copies ++ ready_copies hearer) (over_with false is_lock_over)
+over_ready first hearer h s copies true false is over =
+    subst (λ l. HearerStands first hearer h s (copies ++ l))
+    (sym (ready_is hearer.reader.finder over.copy hearer.tag over.ready)) over.stands
+over_ready first hearer h s copies true true is over =
+    subst (λ l. LockIsOver first hearer h s (copies ++ l))
+    (sym (ready_is hearer.reader.finder over.copy hearer.tag over.ready)) over.lock
+over_ready first hearer h s copies false false is over =
+    subst (λ l. HearerStands first hearer h s l)
+    (sym (ap (λ l. copies ++ l) (none_ready hearer.reader.finder.copy hearer.reader.finder.text
+    hearer.tag is) ∙ append-nil copies)) over
+over_ready first hearer h s copies false true is over =
+    subst (λ l. LockIsOver first hearer h s l)
+    (sym (ap (λ l. copies ++ l) (none_ready hearer.reader.finder.copy hearer.reader.finder.text
+    hearer.tag is) ∙ append-nil copies)) over
 
 -- the copy that stands open, as the end of the text hands it out
 closed-none : (text : List PlacedByte) → open_headers (bytes_of text) ≡ [] → open_in text ≡ []
@@ -373,7 +277,7 @@ stands_in reader found ends bits (locked p t) r =
     (sym (bytes_are_reading (first_role bits t) (word_of_lock bits t) t (whole_words bits t)))
     (ends (first_role bits t) (word_of_lock bits t) (whole_words bits t) r)
 
-pub all_ended : (first : Setting) (hearer : CopyHearing) (found : Option Found) (h : List Bool)
+all_ended : (first : Setting) (hearer : CopyHearing) (found : Option Found) (h : List Bool)
     (s : List Setting) (copies : List TaggedCopy)
     → ((first : Role) (words : ℕ → ℕ) (n : ℕ) → ReadsLock hearer.reader first words n
     → Closes (text_after first words n) found)
@@ -392,3 +296,58 @@ all_ended first hearer found h s copies ends stands =
           ∙ sym (copies_by-append first s (ended_so_far h r.locks r.now) (open_so_far h r.now))
           ∙ ap (copies_by first s) (sym (end_adds h r.locks r.now));
     }
+
+-- what a finder has to hand out, as it is handed out
+abbrev found_in : HeldCopy → List ℕ → Option Found
+found_in held.Nothing text = None
+found_in (held.Open identity fresh) text = None
+found_in (held.Ready identity how) text = Some (record {
+  identity = identity;
+  text = record { items = text };
+  errors = errors_of text;
+  how = how;
+  counted = refl;
+})
+
+handed_in : (copy : HeldCopy) (text : List ℕ) (kept : CopyTag)
+    → handed_out (found_in copy text) kept ≡ ready_in copy text kept
+handed_in held.Nothing text kept = refl
+handed_in (held.Open identity fresh) text kept = refl
+handed_in (held.Ready identity how) text kept = refl
+
+-- the end of a text hands out what the finder then has
+closes_in : (copy : HeldCopy) (finder : Finder) (text : List ℕ) → finder.copy ≡ copy
+    → ClosesHeld text finder → Closes text (found_in copy finder.text)
+closes_in held.Nothing finder text is ends = ends.none (ap is_ready_copy is)
+closes_in (held.Open identity fresh) finder text is ends = ends.none (ap is_ready_copy is)
+closes_in (held.Ready identity how) finder text is ends =
+    let r = ends.some (ap is_ready_copy is) in
+    let copy = closed_copy text r.header in
+    let same : held.Ready identity how ≡ held.Ready copy.header.identity copy.how =
+    sym is ∙ r.ready.held in
+    record {
+      header = r.header;
+      was_open = r.was_open;
+      is_found = record {
+        identity = cc;
+        how = cc;
+        text = r.ready.text;
+        errors = ap errors_of r.ready.text;
+      };
+      whole = r.whole;
+    }
+
+-- All elements ended: the copy that the finder then has, if it has one, is the last of all.
+pub all_closed : (first : Setting) (hearer : CopyHearing) (reader : LockReading) (h : List Bool)
+    (s : List Setting) (copies : List TaggedCopy)
+    → ((first : Role) (words : ℕ → ℕ) (n : ℕ) → ReadsLock hearer.reader first words n
+    → ClosesHeld (text_after first words n) reader.finder)
+    → HearerStands first hearer h s copies
+    → HasEndedAll first h s (copies ++ ready_copies (record hearer { reader = reader }))
+all_closed first hearer reader h s copies ends stands =
+    let finder = reader.finder in
+    subst (λ l. HasEndedAll first h s (copies ++ l))
+    (handed_in finder.copy finder.text hearer.tag)
+    (all_ended first hearer (found_in finder.copy finder.text) h s copies
+    (λ role words n reads. closes_in finder.copy finder (text_after role words n) refl
+    (ends role words n reads)) stands)

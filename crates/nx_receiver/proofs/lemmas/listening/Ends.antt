@@ -1,7 +1,7 @@
 -- What the end of an air file makes of what a listener heard.
 use Rattle.std.proofs.Common.{◌≡◌, ℕ, ◌+◌, ◌-◌, ◌^◌, ◌≤◌, List, [], ◌++◌, map, Option, None, Some}
-use Rattle.std.proofs.Common.{length, ap, ◌∙◌, refl, subst, sym, append-nil, append_assoc, arith}
-use Rattle.std.proofs.Common.{Bool, cond, is_some}
+use Rattle.std.proofs.Common.{length, ap, ◌∙◌, subst, sym, append-nil, append_assoc, arith}
+use Rattle.std.proofs.Common.{Bool, is_some}
 use mir.Val.{bool_byte}
 use Rattle.std.proofs.Common.{length-append}
 use Rattle.std.specs.Prelude.{IfSome}
@@ -21,13 +21,12 @@ use Rattle.nx_receiver.specs.copies.Log.{IsLog, PrintsToEnd}
 use Rattle.nx_receiver.specs.Receiver.{Receiving, Stands, entry_list}
 use Rattle.nx_receiver.specs.copies.Shares.{Given, MarkedCopy, Starts, copies_on, marked, share}
 use Rattle.nx_receiver.specs.copies.Shares.{start_on}
-use Rattle.nx_receiver.specs.Listener.{HearsOver, last_copies}
+use Rattle.nx_receiver.specs.Listener.{AreInRange, HearsOver, last_copies}
 use Rattle.nx_receiver.specs.private.Listener.{HasClosed, HasClosedSome, HearsLog}
-use Rattle.nx_receiver.specs.Listener.{Listening, ListeningOver, content}
+use Rattle.nx_receiver.specs.Listener.{Listening, ListeningOver}
 use Rattle.nx_receiver.specs.declared.entry.Entry.{Entry}
 use Rattle.nx_receiver.specs.declared.listener.LastEntries.{LastEntries}
 use Rattle.nx_receiver.specs.declared.air_file_runs.listening.Report.{Report}
-use Rattle.nx_memory.specs.Ring.{RingMemory}
 use Rattle.nx_memory.specs.declared.memories.entry.MemoryEntry.{MemoryEntry}
 use Rattle.nx_receiver.proofs.lemmas.listening.Listener.{counts-on}
 use Rattle.nx_receiver.proofs.lemmas.receiver.Log.{logs_join, some_log}
@@ -116,6 +115,17 @@ prints-last starts listener closing given copies c h =
     (ap (λ l. l ++ last) (append_assoc copies a b) ∙ append_assoc copies (a ++ b) last)
     (print-all starts listener closing given copies c h)
 
+-- what the end prints, as its parts by channel
+pub printed-parts : (starts : Starts) (closing : LastEntries) (given : List Given)
+    (copies : List MarkedCopy) → PrintAllToEnd starts given (copies ++ last_copies closing)
+    → PrintAllToEnd starts given (all_copies copies closing)
+printed-parts starts closing given copies h =
+    let a = marked_on closing Zero in
+    let b = marked_on closing One in
+    let last = marked_on closing Two in
+    subst (PrintAllToEnd starts given)
+    (sym (ap (λ l. l ++ last) (append_assoc copies a b) ∙ append_assoc copies (a ++ b) last)) h
+
 -- an entry whose moment is in range has bytes
 range-of : (entry : Option Entry) (channel : Channel)
     → IfSome entry (λ entry. entry.moment ≤ last_moment)
@@ -132,18 +142,7 @@ pub log-of : (entry : Option Entry) (channel : Channel)
 log-of entry channel h =
     some_log (map (marked channel) (entry_list entry)) (range-of entry channel h)
 
-in-range : (receiver : Receiving RingMemory) (entry : Option Entry) (channel : Channel)
-    → Closes content receiver entry
-    → All (λ (one : MarkedCopy). one.copy.moment ≤ last_moment)
-    (map (marked channel) (entry_list entry))
-in-range receiver entry channel h = range-of entry channel h.moment
-
 -- how many copies an entry is
-pub entries-counted : (entry : Option Entry)
-    → length (entry_list entry) ≡ cond (is_some entry) 1 0
-entries-counted None = refl
-entries-counted (Some entry) = refl
-
 pub bool-counted : (entry : Option Entry) (is : Bool) (k : ℕ) → is ≡ is_some entry
     → k ≡ bool_byte is → k ≡ length (entry_list entry)
 bool-counted None is k e f = f ∙ ap bool_byte e
@@ -153,7 +152,7 @@ bool-counted (Some entry) is k e f = f ∙ ap bool_byte e
 pub closed-all : (starts : Starts) (listener : Listening) (closing : LastEntries)
     (old new : Option (List ℕ)) (given : List Given) (bytes on_0 on_1 on_2 : List ℕ)
     (n first second : ℕ) (report : Report) (h : HearsLog starts listener given bytes)
-    → CloseAll content listener closing
+    → PrintAllToEnd starts given (h.log ++ last_copies closing)
     → IsLog (marked_on closing Zero) on_0 → IsLog (marked_on closing One) on_1
     → IsLog (marked_on closing Two) on_2
     → Appends old new (((bytes ++ on_0) ++ on_1) ++ on_2)
@@ -192,7 +191,7 @@ closed-all starts listener closing old new given bytes on_0 on_1 on_2 n first se
     record {
       copies = all_copies h.log closing;
       log = ((bytes ++ on_0) ++ on_1) ++ on_2;
-      printed = print-all starts listener closing given h.log c h.hears;
+      printed = printed-parts starts closing given h.log c;
       spelled = logs_join ((h.log ++ a) ++ b) last ((bytes ++ on_0) ++ on_1) on_2
           (logs_join (h.log ++ a) b (bytes ++ on_0) on_1
           (logs_join h.log a bytes on_0 h.spelled is_0) is_1)
@@ -224,56 +223,59 @@ some-closed starts old new given first rest log written printed spelled range so
 -- the entry that the end printed on channel 0 was written in part
 pub closed-part-0 : (starts : Starts) (listener : Listening) (closing : LastEntries)
     (old new : Option (List ℕ)) (given : List Given) (bytes on_0 : List ℕ) (written : ℕ)
-    → HearsLog starts listener given bytes → CloseAll content listener closing
+    → (h : HearsLog starts listener given bytes)
+    → PrintAllToEnd starts given (h.log ++ last_copies closing) → AreInRange closing
     → IsLog (marked_on closing Zero) on_0 → WroteSome old new (bytes ++ on_0) written
     → HasClosedSome starts old new given written
-closed-part-0 starts listener closing old new given bytes on_0 written h c is_0 some =
+closed-part-0 starts listener closing old new given bytes on_0 written h c r is_0 some =
     let a = marked_on closing Zero in
     let b = marked_on closing One in
     let last = marked_on closing Two in
     some-closed starts old new given (h.log ++ a) (b ++ last) (bytes ++ on_0) written
     (subst (PrintAllToEnd starts given) (append_assoc (h.log ++ a) b last)
-    (print-all starts listener closing given h.log c h.hears))
+    (printed-parts starts closing given h.log c))
     (logs_join h.log a bytes on_0 h.spelled is_0)
     (All-append (λ (one : MarkedCopy). one.copy.moment ≤ last_moment) b last
-    (in-range listener.on_1 closing.on_1 One c.on_1)
-    (in-range listener.on_2 closing.on_2 Two c.on_2))
+    (range-of closing.on_1 One r.1)
+    (range-of closing.on_2 Two r.2))
     some
 
 -- that on channel 1
 pub closed-part-1 : (starts : Starts) (listener : Listening) (closing : LastEntries)
     (old new : Option (List ℕ)) (given : List Given) (bytes on_0 on_1 : List ℕ) (written : ℕ)
-    → HearsLog starts listener given bytes → CloseAll content listener closing
+    → (h : HearsLog starts listener given bytes)
+    → PrintAllToEnd starts given (h.log ++ last_copies closing) → AreInRange closing
     → IsLog (marked_on closing Zero) on_0 → IsLog (marked_on closing One) on_1
     → WroteSome old new ((bytes ++ on_0) ++ on_1) written
     → HasClosedSome starts old new given written
-closed-part-1 starts listener closing old new given bytes on_0 on_1 written h c is_0 is_1 some =
+closed-part-1 starts listener closing old new given bytes on_0 on_1 written h c r is_0 is_1 some =
     let a = marked_on closing Zero in
     let b = marked_on closing One in
     some-closed starts old new given ((h.log ++ a) ++ b) (marked_on closing Two)
     ((bytes ++ on_0) ++ on_1) written
-    (print-all starts listener closing given h.log c h.hears)
+    (printed-parts starts closing given h.log c)
     (logs_join (h.log ++ a) b (bytes ++ on_0) on_1
     (logs_join h.log a bytes on_0 h.spelled is_0) is_1)
-    (in-range listener.on_2 closing.on_2 Two c.on_2) some
+    (range-of closing.on_2 Two r.2) some
 
 -- and that on channel 2
 pub closed-part-2 : (starts : Starts) (listener : Listening) (closing : LastEntries)
     (old new : Option (List ℕ)) (given : List Given) (bytes on_0 on_1 on_2 : List ℕ) (written : ℕ)
-    → HearsLog starts listener given bytes → CloseAll content listener closing
+    → (h : HearsLog starts listener given bytes)
+    → PrintAllToEnd starts given (h.log ++ last_copies closing) → AreInRange closing
     → IsLog (marked_on closing Zero) on_0 → IsLog (marked_on closing One) on_1
     → IsLog (marked_on closing Two) on_2
     → WroteSome old new (((bytes ++ on_0) ++ on_1) ++ on_2) written
     → HasClosedSome starts old new given written
-closed-part-2 starts listener closing old new given bytes on_0 on_1 on_2 written h c is_0 is_1 is_2
-    some =
+closed-part-2 starts listener closing old new given bytes on_0 on_1 on_2 written h c r is_0 is_1
+    is_2 some =
     let a = marked_on closing Zero in
     let b = marked_on closing One in
     let last = marked_on closing Two in
     record {
       copies = all_copies h.log closing;
       log = ((bytes ++ on_0) ++ on_1) ++ on_2;
-      printed = print-all starts listener closing given h.log c h.hears;
+      printed = printed-parts starts closing given h.log c;
       spelled = logs_join ((h.log ++ a) ++ b) last ((bytes ++ on_0) ++ on_1) on_2
           (logs_join (h.log ++ a) b (bytes ++ on_0) on_1
           (logs_join h.log a bytes on_0 h.spelled is_0) is_1)

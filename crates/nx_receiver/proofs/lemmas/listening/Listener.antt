@@ -5,7 +5,6 @@ use Rattle.std.proofs.Common.{[], ◌∷◌, ◌++◌, map, Option, Some, None, 
 use Rattle.std.proofs.Common.{take-append-drop, drop, refl, sym, ap, ap₂, ◌∙◌, subst, append-nil}
 use Rattle.std.proofs.Common.{append_assoc, arith, length-append}
 use lib.Seq.{take-add}
-use mir.Val.{bool_byte}
 use Rattle.std.proofs.Math.Path.{fun_ext}
 use Rattle.std.proofs.lemmas.List.{length-map, length-take-le, map-append}
 use Rattle.std.proofs.lemmas.List.Concat.{flat_map-append}
@@ -26,31 +25,34 @@ use Rattle.nx_receiver.specs.air_file_runs.Listen.{has_moment}
 use Rattle.nx_receiver.specs.air_file_runs.Listen.{is_moment_line, moment_after}
 use Rattle.nx_receiver.specs.private.Taken.{AreTakenAfter, IsTakenAfter}
 use Rattle.nx_receiver.proofs.lemmas.listening.Taken.{are-taken, taken-each}
-use Rattle.nx_receiver.specs.Listener.{HearsGiven, HearsOver, IsSpelled, Listening, ListeningOver}
+use Rattle.nx_receiver.specs.Listener.{HearsGiven, HearsOver, Listening, ListeningOver, text_on}
 use Rattle.nx_receiver.specs.Listener.{content}
 use Rattle.nx_receiver.specs.Listener.{elements_given, elements_in, moment_in_force, receiver_on}
 use Rattle.nx_receiver.specs.Listener.{starts_over, then_command, then_elements, then_moment}
 use Rattle.nx_receiver.specs.Listener.{with_receiver}
-use Rattle.nx_receiver.specs.private.Listener.{BeginsListening, BeginsLog, HasFinished, HearsTo}
+use Rattle.nx_receiver.specs.private.Listener.{BeginsListening, BeginsLog, HearsTo}
 use Rattle.nx_receiver.specs.private.Listener.{HearsLog, IsListening}
 use Rattle.nx_receiver.specs.private.ListenerBegins.{printed-so_far}
-use Rattle.nx_receiver.specs.copies.Log.{HasPrinted}
+use Rattle.nx_receiver.specs.copies.Log.{HasPrinted, IsLog}
 use Rattle.nx_memory.specs.declared.memories.entry.MemoryEntry.{MemoryEntry}
-use Rattle.nx_receiver.specs.Receiver.{Receiving, Stands, TakesEvent}
-use Rattle.std.specs.Prelude.{Result, Ok, Err, OnOk}
+use Rattle.nx_receiver.specs.Receiver.{HandsOutNoneBefore, HeadsText, Receiving, Stands, TakesEvent}
+use Rattle.nx_receiver.specs.Receiver.{headed_list, text_of}
+use Rattle.nx_receiver.specs.private.Awaiting.{Awaits, FinishesNext, HearsUpTo}
+use Rattle.nx_receiver.specs.declared.copy_taker.Over.{Over}
+use Rattle.nx_receiver.proofs.lemmas.receiver.Feeds.{heard_then, nothing_awaited, printed_then}
+use Rattle.std.specs.Prelude.{IfSome, Result, Ok, Err, OnOk}
+use Rattle.std.proofs.lemmas.List.Elements.{All-nil, All-cons}
 use Rattle.nx_receiver.specs.copies.Shares.{Given, MarkedCopy, Starts, copies_on, events_for}
 use Rattle.nx_receiver.specs.copies.Shares.{marked}
 use Rattle.nx_receiver.specs.copies.Shares.{share, start_on, to_all, to_one}
-use Rattle.nx_receiver.specs.private.Awaiting.{Awaits, HandsOut, HearsUpTo}
-use Rattle.nx_receiver.specs.copies.FoundCopies.{TaggedCopy}
-use Rattle.nx_receiver.specs.declared.copy_taker.Over.{Over}
+use Rattle.nx_receiver.specs.copies.FoundCopies.{TaggedCopy, headed_copy}
+use Rattle.nx_receiver.specs.declared.entry.EntryHead.{EntryHead}
 use Rattle.nx_receiver.proofs.lemmas.channels.Shares.{copies_on-append, copies_on-marked}
 use Rattle.nx_receiver.proofs.lemmas.channels.Shares.{copies_on-other}
 use Rattle.nx_receiver.proofs.lemmas.channels.Shares.{in_turn-more, in_turn-none, in_turn-other}
 use Rattle.nx_receiver.proofs.lemmas.channels.Shares.{same_channel-refl}
 use Rattle.nx_receiver.proofs.lemmas.channels.Shares.{share-one}
-use Rattle.nx_receiver.proofs.lemmas.receiver.Feeds.{nothing_awaited}
-use Rattle.nx_receiver.proofs.lemmas.receiver.Log.{logs_join, no-log}
+use Rattle.nx_receiver.proofs.lemmas.receiver.Log.{logs_join, no-log, some_log}
 use Rattle.nx_receiver.proofs.lemmas.receiver.Logged.{has_printed_on, some_printed}
 use Rattle.nx_receiver.proofs.lemmas.receiver.Events.{bits_of-more, force-append, force-more}
 
@@ -638,87 +640,92 @@ none-before {M} {entries_of} starts old mid given channel part bits n copies nex
     (hears.first start was mine (h.receivers channel) k lt))
     (λ other not. h.in_turn.each other)))
 
--- These elements of a channel were heard, and so many counted; this is over with the last of them,
--- and not yet finished.
-pub record HearsUntil (old new : Listening) (channel : Channel) (bits : List Bool) (n : ℕ)
-    (over : Option Over) : Type 0 where
-  pub awaits : HearsUpTo content (receiver_on old channel) (receiver_on new channel) bits over
-  pub others : (other : Channel) → same_channel channel other ≡ false
-      → receiver_on new other ≡ receiver_on old other
-  pub elements : new.elements ≡ count_of (old.elements + n)
-  pub entries : new.entries ≡ old.entries
+-- So many elements of a channel were heard with which nothing is over: nothing is handed out.
+pub hears-quiet : {M : Type 0} {entries_of : M → List MemoryEntry} (channel : Channel)
+    (old new : ListeningOver M) (bits : List Bool) (n : ℕ) (left : Option Over) → left ≡ None
+    → HearsUpTo entries_of (receiver_on old channel) (receiver_on new channel) (take n bits) left
+    → HandsOutNoneBefore entries_of (receiver_on old channel) bits n
+    → HearsTo entries_of channel old new bits n []
+hears-quiet {M} {entries_of} channel old new bits n left nothing hears before = record {
+  stands = λ start history log s.
+      let events = history ++ fed.elements (take n bits) in
+      subst (λ l. Stands entries_of start (receiver_on new channel) events l)
+      (sym (append-nil log))
+      (nothing_awaited entries_of start (receiver_on new channel) _ _ _ log left nothing
+      (hears start history log s));
+  first = before;
+}
 
--- the receiver of the channel heard them, and then the listener counted them
-pub hears-until : (old heard now : Listening) (channel : Channel) (bits : List Bool) (n m : ℕ)
-    (over : Option Over) → heard ≡ with_receiver old channel (receiver_on heard channel)
-    → HearsUpTo content (receiver_on old channel) (receiver_on heard channel) bits over
-    → now ≡ heard → m ≡ count_of (now.elements + n)
-    → HearsUntil old (record now { elements = m }) channel bits n over
-hears-until old heard now channel bits n m over only hears e counted =
-    let new = record now { elements = m } in
-    let same = same-receivers heard new (sym (ap (λ (l : Listening). l.on_0) e))
-    (sym (ap (λ (l : Listening). l.on_1) e)) (sym (ap (λ (l : Listening). l.on_2) e)) in
-    let differs = differs-on channel old heard only in
+-- What is over with so many elements was finished, and so many more were heard.
+pub hears-then : {M : Type 0} {entries_of : M → List MemoryEntry} (channel : Channel)
+    (old mid new : ListeningOver M) (packed : List Bool) (from n m : ℕ) (left : Option Over)
+    (over : Over) (copies : List TaggedCopy) → left ≡ Some over
+    → HearsUpTo entries_of (receiver_on old channel) (receiver_on mid channel)
+    (take n (drop from packed)) left
+    → HandsOutNoneBefore entries_of (receiver_on old channel) (drop from packed) n
+    → FinishesNext entries_of (receiver_on mid channel) (receiver_on new channel) over
+    (drop (from + n) packed) m copies
+    → HearsTo entries_of channel old new (drop from packed) (n + m) copies
+hears-then {M} {entries_of} channel old mid new packed from n m left over copies is hears before
+    finishes =
+    let awaits : (start : Start) (history : List Event) (log : List TaggedCopy)
+    → Stands entries_of start (receiver_on old channel) history log
+    → Awaits entries_of start (receiver_on mid channel)
+    (history ++ fed.elements (take n (drop from packed))) log (Some over) =
+    λ start history log s. subst (λ o. Awaits entries_of start (receiver_on mid channel)
+    (history ++ fed.elements (take n (drop from packed))) log o) is (hears start history log s) in
     record {
-      awaits = λ start events log stands.
-          subst (λ r. Awaits content start r (events ++ fed.elements bits) log over) (same channel)
-          (hears start events log stands);
-      others = λ other not. sym (same other) ∙ differs.others other not;
-      elements = counted ∙ ap (λ k. count_of (k + n))
-          (ap (λ (l : Listening). l.elements) e ∙ differs.elements);
-      entries = ap (λ (l : Listening). l.entries) e ∙ differs.entries;
+      stands = λ start history log s.
+          subst (λ events. Stands entries_of start (receiver_on new channel) events (log ++ copies))
+          (heard_then history packed from n m)
+          (finishes.stands start (history ++ fed.elements (take n (drop from packed))) log
+          (awaits start history log s));
+      first = λ start history log s. printed_then start history log packed from n m
+          (λ k lt. before start history log s k lt)
+          (λ k lt. finishes.first start (history ++ fed.elements (take n (drop from packed))) log
+          (awaits start history log s) k lt);
     }
 
--- What was over with the last of these elements was finished, and these are the bytes of the entry,
--- if one was made.
-pub heard-over : (starts : Starts) (old mid new : Listening) (given : List Given)
-    (channel : Channel) (part bits : List Bool) (n : ℕ) (bytes more : List ℕ)
-    (left : Option Over) (over : Over) → left ≡ Some over → HasFinished mid new channel over more
-    → HearsLog starts old (then_elements given channel part) bytes → n ≤ length bits → 0 < n
-    → HearsUntil old mid channel (take n bits) n left
-    → HearsLog starts new (then_elements given channel (part ++ take n bits)) (bytes ++ more)
-heard-over starts old mid new given channel part bits n bytes more left over is f h within least u =
-    let next = f.copies in
-    let few : length next ≤ 1 = f.one in
-    let many : length (take n bits) ≡ n = length-take-le n bits within in
-    record {
-      log = h.log ++ map (marked channel) next;
-      hears = hears-more starts old new given channel part (take n bits) h.log next h.hears
-          (omega (arith, few, many))
-          (λ start events log s. f.stands start (events ++ fed.elements (take n bits)) log
-          (subst (Awaits content start (receiver_on mid channel)
-          (events ++ fed.elements (take n bits)) log) is (u.awaits start events log s)))
-          (λ other not. f.others other not ∙ u.others other not)
-          (f.elements ∙ u.elements ∙ ap (λ k. count_of (old.elements + k)) (sym many))
-          (f.entries (omega (arith, h.hears.entries, u.entries))
-          ∙ ap (λ k. count_of (k + length next)) u.entries);
-      spelled = logs_join h.log (map (marked channel) next) bytes more h.spelled
-          f.spelled;
-    }
+-- only the receiver of the channel is another, after both
+pub only-then : {M : Type 0} (channel : Channel) (old mid new : ListeningOver M)
+    → mid ≡ with_receiver old channel (receiver_on mid channel)
+    → new ≡ with_receiver mid channel (receiver_on new channel)
+    → new ≡ with_receiver old channel (receiver_on new channel)
+only-then {M} Zero old mid new e f = f ∙ ap (λ l. with_receiver l Zero new.on_0) e
+only-then {M} One old mid new e f = f ∙ ap (λ l. with_receiver l One new.on_1) e
+only-then {M} Two old mid new e f = f ∙ ap (λ l. with_receiver l Two new.on_2) e
 
--- nothing was over with these elements
-pub heard-no-over : (starts : Starts) (old new : Listening) (given : List Given)
-    (channel : Channel) (part bits : List Bool) (n : ℕ) (bytes : List ℕ) (over : Option Over)
-    → over ≡ None
-    → HearsLog starts old (then_elements given channel part) bytes → n ≤ length bits
-    → HearsUntil old new channel (take n bits) n over
-    → HearsLog starts new (then_elements given channel (part ++ take n bits)) bytes
-heard-no-over starts old new given channel part bits n bytes over nothing h within u =
-    let many : length (take n bits) ≡ n = length-take-le n bits within in
-    let more = hears-more starts old new given channel part (take n bits) h.log [] h.hears
-    (omega arith)
-    (λ start events log s. subst (λ l. Stands content start (receiver_on new channel)
-    (events ++ fed.elements (take n bits)) l) (sym (append-nil log))
-    (nothing_awaited content start (receiver_on new channel) _ _ _ log over nothing
-    (u.awaits start events log s)))
-    u.others (u.elements ∙ ap (λ k. count_of (old.elements + k)) (sym many))
-    (omega (arith, u.entries, h.hears.entries)) in
-    record {
-      log = h.log;
-      hears = subst (λ log. HearsGiven starts new
-          (then_elements given channel (part ++ take n bits)) log) (append-nil h.log) more;
-      spelled = h.spelled;
-    }
+-- what a listener counts changes no text
+pub text-counted : {M : Type 0} (mid now : ListeningOver M) (channel : Channel) (m k : ℕ)
+    → now ≡ mid
+    → text_on (record now { elements = m; entries = k }) channel ≡ text_on mid channel
+text-counted {M} mid now channel m k e =
+    sym (ap (λ (r : Receiving M). text_of r) (same-receivers mid
+    (record now { elements = m; entries = k }) (sym (ap (λ (l : ListeningOver M). l.on_0) e))
+    (sym (ap (λ (l : ListeningOver M). l.on_1) e)) (sym (ap (λ (l : ListeningOver M). l.on_2) e))
+    channel))
+
+-- Such a head has its entry's bytes, whatever the channel, and none has none.
+pub head-log : (channel : Channel) (head : Option EntryHead) (text : List ℕ)
+    → IfSome head (λ head. HeadsText head text)
+    → (bytes : List ℕ) × IsLog (map (marked channel) (headed_list head text)) bytes
+head-log channel None text h = ([], no-log)
+head-log channel (Some head) text h =
+    some_log (marked channel (headed_copy head text true) ∷ [])
+    (All-cons (λ (one : MarkedCopy). one.copy.moment ≤ last_moment)
+    (marked channel (headed_copy head text true)) [] h.in_range
+    (All-nil (λ (one : MarkedCopy). one.copy.moment ≤ last_moment)))
+
+-- More was given, and these copies were printed, of which these bytes are the log.
+pub logs-more : (starts : Starts) (old new : Listening) (given more : List Given)
+    (bytes next : List ℕ) (copies : List MarkedCopy) → IsLog copies next
+    → (h : HearsLog starts old given bytes) → HearsGiven starts new more (h.log ++ copies)
+    → HearsLog starts new more (bytes ++ next)
+logs-more starts old new given more bytes next copies spelled h hears = record {
+  log = h.log ++ copies;
+  hears = hears;
+  spelled = logs_join h.log copies bytes next h.spelled spelled;
+}
 
 -- a log so far is that of the first copies of more
 pub begins-more : (starts : Starts) (listener : Listening) (given : List Given)
@@ -907,54 +914,8 @@ pub none-left : {A : Type 0} (o : Option A) → ((x : A) → o ≡ Some x → �
 none-left None h = refl
 none-left (Some x) h = absurd (h x refl)
 
-as_count : (is : Bool) → bool_byte is ≡ cond is 1 0
-as_count true = refl
-as_count false = refl
-
-at_most_one : (is : Bool) (n : ℕ) → n ≡ cond is 1 0 → n ≤ 1
-at_most_one true n e = omega (arith, e)
-at_most_one false n e = omega (arith, e)
-
--- The receiver of the channel handed out what was over with it, and then the listener counted this:
--- so it was finished.
-pub finishes : (old last now : Listening) (channel : Channel) (over : Over) (is : Bool) (k n : ℕ)
-    (bytes : List ℕ)
-    → HandsOut content (receiver_on old channel) (receiver_on last channel) channel over is bytes
-    → last ≡ with_receiver old channel (receiver_on last channel) → now ≡ last
-    → k ≡ bool_byte is → n ≡ count_of (now.entries + k)
-    → HasFinished old (record now { entries = n }) channel over bytes
-finishes old last now channel over is k n bytes hands only e one counted =
-    let new = record now { entries = n } in
-    let same = same-receivers last new (sym (ap (λ (l : Listening). l.on_0) e))
-    (sym (ap (λ (l : Listening). l.on_1) e)) (sym (ap (λ (l : Listening). l.on_2) e)) in
-    let differs = differs-on channel old last only in
-    record {
-      copies = hands.copies;
-      one = at_most_one is (length hands.copies) hands.counted;
-      stands = λ start events log awaits.
-          subst (λ r. Stands content start r events (log ++ hands.copies)) (same channel)
-          (hands.stands start events log awaits);
-      others = λ other not. sym (same other) ∙ differs.others other not;
-      spelled = hands.spelled;
-      elements = ap (λ (l : Listening). l.elements) e ∙ differs.elements;
-      entries = λ fits. counted ∙ ap₂ (λ m n. count_of (m + n))
-          (ap (λ (l : Listening). l.entries) e ∙ differs.entries)
-          (one ∙ as_count is ∙ sym hands.counted);
-    }
-
 -- what follows on Ok
 pub on_ok-map : {A B : Type 0} {P Q : Type 0} (result : Result A B) → OnOk result P → (P → Q)
     → OnOk result Q
 on_ok-map (Ok x) p f = f p
 on_ok-map (Err x) p f = tt
-
--- what is spelled is one copy
-pub spelled-few : (channel : Channel) (is : Bool) (copies : List TaggedCopy) (bytes : List ℕ)
-    (n : ℕ) → IsSpelled channel is copies bytes → (is ≡ true → 0 < n) → length copies ≤ n
-spelled-few channel false copies bytes n h some = omega (arith, ap length h)
-spelled-few channel true copies bytes n h some = omega (arith, ap length h.1, some refl)
-
-pub spelled-counted : (channel : Channel) (is : Bool) (copies : List TaggedCopy) (bytes : List ℕ)
-    (k : ℕ) → IsSpelled channel is copies bytes → k ≡ bool_byte is → k ≡ length copies
-spelled-counted channel false copies bytes k h e = e ∙ sym (ap length h)
-spelled-counted channel true copies bytes k h e = e ∙ sym (ap length h.1)

@@ -1,5 +1,5 @@
 -- A receiver that is fed elements: what it stands after, and what was printed before each of them.
-use Rattle.std.proofs.Common.{◌≡◌, ℕ, ◌+◌, ◌-◌, ◌≤◌, Bool, List, [], ◌++◌, Option, None, length}
+use Rattle.std.proofs.Common.{◌≡◌, ℕ, ◌+◌, ◌-◌, ◌<◌, ◌≤◌, Bool, List, [], ◌++◌, Option, None, length}
 use Rattle.std.proofs.Common.{take, drop, refl, sym, ap, ◌∙◌, subst, append-nil, append_assoc}
 use Rattle.std.proofs.Common.{arith, inl, inr, is_some, false, Some, length-drop}
 use lib.Seq.{take-add}
@@ -11,7 +11,7 @@ use Rattle.nx_receiver.specs.Events.{Event, Setting, Start, elements_among, elem
 use Rattle.nx_receiver.specs.Events.{setting_after_all, settings, elements}
 use Rattle.nx_receiver.specs.copies.Log.{HasPrinted}
 use Rattle.nx_receiver.specs.Receiver.{HandsOutNoneBefore, Receiving, Stands, StandsOver}
-use Rattle.nx_receiver.specs.private.Awaiting.{Awaits, AwaitsOver, HearsUpTo}
+use Rattle.nx_receiver.specs.private.Awaiting.{Awaits, AwaitsOver, FinishesNext, HearsUpTo}
 use Rattle.nx_receiver.specs.copies.FoundCopies.{TaggedCopy}
 use Rattle.nx_receiver.specs.private.CopyHearer.{HasEnded, HearsAll, IsOver, all_in_force}
 use Rattle.nx_receiver.specs.CopyHearing.{CopyHearing, in_force}
@@ -131,6 +131,72 @@ elements-more : (history : List Event) (bits : List Bool) (at n : ℕ)
 elements-more history bits at n =
     elements-after history (take at bits) (take n (drop at bits))
     ∙ ap (λ l. history ++ elements l) (sym (take-add at n bits))
+
+-- so many packed elements from a place on, and then others behind them
+pub heard_then : (history : List Event) (packed : List Bool) (from n m : ℕ)
+    → (history ++ elements (take n (drop from packed))) ++ elements (take m (drop (from + n)
+    packed))
+    ≡ history ++ elements (take (n + m) (drop from packed))
+heard_then history packed from n m =
+    ap (λ l. (history ++ elements (take n (drop from packed))) ++ elements (take m l))
+    (sym (drop-drop n from packed)) ∙ elements-more history (drop from packed) n m
+
+-- where nothing was printed before the last of either, none was before the last of all
+pub printed_then : (start : Start) (history : List Event) (log : List TaggedCopy)
+    (packed : List Bool) (from n m : ℕ)
+    → ((k : ℕ) → k < n → HasPrinted start (history ++ elements (take k (drop from packed))) log)
+    → ((k : ℕ) → k < m → HasPrinted start ((history ++ elements (take n (drop from packed)))
+    ++ elements (take k (drop (from + n) packed))) log)
+    → (k : ℕ) → k < n + m
+    → HasPrinted start (history ++ elements (take k (drop from packed))) log
+printed_then start history log packed from n m first second k lt =
+    elim (cases_lt k n) [
+      | inl early ↦ first k early
+      | inr late ↦
+          let j = k - n in
+          let sum : n + j ≡ k = omega arith in
+          subst (λ events. HasPrinted start events log)
+          (heard_then history packed from n j
+          ∙ ap (λ i. history ++ elements (take i (drop from packed))) sum)
+          (second j (omega arith))
+    ]
+
+-- what was over was finished
+pub finished_now : {M : Type 0} (content : M → List MemoryEntry) (old new : Receiving M)
+    (over : Over) (bits : List Bool) (copies : List TaggedCopy)
+    → ((start : Start) (history : List Event) (log : List TaggedCopy)
+    → Awaits content start old history log (Some over)
+    → Stands content start new history (log ++ copies))
+    → FinishesNext content old new over bits 0 copies
+finished_now content old new over bits copies finishes = record {
+  stands = λ start history log a.
+      subst (λ events. Stands content start new events (log ++ copies))
+      (sym (append-nil history)) (finishes start history log a);
+  first = λ start history log a k lt. absurd (omega arith);
+}
+
+-- it brought nothing, and then elements were heard
+pub finished_then : {M : Type 0} (content : M → List MemoryEntry) (old mid new : Receiving M)
+    (over : Over) (bits : List Bool) (count : ℕ) (none copies : List TaggedCopy)
+    → ((start : Start) (history : List Event) (log : List TaggedCopy)
+    → Awaits content start old history log (Some over)
+    → Stands content start mid history (log ++ none))
+    → none ≡ []
+    → ((start : Start) (history : List Event) (log : List TaggedCopy)
+    → Stands content start mid history log
+    → Stands content start new (history ++ elements (take count bits)) (log ++ copies))
+    → HandsOutNoneBefore content mid bits count
+    → FinishesNext content old new over bits count copies
+finished_then content old mid new over bits count none copies finishes nothing hears before =
+    let stands : (start : Start) (history : List Event) (log : List TaggedCopy)
+    → Awaits content start old history log (Some over) → Stands content start mid history log =
+    λ start history log a. subst (λ l. Stands content start mid history l)
+    (ap (λ l. log ++ l) nothing ∙ append-nil log) (finishes start history log a) in
+    record {
+      stands = λ start history log a. hears start history log (stands start history log a);
+      first = λ start history log a k lt.
+          before start history log (stands start history log a) k lt;
+    }
 
 -- So many more of the elements were heard behind those that were fed; what is over with the last of
 -- them awaits to be finished.

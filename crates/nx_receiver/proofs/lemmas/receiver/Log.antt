@@ -10,12 +10,11 @@ use Rattle.nx_envelope.proofs.lemmas.moments.OneText.{one_text}
 use Rattle.nx_code.specs.Lists.{Begins}
 use Rattle.nx_code.specs.Reading.{newline}
 use Rattle.nx_envelope.specs.Moment.{IsShownAs}
-use Rattle.nx_envelope.specs.declared.found.FoundHead.{FoundHead}
 use Rattle.nx_fec.specs.declared.air_files.channel.Channel.{Channel}
-use Rattle.nx_receiver.specs.copies.FoundCopies.{TaggedCopy}
+use Rattle.nx_receiver.specs.copies.FoundCopies.{TaggedCopy, headed_copy}
 use Rattle.nx_receiver.specs.copies.Log.{IsEntry, IsLog, entry_head, missing_newline}
 use Rattle.nx_receiver.specs.copies.Shares.{MarkedCopy, marked}
-use Rattle.nx_receiver.specs.private.Heads.{headed_copy}
+use Rattle.nx_receiver.specs.declared.entry.EntryHead.{EntryHead}
 
 -- the entry of a copy with this civil time
 abbrev pub entry_with : Channel → TaggedCopy → List ℕ → List ℕ
@@ -23,17 +22,17 @@ entry_with channel copy civil =
     entry_head channel copy civil ++ copy.text ++ missing_newline copy.text ++ newline ∷ []
 
 -- an entry by its parts
-pub entry_of_parts : (head : FoundHead) (text : List ℕ) (moment : ℕ) (channel : Channel)
-    (civil line end : List ℕ) → IsShownAs moment civil
-    → line ≡ entry_head channel (headed_copy head text moment true) civil
+pub entry_of_parts : (head : EntryHead) (text : List ℕ) (channel : Channel)
+    (civil line end : List ℕ) → IsShownAs head.moment civil
+    → line ≡ entry_head channel (headed_copy head text true) civil
     → end ≡ missing_newline text ++ newline ∷ []
-    → IsEntry (marked channel (headed_copy head text moment true)) (line ++ text ++ end)
-entry_of_parts head text moment channel civil line end shown first last = record {
+    → IsEntry (marked channel (headed_copy head text true)) (line ++ text ++ end)
+entry_of_parts head text channel civil line end shown first last = record {
   civil = civil;
   shown = shown;
   spelled = ap (λ xs. xs ++ text ++ end) first
-      ∙ ap (λ xs. entry_head channel (headed_copy head text moment true) civil ++ text ++ xs) last
-      ∙ sym (append_assoc (entry_head channel (headed_copy head text moment true) civil ++ text)
+      ∙ ap (λ xs. entry_head channel (headed_copy head text true) civil ++ text ++ xs) last
+      ∙ sym (append_assoc (entry_head channel (headed_copy head text true) civil ++ text)
       (missing_newline text) (newline ∷ []));
 }
 

@@ -1,6 +1,6 @@
--- What is printed of a copy that was handed out, and entered; and what a receiver stands after with
--- it.
-use Rattle.std.proofs.Common.{◌≡◌, Bool, true, cond, List, [], ◌∷◌, ◌++◌, Option, Some, None}
+-- What is printed of copies that have ended, and entered; and what a receiver stands after with
+-- them.
+use Rattle.std.proofs.Common.{◌≡◌, ℕ, Bool, true, cond, List, [], ◌∷◌, ◌++◌, Option}
 use Rattle.std.proofs.Common.{Result, Ok, Err, IfOk, ◌-◌, ◌≤◌, length, drop, refl, sym, ap, ◌∙◌}
 use Rattle.std.proofs.Common.{subst, append-nil, arith}
 use Rattle.std.specs.Result.{MatchResult, is_ok}
@@ -8,91 +8,81 @@ use Rattle.std.proofs.lemmas.Bool.{and_parts, true≢false}
 use Rattle.nx_code.specs.Lists.{last_of}
 use Rattle.nx_memory.specs.Memory.{most_entries}
 use Rattle.nx_memory.specs.declared.memories.entry.MemoryEntry.{MemoryEntry}
-use Rattle.nx_envelope.specs.declared.found.Found.{Found}
-use Rattle.nx_receiver.specs.declared.copy_taker.CopyTag.{CopyTag}
 use Rattle.nx_receiver.specs.Events.{Event, Setting, Start, elements_among, first_setting}
 use Rattle.nx_receiver.specs.Events.{setting_after_all, settings}
-use Rattle.nx_receiver.specs.copies.FoundCopies.{FoundCopy, TaggedCopy, tagged_copies, tagged_found}
+use Rattle.nx_receiver.specs.copies.FoundCopies.{FoundCopy, TaggedCopy, headed_copy, tagged_copies}
 use Rattle.nx_receiver.specs.copies.Log.{HasPrinted, PrintsToEnd}
 use Rattle.nx_receiver.specs.copies.Printing.{entries_after, entries_made, entry_made, if_printed}
 use Rattle.nx_receiver.specs.copies.Printing.{is_printed, printed_copies}
-use Rattle.nx_receiver.specs.Receiver.{Stands}
+use Rattle.nx_receiver.specs.Receiver.{Receiving, Stands}
+use Rattle.nx_receiver.specs.declared.entry.EntryHead.{EntryHead}
 use Rattle.nx_receiver.specs.declared.copy_taker.Over.{Over}
 use Rattle.nx_receiver.specs.private.Awaiting.{AwaitsOver}
 use Rattle.nx_receiver.specs.private.CopyHearer.{HasEnded, HasEndedAll, HearerStands, copies_by}
-use Rattle.nx_receiver.specs.private.CopyHearer.{IsOver, handed_out}
+use Rattle.nx_receiver.specs.private.CopyHearer.{IsOver}
 use Rattle.nx_receiver.specs.CopyHearing.{CopyHearing, in_force}
 use Rattle.nx_receiver.proofs.lemmas.receiver.Logged.{printed_copies-append, entries_after-append}
 
--- where no copy was handed out, none is printed, and none entered
-pub print_none : (entries : List MemoryEntry) (found : Option Found) (tag : CopyTag) → found ≡ None
-    → printed_copies entries (handed_out found tag) ≡ []
+-- where no copy has ended, none is printed, and none entered
+pub printed_none : (entries : List MemoryEntry) (copies : List TaggedCopy) → copies ≡ []
+    → printed_copies entries copies ≡ []
 unfolding printed_copies
-print_none entries found tag e = ap (λ f. printed_copies entries (handed_out f tag)) e
+printed_none entries copies none = ap (printed_copies entries) none
 
-pub enter_none : (entries : List MemoryEntry) (found : Option Found) (tag : CopyTag) → found ≡ None
-    → entries_after entries (handed_out found tag) ≡ entries
+pub entered_none : (entries : List MemoryEntry) (copies : List TaggedCopy) → copies ≡ []
+    → entries_after entries copies ≡ entries
 unfolding entries_made
-enter_none entries found tag e =
-    ap (λ f. entries_after entries (handed_out f tag)) e ∙ append-nil entries
+entered_none entries copies none = ap (entries_after entries) none ∙ append-nil entries
 
--- a copy that was handed out, with its tag
-abbrev pub with_tag : Found → CopyTag → TaggedCopy
-with_tag found tag = tagged_found found tag.moment tag.is_selected
-
-pub print_some : (entries : List MemoryEntry) (found : Option Found) (tag : CopyTag) (copy : Found)
-    (is_shown : Bool) → found ≡ Some copy
-    → is_shown ≡ is_printed entries (with_tag copy tag)
-    → printed_copies entries (handed_out found tag) ≡ cond is_shown (with_tag copy tag ∷ []) []
+-- what is printed, and entered, of one copy that has ended
+pub printed_one : (entries : List MemoryEntry) (copies : List TaggedCopy) (copy : TaggedCopy)
+    (is_shown : Bool) → copies ≡ copy ∷ [] → is_shown ≡ is_printed entries copy
+    → printed_copies entries copies ≡ cond is_shown (copy ∷ []) []
 unfolding printed_copies if_printed
-print_some entries found tag copy is_shown e h =
-    ap (λ f. printed_copies entries (handed_out f tag)) e
-    ∙ append-nil (if_printed entries (with_tag copy tag))
-    ∙ ap (λ b. cond b (with_tag copy tag ∷ []) []) (sym h)
+printed_one entries copies copy is_shown one shown =
+    ap (printed_copies entries) one ∙ append-nil (if_printed entries copy)
+    ∙ ap (λ b. cond b (copy ∷ []) []) (sym shown)
 
-pub enter_some : (entries : List MemoryEntry) (found : Option Found) (tag : CopyTag) (copy : Found)
-    → found ≡ Some copy
-    → entries_after entries (handed_out found tag)
-    ≡ entries ++ entry_made entries (with_tag copy tag)
+pub entered_one : (entries : List MemoryEntry) (copies : List TaggedCopy) (copy : TaggedCopy)
+    → copies ≡ copy ∷ [] → entries_after entries copies ≡ entries ++ entry_made entries copy
 unfolding entries_made
-enter_some entries found tag copy e =
-    ap (λ f. entries_after entries (handed_out f tag)) e
-    ∙ ap (λ es. entries ++ es) (append-nil (entry_made entries (with_tag copy tag)))
+entered_one entries copies copy one =
+    ap (entries_after entries) one
+    ∙ ap (λ es. entries ++ es) (append-nil (entry_made entries copy))
 
 -- what is printed was selected
-pub selected : (entries : List MemoryEntry) (found : Found) (tag : CopyTag)
-    → is_printed entries (with_tag found tag) ≡ true
-    → tagged_found found tag.moment true ≡ with_tag found tag
+pub was_selected : (entries : List MemoryEntry) (head : EntryHead) (text : List ℕ) (selected : Bool)
+    → is_printed entries (headed_copy head text selected) ≡ true
+    → headed_copy head text true ≡ headed_copy head text selected
 unfolding is_printed
-selected entries found tag h = ap (tagged_found found tag.moment) (sym (and_parts _ _ h).0)
+was_selected entries head text selected shown =
+    ap (headed_copy head text) (sym (and_parts _ _ shown).0)
 
--- A hearer handed out a copy, or none; what is printed and entered of it is the next of all copies.
+-- Some copies have ended; what is printed and entered of them is the next of all copies.
 pub awaits_with : {M : Type 0} (content : M → List MemoryEntry) (start : Start)
-    (hearer : CopyHearing) (old new : M) (h : List Bool) (s : List Setting) (now : Setting)
-    (copies log : List TaggedCopy) (found : Option Found) (tag : CopyTag) (more : List TaggedCopy)
-    (left : Option Over)
-    → IsOver (first_setting start) hearer h s (copies ++ handed_out found tag) left
-    → in_force hearer ≡ now
+    (old new : Receiving M) (h : List Bool) (s : List Setting) (now : Setting)
+    (copies log last more : List TaggedCopy) (left : Option Over)
+    → IsOver (first_setting start) new.hearer h s (copies ++ last) left
+    → in_force new.hearer ≡ now
     → log ≡ printed_copies start.entries copies
-    → content old ≡ last_of most_entries (entries_after start.entries copies)
-    → ((entries : List MemoryEntry) → content old ≡ last_of most_entries entries
-    → more ≡ printed_copies entries (handed_out found tag))
-    → ((entries : List MemoryEntry) → content old ≡ last_of most_entries entries
-    → content new ≡ last_of most_entries (entries_after entries (handed_out found tag)))
-    → AwaitsOver content start (record { hearer = hearer; memory = new }) h s now (log ++ more) left
-awaits_with content start hearer old new h s now copies log found tag more left stands force
-    printed memory prints enters =
+    → content old.memory ≡ last_of most_entries (entries_after start.entries copies)
+    → ((entries : List MemoryEntry) → content old.memory ≡ last_of most_entries entries
+    → more ≡ printed_copies entries last)
+    → ((entries : List MemoryEntry) → content old.memory ≡ last_of most_entries entries
+    → content new.memory ≡ last_of most_entries (entries_after entries last))
+    → AwaitsOver content start new h s now (log ++ more) left
+awaits_with content start old new h s now copies log last more left stands force printed memory
+    prints enters =
     let before = entries_after start.entries copies in
     record {
-      copies = copies ++ handed_out found tag;
+      copies = copies ++ last;
       hearer = stands;
       force = force;
       printed = ap (λ l. l ++ more) printed
           ∙ ap (λ l. printed_copies start.entries copies ++ l) (prints before memory)
-          ∙ sym (printed_copies-append start.entries copies (handed_out found tag));
+          ∙ sym (printed_copies-append start.entries copies last);
       memory = enters before memory
-          ∙ ap (last_of most_entries)
-          (sym (entries_after-append start.entries copies (handed_out found tag)));
+          ∙ ap (last_of most_entries) (sym (entries_after-append start.entries copies last));
     }
 
 -- what is in force at each element is what is in force at the events that are elements
@@ -113,18 +103,18 @@ has_printed start events copies log ended printed = record {
       (ended.ended ∙ tagged-by (first_setting start) events _);
 }
 
--- The end of the text handed out a copy, or none; what is printed of it is the last of the log.
+-- The elements ended, and these are the last copies; what is printed of them is the last of the
+-- log.
 pub prints_to_end : {M : Type 0} (content : M → List MemoryEntry) (start : Start)
-    (events : List Event) (memory : M) (copies log : List TaggedCopy) (found : Option Found)
-    (tag : CopyTag) (more : List TaggedCopy)
+    (events : List Event) (memory : M) (copies log last more : List TaggedCopy)
     → HasEndedAll (first_setting start) (elements_among events)
-    (settings (first_setting start) events) (copies ++ handed_out found tag)
+    (settings (first_setting start) events) (copies ++ last)
     → log ≡ printed_copies start.entries copies
     → content memory ≡ last_of most_entries (entries_after start.entries copies)
     → ((entries : List MemoryEntry) → content memory ≡ last_of most_entries entries
-    → more ≡ printed_copies entries (handed_out found tag))
+    → more ≡ printed_copies entries last)
     → PrintsToEnd start events (log ++ more)
-prints_to_end content start events memory copies log found tag more ended printed holds prints =
+prints_to_end content start events memory copies log last more ended printed holds prints =
     record {
       locks = ended.locks;
       now = ended.now;
@@ -132,7 +122,7 @@ prints_to_end content start events memory copies log found tag more ended printe
       printed = ap (λ l. l ++ more) printed
           ∙ ap (λ l. printed_copies start.entries copies ++ l)
           (prints (entries_after start.entries copies) holds)
-          ∙ sym (printed_copies-append start.entries copies (handed_out found tag))
+          ∙ sym (printed_copies-append start.entries copies last)
           ∙ ap (printed_copies start.entries)
           (ended.ended ∙ tagged-by (first_setting start) events _);
     }

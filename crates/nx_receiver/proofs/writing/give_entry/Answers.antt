@@ -20,7 +20,7 @@ returns-in_err-give-clause-given g c =
     let text = c.args.text.now in
     let line = c.as_slice.result.now in
     let end = missing_newline text ++ newline ∷ [] in
-    let is = entry_of_parts c.args.head.now text c.args.moment c.args.channel
+    let is = entry_of_parts c.args.head.now text c.args.channel
     c.head_line-line.ensures.0 line end c.head_line-line.ensures.1
     (c.as_slice.ensures.value ∙ c.head_line-line.ensures.2) refl in
     let p = err_from_is_err_and c.from_residual.result c.from_residual.ensures.1 in (
@@ -39,7 +39,7 @@ returns-in_err-give-2-clause-given g c =
     let text = c.args.text.now in
     let line = c.as_slice.result.now in
     let end = missing_newline text ++ newline ∷ [] in
-    let is = entry_of_parts c.args.head.now text c.args.moment c.args.channel
+    let is = entry_of_parts c.args.head.now text c.args.channel
     c.head_line-line.ensures.0 line end c.head_line-line.ensures.1
     (c.as_slice.ensures.value ∙ c.head_line-line.ensures.2) refl in
     let p = err_from_is_err_and c.from_residual-in_err-give-2.result
@@ -60,7 +60,7 @@ returns-clause-given g c =
     let text = c.args.text.now in
     let line = c.as_slice.result.now in
     let end = c.entry_end.result.now in
-    let is = entry_of_parts c.args.head.now text c.args.moment c.args.channel
+    let is = entry_of_parts c.args.head.now text c.args.channel
     c.head_line-line.ensures.0 line end c.head_line-line.ensures.1
     (c.as_slice.ensures.value ∙ c.head_line-line.ensures.2) c.entry_end.ensures.end in (
       line ++ text ++ end,

@@ -14,7 +14,7 @@ ghost use Rattle.nx_receiver.specs.private.Listener.{StandsFrom, listener_taker}
 ghost use Rattle.nx_receiver.specs.private.ListenFaults.{StandsFor, StopsAtLine};
 
 use crate::air_file_runs::listen_fault::ListenFault;
-use crate::air_file_runs::listening::AIR_LIMIT;
+use crate::air_file_runs::listening::{AIR_LIMIT, take_elements, take_setting};
 use crate::listener::Listener;
 use nx_fec::{Batch, CHUNK, Counting, LineKind, LinesRead, Piece, Scanner, next_piece};
 use std::io::{Read, Write};
@@ -48,7 +48,7 @@ pub(super) fn listen_lines<R: Read, W: Write>(
             Piece::End => break,
             Piece::Failed => return Err(ListenFault::Read),
         };
-        if let Err(why) = listener.take_piece(&buffer[..count], &mut scanner, writer, &mut batch) {
+        if let Err(why) = take_piece(listener, &buffer[..count], &mut scanner, writer, &mut batch) {
             return Err(settle(why, writer, &mut batch));
         }
     }
@@ -81,108 +81,106 @@ fn settle<W: Write>(fault: ListenFault, writer: &mut Counting<W>, batch: &mut Ba
     }
 }
 
-impl Listener {
-    /// Takes the lines that a piece of the file ends.
-    fn take_piece<W: Write>(
-        &mut self,
-        piece: &[u8],
-        scanner: &mut Scanner,
-        writer: &mut Counting<W>,
-        batch: &mut Batch,
-    ) -> Result<(), ListenFault>
-        requires { writer.old.failures ≡ 0 }
-        ensures taken { (first : Listening) (old : Option (List ℕ)) (bytes : List ℕ)
-            → IsTaking StandsFrom first self.old scanner.old old
-            (W.contents writer.old.inner) batch.old bytes
-            → MatchResult result
-            (λ _. IsTaking StandsFrom first self.new scanner.new old
-            (W.contents writer.new.inner) batch.new
-            (bytes ++ piece.now))
-            (λ fault. (more : List ℕ) → StandsFor lines_fault
-            (ExplainsLines (line_run listener_taker first self.new old
-            (W.contents writer.new.inner)) inside
-            (HasGiven old (W.contents writer.new.inner) batch.new)
-            ((bytes ++ piece.now) ++ more)) fault) }
-        ensures room { OnOk result (scanner.new.room + length piece.now ≡ scanner.old.room) }
-        ensures writes { Writes writer.new ListenFault.Write result }
-    {
-        let mut at = 0;
-        while at < piece.len() {
-            at += self.take_line(&piece[at..], scanner, writer, batch)?;
-        }
-        Ok(())
+/// Takes the lines that a piece of the file ends.
+fn take_piece<W: Write>(
+    listener: &mut Listener,
+    piece: &[u8],
+    scanner: &mut Scanner,
+    writer: &mut Counting<W>,
+    batch: &mut Batch,
+) -> Result<(), ListenFault>
+    requires { writer.old.failures ≡ 0 }
+    ensures taken { (first : Listening) (old : Option (List ℕ)) (bytes : List ℕ)
+        → IsTaking StandsFrom first listener.old scanner.old old
+        (W.contents writer.old.inner) batch.old bytes
+        → MatchResult result
+        (λ _. IsTaking StandsFrom first listener.new scanner.new old
+        (W.contents writer.new.inner) batch.new
+        (bytes ++ piece.now))
+        (λ fault. (more : List ℕ) → StandsFor lines_fault
+        (ExplainsLines (line_run listener_taker first listener.new old
+        (W.contents writer.new.inner)) inside
+        (HasGiven old (W.contents writer.new.inner) batch.new)
+        ((bytes ++ piece.now) ++ more)) fault) }
+    ensures room { OnOk result (scanner.new.room + length piece.now ≡ scanner.old.room) }
+    ensures writes { Writes writer.new ListenFault.Write result }
+{
+    let mut at = 0;
+    while at < piece.len() {
+        at += take_line(listener, &piece[at..], scanner, writer, batch)?;
     }
+    Ok(())
+}
 
-    /// Scans the bytes of a piece up to and with its first line feed, and takes the line that it
-    /// ends. Answers how many bytes there were.
-    fn take_line<W: Write>(
-        &mut self,
-        piece: &[u8],
-        scanner: &mut Scanner,
-        writer: &mut Counting<W>,
-        batch: &mut Batch,
-    ) -> Result<usize, ListenFault>
-        requires some { 0 < length piece.now }
-        requires writer { writer.old.failures ≡ 0 }
-        ensures taken { (first : Listening) (old : Option (List ℕ)) (bytes : List ℕ)
-            → IsTaking StandsFrom first self.old scanner.old old
-            (W.contents writer.old.inner) batch.old bytes
-            → MatchResult result
-            (λ count. IsTaking StandsFrom first self.new scanner.new old
-            (W.contents writer.new.inner) batch.new
-            (bytes ++ take count piece.now))
-            (λ fault. (more : List ℕ) → StandsFor lines_fault
-            (ExplainsLines (line_run listener_taker first self.new old
-            (W.contents writer.new.inner)) inside
-            (HasGiven old (W.contents writer.new.inner) batch.new)
-            ((bytes ++ piece.now) ++ more)) fault) }
-        ensures some { IfOk result (λ count. (0 < count) × (count ≤ length piece.now)
-            × (scanner.new.room + count ≡ scanner.old.room)) }
-        ensures writes { Writes writer.new ListenFault.Write result }
-    {
-        let count = scanner.push_line(piece)?;
-        let Some(kind) = scanner.latest() else {
-            return Ok(count);
-        };
-        self.take_latest(kind, scanner, writer, batch)?;
-        Ok(count)
-    }
+/// Scans the bytes of a piece up to and with its first line feed, and takes the line that it
+/// ends. Answers how many bytes there were.
+fn take_line<W: Write>(
+    listener: &mut Listener,
+    piece: &[u8],
+    scanner: &mut Scanner,
+    writer: &mut Counting<W>,
+    batch: &mut Batch,
+) -> Result<usize, ListenFault>
+    requires some { 0 < length piece.now }
+    requires writer { writer.old.failures ≡ 0 }
+    ensures taken { (first : Listening) (old : Option (List ℕ)) (bytes : List ℕ)
+        → IsTaking StandsFrom first listener.old scanner.old old
+        (W.contents writer.old.inner) batch.old bytes
+        → MatchResult result
+        (λ count. IsTaking StandsFrom first listener.new scanner.new old
+        (W.contents writer.new.inner) batch.new
+        (bytes ++ take count piece.now))
+        (λ fault. (more : List ℕ) → StandsFor lines_fault
+        (ExplainsLines (line_run listener_taker first listener.new old
+        (W.contents writer.new.inner)) inside
+        (HasGiven old (W.contents writer.new.inner) batch.new)
+        ((bytes ++ piece.now) ++ more)) fault) }
+    ensures some { IfOk result (λ count. (0 < count) × (count ≤ length piece.now)
+        × (scanner.new.room + count ≡ scanner.old.room)) }
+    ensures writes { Writes writer.new ListenFault.Write result }
+{
+    let count = scanner.push_line(piece)?;
+    let Some(kind) = scanner.latest() else {
+        return Ok(count);
+    };
+    take_latest(listener, kind, scanner, writer, batch)?;
+    Ok(count)
+}
 
-    /// Takes the line that the scanner's last byte ended, which says this, and gives the batch what
-    /// it prints. A line that is refused changes nothing.
-    fn take_latest<W: Write>(
-        &mut self,
-        kind: LineKind,
-        scanner: &Scanner,
-        writer: &mut Counting<W>,
-        batch: &mut Batch,
-    ) -> Result<(), ListenFault>
-        requires kind { kind_kept scanner.now.latest ≡ Some kind }
-        requires line { IfSome scanner.now.latest IsLine }
-        requires none { writer.old.failures ≡ 0 }
-        ensures taken { (first : Listening) (old : Option (List ℕ)) (lines : List Line)
-            (line : Line) → scanner.now.latest ≡ Some line
-            → HasTaken StandsFrom first self.old lines
-            (HasGiven old (W.contents writer.old.inner) batch.old)
-            → MatchResult result
-            (λ _. HasTaken StandsFrom first self.new (lines ++ line ∷ [])
-            (HasGiven old (W.contents writer.new.inner) batch.new))
-            (StopsAtLine first self.new old (W.contents writer.new.inner) batch.new lines line
-            scanner.now.lines) }
-        ensures writes { Writes writer.new ListenFault.Write result }
-    {
-        let LineKind::Elements(mark) = kind else {
-            return match self.take_setting(kind) {
-                Ok(()) => Ok(()),
-                Err(why) => Err(ListenFault::of_refusal(scanner.lines(), why)),
-            };
+/// Takes the line that the scanner's last byte ended, which says this, and gives the batch what
+/// it prints. A line that is refused changes nothing.
+fn take_latest<W: Write>(
+    listener: &mut Listener,
+    kind: LineKind,
+    scanner: &Scanner,
+    writer: &mut Counting<W>,
+    batch: &mut Batch,
+) -> Result<(), ListenFault>
+    requires kind { kind_kept scanner.now.latest ≡ Some kind }
+    requires line { IfSome scanner.now.latest IsLine }
+    requires none { writer.old.failures ≡ 0 }
+    ensures taken { (first : Listening) (old : Option (List ℕ)) (lines : List Line)
+        (line : Line) → scanner.now.latest ≡ Some line
+        → HasTaken StandsFrom first listener.old lines
+        (HasGiven old (W.contents writer.old.inner) batch.old)
+        → MatchResult result
+        (λ _. HasTaken StandsFrom first listener.new (lines ++ line ∷ [])
+        (HasGiven old (W.contents writer.new.inner) batch.new))
+        (StopsAtLine first listener.new old (W.contents writer.new.inner) batch.new lines line
+        scanner.now.lines) }
+    ensures writes { Writes writer.new ListenFault.Write result }
+{
+    let LineKind::Elements(mark) = kind else {
+        return match take_setting(listener, kind) {
+            Ok(()) => Ok(()),
+            Err(why) => Err(ListenFault::of_refusal(scanner.lines(), why)),
         };
-        if !self.has_moment {
-            return Err(ListenFault::NoMoment {
-                line: scanner.lines(),
-            });
-        }
-        self.take_elements(mark, scanner.elements(), writer, batch)?;
-        Ok(())
+    };
+    if !listener.has_moment() {
+        return Err(ListenFault::NoMoment {
+            line: scanner.lines(),
+        });
     }
+    take_elements(listener, mark, scanner.elements(), writer, batch)?;
+    Ok(())
 }

@@ -4,9 +4,23 @@ ghost use Rattle.std.specs.Prelude.{◌≤◌};
 ghost use Rattle.nx_memory.specs.Memory.{newest_moment};
 
 use super::super::{AGAIN, FIRST, SECOND, first_copy};
-use nx_envelope::Identity;
+use nx_envelope::{Found, Identity};
 use nx_memory::{PlainRecall, Recall, RingRecall};
-use nx_receiver::judge;
+use nx_receiver::{EntryHead, judge};
+
+/// Whether a copy is printed that was found at this moment.
+fn judge_found<M: Recall>(found: &Found, moment: u64, selected: bool, memory: &mut M) -> bool
+    requires { newest_moment (M.content memory.old) ≤ moment }
+    ensures { newest_moment (M.content memory.new) ≤ moment }
+{
+    let head = EntryHead {
+        identity: found.identity,
+        moment,
+        how: found.how,
+        errors: found.errors,
+    };
+    judge(&head, &found.text, selected, memory)
+}
 
 /// What a memory makes of copies that follow one another.
 fn judge_copies<M: Recall>(memory: &mut M) -> Option<[bool; 8]>
@@ -18,17 +32,17 @@ fn judge_copies<M: Recall>(memory: &mut M) -> Option<[bool; 8]>
     let numbered_00 = first_copy(b"ZCZC EA00\nTEST\nNNNN")?;
     Some([
         // One of 25 characters is lost: it is printed, and not remembered.
-        judge(&four_per_cent, FIRST, true, memory),
-        judge(&four_per_cent, FIRST, true, memory),
+        judge_found(&four_per_cent, FIRST, true, memory),
+        judge_found(&four_per_cent, FIRST, true, memory),
         // What isn't selected is neither printed nor remembered.
-        judge(&good, FIRST, false, memory),
-        judge(&good, FIRST, true, memory),
+        judge_found(&good, FIRST, false, memory),
+        judge_found(&good, FIRST, true, memory),
         // From then on no copy is printed.
-        judge(&good, SECOND, true, memory),
-        judge(&four_per_cent, SECOND, true, memory),
+        judge_found(&good, SECOND, true, memory),
+        judge_found(&four_per_cent, SECOND, true, memory),
         // The number 00 is printed each time.
-        judge(&numbered_00, SECOND, true, memory),
-        judge(&numbered_00, SECOND, true, memory),
+        judge_found(&numbered_00, SECOND, true, memory),
+        judge_found(&numbered_00, SECOND, true, memory),
     ])
 }
 

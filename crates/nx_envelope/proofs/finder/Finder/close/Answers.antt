@@ -29,6 +29,7 @@ returns c =
           | in-Nothing w ↦ rw w.copy-is none-nil
         ];
       };
+      text = kept ∙ c.restart.ensures.text;
     }
 
 pub invariant_of-self : goal.invariant_of-self

@@ -1,19 +1,39 @@
-use Rattle.std.proofs.Common.{sym, subst, ◌++◌}
+use Rattle.std.proofs.Common.{◌∷◌, ◌∙◌, [], ap, subst, sym, true}
+use Rattle.nx_receiver.specs.CopyHearing.{CopyHearing}
 use Rattle.nx_receiver.specs.Events.{elements_among, first_setting, settings}
-use Rattle.nx_receiver.specs.Receiver.{Stands, entry_list}
-use Rattle.nx_receiver.specs.private.CopyHearer.{HasEndedAll, handed_out}
+use Rattle.nx_receiver.specs.Receiver.{Stands, entry_list, headed_list}
+use Rattle.nx_receiver.specs.copies.FoundCopies.{copy_of, headed_copy}
+use Rattle.nx_receiver.specs.private.CopyHearer.{ready_copies}
 use Rattle.nx_receiver.proofs.lemmas.receiver.Printing.{prints_to_end}
 use Rattle.nx_receiver.proofs.receiver.Receiver.close.Goals as goal
+
+pub returns-in_err-head-clause-stands : goal.returns-in_err-head-clause-stands
+returns-in_err-head-clause-stands g c start history log stands =
+    let content = g.M.Recall.content in
+    let first = first_setting start in
+    let before = subst (λ r. Stands content start r history log) (sym c.receiver.view_is) stands in
+    let closed = c.close_text.new.self in
+    let ended = c.close_text.ensures.all first (elements_among history) (settings first history)
+    before.copies before.hearer in
+    prints_to_end content start history c.receiver.inside.memory before.copies log
+    (ready_copies closed) (entry_list c.from_residual.result) ended before.printed before.memory
+    (λ entries h. ap entry_list c.from_residual.ensures
+    ∙ sym (ap (λ o. headed_list o closed.reader.finder.text) c.in_err-head.was)
+    ∙ c.judge_ready.ensures.printed entries h)
 
 pub returns-clause-stands : goal.returns-clause-stands
 returns-clause-stands g c start history log stands =
     let content = g.M.Recall.content in
     let first = first_setting start in
-    let before = subst (λ r. Stands content start r history log) (sym c.self.view_is) stands in
-    let ended = c.end_text-found.ensures.all first (elements_among history) (settings first history)
+    let before = subst (λ r. Stands content start r history log) (sym c.receiver.view_is) stands in
+    let closed = c.close_text.new.self in
+    let ended = c.close_text.ensures.all first (elements_among history) (settings first history)
     before.copies before.hearer in
-    let all = subst (λ t. HasEndedAll first (elements_among history) (settings first history)
-    (before.copies ++ handed_out c.end_text-found.result t)) (sym c.tag.ensures) ended in
-    prints_to_end content start history c.self.inside.memory before.copies log
-    c.end_text-found.result c.tag.result (entry_list c.print_copy.result) all before.printed
-    before.memory c.print_copy.ensures.printed
+    let head = c.in_ok-head.head in
+    let text = c.text.ensures.text
+    ∙ ap (λ (w : CopyHearing). w.reader.finder.text) c.judge_ready.ensures.hearer in
+    prints_to_end content start history c.receiver.inside.memory before.copies log
+    (ready_copies closed) (copy_of c.of.result ∷ []) ended before.printed before.memory
+    (λ entries h. ap (λ x. x ∷ []) (c.of.ensures.copy ∙ ap (λ t. headed_copy head t true) text)
+    ∙ sym (ap (λ o. headed_list o closed.reader.finder.text) c.in_ok-head.was)
+    ∙ c.judge_ready.ensures.printed entries h)

@@ -85,10 +85,10 @@ returns-in-Err g c = λ first s.
     (g.W.Write.contents c.send.new.writer.inner) c.loop-reader.batch c.send.new.self r.0
     (λ given k. c.in_ok-send.ensures.bytes old given k) r.2 in
     let explained = subst (λ l. StandsFor lines_fault (ExplainsLines (line_run listener_taker
-    first c.take_piece.new.self old mid) inside (HasGiven old mid c.take_piece.new.batch) l)
+    first c.take_piece.new.listener old mid) inside (HasGiven old mid c.take_piece.new.batch) l)
     c.in-Err.why) (append-nil (r.0 ++ piece))
     (c.in-Err.ensures.taken first old r.0 sent []) in
-    let settled = c.settle.ensures.settled first c.take_piece.new.self old (r.0 ++ piece)
+    let settled = c.settle.ensures.settled first c.take_piece.new.listener old (r.0 ++ piece)
     explained in
     record {
       why = settled.why;

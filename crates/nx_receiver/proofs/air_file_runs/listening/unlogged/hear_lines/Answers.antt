@@ -29,7 +29,7 @@ loop-count-preserved g c = record {
 pub returns-in_err-hear_piece-in-Bytes : goal.returns-in_err-hear_piece-in-Bytes
 returns-in_err-hear_piece-in-Bytes g c = λ first s.
     let r = c.loop-count.invariant.taken first s in
-    let stands = StandsUnlogged first c.hear_piece.new.self in
+    let stands = StandsUnlogged first c.hear_piece.new.listener in
     let piece = take c.in-Bytes.count c.next_piece.new.buffer in
     let p = err_from_is_err_and c.from_residual.result c.from_residual.ensures.1 in
     let stops = subst (λ l. StandsFor hearing_fault (StopsLines (RefusesFrom first) stands inside
