@@ -18,7 +18,6 @@ use nx_envelope::{Finder, Identity};
 use nx_fec::PackedElements;
 use nx_memory::{Selection, Vital};
 use nx_sync::Synchroniser;
-use std::alloc::{AllocError, Global};
 use std::marker::Model;
 
 /// A hearer of the elements that arrive.
@@ -49,25 +48,19 @@ impl Model for CopyHearer {
 }
 
 impl CopyHearer {
-    /// A hearer that has heard nothing, from this moment on, with what is selected at first. Fails
-    /// where no synchroniser is made.
-    pub(crate) fn new(
-        alloc: Global,
-        moment: u64,
-        selection: Selection,
-    ) -> Result<CopyHearer, AllocError>
-        ensures stands { IfOk result (λ h. (first : Setting) → HearerStands first h [] [] []) }
+    /// A hearer that has heard nothing, from this moment on, with what is selected at first.
+    pub(crate) fn new(moment: u64, selection: Selection) -> CopyHearer
+        ensures stands { (first : Setting) → HearerStands first result [] [] [] }
         ensures force { (start : Start) → start.moment ≡ moment → start.refused ≡ selection
-            → IfOk result (λ h. in_force h ≡ first_setting start) }
-        ensures tag { IfOk result (λ h. h.tag.moment ≡ moment) }
-        ensures moment { IfOk result (λ h. h.moment ≡ moment) }
+            → in_force result ≡ first_setting start }
+        ensures tag { result.tag.moment ≡ moment }
+        ensures moment { result.moment ≡ moment }
     {
         prove!(size_of::<CopyHearer>() == size_of::<Synchroniser>() + size_of::<CopyTaker>());
-        let synchroniser = Synchroniser::new(alloc)?;
-        Ok(CopyHearer {
-            synchroniser,
+        CopyHearer {
+            synchroniser: Synchroniser::hunting(),
             taker: CopyTaker::new(moment, selection),
-        })
+        }
     }
 
     /// The moment in force.

@@ -14,7 +14,8 @@ pub enum ReceiverFault {
     /// The first moment is past 2999-12-31 23:59:59 UTC, or before the newest of the memory.
     #[error("the first moment is out of range")]
     MomentRange,
-    /// There is no memory for the receiver.
+    /// There is no memory for the receiver. It takes none of the allocator, so this isn't answered;
+    /// it stays for callers who match on it.
     #[error("out of memory")]
     Memory(AllocError),
 }

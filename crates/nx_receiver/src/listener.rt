@@ -20,7 +20,7 @@ ghost use Rattle.nx_receiver.specs.private.Awaiting.{FinishesNext, HearsUpTo};
 use crate::command::Command;
 use crate::copy_taker::Over;
 use crate::entry::{Entry, EntryHead};
-use crate::fault::{MomentFault, ReceiverFault};
+use crate::fault::MomentFault;
 use crate::fresh_recall::FreshRecall;
 use crate::receiver::Receiver;
 use crate::writing::{MAX_ENTRY, spell_entry};
@@ -427,9 +427,8 @@ fn receiver_from<M: FreshRecall>(
 {
     let mut memory = M::fresh(alloc)?;
     kept.load(&mut memory);
-    match Receiver::starting(alloc, memory, moment, selected) {
-        Ok(receiver) => Ok(receiver),
-        Err(ReceiverFault::Memory(error)) => Err(error),
-        Err(ReceiverFault::MomentRange) => unreachable!(),
-    }
+    let Ok(receiver) = Receiver::starting(memory, moment, selected) else {
+        unreachable!()
+    };
+    Ok(receiver)
 }

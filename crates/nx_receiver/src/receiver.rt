@@ -12,6 +12,7 @@ ghost use Rattle.nx_receiver.specs.air_file_runs.Chain.{Leaves};
 ghost use Rattle.nx_receiver.specs.Commands.{refuses_vital, said};
 ghost use Rattle.nx_receiver.specs.declared.command.Command.TheVariants.{RefuseSubject};
 ghost use Rattle.nx_receiver.specs.Events as events;
+ghost use Rattle.nx_receiver.specs.declared.fault.ReceiverFault.TheVariants.{MomentRange};
 ghost use Rattle.nx_receiver.specs.Events.{Event, Start, at_moment, first_setting, none_refused, setting_after_all, Refuses, elements};
 ghost use Rattle.nx_receiver.specs.copies.Log.{PrintsToEnd};
 ghost use Rattle.nx_receiver.specs.copies.Printing.{entries_after, printed_copies};
@@ -70,22 +71,22 @@ impl<M: Recall> Receiver<M> {
     /// since 1970-01-01 00:00:00 UTC. Everything is selected.
     ///
     /// `MomentRange` where the moment is past 2999-12-31 23:59:59 or before the newest of the
-    /// memory; else `Memory` where there is none for the synchroniser. The memory of identities is
-    /// then let go.
-    pub fn new(alloc: Global, memory: M, moment: u64) -> Result<Receiver<M>, ReceiverFault>
+    /// memory; the memory of identities is then let go. It takes no memory of the allocator, so
+    /// `Memory` is never answered: the call stays as it was when it took some.
+    pub fn new(_alloc: Global, memory: M, moment: u64) -> Result<Receiver<M>, ReceiverFault>
         ensures stands { (start : Start) → start.entries ≡ M.content memory → start.moment ≡ moment
             → start.refused ≡ none_refused → IfOk result (λ r. Stands M.content start r [] []) }
         ensures refused { IfErr result (RefusesStart (newest_moment (M.content memory)) moment) }
+        ensures range { IfErr result (λ fault. fault ≡ MomentRange) }
         ensures taken { OnOk result
             ((newest_moment (M.content memory) ≤ moment) × (moment ≤ last_moment)) }
     {
-        Receiver::starting(alloc, memory, moment, Selection::all())
+        Receiver::starting(memory, moment, Selection::all())
     }
 
     /// A receiver that has heard nothing, with a memory, the first moment and the first selection.
     /// Fails as `new` does.
     pub(crate) fn starting(
-        alloc: Global,
         memory: M,
         moment: u64,
         selection: Selection,
@@ -94,6 +95,7 @@ impl<M: Recall> Receiver<M> {
             → start.refused ≡ selection → IfOk result (λ r. Stands M.content start r [] []) }
         ensures memory { IfOk result (λ r. r.memory ≡ memory) }
         ensures refused { IfErr result (RefusesStart (newest_moment (M.content memory)) moment) }
+        ensures range { IfErr result (λ fault. fault ≡ MomentRange) }
         ensures taken { OnOk result
             ((newest_moment (M.content memory) ≤ moment) × (moment ≤ last_moment)) }
     {
@@ -103,7 +105,7 @@ impl<M: Recall> Receiver<M> {
         if moment > LAST_MOMENT || memory.newest().is_some_and(|newest| moment < newest) {
             return Err(ReceiverFault::MomentRange);
         }
-        let hearer = CopyHearer::new(alloc, moment, selection).map_err(ReceiverFault::Memory)?;
+        let hearer = CopyHearer::new(moment, selection);
         Ok(Receiver { hearer, memory })
     }
 

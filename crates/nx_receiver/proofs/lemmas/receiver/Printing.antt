@@ -1,10 +1,9 @@
 -- What is printed of copies that have ended, and entered; and what a receiver stands after with
 -- them.
 use Rattle.std.proofs.Common.{◌≡◌, ℕ, Bool, true, cond, List, [], ◌∷◌, ◌++◌, Option}
-use Rattle.std.proofs.Common.{Result, Ok, Err, IfOk, ◌-◌, ◌≤◌, length, drop, refl, sym, ap, ◌∙◌}
-use Rattle.std.proofs.Common.{subst, append-nil, arith}
-use Rattle.std.specs.Result.{MatchResult, is_ok}
-use Rattle.std.proofs.lemmas.Bool.{and_parts, true≢false}
+use Rattle.std.proofs.Common.{◌-◌, ◌≤◌, length, drop, refl, sym, ap, ◌∙◌}
+use Rattle.std.proofs.Common.{append-nil, arith}
+use Rattle.std.proofs.lemmas.Bool.{and_parts}
 use Rattle.nx_code.specs.Lists.{last_of}
 use Rattle.nx_memory.specs.Memory.{most_entries}
 use Rattle.nx_memory.specs.declared.memories.entry.MemoryEntry.{MemoryEntry}
@@ -145,12 +144,3 @@ begins content start memory hearer stands force entries few =
       printed = refl;
       memory = sym (ap (last_of most_entries) (append-nil start.entries ∙ entries) ∙ all);
     }
-
--- what holds of a value that was made, where another error was put in place of the one that came
-pub made : {W E F : Type 0} (given : Result W E) (mapped : Result W F) (P : W → Type 0)
-    (Q : E → Type 0) (w : W) → MatchResult given (λ x. mapped ≡ Ok x) Q
-    → is_ok mapped ≡ is_ok given → mapped ≡ Ok w → IfOk given P → P w
-made (Ok x) mapped P Q w cases same is holds =
-    let one : x ≡ w = cc in
-    subst P one holds
-made (Err e) mapped P Q w cases same is holds = absurd (true≢false (sym (ap is_ok is) ∙ same))

@@ -3,4 +3,4 @@ use Rattle.nx_receiver.proofs.copy_hearer.CopyHearer.new.Goals as goal
 
 pub returns-clause-stands : goal.returns-clause-stands
 returns-clause-stands c first =
-    nothing_heard first _ c.in_ok-synchroniser.ensures.stands c.new-2.ensures.fresh
+    nothing_heard first _ c.hunting.ensures.stands c.new.ensures.fresh
