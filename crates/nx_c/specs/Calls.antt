@@ -78,12 +78,13 @@ ResumesTo state air log left outcome =
 
 -- the text of a state that is handed out: only where the status before it says that all is done
 abbrev pub handed : ℕ → List ℕ → List ℕ
-handed status left = if status == 0 then left else []
+handed status left = if status == number_of Done then left else []
 
 -- the status behind that text, of so many bytes, and a room of so many
 abbrev pub after_handing : ℕ → ℕ → ℕ → ℕ
 after_handing status count capacity =
-    if status == 0 then (if nat_lt capacity count then number_of StateNoRoom else number_of Done)
+    if status == number_of Done
+    then (if nat_lt capacity count then number_of StateNoRoom else number_of Done)
     else status
 
 -- A call that goes on from a state: a log, the text of a state and an outcome were told so.

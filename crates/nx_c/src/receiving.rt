@@ -5,6 +5,8 @@ ghost use Rattle.nx_c.specs.Calls.{GoesOnTo, HasResumed, ListensTo, ResumesTo, T
 ghost use Rattle.nx_c.specs.Faults.{listen_told, resume_told};
 ghost use Rattle.nx_c.specs.Told.{Tells, answer};
 ghost use Rattle.nx_handle.specs.CallerRoom.{IsPut, room};
+ghost use Rattle.nx_handle.specs.Status.{number_of};
+ghost use Rattle.nx_handle.specs.declared.status.Status.TheVariants.{Done, StateNoRoom};
 ghost use Rattle.nx_memory.specs.Saved.{AreSavedStates};
 ghost use Rattle.nx_receiver.specs.air_file_runs.Listen.{IsLogOf};
 ghost use Rattle.nx_receiver.specs.laws.ListenOnce.{HasPrintedOnce};
@@ -34,9 +36,9 @@ pub extern "C" fn nx_listen(
 ) -> u32
     ensures listens { Tells (ListensTo air.now) listen_told
         (room log.old log.new written.new) (answer result place.new) }
-    ensures fits { result ≡ 0 → written.new ≤ length log.old }
-    ensures log { result ≡ 0 → IsLogOf all_at_zero air.now (take written.new log.new) }
-    ensures once { result ≡ 0
+    ensures fits { result ≡ number_of Done → written.new ≤ length log.old }
+    ensures log { result ≡ number_of Done → IsLogOf all_at_zero air.now (take written.new log.new) }
+    ensures once { result ≡ number_of Done
         → HasPrintedOnce all_at_zero (written_anew (take written.new log.new)) air.now }
 {
     let mut writer = Counting::new(Vec::new(alloc));
@@ -66,11 +68,12 @@ pub extern "C" fn nx_resume(
 ) -> u32
     ensures resumes { TellsResuming state.now air.now (room log.old log.new written.new)
         (room new_state.old new_state.new state_written.new) (answer result place.new) }
-    ensures fits { result ≡ 0 → written.new ≤ length log.old }
-    ensures state_fits { result ≡ 0 → state_written.new ≤ length new_state.old }
-    ensures once { result ≡ 0 → BeginsWith state.now (λ states more. HasResumed states air.now
+    ensures fits { result ≡ number_of Done → written.new ≤ length log.old }
+    ensures state_fits { result ≡ number_of Done → state_written.new ≤ length new_state.old }
+    ensures once { result ≡ number_of Done
+        → BeginsWith state.now (λ states more. HasResumed states air.now
         (take written.new log.new) (take state_written.new new_state.new)) }
-    ensures kept { result ≢ 0 → result ≢ 16
+    ensures kept { result ≢ number_of Done → result ≢ number_of StateNoRoom
         → (state_written.new ≡ 0) × (new_state.new ≡ new_state.old) }
 {
     let resumed = resume_over(alloc, state, air);
@@ -88,12 +91,13 @@ fn hand_out(status: u32, left: &[u8], new_state: &mut [u8], state_written: &mut 
     ensures handed { IsPut (handed status left.now)
         (room new_state.old new_state.new state_written.new) }
     ensures status { result ≡ after_handing status (length left.now) (length new_state.old) }
-    ensures done { result ≡ 0 → (status ≡ 0) × (state_written.new ≤ length new_state.old)
+    ensures done { result ≡ number_of Done
+        → (status ≡ number_of Done) × (state_written.new ≤ length new_state.old)
         × (take state_written.new new_state.new ≡ left.now) }
-    ensures kept { result ≢ 0 → result ≢ 16
+    ensures kept { result ≢ number_of Done → result ≢ number_of StateNoRoom
         → (state_written.new ≡ 0) × (new_state.new ≡ new_state.old) }
 {
-    if status != 0 {
+    if status != Status::Done.number() {
         put(&[], new_state, state_written);
         return status;
     }
@@ -101,7 +105,7 @@ fn hand_out(status: u32, left: &[u8], new_state: &mut [u8], state_written: &mut 
     if left.len() > new_state.len() {
         return Status::StateNoRoom.number();
     }
-    0
+    Status::Done.number()
 }
 
 /// What a run that goes on from a state came to: its log, and the text of what it leaves, which is

@@ -3,6 +3,7 @@
 ghost use Rattle.std.specs.Prelude.{◌≡◌, ◌≤◌, length, take};
 ghost use Rattle.nx_c.specs.Told.{IsTold, answer};
 ghost use Rattle.nx_handle.specs.CallerRoom.{room};
+ghost use Rattle.nx_handle.specs.Status.{number_of};
 ghost use Rattle.nx_handle.specs.declared.status.Status.TheVariants.{Done};
 
 use nx_handle::{Status, after_putting, put};
@@ -37,7 +38,7 @@ pub(crate) fn tell(
 ) -> u32
     ensures told { IsTold told text.now
         (room space.old space.new written.new) (answer result place.new) }
-    ensures done { result ≡ 0 → (told.status ≡ Done)
+    ensures done { result ≡ number_of Done → (told.status ≡ Done)
         × (written.new ≤ length space.old) × (take written.new space.new ≡ text.now) }
 {
     put(text, space, written);

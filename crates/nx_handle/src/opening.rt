@@ -26,8 +26,8 @@ pub fn open(alloc: Global, slot: &mut Option<Kept>, moment: u64) -> u32
         return Status::Memory.number();
     };
     let status = set_moment(slot, moment);
-    if status == 0 {
-        return 0;
+    if status == Status::Done.number() {
+        return status;
     }
     *slot = None;
     status

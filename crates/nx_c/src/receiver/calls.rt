@@ -66,7 +66,7 @@ pub extern "C" fn nx_set_moment(alloc: Global, receiver: &mut NxReceiver, moment
         return Status::Closed.number();
     };
     let status = nx_handle::set_moment_kept(&mut kept, moment);
-    let _none = receiver.put(kept, alloc);
+    receiver.put(kept, alloc);
     status
 }
 
@@ -96,7 +96,7 @@ pub extern "C" fn nx_hear(
         return Status::Closed.number();
     };
     let status = nx_handle::hear_kept(&mut kept, channel, elements, heard, log, written);
-    let _none = receiver.put(kept, alloc);
+    receiver.put(kept, alloc);
     status
 }
 
@@ -115,7 +115,7 @@ pub extern "C" fn nx_refuse_station(
         return Status::Closed.number();
     };
     let status = nx_handle::select_kept(&mut kept, channel, Command::RefuseStation(station));
-    let _none = receiver.put(kept, alloc);
+    receiver.put(kept, alloc);
     status
 }
 
@@ -134,7 +134,7 @@ pub extern "C" fn nx_accept_station(
         return Status::Closed.number();
     };
     let status = nx_handle::select_kept(&mut kept, channel, Command::AcceptStation(station));
-    let _none = receiver.put(kept, alloc);
+    receiver.put(kept, alloc);
     status
 }
 
@@ -154,7 +154,7 @@ pub extern "C" fn nx_refuse_subject(
         return Status::Closed.number();
     };
     let status = nx_handle::select_kept(&mut kept, channel, Command::RefuseSubject(subject));
-    let _none = receiver.put(kept, alloc);
+    receiver.put(kept, alloc);
     status
 }
 
@@ -173,7 +173,7 @@ pub extern "C" fn nx_accept_subject(
         return Status::Closed.number();
     };
     let status = nx_handle::select_kept(&mut kept, channel, Command::AcceptSubject(subject));
-    let _none = receiver.put(kept, alloc);
+    receiver.put(kept, alloc);
     status
 }
 
@@ -198,7 +198,7 @@ pub extern "C" fn nx_save(
         return Status::Closed.number();
     };
     let status = nx_handle::save_kept(&kept, state, written);
-    let _none = receiver.put(kept, alloc);
+    receiver.put(kept, alloc);
     status
 }
 
@@ -226,7 +226,7 @@ pub extern "C" fn nx_close(
     if !stays {
         return status;
     }
-    let _none = receiver.put(kept, alloc);
+    receiver.put(kept, alloc);
     status
 }
 
@@ -235,5 +235,5 @@ pub extern "C" fn nx_close(
 pub extern "C" fn nx_abandon(alloc: Global, receiver: &mut NxReceiver)
     ensures { receiver.new.value ≡ None }
 {
-    let _kept = receiver.take(alloc);
+    drop(receiver.take(alloc));
 }

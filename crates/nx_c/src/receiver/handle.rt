@@ -4,7 +4,7 @@ ghost use Rattle.std.specs.Prelude.{◌≡◌, ◌≢◌, None, Some, MatchOptio
 ghost use Rattle.nx_c.specs.Handle.{handle_owns, kept_coded};
 ghost use Rattle.nx_handle.specs.Status.{number_of};
 ghost use Rattle.nx_handle.specs.declared.kept.Kept.{Kept as WhatIsKept};
-ghost use Rattle.nx_handle.specs.declared.status.Status.TheVariants.{Memory};
+ghost use Rattle.nx_handle.specs.declared.status.Status.TheVariants.{Done, Memory};
 
 use crate::receiver::loose::Loose;
 use nx_handle::{Kept, Status};
@@ -67,28 +67,27 @@ impl NxReceiver {
         Some(loose.into_box())
     }
 
-    /// Keeps this of the receiver from here on, and hands out what was kept of it before.
-    pub(crate) fn put(&mut self, kept: Box<Kept>, alloc: Global) -> Option<Box<Kept>>
-        ensures put { self.new.value ≡ Some kept.value }
-        ensures kept { MatchOption result (self.old.value ≡ None)
-            (λ kept. self.old.value ≡ Some kept.value) }
+    /// Keeps this of the receiver from here on. What was kept of it before is given back.
+    pub(crate) fn put(&mut self, kept: Box<Kept>, alloc: Global)
+        ensures { self.new.value ≡ Some kept.value }
     {
         let receiver = NxReceiver::of_loose(Loose::of(kept));
-        let loose = replace(self, receiver).into_loose(alloc)?;
-        Some(loose.into_box())
+        if let Some(loose) = replace(self, receiver).into_loose(alloc) {
+            drop(loose.into_box());
+        }
     }
 
     /// Opens a receiver with what is kept of it, in a block of its own. Answers the number of
     /// `Done`, or of `Memory` where there is none for the block; the receiver then stays as it was.
     pub(crate) fn open_with(&mut self, kept: Kept, alloc: Global) -> u32
-        ensures done { result ≡ 0 → self.new.value ≡ Some kept }
-        ensures refused { result ≢ 0
+        ensures done { result ≡ number_of Done → self.new.value ≡ Some kept }
+        ensures refused { result ≢ number_of Done
             → (result ≡ number_of Memory) × (self.new.value ≡ self.old.value) }
     {
         match Box::new(alloc, kept) {
             Ok(kept) => {
-                let _none = self.put(kept, alloc);
-                0
+                self.put(kept, alloc);
+                Status::Done.number()
             }
             Err(_) => Status::Memory.number(),
         }
@@ -101,7 +100,7 @@ impl NxReceiver {
     {
         match self.take(alloc) {
             Some(kept) => {
-                let _none = self.put(kept, alloc);
+                self.put(kept, alloc);
                 true
             }
             None => false,
