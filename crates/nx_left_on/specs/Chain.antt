@@ -82,9 +82,11 @@ abbrev pub PutAll : Ending → List Line → List MarkedCopy → List MarkedCopy
 PutAll answered more printed put = (more ≡ []) × (put ≡ printed)
 PutAll ending more printed put = ⊤
 
--- The watch started behind these entries of its log, and took the lines that act of some lines.
--- What it put begins what they print, and is at least all that is printed of those behind which it
--- read on; all, where it answered. Its log then stands for the entries from before and for these.
+-- The watch started behind these entries of its log, and took the lines that act of `said`, the
+-- lines that it was given: each as it is understood, or `None` where it isn't. What it put begins
+-- `printed`, what they print. It is at least `surely`, all that is printed of those behind which it
+-- read on, which surely stands in the log; and all, where the watch answered. Its log then stands
+-- for the entries from before and for these.
 pub record Puts (log : List MarkedCopy) (watch : Watch) : Type 0 where
   pub begins : watch.starts ≡ starts_at watch.moment log
   pub said : List (Option Line)

@@ -34,5 +34,6 @@ pub unsafe extern "C" fn nx_live_return(receiver: *mut NxLive)
     requires* { sem 𝓛 (closed_at receiver room) }
     ensures* { sem 𝓛 (rooms_at receiver room) }
 {
+    // The rooms are the caller's again from here on, and nothing has to run for that.
     let _receiver = receiver;
 }

@@ -146,6 +146,7 @@ impl<'a> Fault<'a> {
         requires { faults.old.failures ≡ 0 }
         ensures { WritesOne (IsFaultText self.now) E.contents faults.old faults.new }
     {
+        // Where the device fails, there is no place left to say so.
         let _ = match self {
             Fault::Arguments(answer) => write_out(faults, answer.as_bytes()),
             Fault::NoText => write_out(faults, NO_TEXT.as_bytes()),

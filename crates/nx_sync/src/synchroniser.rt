@@ -326,6 +326,7 @@ impl Synchroniser {
             (packed_elements * count)) (packed_elements * result) self.new }
         ensures none { result ≡ 0 → self.new ≡ self.old }
     {
+        // That the count fits its type is all that this says, and nothing runs for it.
         let _seen = self.seen;
         let mut at = 0;
         while at < count {

@@ -96,6 +96,7 @@ fn window_after_eight(words: &[Word]) -> u32
     ensures within { result < 2 ^ pattern_elements }
     ensures small { (k : ℕ) → k < 8 → slice_index words.now k < 128 }
 {
+    // Each word is one of 128. That is all that this says, and nothing runs for it.
     let _words = numbers(words);
     let older = u32::from(words[4].number()) + (u32::from(words[5].number()) << 7);
     let newer = (u32::from(words[6].number()) << 14) + (u32::from(words[7].number()) << 21);

@@ -60,5 +60,6 @@ fn tell<N: Write>(text: &[u8], notices: &mut Counting<N>)
     if notices.failures() > 0 {
         return;
     }
+    // The writer counts the failure.
     let _ = write_out(notices, text);
 }

@@ -94,5 +94,6 @@ pub fn write_more<W: Write>(bytes: &[u8], writer: &mut Counting<W>)
     if writer.failures() > 0 {
         return;
     }
+    // The writer counts the failure.
     let _ = write_out(writer, bytes);
 }

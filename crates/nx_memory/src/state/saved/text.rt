@@ -82,6 +82,7 @@ impl Saved {
             }
             SavedLine::Subject(letter) => {
                 if let Some(subject) = Letter::new(letter) {
+                    // It can be refused, as `takes` has asked.
                     let _ = self.selection.refuse_subject(subject);
                 }
             }
