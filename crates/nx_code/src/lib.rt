@@ -4,6 +4,7 @@
 
 mod characters;
 mod classes;
+mod decimals;
 pub mod laws;
 mod names;
 mod packed;
@@ -18,6 +19,7 @@ mod words;
 
 pub use characters::{NEWLINE, char_to_code, code_to_char};
 pub use classes::{CLASSES, NO_CLASS, class_of, pair_classes};
+pub use decimals::decimal_number;
 pub use packed::{PACKED, WORDS_AT_ONCE, elements_at, packed_word, words_of};
 pub use printer_steps::FourPrinted;
 pub use printing::{ASTERISK, Printer, Taken};

@@ -1,6 +1,6 @@
 //! The identity of a message: its station, its subject and its number.
 
-ghost use Rattle.std.specs.Prelude.{◌≡◌, ◌↔◌, ◌≤◌, IfSome, IsSome};
+ghost use Rattle.std.specs.Prelude.{◌≡◌, ◌≢◌, ◌↔◌, ◌≤◌, IfNone, IfSome, IsSome};
 ghost use Rattle.nx_code.specs.Reading.{IsCapital};
 
 use crate::digit::two_digits;
@@ -23,6 +23,7 @@ pub struct Identity {
 
 impl Identity {
     ghost use Rattle.nx_envelope.specs.Identity.{identity_bytes};
+    ghost use Rattle.nx_envelope.specs.declared.identity.Identity.{Identity as TheIdentity};
 
     /// The identity of two letters and a number, `None` where `b1` or `b2` isn't A to Z or `number`
     /// is above 99.
@@ -38,6 +39,18 @@ impl Identity {
         let b1 = Letter::new(b1)?;
         let b2 = Letter::new(b2)?;
         Some(Identity { b1, b2, number })
+    }
+
+    /// The identity that is written so, as `EA01`.
+    pub fn from_bytes(bytes: [u8; 4]) -> Option<Identity>
+        ensures found { IfSome result (λ identity. bytes ≡ identity_bytes identity) }
+        ensures none { IfNone result ((identity : TheIdentity) → bytes ≢ identity_bytes identity) }
+    {
+        let [b1, b2, tens, units] = bytes;
+        if !tens.is_ascii_digit() || !units.is_ascii_digit() {
+            return None;
+        }
+        Identity::new(b1, b2, (tens - b'0') * 10 + (units - b'0'))
     }
 
     /// The station, B1.

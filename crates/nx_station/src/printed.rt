@@ -89,11 +89,7 @@ fn identity_named(name: &[u8]) -> Option<Identity>
     let [b1, b2, tens, units] = name else {
         return None;
     };
-    if !tens.is_ascii_digit() || !units.is_ascii_digit() {
-        return None;
-    }
-    let number = 10 * (*tens - b'0') + (*units - b'0');
-    Identity::new(*b1, *b2, number)
+    Identity::from_bytes([*b1, *b2, *tens, *units])
 }
 
 /// The lines of a message up to the line NNNN.

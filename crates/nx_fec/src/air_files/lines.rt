@@ -13,12 +13,16 @@ ghost use Rattle.nx_fec.specs.declared.air_files.lines.LineKind.{LineKind};
 use crate::air_files::channel::Channel;
 use crate::air_files::packed::PackedElements;
 use arrayvec::ArrayVec;
+use nx_code::decimal_number;
 
 /// The most elements of one line.
 pub const MAX_ELEMENTS: usize = 512;
 
 /// The most digits of a moment.
 const MAX_DIGITS: usize = 11;
+
+/// The greatest moment of so many digits.
+const MAX_MOMENT: u64 = 99_999_999_999;
 
 /// The byte of the digit 0.
 const ZERO: u64 = b'0' as u64;
@@ -271,21 +275,7 @@ fn moment(digits: &[u8]) -> Option<u64>
     ensures found { IfSome result (λ n. (n < 10 ^ 11) × (digits.now ≡ decimal n)) }
     ensures none { IfNone result ((n : ℕ) → n < 10 ^ 11 → digits.now ≢ decimal n) }
 {
-    if digits.is_empty() || digits.len() > MAX_DIGITS {
-        return None;
-    }
-    if digits.len() > 1 && digits[0] == b'0' {
-        return None;
-    }
-    let mut value: u64 = 0;
-    for digit in digits {
-        let units = match *digit {
-            b'0'..=b'9' => *digit - b'0',
-            _ => return None,
-        };
-        value = 10 * value + u64::from(units);
-    }
-    Some(value)
+    decimal_number(digits, MAX_MOMENT)
 }
 
 /// The moment whose digits stand at the front of bytes, and how many these are, at most 11; 0 of

@@ -13,10 +13,9 @@ ghost use Rattle.nx_log.specs.private.Heads.{BeginsWithHead, IsHead};
 ghost use Rattle.nx_log.specs.declared.entries.head.LoggedHead.{LoggedHead as TheHead};
 
 use crate::entries::moment::moment_of;
-use itoa::Buffer;
+use nx_code::decimal_number;
 use nx_envelope::{CIVIL_LEN, How, Identity, MAX_FOUND};
 use nx_fec::Channel;
-use std::str;
 
 /// What the line that heads an entry says.
 #[derive(Clone, Copy, Debug, PartialEq, Eq)]
@@ -73,10 +72,7 @@ pub(crate) fn name_at(bytes: &[u8]) -> Option<(Identity, &[u8])>
     let [b'[', b1, b2, tens, units, rest @ ..] = bytes else {
         return None;
     };
-    if !tens.is_ascii_digit() || !units.is_ascii_digit() {
-        return None;
-    }
-    let identity = Identity::new(*b1, *b2, (*tens - b'0') * 10 + (*units - b'0'))?;
+    let identity = Identity::from_bytes([*b1, *b2, *tens, *units])?;
     Some((identity, rest))
 }
 
@@ -167,16 +163,6 @@ fn number_of(digits: &[u8]) -> Option<u16>
     ensures none { IfNone result ((number : ℕ) → number ≤ most_found
         → digits.now ≢ decimal number) }
 {
-    let Ok(text) = str::from_utf8(digits) else {
-        return None;
-    };
-    let Ok(number) = text.parse::<u16>() else {
-        return None;
-    };
-    let mut again = Buffer::new();
-    if usize::from(number) <= MAX_FOUND && again.format(number).as_bytes() == digits {
-        Some(number)
-    } else {
-        None
-    }
+    let number = decimal_number(digits, MAX_FOUND as u64)?;
+    Some(number as u16)
 }

@@ -12,8 +12,8 @@ ghost use Rattle.nx_memory.specs.private.StateReading.{IsSpelled};
 use crate::memories::entry::MemoryEntry;
 use arrayvec::ArrayVec;
 use itoa::Buffer;
+use nx_code::decimal_number;
 use nx_envelope::{Identity, LAST_MOMENT};
-use std::str;
 
 /// The most bytes of a line of the text of a state, without its line feed.
 pub const MAX_STATE_LINE: usize = 16;
@@ -70,43 +70,10 @@ pub(crate) fn saved_line(line: &[u8]) -> Option<SavedLine>
         [b'R', b'S', b' ', letter] => Some(SavedLine::Station(*letter)),
         [b'R', b'J', b' ', letter] => Some(SavedLine::Subject(*letter)),
         [b1, b2, tens, units, b' ', digits @ ..] => {
-            let identity = identity([*b1, *b2, *tens, *units])?;
-            let moment = moment(digits)?;
+            let identity = Identity::from_bytes([*b1, *b2, *tens, *units])?;
+            let moment = decimal_number(digits, LAST_MOMENT)?;
             Some(SavedLine::Entry(MemoryEntry { identity, moment }))
         }
         _ => None,
-    }
-}
-
-/// The identity that is written so.
-fn identity(bytes: [u8; 4]) -> Option<Identity>
-    ensures found { IfSome result (λ identity. bytes ≡ identity_bytes identity) }
-    ensures none { IfNone result ((identity : TheIdentity) → bytes ≢ identity_bytes identity) }
-{
-    let [b1, b2, tens, units] = bytes;
-    if !tens.is_ascii_digit() || !units.is_ascii_digit() {
-        return None;
-    }
-    Identity::new(b1, b2, (tens - b'0') * 10 + (units - b'0'))
-}
-
-/// The moment that is written so, with no needless zero in front, where it isn't past the last.
-fn moment(digits: &[u8]) -> Option<u64>
-    ensures found { IfSome result (λ moment.
-        (moment ≤ last_moment) × (digits.now ≡ decimal moment)) }
-    ensures none { IfNone result ((moment : ℕ) → moment ≤ last_moment
-        → digits.now ≢ decimal moment) }
-{
-    let Ok(text) = str::from_utf8(digits) else {
-        return None;
-    };
-    let Ok(moment) = text.parse::<u64>() else {
-        return None;
-    };
-    let mut again = Buffer::new();
-    if moment <= LAST_MOMENT && again.format(moment).as_bytes() == digits {
-        Some(moment)
-    } else {
-        None
     }
 }

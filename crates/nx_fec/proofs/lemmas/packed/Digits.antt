@@ -1,10 +1,9 @@
 -- Lemmas on numbers and elements written as digits.
-use Rattle.std.proofs.Common.{◌≡◌, ◌≢◌, ℕ, zero, suc, ◌+◌, ◌*◌, ◌/◌, ◌%◌, ◌^◌, ◌<◌, ◌≤◌}
+use Rattle.std.proofs.Common.{◌≡◌, ℕ, zero, suc, ◌+◌, ◌*◌, ◌/◌, ◌%◌, ◌^◌, ◌<◌, ◌≤◌}
 use Rattle.std.proofs.Common.{List, [], ◌∷◌, ◌++◌, length, get_or, take, sym, ap}
 use Rattle.std.proofs.Common.{◌∙◌, arith, add-one}
 use Rattle.std.specs.Fmt.{decimal}
-use Rattle.std.proofs.lemmas.Fmt.{decimal_by_steps, decimal_step, decimal_digit, decimal_nonempty}
-use Rattle.std.proofs.lemmas.Fmt.{length-decimal-le, first_decimal}
+use Rattle.std.proofs.lemmas.Fmt.{decimal_by_steps, decimal_step, decimal_digit}
 use Rattle.std.proofs.lemmas.List.{take_more}
 use Rattle.std.proofs.lemmas.Bool.{cases_eq}
 use Rattle.std.proofs.Math.Nat.{pow-le-pow_right, pow-suc}
@@ -66,44 +65,3 @@ decimal-step digits at value d below few fits digit byte start some same =
 pub below-ten-step : (at value d : ℕ) → value < 10 ^ at → d < 10 → 10 * value + d < 10 ^ (at + 1)
 below-ten-step at value d fits digit =
     let more : 10 ^ (at + 1) ≡ 10 * 10 ^ at = rw (add-one, pow-suc) (omega arith) in omega arith
-
--- what refuses a number: bytes that no number up to eleven digits is written with
-pub decimal-nonempty : (digits : List ℕ) (n : ℕ) → length digits ≡ 0 → n < 10 ^ 11
-    → digits ≢ decimal n
-decimal-nonempty digits n none fits e =
-    absurd (omega (arith, ap length e, decimal_nonempty n (omega arith)))
-
-pub decimal-short : (digits : List ℕ) (n : ℕ) → 11 < length digits → n < 10 ^ 11
-    → digits ≢ decimal n
-decimal-short digits n long fits e =
-    let most : length (decimal n) ≤ 11 = length-decimal-le 11 n (omega arith) fits (omega arith) in
-    absurd (omega (arith, ap length e))
-
-pub decimal-leading : (digits : List ℕ) (n : ℕ) → 1 < length digits → get_or digits 0 0 ≡ 48
-    → n < 10 ^ 11 → digits ≢ decimal n
-decimal-leading digits n long first_zero fits e =
-    ⊎_elim (λ none. let one : decimal n ≡ 48 ∷ [] =
-    ap decimal none ∙ decimal_digit 0 (omega arith) in
-    absurd (omega (arith, ap length (e ∙ one))))
-    (λ some. let first : 48 < get_or (decimal n) 0 0 =
-    first_decimal n (omega arith) (omega arith) in
-    absurd (omega (arith, ap (λ l. get_or l 0 0) e)))
-    (cases_eq n 0)
-
-pub decimal-no_other : (digits : List ℕ) (n i : ℕ) → i < length digits
-    → (48 ≤ get_or digits i 0 → get_or digits i 0 < 58 → ⊥) → n < 10 ^ 11 → digits ≢ decimal n
-decimal-no_other digits n i below other fits e =
-    let at : get_or digits i 0 ≡ get_or (decimal n) i 0 = ap (λ l. get_or l i 0) e in
-    let digit : IsDigit (get_or (decimal n) i 0) =
-    decimal-digits n (omega arith) i (omega (arith, ap length e)) in
-    other (omega (arith, digit.0)) (omega (arith, digit.1))
-
--- a number with another first digit than 0 is above 0
-pub positive-step : (digits : List ℕ) (at value d : ℕ) → get_or digits at 0 ≡ 48 + d
-    → (0 < at → get_or digits 0 0 ≢ 48 → 0 < value)
-    → get_or digits 0 0 ≢ 48 → 0 < 10 * value + d
-positive-step digits at value d byte some nonzero =
-    ⊎_elim (λ start. let here : get_or digits 0 0 ≡ 48 + d =
-    ap (λ i. get_or digits i 0) (sym start) ∙ byte in omega arith)
-    (λ other. let v : 0 < value = some (omega arith) nonzero in omega arith)
-    (cases_eq at 0)
