@@ -4,6 +4,7 @@ pub mod Feed
 pub mod Kept
 pub mod LineExamples
 pub mod LineLaws
+pub mod Piece
 pub mod ReadingLaws
 pub mod Scan
 pub mod WholeLine

@@ -1,13 +1,13 @@
 //! A scanner of the lines of an air file, which takes one piece after the other. What runs for each
 //! line is inlined always, so that no large answer goes through memory. Most lines are taken whole,
 //! and have few elements; what runs for other lines is never inlined.
-ghost use Rattle.std.specs.Prelude.{◌≡◌, ◌≢◌, ◌+◌, ◌<◌, ◌≤◌, ℕ, List, [], ◌∷◌, ◌++◌, None, option_to_list, codes, IfOk, IfErr, IfSome, OnOk, OnErr, IsSomeAnd, length, take, slice_index, MatchResult};
+ghost use Rattle.std.specs.Prelude.{◌≡◌, ◌≢◌, ◌+◌, ◌^◌, ◌<◌, ◌≤◌, ℕ, List, [], ◌∷◌, ◌++◌, None, Some, codes, IfErr, IfSome, OnOk, length, take, slice_index, MatchResult};
 ghost use Rattle.std.specs.List.{AllByRecursion};
 ghost use Rattle.std.specs.Option.{option_map};
 ghost use Rattle.nx_code.specs.Reading.{newline};
 ghost use Rattle.nx_fec.specs.air_files.AirFile.{IsLine, Line, spelling, with_mark};
 ghost use Rattle.nx_fec.specs.air_files.Lines.{Scans, StopsIn, IsCause, IsAirFile, IsAtByte};
-ghost use Rattle.nx_fec.specs.air_files.Scanner.{elements_kept, kind_kept};
+ghost use Rattle.nx_fec.specs.air_files.Scanner.{ScansPiece, elements_kept, kind_kept};
 ghost use Rattle.nx_fec.specs.private.ScannerKept.{SpellsLine};
 ghost use Rattle.nx_fec.specs.private.WholeLines.{TakesLine, Waits};
 
@@ -48,11 +48,39 @@ const FAR_BYTES: usize = MAX_LINE_BYTES + 2;
 pub struct Scanner {
     /// The bytes of that line.
     kept: BoundedBytes<MAX_LINE_BYTES>,
-    /// What the line that was ended says, and its elements.
-    ended: Option<LineKind>,
+    /// The elements of the line that was ended.
     elements: PackedElements,
+    progress: Progress,
+}
+
+/// How far a scanner has come.
+#[derive(Drop)]
+struct Progress {
+    /// What the line that was ended says.
+    ended: Option<LineKind>,
+    /// How many lines were ended.
     lines: u64,
+    /// How many more bytes may be taken.
     room: u64,
+}
+
+impl Progress {
+    /// Ends a line that says this: counts it, and its line feed with the `count` bytes before that
+    /// which aren't counted yet. Answers how many bytes these are.
+    #[inline(always)]
+    fn end_line(&mut self, kind: LineKind, count: usize) -> usize
+        requires room { count < self.old.room }
+        requires range { self.old.lines + self.old.room < 2 ^ 64 }
+        ensures ended { self.new.ended ≡ Some kind }
+        ensures lines { self.new.lines ≡ self.old.lines + 1 }
+        ensures room { self.new.room + result ≡ self.old.room }
+        ensures count { result ≡ count + 1 }
+    {
+        self.ended = Some(kind);
+        self.lines += 1;
+        self.room -= count as u64 + 1;
+        count + 1
+    }
 }
 
 impl Model for Scanner {
@@ -65,31 +93,32 @@ impl Model for Scanner {
     ghost Value = { Scanning };
 
     ghost view = { λ s. record {
-      part = part_of s.ended s.kept;
-      lines = s.lines;
-      room = s.room;
-      latest = line_ended s.ended s.elements;
+      part = part_of s.progress.ended s.kept;
+      lines = s.progress.lines;
+      room = s.progress.room;
+      latest = line_ended s.progress.ended s.elements;
     } };
 
-    ghost invariant = { λ s. (s.lines + length (part_of s.ended s.kept) + s.room < 2 ^ 64)
-        × IsKept s.ended s.elements s.kept };
+    ghost invariant = { λ s.
+        (s.progress.lines + length (part_of s.progress.ended s.kept) + s.progress.room < 2 ^ 64)
+        × IsKept s.progress.ended s.elements s.kept };
 
     // The bytes and the elements of earlier lines that lie behind those that are kept, in their
     // places, are seen by no contract, and nothing reads them.
     ghost inverse = { λ v. record {
       kept = bytes_kept v.latest v.part;
-      ended = kind_kept v.latest;
       elements = elements_kept v.latest;
-      lines = v.lines;
-      room = v.room;
+      progress = record { ended = kind_kept v.latest; lines = v.lines; room = v.room };
     } };
 
     ghost inverse_ok = { λ s h i. record {
-      kept = (kept-back s.ended s.elements s.kept h.1).bytes i;
-      ended = (kept-back s.ended s.elements s.kept h.1).kind i;
-      elements = (kept-back s.ended s.elements s.kept h.1).elements i;
-      lines = s.lines;
-      room = s.room;
+      kept = (kept-back s.progress.ended s.elements s.kept h.1).bytes i;
+      elements = (kept-back s.progress.ended s.elements s.kept h.1).elements i;
+      progress = record {
+        ended = (kept-back s.progress.ended s.elements s.kept h.1).kind i;
+        lines = s.progress.lines;
+        room = s.progress.room;
+      };
     } };
 }
 
@@ -102,10 +131,12 @@ impl Scanner {
         prove!(size_of::<Scanner>() == 640);
         Scanner {
             kept: BoundedBytes::new(),
-            ended: None,
             elements: PackedElements::new(),
-            lines: 0,
-            room: limit,
+            progress: Progress {
+                ended: None,
+                lines: 0,
+                room: limit,
+            },
         }
     }
 
@@ -113,14 +144,14 @@ impl Scanner {
     pub fn lines(&self) -> u64
         ensures { result ≡ self.now.lines }
     {
-        self.lines
+        self.progress.lines
     }
 
     /// What the line says that the last byte ended, if it ended one.
     pub fn latest(&self) -> Option<LineKind>
         ensures { result ≡ kind_kept self.now.latest }
     {
-        self.ended
+        self.progress.ended
     }
 
     /// The elements of the line that the last byte ended; none where it ended no line of elements.
@@ -144,7 +175,7 @@ impl Scanner {
     pub fn line(&self) -> Option<&[u8]>
         ensures { option_map (λ line. line.now) result ≡ option_map spelling self.now.latest }
     {
-        if self.ended.is_none() {
+        if self.progress.ended.is_none() {
             return None;
         }
         Some(self.kept.as_slice())
@@ -158,43 +189,23 @@ impl Scanner {
     #[inline(always)]
     pub fn push_line(&mut self, piece: &[u8]) -> Result<usize, LineFault>
         requires { 0 < length piece.now }
-        ensures bytes { (limit : ℕ) (bytes : List ℕ) (lines : List Line)
-            → Scans limit self.old bytes lines →
-            MatchResult result
-            (λ count. Scans limit self.new (bytes ++ take count piece.now)
-            (lines ++ option_to_list self.new.latest))
-            (λ why. StopsIn limit self.new bytes piece.now lines why) }
-        ensures at_byte { IfErr result IsAtByte }
-        ensures some { IfOk result (λ count. (0 < count) × (count ≤ length piece.now)) }
-        ensures latest { OnOk result (IfSome self.new.latest IsLine) }
-        ensures whole { IfOk result (λ count. self.new.latest ≡ None → count ≡ length piece.now) }
-        ensures room { IfOk result (λ count. self.new.room + count ≡ self.old.room) }
+        ensures { ScansPiece self.old self.new piece.now result }
     {
-        let count = self.take_whole(piece);
+        let count = self.scan_whole(piece);
         if count > 0 {
             return Ok(count);
         }
-        self.push_rest(piece)
+        self.scan_rest(piece)
     }
 
-    /// Takes the bytes of a piece as `push_part` does. The place in memory of its answer is made
+    /// Takes the bytes of a piece as `scan_part` does. The place in memory of its answer is made
     /// here, so that a line that is taken whole pays nothing for it.
     #[inline(always)]
-    fn push_rest(&mut self, piece: &[u8]) -> Result<usize, LineFault>
+    fn scan_rest(&mut self, piece: &[u8]) -> Result<usize, LineFault>
         requires { 0 < length piece.now }
-        ensures bytes { (limit : ℕ) (bytes : List ℕ) (lines : List Line)
-            → Scans limit self.old bytes lines →
-            MatchResult result
-            (λ count. Scans limit self.new (bytes ++ take count piece.now)
-            (lines ++ option_to_list self.new.latest))
-            (λ why. StopsIn limit self.new bytes piece.now lines why) }
-        ensures at_byte { IfErr result IsAtByte }
-        ensures some { IfOk result (λ count. (0 < count) × (count ≤ length piece.now)) }
-        ensures latest { OnOk result (IfSome self.new.latest IsLine) }
-        ensures whole { IfOk result (λ count. self.new.latest ≡ None → count ≡ length piece.now) }
-        ensures room { IfOk result (λ count. self.new.room + count ≡ self.old.room) }
+        ensures { ScansPiece self.old self.new piece.now result }
     {
-        match self.push_part(piece) {
+        match self.scan_part(piece) {
             Ok(count) => Ok(count),
             Err(fault) => Err(fault),
         }
@@ -202,64 +213,54 @@ impl Scanner {
 
     /// Takes the bytes of a piece as `push_line` does, whatever line they are of.
     #[inline(never)]
-    fn push_part(&mut self, piece: &[u8]) -> Result<usize, LineFault>
+    fn scan_part(&mut self, piece: &[u8]) -> Result<usize, LineFault>
         requires { 0 < length piece.now }
-        ensures bytes { (limit : ℕ) (bytes : List ℕ) (lines : List Line)
-            → Scans limit self.old bytes lines →
-            MatchResult result
-            (λ count. Scans limit self.new (bytes ++ take count piece.now)
-            (lines ++ option_to_list self.new.latest))
-            (λ why. StopsIn limit self.new bytes piece.now lines why) }
-        ensures at_byte { IfErr result IsAtByte }
-        ensures some { IfOk result (λ count. (0 < count) × (count ≤ length piece.now)) }
-        ensures latest { OnOk result (IfSome self.new.latest IsLine) }
-        ensures whole { IfOk result (λ count. self.new.latest ≡ None → count ≡ length piece.now) }
-        ensures room { IfOk result (λ count. self.new.room + count ≡ self.old.room) }
+        ensures { ScansPiece self.old self.new piece.now result }
     {
         let Some(at) = first_feed(piece) else {
             self.go_on(piece, piece.len())?;
             return Ok(piece.len());
         };
         self.go_on(piece, at)?;
-        if self.room == 0 {
+        if self.progress.room == 0 {
             return Err(LineFault::TooLong);
         }
         let Some(kind) = read_line(self.kept.as_slice(), &mut self.elements) else {
             return Err(LineFault::BadLine {
-                line: self.lines + 1,
+                line: self.progress.lines + 1,
             });
         };
-        self.ended = Some(kind);
-        self.lines += 1;
-        self.room -= 1;
-        Ok(at + 1)
+        Ok(at + self.progress.end_line(kind, 0))
     }
 
     /// Takes the line that a piece begins with, where none is open and the line is one of elements,
     /// a moment or a command, and answers how many bytes it has with its end. 0 where it took
     /// nothing, as it may.
     #[inline(always)]
-    fn take_whole(&mut self, piece: &[u8]) -> usize
+    fn scan_whole(&mut self, piece: &[u8]) -> usize
         ensures taken { 0 < result → TakesLine self.old self.new piece.now result }
         ensures none { result ≡ 0 → Waits self.old self.new }
     {
-        if self.ended.is_none() || piece.len() < NEAR_BYTES || self.room < NEAR_BYTES as u64 {
+        if self.progress.ended.is_none()
+            || piece.len() < NEAR_BYTES
+            || self.progress.room < NEAR_BYTES as u64
+        {
             return 0;
         }
         match piece {
-            [b'B', b' ', digits @ ..] => self.take_elements(piece, None, digits),
-            [b'T', b' ', digits @ ..] => self.take_moment(piece, digits),
+            [b'B', b' ', digits @ ..] => self.scan_elements(piece, None, digits),
+            [b'T', b' ', digits @ ..] => self.scan_moment(piece, digits),
             _ => match digits_behind(piece) {
-                Some((mark, digits)) => self.take_elements(piece, mark, digits),
-                None => self.take_command(piece),
+                Some((mark, digits)) => self.scan_elements(piece, mark, digits),
+                None => self.scan_command(piece),
             },
         }
     }
 
-    /// Takes the line that a piece begins with as `take_whole` does, where it is a command. Never
+    /// Takes the line that a piece begins with as `scan_whole` does, where it is a command. Never
     /// inlined: a moment would pay for its registers.
     #[inline(never)]
-    fn take_command(&mut self, piece: &[u8]) -> usize
+    fn scan_command(&mut self, piece: &[u8]) -> usize
         requires empty { self.old.part ≡ [] }
         requires long { NEAR_BYTES ≤ length piece.now }
         requires room { NEAR_BYTES ≤ self.old.room }
@@ -272,16 +273,13 @@ impl Scanner {
         self.kept.clear();
         self.kept.append_front(piece, end);
         self.elements.clear();
-        self.ended = Some(kind);
-        self.lines += 1;
-        self.room -= end as u64 + 1;
-        end + 1
+        self.progress.end_line(kind, end)
     }
 
-    /// Takes the line that a piece begins with as `take_whole` does, where it has elements, by the
+    /// Takes the line that a piece begins with as `scan_whole` does, where it has elements, by the
     /// channel that it names, if it names one, and what follows it and a space.
     #[inline(always)]
-    fn take_elements(&mut self, piece: &[u8], mark: Option<Channel>, digits: &[u8]) -> usize
+    fn scan_elements(&mut self, piece: &[u8], mark: Option<Channel>, digits: &[u8]) -> usize
         requires front { piece.now ≡ with_mark (codes "B") mark digits.now }
         requires empty { self.old.part ≡ [] }
         requires long { NEAR_BYTES ≤ length piece.now }
@@ -289,16 +287,16 @@ impl Scanner {
         ensures taken { 0 < result → TakesLine self.old self.new piece.now result }
         ensures none { result ≡ 0 → Waits self.old self.new }
     {
-        let count = self.take_few(piece, mark, digits);
+        let count = self.scan_few(piece, mark, digits);
         if count > 0 {
             return count;
         }
-        self.take_many(piece, mark, digits)
+        self.scan_many(piece, mark, digits)
     }
 
-    /// Takes the line that a piece begins with as `take_elements` does, where it has few elements.
+    /// Takes the line that a piece begins with as `scan_elements` does, where it has few elements.
     #[inline(always)]
-    fn take_few(&mut self, piece: &[u8], mark: Option<Channel>, digits: &[u8]) -> usize
+    fn scan_few(&mut self, piece: &[u8], mark: Option<Channel>, digits: &[u8]) -> usize
         requires front { piece.now ≡ with_mark (codes "B") mark digits.now }
         requires empty { self.old.part ≡ [] }
         requires long { NEAR_BYTES ≤ length piece.now }
@@ -314,16 +312,13 @@ impl Scanner {
         self.kept.clear();
         self.kept.append_front(piece, end);
         self.elements.put(number, count);
-        self.ended = Some(LineKind::Elements(mark));
-        self.lines += 1;
-        self.room -= end as u64 + 1;
-        end + 1
+        self.progress.end_line(LineKind::Elements(mark), end)
     }
 
-    /// Takes the line that a piece begins with as `take_whole` does, where it is a moment; the
+    /// Takes the line that a piece begins with as `scan_whole` does, where it is a moment; the
     /// digits are what follows `T` and a space.
     #[inline(always)]
-    fn take_moment(&mut self, piece: &[u8], digits: &[u8]) -> usize
+    fn scan_moment(&mut self, piece: &[u8], digits: &[u8]) -> usize
         requires front { piece.now ≡ codes "T " ++ digits.now }
         requires empty { self.old.part ≡ [] }
         requires long { NEAR_BYTES ≤ length piece.now }
@@ -339,22 +334,19 @@ impl Scanner {
         self.kept.clear();
         self.kept.append_front(piece, end);
         self.elements.clear();
-        self.ended = Some(LineKind::Moment(moment));
-        self.lines += 1;
-        self.room -= end as u64 + 1;
-        end + 1
+        self.progress.end_line(LineKind::Moment(moment), end)
     }
 
-    /// Takes the line that a piece begins with as `take_elements` does, however many elements it
+    /// Takes the line that a piece begins with as `scan_elements` does, however many elements it
     /// has.
     #[inline(never)]
-    fn take_many(&mut self, piece: &[u8], mark: Option<Channel>, digits: &[u8]) -> usize
+    fn scan_many(&mut self, piece: &[u8], mark: Option<Channel>, digits: &[u8]) -> usize
         requires front { piece.now ≡ with_mark (codes "B") mark digits.now }
         requires empty { self.old.part ≡ [] }
         ensures taken { 0 < result → TakesLine self.old self.new piece.now result }
         ensures none { result ≡ 0 → Waits self.old self.new }
     {
-        if piece.len() < FAR_BYTES || self.room < FAR_BYTES as u64 {
+        if piece.len() < FAR_BYTES || self.progress.room < FAR_BYTES as u64 {
             return 0;
         }
         self.open();
@@ -365,10 +357,7 @@ impl Scanner {
             return 0;
         }
         self.kept.append_front(piece, end);
-        self.ended = Some(LineKind::Elements(mark));
-        self.lines += 1;
-        self.room -= end as u64 + 1;
-        end + 1
+        self.progress.end_line(LineKind::Elements(mark), end)
     }
 
     /// Takes the first `count` bytes of a piece into the open line; none of them is a line feed.
@@ -388,17 +377,17 @@ impl Scanner {
     {
         self.open();
         let line_room = MAX_LINE_BYTES - self.kept.len();
-        let fitting = (count.min(line_room) as u64).min(self.room) as usize;
+        let fitting = (count.min(line_room) as u64).min(self.progress.room) as usize;
         self.kept.append_front(piece, fitting);
-        self.room -= fitting as u64;
+        self.progress.room -= fitting as u64;
         if fitting == count {
             return Ok(());
         }
-        if self.room == 0 {
+        if self.progress.room == 0 {
             return Err(LineFault::TooLong);
         }
         Err(LineFault::LineLong {
-            line: self.lines + 1,
+            line: self.progress.lines + 1,
         })
     }
 
@@ -409,10 +398,10 @@ impl Scanner {
         ensures room { self.new.room ≡ self.old.room }
         ensures latest { self.new.latest ≡ None }
     {
-        if self.ended.is_some() {
+        if self.progress.ended.is_some() {
             self.kept.clear();
             self.elements.clear();
-            self.ended = None;
+            self.progress.ended = None;
         }
     }
 
@@ -424,11 +413,11 @@ impl Scanner {
             (λ _. IsAirFile limit bytes lines)
             (λ why. IsCause limit (length bytes) lines self.now.part [] why) }
     {
-        if self.ended.is_some() || self.kept.len() == 0 {
+        if self.progress.ended.is_some() || self.kept.len() == 0 {
             return Ok(());
         }
         Err(LineFault::LineCut {
-            line: self.lines + 1,
+            line: self.progress.lines + 1,
         })
     }
 }

@@ -14,9 +14,10 @@ returns-then-self-eq0-clause-bytes c = λ limit before lines h.
     let within : fitting < length bytes =
     omega (arith, c.min.ensures, c.min-fitting.ensures, c.if-fitting-count.false, size) in
     let none = ap (λ s. s.latest) c.self.view_is ∙ c.open.ensures.latest in
-    let kept = sym (part-open c.self.inside.ended c.self.inside.elements c.self.inside.kept none)
+    let kept = sym (part-open c.self.inside.progress.ended c.self.inside.elements c.self.inside.kept
+    none)
     ∙ ap (λ s. s.part) c.self.view_is in
-    let whole = part-more c.self.inside.ended c.self.inside.elements c.self.inside.kept
+    let whole = part-more c.self.inside.progress.ended c.self.inside.elements c.self.inside.kept
     c.append_front.new.self c.args.piece.now c.open.new.self.part c.args.count fitting none kept
     c.append_front.ensures (omega (arith, within, size)) in
     let fits : length c.open.new.self.part + fitting ≤ 514 = omega (
@@ -43,9 +44,10 @@ returns-clause-bytes c = λ limit before lines h.
     let within : fitting < length bytes =
     omega (arith, c.min.ensures, c.min-fitting.ensures, c.if-fitting-count.false, size) in
     let none = ap (λ s. s.latest) c.self.view_is ∙ c.open.ensures.latest in
-    let kept = sym (part-open c.self.inside.ended c.self.inside.elements c.self.inside.kept none)
+    let kept = sym (part-open c.self.inside.progress.ended c.self.inside.elements c.self.inside.kept
+    none)
     ∙ ap (λ s. s.part) c.self.view_is in
-    let whole = part-more c.self.inside.ended c.self.inside.elements c.self.inside.kept
+    let whole = part-more c.self.inside.progress.ended c.self.inside.elements c.self.inside.kept
     c.append_front.new.self c.args.piece.now c.open.new.self.part c.args.count fitting none kept
     c.append_front.ensures (omega (arith, within, size)) in
     let fits : length c.open.new.self.part + fitting ≤ 514 = omega (

@@ -8,7 +8,7 @@ use Rattle.nx_fec.proofs.air_files.scanner.Scanner.unpacked.Goals as goal
 
 pub returns : goal.returns
 returns c =
-    let ended = c.self.inside.ended in
+    let ended = c.self.inside.progress.ended in
     let bits = c.self.inside.elements in
     let kept = c.self.inside.kept in
     let line = c.as_slice-line.result.now in

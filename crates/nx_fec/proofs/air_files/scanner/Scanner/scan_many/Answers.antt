@@ -1,8 +1,9 @@
-use Rattle.std.proofs.Common.{◌+◌, ◌-◌, ◌∙◌, ◌++◌, ap, arith, length, refl, subst, sym, take}
-use Rattle.nx_fec.specs.private.ScannerKept.{SpellsLine}
+use Rattle.std.proofs.Common.{◌≡◌, ◌+◌, ◌-◌, ◌∙◌, ◌++◌, ap, arith, length, refl, subst, sym, take}
+use Rattle.nx_fec.specs.private.ScannerKept.{IsKept, SpellsLine, line_ended, part_of}
+use Rattle.nx_fec.specs.private.WholeLines.{TakesLine}
 use Rattle.nx_fec.specs.declared.air_files.lines.LineKind.TheVariants.{Elements}
 use Rattle.nx_fec.proofs.lemmas.lines.WholeLine.{Digits, digits-spell, part-open, takes-digits}
-use Rattle.nx_fec.proofs.air_files.scanner.Scanner.take_many.Goals as goal
+use Rattle.nx_fec.proofs.air_files.scanner.Scanner.scan_many.Goals as goal
 
 pub invariant_of-self-2 : goal.invariant_of-self-2
 invariant_of-self-2 c =
@@ -23,9 +24,12 @@ invariant_of-self-2 c =
       are = c.read_front-count.ensures.elements;
     } in
     let none = ap (λ s. s.latest) c.self-2.view_is ∙ c.open.ensures.latest in
-    let empty = sym (part-open c.self-2.inside.ended c.self-2.inside.elements
+    let empty = sym (part-open c.self-2.inside.progress.ended c.self-2.inside.elements
     c.self-2.inside.kept none)
-    ∙ ap (λ s. s.part) c.self-2.view_is ∙ c.open.ensures.part ∙ c.requires.empty in (
+    ∙ ap (λ s. s.part) c.self-2.view_is ∙ c.open.ensures.part ∙ c.requires.empty in
+    let ended = c.end_line.ensures in
+    let part : length (part_of c.end_line.new.self.ended c.append_front.new.self) ≡ 0 =
+    ap (λ k. length (part_of k c.append_front.new.self)) ended.ended in (
       omega (
         arith,
         c.self-2.invariant.0,
@@ -34,10 +38,15 @@ invariant_of-self-2 c =
         ap (λ s. s.room) c.self.view_is,
         ap (λ s. s.room) c.self-2.view_is,
         c.if-end-gt-MAX_LINE_BYTES.false,
+        part,
+        ended.lines,
+        ended.room,
+        ended.count,
       ),
-      subst (SpellsLine (Elements mark) bits)
+      subst (λ k. IsKept k bits c.append_front.new.self) (sym c.end_line.ensures.ended)
+          (subst (SpellsLine (Elements mark) bits)
           (sym (c.append_front.ensures ∙ ap (λ l. l ++ take (start + count) piece) empty))
-          (digits-spell piece mark digits start count bits found),
+          (digits-spell piece mark digits start count bits found)),
     )
 
 pub returns-clause-taken : goal.returns-clause-taken
@@ -58,13 +67,17 @@ returns-clause-taken c = λ _.
       feed = c.if-digits-count-ne-NEWLINE.false;
       are = c.read_front-count.ensures.elements;
     } in
-    takes-digits c.args.self.now _ piece mark digits start count bits found c.requires.empty refl
-    refl (ap (λ s. s.lines + 1) c.self-2.view_is ∙ ap (λ n. n + 1) c.open.ensures.lines)
+    let ended = c.end_line.ensures in
+    subst (TakesLine c.args.self.now _ piece) (sym ended.count)
+    (takes-digits c.args.self.now _ piece mark digits start count bits found c.requires.empty
+    (ap (λ k. line_ended k bits) ended.ended)
+    (ap (λ k. part_of k c.append_front.new.self) ended.ended)
+    (ended.lines ∙ ap (λ s. s.lines + 1) c.self-2.view_is
+    ∙ ap (λ n. n + 1) c.open.ensures.lines)
     (omega (
       arith,
-      ap (λ s. s.room) c.self.view_is,
+      ended.room,
+      ended.count,
       ap (λ s. s.room) c.self-2.view_is,
       c.open.ensures.room,
-      c.if-self.false,
-      c.if-end-gt-MAX_LINE_BYTES.false,
-    ))
+    )))

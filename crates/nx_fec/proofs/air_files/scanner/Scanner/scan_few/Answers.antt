@@ -1,8 +1,9 @@
-use Rattle.std.proofs.Common.{◌+◌, ◌-◌, ◌∙◌, ◌++◌, ap, arith, length, refl, subst, sym, take}
-use Rattle.nx_fec.specs.private.ScannerKept.{SpellsLine}
+use Rattle.std.proofs.Common.{◌≡◌, ◌+◌, ◌-◌, ◌∙◌, ◌++◌, ap, arith, length, refl, subst, sym, take}
+use Rattle.nx_fec.specs.private.ScannerKept.{IsKept, SpellsLine, line_ended, part_of}
+use Rattle.nx_fec.specs.private.WholeLines.{TakesLine}
 use Rattle.nx_fec.specs.declared.air_files.lines.LineKind.TheVariants.{Elements}
 use Rattle.nx_fec.proofs.lemmas.lines.WholeLine.{Digits, digits-behind-front, digits-spell, takes-digits}
-use Rattle.nx_fec.proofs.air_files.scanner.Scanner.take_few.Goals as goal
+use Rattle.nx_fec.proofs.air_files.scanner.Scanner.scan_few.Goals as goal
 
 pub pack_near-number-requires : goal.pack_near-number-requires
 pack_near-number-requires c =
@@ -28,7 +29,10 @@ invariant_of-self c =
       within = omega (arith, short, c.requires.long, c.if-count-gt-NEAR_ELEMENTS.false);
       feed = c.if-digits-count-ne-NEWLINE.false;
       are = c.put.ensures ∙ c.pack_near-number.ensures.number;
-    } in (
+    } in
+    let ended = c.end_line.ensures in
+    let none : length (part_of c.end_line.new.self.ended c.append_front.new.self) ≡ 0 =
+    ap (λ k. length (part_of k c.append_front.new.self)) ended.ended in (
       omega (
         arith,
         short,
@@ -36,10 +40,15 @@ invariant_of-self c =
         c.requires.room,
         ap (λ s. s.room) c.self.view_is,
         c.if-count-gt-NEAR_ELEMENTS.false,
+        none,
+        ended.lines,
+        ended.room,
+        ended.count,
       ),
-      subst (SpellsLine (Elements c.args.mark) c.put.new.self)
+      subst (λ k. IsKept k c.put.new.self c.append_front.new.self) (sym c.end_line.ensures.ended)
+          (subst (SpellsLine (Elements c.args.mark) c.put.new.self)
           (sym (c.append_front.ensures ∙ ap (λ l. l ++ take (start + count) piece) c.clear.ensures))
-          (digits-spell piece c.args.mark digits start count c.put.new.self found),
+          (digits-spell piece c.args.mark digits start count c.put.new.self found)),
     )
 
 pub returns-clause-taken : goal.returns-clause-taken
@@ -59,12 +68,10 @@ returns-clause-taken c = λ _.
       feed = c.if-digits-count-ne-NEWLINE.false;
       are = c.put.ensures ∙ c.pack_near-number.ensures.number;
     } in
-    takes-digits c.args.self.now _ piece c.args.mark digits start count c.put.new.self found
-    c.requires.empty refl refl (ap (λ s. s.lines + 1) c.self.view_is)
-    (omega (
-      arith,
-      short,
-      ap (λ s. s.room) c.self.view_is,
-      c.requires.room,
-      c.if-count-gt-NEAR_ELEMENTS.false,
-    ))
+    let ended = c.end_line.ensures in
+    subst (TakesLine c.args.self.now _ piece) (sym ended.count)
+    (takes-digits c.args.self.now _ piece c.args.mark digits start count c.put.new.self found
+    c.requires.empty (ap (λ k. line_ended k c.put.new.self) ended.ended)
+    (ap (λ k. part_of k c.append_front.new.self) ended.ended)
+    (ended.lines ∙ ap (λ s. s.lines + 1) c.self.view_is)
+    (omega (arith, ended.room, ended.count, ap (λ s. s.room) c.self.view_is)))
