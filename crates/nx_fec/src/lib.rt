@@ -19,7 +19,7 @@ pub use air_files::line_runs::{LinesFault, LinesRead};
 pub use air_files::lines::{AirLine, LineKind, MAX_ELEMENTS, air_line};
 pub use air_files::packed::PackedElements;
 pub use air_files::reading::{read_bits, read_whole};
-pub use air_files::scanner::Scanner;
+pub use air_files::scanner::{AIR_LIMIT, Scanner};
 pub use devices::counting::Counting;
 pub use devices::pieces::{CHUNK, Piece, next_piece};
 pub use devices::write_batch::Batch;

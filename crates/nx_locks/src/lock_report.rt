@@ -13,14 +13,11 @@ ghost use Rattle.nx_receiver.specs.declared.air_file_runs.listen_fault.ListenFau
 
 use crate::report_writer::{ReportRefusal, ReportWriter};
 use nx_fec::{
-    Batch, CHUNK, Counting, LineFault, LinesFault, LinesRead, Piece, Scanner, next_piece,
+    AIR_LIMIT, Batch, CHUNK, Counting, LineFault, LinesFault, LinesRead, Piece, Scanner, next_piece,
 };
 use nx_receiver::ListenFault;
 use std::alloc::{AllocError, Global};
 use std::io::{Read, Write};
-
-/// The most bytes of an air file.
-const AIR_LIMIT: u64 = 268_435_456;
 
 /// What a run that showed the locks of an air file read and counted.
 #[derive(Clone, Copy, Debug, Drop, PartialEq, Eq)]

@@ -18,13 +18,11 @@ use crate::fault::DamageFault;
 use arrayvec::ArrayVec;
 use nx_code::ELEMENTS;
 use nx_fec::{
-    Batch, CHUNK, Channel, Counting, LineKind, MAX_ELEMENTS, Piece, Scanner, WriteFault, next_piece,
+    AIR_LIMIT, Batch, CHUNK, Channel, Counting, LineKind, MAX_ELEMENTS, Piece, Scanner, WriteFault,
+    next_piece,
 };
 use std::io::{Read, Write};
 use std::marker::Model;
-
-/// The most bytes of an air file.
-const AIR_LIMIT: u64 = 268_435_456;
 
 /// How many bytes stand before the digits of a line of elements that names no channel.
 const FRONT_BYTES: usize = 2;

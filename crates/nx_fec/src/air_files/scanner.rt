@@ -24,6 +24,9 @@ use nx_code::NEWLINE;
 use std::marker::Model;
 use std::mem::size_of;
 
+/// The most bytes of an air file that is read as it comes.
+pub const AIR_LIMIT: u64 = 268_435_456;
+
 /// The most bytes of a line before its end.
 const MAX_LINE_BYTES: usize = 514;
 
