@@ -52,20 +52,20 @@ pub fn words_of(elements: u64) -> [Word; WORDS_AT_ONCE]
     ensures { flat_map words.elements result ≡ elements_from 56 elements }
 {
     [
-        word_in(elements, 0),
-        word_in(elements, 1),
-        word_in(elements, 2),
-        word_in(elements, 3),
-        word_in(elements, 4),
-        word_in(elements, 5),
-        word_in(elements, 6),
-        word_in(elements, 7),
+        nth_word(elements, 0),
+        nth_word(elements, 1),
+        nth_word(elements, 2),
+        nth_word(elements, 3),
+        nth_word(elements, 4),
+        nth_word(elements, 5),
+        nth_word(elements, 6),
+        nth_word(elements, 7),
     ]
 }
 
 /// The word of this index among packed elements.
 #[inline(always)]
-fn word_in(elements: u64, index: usize) -> Word
+fn nth_word(elements: u64, index: usize) -> Word
     requires { index < 8 }
     ensures { result ≡ elements / 2 ^ (7 * index) % 128 }
 {

@@ -78,7 +78,7 @@ impl Printer {
 
     /// Takes the next position by its class, and answers the byte that it prints, if any.
     #[inline(always)]
-    pub fn print_class(&mut self, class: u8) -> Option<u8>
+    pub fn step_by_class(&mut self, class: u8) -> Option<u8>
         requires { class < 34 }
         ensures printed { result ≡ byte_of (reception_of_class class) self.old }
         ensures shift { self.new ≡ shift_after (reception_of_class class) self.old }
@@ -86,7 +86,7 @@ impl Printer {
         byte_given(self.print_byte(class))
     }
 
-    /// Takes the next position by its class, as `print_class` does, and appends the byte that it
+    /// Takes the next position by its class, as `step_by_class` does, and appends the byte that it
     /// prints, if any, to those of at most three positions before it.
     #[inline(always)]
     pub fn print_behind(&mut self, class: u8, printed: &mut FourPrinted)

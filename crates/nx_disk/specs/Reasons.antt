@@ -3,7 +3,7 @@ use Rattle.std.specs.declared.io.ErrorKind.{ErrorKind}
 use Rattle.std.specs.declared.io.ErrorKind.TheVariants as kind
 use Rattle.nx_disk.specs.declared.file.FileFault.{FileFault}
 use Rattle.nx_disk.specs.declared.file.FileFault.TheVariants.{Memory, Open}
-use Rattle.nx_disk.specs.declared.file.OpenFault.TheVariants as fault
+use Rattle.nx_disk.specs.declared.file.FileOpenFault.TheVariants as fault
 
 -- the fault that an error of this kind is, where a file is opened or made
 abbrev pub fault_of_kind : ErrorKind → FileFault

@@ -15,7 +15,7 @@ use thiserror::Error;
 pub enum FileFault {
     /// It can't be opened, locked or made, for this reason.
     #[error(transparent)]
-    Open(OpenFault),
+    Open(FileOpenFault),
     /// Another open file has the lock.
     #[error("the file is in use")]
     Busy,
@@ -26,7 +26,7 @@ pub enum FileFault {
 
 /// Why a file can't be opened.
 #[derive(Clone, Copy, Debug, Drop, PartialEq, Eq, Error)]
-pub enum OpenFault {
+pub enum FileOpenFault {
     /// A folder that its name leads through isn't there.
     #[error("the folder of the file isn't there")]
     NoFolder,
@@ -83,7 +83,7 @@ impl From<TryLockError> for FileFault {
     fn from(error: TryLockError) -> FileFault {
         match error {
             TryLockError::WouldBlock => FileFault::Busy,
-            TryLockError::Error(_) => FileFault::Open(OpenFault::NoLock),
+            TryLockError::Error(_) => FileFault::Open(FileOpenFault::NoLock),
         }
     }
 }
@@ -94,15 +94,19 @@ impl FileFault {
         ensures { result ≡ fault_of_kind kind }
     {
         match kind {
-            ErrorKind::NotFound | ErrorKind::NotADirectory => FileFault::Open(OpenFault::NoFolder),
-            ErrorKind::PermissionDenied => FileFault::Open(OpenFault::NoLeave),
-            ErrorKind::FilesystemLoop => FileFault::Open(OpenFault::DeadLink),
-            ErrorKind::IsADirectory => FileFault::Open(OpenFault::FolderName),
-            ErrorKind::InvalidFilename => FileFault::Open(OpenFault::LongName),
-            ErrorKind::StorageFull | ErrorKind::QuotaExceeded => FileFault::Open(OpenFault::NoRoom),
-            ErrorKind::ReadOnlyFilesystem => FileFault::Open(OpenFault::OnlyRead),
+            ErrorKind::NotFound | ErrorKind::NotADirectory => FileFault::Open(
+                FileOpenFault::NoFolder,
+            ),
+            ErrorKind::PermissionDenied => FileFault::Open(FileOpenFault::NoLeave),
+            ErrorKind::FilesystemLoop => FileFault::Open(FileOpenFault::DeadLink),
+            ErrorKind::IsADirectory => FileFault::Open(FileOpenFault::FolderName),
+            ErrorKind::InvalidFilename => FileFault::Open(FileOpenFault::LongName),
+            ErrorKind::StorageFull | ErrorKind::QuotaExceeded => FileFault::Open(
+                FileOpenFault::NoRoom,
+            ),
+            ErrorKind::ReadOnlyFilesystem => FileFault::Open(FileOpenFault::OnlyRead),
             ErrorKind::OutOfMemory => FileFault::Memory,
-            _ => FileFault::Open(OpenFault::Other),
+            _ => FileFault::Open(FileOpenFault::Other),
         }
     }
 }

@@ -2,7 +2,7 @@
 
 ghost use Rattle.std.specs.Prelude.{◌≡◌, List, [], ◌∷◌, ℕ};
 ghost use Rattle.std.specs.Borrow.{ftrue};
-ghost use Rattle.nx_disk.specs.Events.{Event};
+ghost use Rattle.nx_disk.specs.Events.{DiskEvent};
 ghost use Rattle.nx_disk.specs.private.Noting.{event_of};
 
 use std::marker::{Model, PhantomData};
@@ -11,7 +11,7 @@ use std::marker::{Model, PhantomData};
 #[derive(Drop)]
 pub struct History {
     marker: PhantomData<u8>,
-    pub ghost events: { List Event },
+    pub ghost events: { List DiskEvent },
 }
 
 impl Model for History {

@@ -10,7 +10,7 @@ mod noted;
 mod tests;
 mod torn;
 
-pub use file::{FileFault, OpenFault};
+pub use file::{FileFault, FileOpenFault};
 pub use history::LeftBefore;
 pub use log_file::{LogFile, open};
 pub use noted::{Noted, RawFile};

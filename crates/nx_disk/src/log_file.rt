@@ -5,7 +5,7 @@
 ghost use Rattle.std.specs.Prelude.{IfOk};
 ghost use Rattle.nx_disk.specs.Fresh.{IsFresh};
 
-use crate::file::{FileFault, OpenFault};
+use crate::file::{FileFault, FileOpenFault};
 use crate::history::LeftBefore;
 use crate::noted::{Noted, RawFile};
 use nx_kept::{DiskFailed, DiskFile};
@@ -50,7 +50,7 @@ pub fn open<'a, R: Files<File = File>>(
     // Is all but a regular file refused, and a regular file of any size taken?
     let found = file.metadata()?;
     if !found.is_file() {
-        return Err(FileFault::Open(OpenFault::NotRegular));
+        return Err(FileFault::Open(FileOpenFault::NotRegular));
     }
     // Is the lock exclusive, is it not waited for, and is it kept until the file is closed?
     file.try_lock()?;
@@ -63,11 +63,11 @@ pub fn open<'a, R: Files<File = File>>(
     };
     // Does the name lead to this file now that it is locked?
     if !log.is_named() {
-        return Err(FileFault::Open(OpenFault::Moved));
+        return Err(FileFault::Open(FileOpenFault::Moved));
     }
     // Is the folder brought to the disk before a byte is written?
     if sync_folder(files, log.path.as_str()).is_err() {
-        return Err(FileFault::Open(OpenFault::FolderUnsynced));
+        return Err(FileFault::Open(FileOpenFault::FolderUnsynced));
     }
     Ok(Noted::new(log, left))
 }
@@ -87,7 +87,7 @@ fn open_or_make<R: Files<File = File>>(files: &R, path: &str) -> Result<File, Fi
         // Is that other one opened then? Where there is none, is it a link that keeps one from
         // being made?
         Err(error) if error.kind() == io::ErrorKind::AlreadyExists => {
-            open_there(files, path)?.ok_or(FileFault::Open(OpenFault::DeadLink))
+            open_there(files, path)?.ok_or(FileFault::Open(FileOpenFault::DeadLink))
         }
         Err(error) => Err(FileFault::from(error)),
     }
@@ -97,7 +97,7 @@ fn open_there<R: Files<File = File>>(files: &R, path: &str) -> Result<Option<Fil
     match fs::metadata(files, path) {
         // Is nothing but a regular file opened? (To open a pipe or a device may do something, or
         // wait.)
-        Ok(found) if !found.is_file() => Err(FileFault::Open(OpenFault::NotRegular)),
+        Ok(found) if !found.is_file() => Err(FileFault::Open(FileOpenFault::NotRegular)),
         // Is a file that is there opened to read and to write, and nothing of it cut?
         Ok(_) => Ok(Some(OpenOptions::new().read(true).write(true).open(files, path)?)),
         // Does the name lead to no file?

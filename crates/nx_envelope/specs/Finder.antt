@@ -5,7 +5,7 @@ use Rattle.nx_envelope.specs.private.Backward.{last_four}
 use Rattle.nx_envelope.specs.Copies.{Copy, headers, ended_copies, open_headers, raw_text, closed_copy, copies}
 use Rattle.nx_envelope.specs.Found.{IsFound}
 use Rattle.nx_envelope.specs.Header.{Header}
-use Rattle.nx_envelope.specs.private.Stage.{IsStageOf}
+use Rattle.nx_envelope.specs.private.HeaderStage.{IsStageOf}
 use Rattle.nx_envelope.specs.declared.finder.Finder.{Finder}
 use Rattle.nx_envelope.specs.declared.found.FinderStep.{FinderStep}
 use Rattle.nx_envelope.specs.declared.found.FinderStep.TheVariants as steps
@@ -137,10 +137,10 @@ pub record EndsReady (text : List ℕ) (byte : ℕ) (finder : Finder) : Type 0 w
   pub ready : HasReady finder copy
 
 -- the event is what happens at that byte behind that text, and the finder has the copy that it ends
-abbrev pub Hears : List ℕ → ℕ → Finder → TextEvent → Type 0
-Hears text byte finder events.Nothing = Keeps text byte
-Hears text byte finder (events.Header identity) = BringsHeader text byte identity
-Hears text byte finder events.CopyOver = EndsReady text byte finder
+abbrev pub HappensAt : List ℕ → ℕ → Finder → TextEvent → Type 0
+HappensAt text byte finder events.Nothing = Keeps text byte
+HappensAt text byte finder (events.Header identity) = BringsHeader text byte identity
+HappensAt text byte finder events.CopyOver = EndsReady text byte finder
 
 -- the end of the text closes the copy that is open, and the finder has it
 pub record ClosesReady (text : List ℕ) (finder : Finder) : Type 0 where

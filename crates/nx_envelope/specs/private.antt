@@ -6,5 +6,5 @@ pub mod FourBytes
 pub mod Letters
 pub mod Reading
 pub mod Room
-pub mod Stage
+pub mod HeaderStage
 pub mod Within

@@ -8,10 +8,10 @@ ghost use Rattle.nx_envelope.specs.Found.{IsFoundOf};
 ghost use Rattle.nx_envelope.specs.private.Finding.{begins_no_text};
 
 use crate::found::{FinderStep, Found, FoundHead, HeldCopy, How, MAX_FOUND, TextEvent};
+use crate::header_stage::HeaderStage;
 use crate::identity::Identity;
 use crate::markers::{eight_of, ends_marker, four_behind, marker_of};
 use crate::message::START_MARKER;
-use crate::stage::Stage;
 use arrayvec::ArrayVec;
 use nx_code::{ASTERISK, NEWLINE};
 use std::marker::Model;
@@ -26,7 +26,7 @@ const MARKER_LEN: usize = 4;
 #[derive(Debug, Drop)]
 pub struct Finder {
     recent: [u8; MARKER_LEN],
-    stage: Stage,
+    stage: HeaderStage,
     copy: HeldCopy,
     text: ArrayVec<u8, MAX_FOUND>,
 }
@@ -59,7 +59,7 @@ impl Finder {
     ghost use Rattle.std.specs.Prelude.{IsNone, MatchOption};
     ghost use Rattle.nx_envelope.specs.private.Backward.{header_back};
     ghost use Rattle.nx_envelope.specs.Copies.{Copy, open_headers};
-    ghost use Rattle.nx_envelope.specs.Finder.{BringNothing, Brings, Closes, ClosesHeld, HasReady, Hears, HoldsOpen};
+    ghost use Rattle.nx_envelope.specs.Finder.{BringNothing, Brings, Closes, ClosesHeld, HasReady, HappensAt, HoldsOpen};
     ghost use Rattle.nx_envelope.specs.Finder.{StandsAfter, held_identity, is_over, is_ready};
     ghost use Rattle.nx_envelope.specs.private.Finding.{Hearing};
     ghost use Rattle.nx_envelope.specs.Found.{IsFound, IsHeadOf};
@@ -72,7 +72,7 @@ impl Finder {
         prove!(size_of::<Finder>() == 4128);
         Finder {
             recent: [0; MARKER_LEN],
-            stage: Stage::Nowhere,
+            stage: HeaderStage::Nowhere,
             copy: HeldCopy::Nothing,
             text: ArrayVec::new(),
         }
@@ -103,7 +103,7 @@ impl Finder {
         ensures stands { (text : List ℕ) → StandsAfter self.old text
             → StandsAfter self.new (text ++ byte ∷ []) }
         ensures hears { (text : List ℕ) → StandsAfter self.old text
-            → Hears text byte self.new result }
+            → HappensAt text byte self.new result }
         ensures ready { is_ready self.new ≡ is_over result }
     {
         let after_start = self.recent == START_MARKER;
@@ -274,7 +274,7 @@ impl Finder {
         ensures text { self.new.text ≡ self.old.text }
     {
         self.recent = [0; MARKER_LEN];
-        self.stage = Stage::Nowhere;
+        self.stage = HeaderStage::Nowhere;
         self.copy = HeldCopy::Nothing;
     }
 

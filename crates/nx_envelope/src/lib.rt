@@ -4,13 +4,13 @@
 mod digit;
 mod finder;
 mod found;
+mod header_stage;
 mod identity;
 pub mod laws;
 mod letter;
 mod markers;
 mod message;
 mod moment;
-mod stage;
 
 pub use finder::Finder;
 pub use found::{FinderStep, Found, FoundHead, How, MAX_FOUND, TextEvent};

@@ -5,6 +5,6 @@ pub(crate) mod channel;
 pub(crate) mod line_feeds;
 pub(crate) mod line_runs;
 pub(crate) mod lines;
-pub(crate) mod packed;
+pub(crate) mod packed_elements;
 pub(crate) mod reading;
 pub(crate) mod scanner;

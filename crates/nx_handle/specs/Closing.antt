@@ -11,7 +11,7 @@ use Rattle.nx_handle.specs.Life.{EndsWith, ending, ending_at}
 use Rattle.nx_handle.specs.Status.{number_of}
 use Rattle.nx_handle.specs.CallerRoom.{IsPut, Room}
 use Rattle.nx_handle.specs.declared.kept.Kept.{Kept}
-use Rattle.nx_handle.specs.declared.kept.Stage.{Stage}
+use Rattle.nx_handle.specs.declared.kept.LifeStage.{LifeStage}
 use Rattle.nx_handle.specs.declared.status.Status.{Status}
 use Rattle.nx_handle.specs.declared.status.Status.TheVariants as status
 
@@ -28,7 +28,7 @@ HandsOut [] new text = (text ≡ []) × (new ≡ None)
 HandsOut (copy ∷ left) new text = IsEntry copy text × (ending new ≡ Some left)
 
 -- Of what the end prints, the first entry was taken, and the others are left; or there is none.
-pub record TakesLast (old new : Stage) (next : Option (Channel × Entry)) : Type 0 where
+pub record TakesLast (old new : LifeStage) (next : Option (Channel × Entry)) : Type 0 where
   pub left : List MarkedCopy
   pub ends : EndsWith old left
   pub taken : MatchOption next (left ≡ []) (λ one. (rest : List MarkedCopy)

@@ -65,7 +65,7 @@ pub record HearsElements (channel : Channel) (old new : Listening) (bits : List 
 
 -- So many of the elements of these bytes are heard on the channel of this number; all, where
 -- nothing is printed.
-pub record Hears (channel : ℕ) (old new : Option Kept) (bytes : List ℕ) (heard : ℕ)
+pub record HearsBytes (channel : ℕ) (old new : Option Kept) (bytes : List ℕ) (heard : ℕ)
     (text : List ℕ)
     : Type 0 where
   pub on : Channel
@@ -88,5 +88,5 @@ pub record AnswersHearing (channel : ℕ) (bytes : List ℕ) (old new : Option K
   pub text : List ℕ
   pub put : IsPut text log
   pub fits : length text ≤ length log.old
-  pub done : answer ≡ 0 → Hears channel old new bytes heard text
+  pub done : answer ≡ 0 → HearsBytes channel old new bytes heard text
   pub refused : answer ≢ 0 → (new ≡ old) × (heard ≡ 0) × (text ≡ [])

@@ -6,11 +6,11 @@ use Rattle.nx_receiver.specs.Listener.{last_copies}
 use Rattle.nx_handle.specs.Receivers.{HearsGiven, Listening}
 use Rattle.nx_receiver.specs.copies.Shares.{Given, MarkedCopy, Starts}
 use Rattle.nx_handle.specs.declared.kept.Kept.{Kept}
-use Rattle.nx_handle.specs.declared.kept.Stage.{Stage}
-use Rattle.nx_handle.specs.declared.kept.Stage.TheVariants.{Hearing, Ending}
+use Rattle.nx_handle.specs.declared.kept.LifeStage.{LifeStage}
+use Rattle.nx_handle.specs.declared.kept.LifeStage.TheVariants.{Hearing, Ending}
 
 -- the three receivers that hear, where the receiver is open and its end has not begun
-abbrev pub hearing_at : Stage → Option Listening
+abbrev pub hearing_at : LifeStage → Option Listening
 hearing_at (Hearing listener) = Some listener
 hearing_at (Ending ending) = None
 
@@ -19,7 +19,7 @@ hearing None = None
 hearing (Some kept) = hearing_at kept.stage
 
 -- what is left of what the end prints, where it has begun
-abbrev pub ending_at : Stage → Option (List MarkedCopy)
+abbrev pub ending_at : LifeStage → Option (List MarkedCopy)
 ending_at (Hearing listener) = None
 ending_at (Ending ending) = Some (last_copies ending.last)
 
@@ -38,7 +38,7 @@ pub record HasHeard (starts : Starts) (receiver : Option Kept) (given : List Giv
 
 -- The end prints these copies, which were not handed out yet, behind all that was printed before:
 -- what is left, where it has begun.
-abbrev pub EndsWith : Stage → List MarkedCopy → Type 0
+abbrev pub EndsWith : LifeStage → List MarkedCopy → Type 0
 EndsWith (Hearing listener) left =
     (starts : Starts) (given : List Given) (copies : List MarkedCopy)
     → HearsGiven starts listener given copies → PrintAllToEnd starts given (copies ++ left)

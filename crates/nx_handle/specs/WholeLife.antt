@@ -16,22 +16,22 @@ pub record HasLogged (starts : Starts) (receiver : Option Kept) (given : List Gi
   pub spelled : IsLog copies log
 
 -- what a call gives to the receivers, and the bytes that it hands out
-pub record Step : Type 0 where
+pub record LifeStep : Type 0 where
   pub given : Given
   pub text : List ℕ
 
-abbrev pub step : Given → List ℕ → Step
+abbrev pub step : Given → List ℕ → LifeStep
 step given text = record { given = given; text = text }
 
 -- A call is this step: whatever the receiver was given before, it then stands after this too, and
 -- the bytes follow in its log.
-abbrev pub IsStep : Option Kept → Step → Option Kept → Type 0
+abbrev pub IsStep : Option Kept → LifeStep → Option Kept → Type 0
 IsStep old one new =
     (starts : Starts) (given : List Given) (log : List ℕ) → HasLogged starts old given log
     → HasLogged starts new (given ++ one.given ∷ []) (log ++ one.text)
 
 -- calls are these steps, one after another
-abbrev pub AreSteps : Option Kept → List Step → Option Kept → Type 0
+abbrev pub AreSteps : Option Kept → List LifeStep → Option Kept → Type 0
 AreSteps old [] new = new ≡ old
 AreSteps old (one ∷ steps) new =
     (mid : Option Kept) × IsStep old one mid × AreSteps mid steps new
@@ -43,8 +43,8 @@ AreCloses old (text ∷ texts) new =
     (mid : Option Kept) × Closes old mid text × AreCloses mid texts new
 
 -- what steps give, and all bytes that they hand out
-abbrev pub given_in : List Step → List Given
+abbrev pub given_in : List LifeStep → List Given
 given_in steps = map (λ one. one.given) steps
 
-abbrev pub texts_of : List Step → List ℕ
+abbrev pub texts_of : List LifeStep → List ℕ
 texts_of steps = flat_map (λ one. one.text) steps

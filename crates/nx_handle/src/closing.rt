@@ -10,7 +10,7 @@ ghost use Rattle.nx_handle.specs.Life.{EndsWith};
 ghost use Rattle.nx_handle.specs.CallerRoom.{room};
 
 use crate::caller_room::put;
-use crate::kept::{Ending, Kept, Stage};
+use crate::kept::{Ending, Kept, LifeStage};
 use crate::status::Status;
 use nx_fec::Channel;
 use nx_receiver::{Entry, LastEntries, MAX_ENTRY, entry_bytes};
@@ -65,21 +65,21 @@ fn take_last(kept: &mut Kept) -> Option<(Channel, Entry)>
         on_1: None,
         on_2: None,
     };
-    let stage = replace(&mut kept.stage, Stage::Ending(Ending { last: none }));
+    let stage = replace(&mut kept.stage, LifeStage::Ending(Ending { last: none }));
     let mut last = last_of(stage);
     let next = last.take_next();
-    kept.stage = Stage::Ending(Ending { last });
+    kept.stage = LifeStage::Ending(Ending { last });
     next
 }
 
 /// What is left of what the end prints.
-fn last_of(stage: Stage) -> LastEntries
+fn last_of(stage: LifeStage) -> LastEntries
     ensures ends { EndsWith stage (last_copies result) }
     ensures range { AreInRange result }
 {
     match stage {
-        Stage::Hearing(listener) => listener.close(),
-        Stage::Ending(ending) => ending.last,
+        LifeStage::Hearing(listener) => listener.close(),
+        LifeStage::Ending(ending) => ending.last,
     }
 }
 

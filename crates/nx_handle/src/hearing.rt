@@ -4,13 +4,13 @@ ghost use Rattle.std.specs.Prelude.{◌≡◌, ◌≢◌, ◌≤◌, ℕ, [], fa
 ghost use Rattle.std.specs.List.{list_all};
 ghost use Rattle.nx_fec.specs.air_files.Channels.{channel_number};
 ghost use Rattle.nx_handle.specs.Receivers.{Listening};
-ghost use Rattle.nx_handle.specs.Hearing.{AnswersHearing, Hears, hearing_status, is_element, request_status};
+ghost use Rattle.nx_handle.specs.Hearing.{AnswersHearing, HearsBytes, hearing_status, is_element, request_status};
 ghost use Rattle.nx_handle.specs.Life.{hearing};
 ghost use Rattle.nx_handle.specs.CallerRoom.{room};
 ghost use Rattle.nx_handle.specs.declared.status.Status.TheVariants.{Done};
 
 use crate::caller_room::put;
-use crate::kept::{Kept, Stage};
+use crate::kept::{Kept, LifeStage};
 use crate::pieces::hear_all;
 use crate::status::Status;
 use nx_fec::Channel;
@@ -55,7 +55,7 @@ pub fn hear_kept(
         (room log.old log.new written.new) result }
 {
     *heard = 0;
-    let Stage::Hearing(listener) = &mut kept.stage else {
+    let LifeStage::Hearing(listener) = &mut kept.stage else {
         put(&[], log, written);
         return Status::Closed.number();
     };

@@ -17,7 +17,7 @@ pub struct Ending {
 
 /// How far the life of an open receiver is.
 #[derive(Drop)]
-pub enum Stage {
+pub enum LifeStage {
     /// It hears.
     Hearing(Listener<PlainRecall>),
     /// Its end has begun.
@@ -28,7 +28,7 @@ pub enum Stage {
 #[derive(Drop)]
 pub struct Kept {
     /// How far its life is.
-    pub stage: Stage,
+    pub stage: LifeStage,
     /// Room for the bytes of an entry, so that none is cleared at each call.
     pub entry: ArrayVec<u8, MAX_ENTRY>,
 }

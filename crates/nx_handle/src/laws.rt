@@ -18,7 +18,7 @@ ghost use Rattle.nx_handle.specs.Life.{hearing};
 ghost use Rattle.nx_handle.specs.Opening.{AnswersMoment, AnswersOpening};
 ghost use Rattle.nx_handle.specs.Selecting.{AnswersSelecting};
 ghost use Rattle.nx_handle.specs.CallerRoom.{Room};
-ghost use Rattle.nx_handle.specs.WholeLife.{AreCloses, AreSteps, HasLogged, IsStep, Step, given_in, step, texts_of};
+ghost use Rattle.nx_handle.specs.WholeLife.{AreCloses, AreSteps, HasLogged, IsStep, LifeStep, given_in, step, texts_of};
 ghost use Rattle.nx_handle.specs.declared.kept.Kept.{Kept};
 ghost use Rattle.nx_handle.specs.declared.status.Status.{Status};
 
@@ -41,7 +41,7 @@ pub fn each_call_is_a_step()
 /// What a receiver handed out since it was opened, and by closing, is the log of all that was given
 /// to it. That is the moment at which it was opened, and what its calls gave, in order.
 pub fn a_whole_life_has_its_log()
-    ensures log { (moment : ℕ) (closed first last : Option Kept) (steps : List Step)
+    ensures log { (moment : ℕ) (closed first last : Option Kept) (steps : List LifeStep)
         (texts : List (List ℕ)) → AnswersOpening moment closed first 0
         → AreSteps first steps last → AreCloses last texts None
         → (copies : List MarkedCopy)
@@ -50,7 +50,7 @@ pub fn a_whole_life_has_its_log()
 
     // And so with whatever it started.
     ensures from { (starts : Starts) (given : List Given) (first last : Option Kept)
-        (steps : List Step) (before : List ℕ) (texts : List (List ℕ))
+        (steps : List LifeStep) (before : List ℕ) (texts : List (List ℕ))
         → HasLogged starts first given before → AreSteps first steps last
         → AreCloses last texts None
         → (copies : List MarkedCopy) × PrintAllToEnd starts (given ++ given_in steps) copies

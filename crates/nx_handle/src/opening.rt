@@ -5,7 +5,7 @@ ghost use Rattle.nx_receiver.specs.copies.Shares.{starts_from};
 ghost use Rattle.nx_handle.specs.Life.{HasHeard, hearing};
 ghost use Rattle.nx_handle.specs.Opening.{AnswersMoment, AnswersOpening, moment_told};
 
-use crate::kept::{Kept, Stage};
+use crate::kept::{Kept, LifeStage};
 use crate::status::Status;
 use arrayvec::ArrayVec;
 use nx_memory::SavedSet;
@@ -45,7 +45,7 @@ pub(crate) fn begin(
 {
     let listener = Listener::starting(alloc, saved)?;
     *slot = Some(Kept {
-        stage: Stage::Hearing(listener),
+        stage: LifeStage::Hearing(listener),
         entry: ArrayVec::new(),
     });
     Ok(())
@@ -67,7 +67,7 @@ pub fn set_moment_kept(kept: &mut Kept, moment: u64) -> u32
     ensures { AnswersMoment moment (Some kept.old) (Some kept.new) result
         (hearing (Some kept.old)) }
 {
-    let Stage::Hearing(listener) = &mut kept.stage else {
+    let LifeStage::Hearing(listener) = &mut kept.stage else {
         return Status::Closed.number();
     };
     match listener.set_moment(moment) {

@@ -8,7 +8,7 @@ ghost use Rattle.nx_handle.specs.Saving.{AnswersOpeningFrom, AnswersSaving};
 ghost use Rattle.nx_handle.specs.CallerRoom.{room};
 
 use crate::caller_room::{put, put_whole};
-use crate::kept::{Kept, Stage};
+use crate::kept::{Kept, LifeStage};
 use crate::opening::begin;
 use crate::status::Status;
 use arrayvec::ArrayVec;
@@ -42,7 +42,7 @@ pub fn save_kept(kept: &Kept, state: &mut [u8], written: &mut usize) -> u32
     ensures { AnswersSaving (Some kept.now) (Some kept.now)
         (room state.old state.new written.new) result }
 {
-    let Stage::Hearing(listener) = &kept.stage else {
+    let LifeStage::Hearing(listener) = &kept.stage else {
         put(&[], state, written);
         return Status::Closed.number();
     };

@@ -5,7 +5,7 @@ ghost use Rattle.nx_receiver.specs.Commands.{by_byte, refuses_vital, said};
 ghost use Rattle.nx_handle.specs.Selecting.{AnswersSelecting, byte_status, command_status, is_letter};
 ghost use Rattle.nx_handle.specs.declared.status.Status.TheVariants.{Done, NoStation, NoSubject, Vital};
 
-use crate::kept::{Kept, Stage};
+use crate::kept::{Kept, LifeStage};
 use crate::status::Status;
 use nx_envelope::Letter;
 use nx_fec::Channel;
@@ -28,7 +28,7 @@ pub fn select_kept(kept: &mut Kept, channel: u8, command: Command<u8>) -> u32
     ensures { AnswersSelecting (command_status channel command) (by_byte command)
         channel (Some kept.old) (Some kept.new) result }
 {
-    let Stage::Hearing(listener) = &mut kept.stage else {
+    let LifeStage::Hearing(listener) = &mut kept.stage else {
         return Status::Closed.number();
     };
     let Some(channel) = Channel::new(channel) else {

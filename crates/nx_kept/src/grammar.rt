@@ -1,7 +1,7 @@
 //! What the records of a log are.
 
 ghost use Rattle.std.specs.Prelude.{◌≡◌, ◌++◌, ◌<◌, ◌≤◌, ◌^◌, List, [], ℕ, length};
-ghost use Rattle.nx_kept.specs.Record.{Tells};
+ghost use Rattle.nx_kept.specs.Record.{TellsRecord};
 
 /// What stands at the place of a record.
 #[derive(Clone, Copy, Debug, Drop, PartialEq, Eq)]
@@ -27,7 +27,7 @@ pub trait Grammar: Drop {
 
     /// What the bytes are that stand where a record is to begin.
     fn record_at(&self, bytes: &[u8]) -> RecordStart
-        ensures { Tells is_record bytes.now result };
+        ensures { TellsRecord is_record bytes.now result };
 
     /// No record is empty.
     ghost some: { (bytes : List ℕ) → is_record bytes → 0 < length bytes };

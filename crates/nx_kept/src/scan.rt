@@ -16,7 +16,7 @@ use crate::taker::RecordTaker;
 pub(crate) const CLOSED_GATE: u8 = b' ';
 
 /// What stands from a gate on.
-enum Step {
+enum ScanStep {
     /// The tail of the log.
     Tail,
     /// An open gate, and a record of so many bytes.
@@ -36,24 +36,24 @@ pub(crate) struct Rest {
 
 /// What stands from a gate on, told by the first bytes: three more than the longest record has, or
 /// all of them.
-fn step_at<G: Grammar>(grammar: &G, bytes: &[u8]) -> Step
+fn step_at<G: Grammar>(grammar: &G, bytes: &[u8]) -> ScanStep
     ensures { (all : List ℕ) → bytes.now ≡ take (G.LONGEST + 3) all →
         Steps G.is_record G.LONGEST all result }
 {
     if bytes.len() < 2 {
-        return Step::Tail;
+        return ScanStep::Tail;
     }
     let (gate, behind) = (bytes[0], &bytes[1..]);
     if gate == CLOSED_GATE {
         if bytes.len() < G::LONGEST + 3 {
-            return Step::Tail;
+            return ScanStep::Tail;
         }
-        return Step::Damaged(G::LONGEST + 2);
+        return ScanStep::Damaged(G::LONGEST + 2);
     }
     match grammar.record_at(behind) {
-        RecordStart::Whole(length) => Step::Record(length),
-        RecordStart::Unfinished => Step::Damaged(bytes.len()),
-        RecordStart::Broken(place) => Step::Damaged(place + 1),
+        RecordStart::Whole(length) => ScanStep::Record(length),
+        RecordStart::Unfinished => ScanStep::Damaged(bytes.len()),
+        RecordStart::Broken(place) => ScanStep::Damaged(place + 1),
     }
 }
 
@@ -130,17 +130,17 @@ pub(crate) fn scan<D: DiskFile, G: Grammar, T: RecordTaker>(
         };
         let bytes = &buffer[..count];
         match step_at(grammar, bytes) {
-            Step::Tail => {
+            ScanStep::Tail => {
                 let is_closed = is_closed_gate(bytes);
                 tell_of_cut(taker, line, bytes);
                 return Ok(Rest { gate, is_closed });
             }
-            Step::Record(length) => {
+            ScanStep::Record(length) => {
                 taker.take(&bytes[1..length + 1]);
                 line += line_feeds(&bytes[..length + 1]) as u64;
                 gate += length + 1;
             }
-            Step::Damaged(place) => {
+            ScanStep::Damaged(place) => {
                 line += line_feeds(&bytes[..place]) as u64;
                 return Err(OpenFault::Damaged { line });
             }

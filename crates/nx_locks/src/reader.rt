@@ -5,7 +5,7 @@
 ghost use Rattle.std.specs.Prelude.{◌≡◌, ◌+◌, ◌≤◌, ◌==◌, ◌++◌, ℕ, List, false, length, not, slice_index, take, if◌then◌else◌, IsTrue};
 ghost use Rattle.arrayvec.specs.ArrayVec.{array_vec_len};
 ghost use Rattle.nx_code.specs.Word.{is_wrong, wrong_in};
-ghost use Rattle.nx_envelope.specs.Finder.{Hears};
+ghost use Rattle.nx_envelope.specs.Finder.{HappensAt};
 ghost use Rattle.nx_envelope.specs.declared.finder.Finder.{Finder};
 ghost use Rattle.nx_code.specs.Reading.{newline};
 ghost use Rattle.nx_locks.specs.private.Reader.{HearsWord, IsFresh, ShowsWord, ShowsWords, TakesByte, counted};
@@ -150,7 +150,7 @@ impl CountingReader {
     /// Takes a byte of the text, which brings this.
     #[inline(always)]
     fn take(&mut self, byte: u8, event: TextEvent)
-        ensures headers { (text : List ℕ) (finder : Finder) → Hears text byte finder event
+        ensures headers { (text : List ℕ) (finder : Finder) → HappensAt text byte finder event
             → TakesByte self.old self.new text byte }
         ensures kept { self.new ≡ record self.old {
           copies = self.new.copies;

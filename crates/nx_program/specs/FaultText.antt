@@ -26,8 +26,8 @@ use Rattle.nx_station.specs.declared.fault.SendFault.{SendFault}
 use Rattle.nx_station.specs.declared.fault.SendFault.TheVariants as sending
 use Rattle.nx_station.specs.declared.fault.SendRunFault.{SendRunFault}
 use Rattle.nx_station.specs.declared.fault.SendRunFault.TheVariants as send
-use Rattle.nx_disk.specs.declared.file.OpenFault.{OpenFault}
-use Rattle.nx_disk.specs.declared.file.OpenFault.TheVariants as file
+use Rattle.nx_disk.specs.declared.file.FileOpenFault.{FileOpenFault}
+use Rattle.nx_disk.specs.declared.file.FileOpenFault.TheVariants as file
 use Rattle.nx_program.specs.declared.fault.CallFault.{CallFault}
 use Rattle.nx_program.specs.declared.fault.CallFault.TheVariants as call
 
@@ -188,7 +188,7 @@ call_fault_line why = codes "navtex: " ++ call_text why ++ newline ∷ []
 
 -- why the file of a log can't be opened, as it stands behind that it can't; nothing where the
 -- reason is none of these
-abbrev pub open_reason : OpenFault → List ℕ
+abbrev pub open_reason : FileOpenFault → List ℕ
 open_reason file.NoFolder = codes ": its folder isn't there"
 open_reason file.NoLeave = codes ": there is no leave to read and write it"
 open_reason file.DeadLink = codes ": it is a link that leads nowhere"

@@ -6,7 +6,7 @@ ghost use Rattle.nx_program.specs.FaultText as spec;
 use crate::fault::CallFault;
 use arrayvec::ArrayVec;
 use itoa::Buffer;
-use nx_disk::OpenFault;
+use nx_disk::FileOpenFault;
 use nx_envelope::{Letter, MessageFault};
 use nx_fec::{RunFault, append};
 use nx_log::LogFault;
@@ -389,21 +389,21 @@ pub(crate) fn call_fault_line(why: &CallFault) -> FaultText
 }
 
 /// Why the file of a log can't be opened, behind that it can't.
-pub(crate) fn open_reason(why: OpenFault) -> &'static [u8]
+pub(crate) fn open_reason(why: FileOpenFault) -> &'static [u8]
     ensures { result.now ≡ spec.open_reason why }
 {
     match why {
-        OpenFault::NoFolder => b": its folder isn't there",
-        OpenFault::NoLeave => b": there is no leave to read and write it",
-        OpenFault::DeadLink => b": it is a link that leads nowhere",
-        OpenFault::FolderName => b": its name is that of a folder",
-        OpenFault::LongName => b": its name is too long",
-        OpenFault::NoRoom => b": there is no room on the disk",
-        OpenFault::OnlyRead => b": its disk can only be read",
-        OpenFault::NotRegular => b": it is no regular file",
-        OpenFault::NoLock => b": it can't be locked",
-        OpenFault::Moved => b": it was moved while it was opened",
-        OpenFault::FolderUnsynced => b": its folder can't be brought to the disk",
-        OpenFault::Other => b"",
+        FileOpenFault::NoFolder => b": its folder isn't there",
+        FileOpenFault::NoLeave => b": there is no leave to read and write it",
+        FileOpenFault::DeadLink => b": it is a link that leads nowhere",
+        FileOpenFault::FolderName => b": its name is that of a folder",
+        FileOpenFault::LongName => b": its name is too long",
+        FileOpenFault::NoRoom => b": there is no room on the disk",
+        FileOpenFault::OnlyRead => b": its disk can only be read",
+        FileOpenFault::NotRegular => b": it is no regular file",
+        FileOpenFault::NoLock => b": it can't be locked",
+        FileOpenFault::Moved => b": it was moved while it was opened",
+        FileOpenFault::FolderUnsynced => b": its folder can't be brought to the disk",
+        FileOpenFault::Other => b"",
     }
 }

@@ -12,7 +12,7 @@ ghost use Rattle.nx_watch.specs.Stamps.{IsFresh, counted_of, stamps_of};
 use crate::fault::Fault;
 use crate::fault_text::open_reason;
 use crate::file_name::FileName;
-use nx_disk::{FileFault, LeftBefore, LogFile, Noted, OpenFault, RawFile};
+use nx_disk::{FileFault, FileOpenFault, LeftBefore, LogFile, Noted, RawFile};
 use nx_fec::Counting;
 use nx_kept::{DiskFailed, DiskFile};
 use nx_watch::{StampedReader, WatchFault, tell, watch, write_more};
@@ -107,14 +107,14 @@ impl RawFile for NoFile {
 impl LogFiles for NoFiles {
     ghost use Rattle.std.specs.Prelude.{◌≡◌, Err};
     ghost use Rattle.nx_disk.specs.declared.file.FileFault.TheVariants.{Open};
-    ghost use Rattle.nx_disk.specs.declared.file.OpenFault.TheVariants.{Other};
+    ghost use Rattle.nx_disk.specs.declared.file.FileOpenFault.TheVariants.{Other};
 
     type Disk = Noted<NoFile>;
 
     ghost gives = { λ files name opened. opened ≡ Err (Open Other) };
 
     fn open(self, _name: &str) -> Result<Noted<NoFile>, FileFault> {
-        Err(FileFault::Open(OpenFault::Other))
+        Err(FileFault::Open(FileOpenFault::Other))
     }
 }
 
@@ -169,7 +169,7 @@ fn tell_of_file<E: Write>(why: FileFault, log: &FileName, faults: &mut Counting<
 }
 
 /// Tells that the file of the log can't be opened, and why.
-fn tell_unopened<E: Write>(why: OpenFault, log: &FileName, faults: &mut Counting<E>)
+fn tell_unopened<E: Write>(why: FileOpenFault, log: &FileName, faults: &mut Counting<E>)
     ensures { (old : Option (List ℕ)) (text : List ℕ)
         → HasTold old (E.contents faults.old.inner) faults.old.failures text
         → HasTold old (E.contents faults.new.inner) faults.new.failures

@@ -47,12 +47,12 @@ impl LockPrinter {
     {
         match role {
             Role::Dx => {
-                self.diversity.hear_dx(word);
+                self.diversity.dx_by_word(word);
                 None
             }
             Role::Rx => {
-                let class = self.diversity.hear_rx(word);
-                self.printer.print_class(class)
+                let class = self.diversity.rx_by_word(word);
+                self.printer.step_by_class(class)
             }
         }
     }
@@ -88,8 +88,8 @@ impl LockPrinter {
             (take printed.new.count printed.new.bytes) }
         ensures count { printed.new.count ≤ printed.old.count + 1 }
     {
-        self.diversity.hear_dx(dx);
-        let class = self.diversity.hear_rx(rx);
+        self.diversity.dx_by_word(dx);
+        let class = self.diversity.rx_by_word(rx);
         self.printer.print_behind(class, printed);
     }
 }

@@ -7,11 +7,11 @@ ghost use Rattle.nx_sync.specs.Ahead.{ArePairs};
 ghost use Rattle.nx_sync.specs.Words.{role_of};
 ghost use Rattle.nx_sync.specs.declared.step.Role.{Role};
 ghost use Rattle.nx_envelope.specs.Copies.{Copy};
-ghost use Rattle.nx_envelope.specs.Finder.{Closes, ClosesHeld, ClosesNone, HasReady, Hears, StandsAfter, is_over, is_ready};
+ghost use Rattle.nx_envelope.specs.Finder.{Closes, ClosesHeld, ClosesNone, HasReady, HappensAt, StandsAfter, is_over, is_ready};
 ghost use Rattle.nx_envelope.specs.declared.found.TextEvent.{TextEvent};
 ghost use Rattle.nx_envelope.specs.Found.{IsFound};
 ghost use Rattle.nx_receiver.specs.LockReader.{HasReadWords, ReadsLock, ReadsWords};
-ghost use Rattle.nx_receiver.specs.private.LockReader.{HearsUpTo, HearsWord, HearsWords, ReadsPlain, is_open};
+ghost use Rattle.nx_receiver.specs.private.LockReader.{HearsPairsUpTo, IsBrought, HearsPairs, ReadsPlain, is_open};
 ghost use Rattle.nx_receiver.specs.copies.LockText.{text_after};
 
 use crate::lock_printer::LockPrinter;
@@ -69,7 +69,7 @@ impl LockReader {
             (option_to_list (option_map (λ printed. printed.0) result)) }
         ensures brings { (byte : ℕ) (event : TextEvent) → result ≡ Some (byte, event)
             → (text : List ℕ) → StandsAfter self.old.finder text
-            → Hears text byte self.new.finder event }
+            → HappensAt text byte self.new.finder event }
         ensures ready { (byte : ℕ) (event : TextEvent) → result ≡ Some (byte, event)
             → is_ready self.new.finder ≡ is_over event }
         ensures kept { result ≡ None → self.new.finder ≡ self.old.finder }
@@ -112,7 +112,7 @@ impl LockReader {
             → words n ≡ word → role ≡ role_of first n → ReadsLock self.new first words (n + 1) }
         ensures hears { (first : Role) (words : ℕ → ℕ) (n : ℕ) → ReadsLock self.old first words n
             → words n ≡ word → role ≡ role_of first n
-            → HearsWord (text_after first words n) (text_after first words (n + 1)) self.new.finder
+            → IsBrought (text_after first words n) (text_after first words (n + 1)) self.new.finder
             result }
         ensures ready { is_ready self.old.finder ≡ false
             → is_ready self.new.finder ≡ is_over result }
@@ -133,7 +133,7 @@ impl LockReader {
         ensures within { result.0 ≤ length words.now }
         ensures even { result.0 % 2 ≡ 0 }
         ensures some { 0 < result.0 }
-        ensures hears { HearsWords self.old self.new (take result.0 words.now) result.1 }
+        ensures hears { HearsPairs self.old self.new (take result.0 words.now) result.1 }
     {
         let mut heard = 0;
         while heard < words.len() {
@@ -151,9 +151,9 @@ impl LockReader {
     /// brings. The first brings nothing.
     #[inline(always)]
     fn hear_pair(&mut self, dx: Word, rx: Word) -> TextEvent
-        ensures { HearsUpTo self.old self.new (dx ∷ rx ∷ []) result }
+        ensures { HearsPairsUpTo self.old self.new (dx ∷ rx ∷ []) result }
     {
-        self.printer.diversity.hear_dx(dx);
+        self.printer.diversity.dx_by_word(dx);
         self.take_word(rx, Role::Rx)
     }
 

@@ -8,7 +8,7 @@ use crate::fault::EmissionFault;
 use crate::printed::messages_printed;
 use nx_code::{ELEMENTS, Signal, Word, check_bits, signal_of, word_of};
 use nx_envelope::Message;
-use nx_fec::{AlignedFault, SPREAD, decode_aligned, to_bits, word_in};
+use nx_fec::{AlignedFault, SPREAD, decode_aligned, get_word, to_bits};
 use std::alloc::{AllocError, Global};
 
 /// The messages whose emission has just these elements: one list at most has them. The words are
@@ -77,7 +77,7 @@ fn first_wrong_word(bits: &[bool]) -> Option<usize>
 fn is_wrong_word(bits: &[bool], slot: usize) -> bool
     ensures { IsTrue result ↔ IsWrongWord (words_of bits.now) slot }
 {
-    match word_in(bits, slot) {
+    match get_word(bits, slot) {
         Some(word) => !check_bits(word),
         None => false,
     }
@@ -101,8 +101,8 @@ fn is_unpaired(bits: &[bool], position: usize) -> bool
     requires { position < length bits.now / 7 }
     ensures { IsTrue result ↔ IsUnpaired (words_of bits.now) position }
 {
-    let dx = word_in(bits, 2 * position);
-    let rx = word_in(bits, 2 * position + SPREAD);
+    let dx = get_word(bits, 2 * position);
+    let rx = get_word(bits, 2 * position + SPREAD);
     match (dx, rx) {
         (Some(dx), Some(rx)) => !is_pair(dx, rx),
         _ => false,

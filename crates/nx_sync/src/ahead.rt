@@ -9,7 +9,7 @@ ghost use Rattle.nx_sync.specs.Ahead.{ArePairs, BringsStep, BringsWords, HasPart
 ghost use Rattle.nx_sync.specs.Synchroniser as spec;
 ghost use Rattle.nx_sync.specs.Synchroniser.{is_between_words, is_hunting, keeps_lock};
 
-use crate::packed::{element, words_in};
+use crate::packed_hunt::{element, words_in};
 use crate::phasing::PHASING_1;
 use crate::step::Step;
 use crate::synchroniser::Synchroniser;

@@ -5,7 +5,7 @@
 mod ahead;
 pub mod laws;
 mod mark_bits;
-mod packed;
+mod packed_hunt;
 mod phasing;
 mod step;
 mod synchroniser;

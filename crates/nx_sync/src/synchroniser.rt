@@ -14,7 +14,7 @@ ghost use Rattle.nx_sync.specs.Ahead.{BringsStep, HasPart};
 ghost use Rattle.nx_sync.specs.Synchroniser.{StandsAfter, is_hunting, is_between_words};
 
 use crate::mark_bits::Marks;
-use crate::packed::{count_before_lock_in, element, has_no_lock};
+use crate::packed_hunt::{count_before_lock_in, element, has_no_lock};
 use crate::phasing::{PATTERN, may_lock, role_after};
 use crate::step::{Role, Step};
 use crate::track::Track;

@@ -10,7 +10,7 @@ use crate::phasing::{BEFORE_DX, BEFORE_RX, is_lock_window};
 use std::simd::prelude::*;
 
 /// How many windows are compared at once.
-const LANES: usize = 8;
+const WINDOWS_AT_ONCE: usize = 8;
 
 /// The least index whose window is one of the two lock patterns; None where none is. A window has
 /// its oldest element in the least place; the patterns are 1F987E6 (P2 first) and CC3F30F (P1
@@ -46,11 +46,11 @@ fn clear_blocks(windows: &[u32]) -> usize
     ensures clear { HasNoLock windows.now result }
 {
     let mut at = 0;
-    while windows.len() - at >= LANES {
+    while windows.len() - at >= WINDOWS_AT_ONCE {
         if !is_clear(windows, at) {
             return at;
         }
-        at += LANES;
+        at += WINDOWS_AT_ONCE;
     }
     at
 }

@@ -5,7 +5,7 @@ use super::air::{MOMENT_OF_EA01, join};
 use super::devices::{Sink, Source};
 use super::expect_text;
 use super::station::AIR_FILE_OF_EA01;
-use nx_disk::{FileFault, LeftBefore, Noted, OpenFault, TornFile};
+use nx_disk::{FileFault, FileOpenFault, LeftBefore, Noted, TornFile};
 use nx_fec::Counting;
 use nx_program::{LogFiles, answer};
 use nx_watch::StampedReader;
@@ -219,7 +219,7 @@ fn watch_clock_back(rt: HostRuntime) {
 fn its_log_cannot_be_had(rt: HostRuntime) {
     for (fault, status, line) in [
         (
-            FileFault::Open(OpenFault::Other),
+            FileFault::Open(FileOpenFault::Other),
             1,
             "navtex: the log x.log can't be opened\n",
         ),
@@ -238,47 +238,47 @@ fn its_log_cannot_be_had(rt: HostRuntime) {
 fn its_log_cannot_be_opened(rt: HostRuntime) {
     for (why, line) in [
         (
-            OpenFault::NoFolder,
+            FileOpenFault::NoFolder,
             "navtex: the log x.log can't be opened: its folder isn't there\n",
         ),
         (
-            OpenFault::NoLeave,
+            FileOpenFault::NoLeave,
             "navtex: the log x.log can't be opened: there is no leave to read and write it\n",
         ),
         (
-            OpenFault::DeadLink,
+            FileOpenFault::DeadLink,
             "navtex: the log x.log can't be opened: it is a link that leads nowhere\n",
         ),
         (
-            OpenFault::FolderName,
+            FileOpenFault::FolderName,
             "navtex: the log x.log can't be opened: its name is that of a folder\n",
         ),
         (
-            OpenFault::LongName,
+            FileOpenFault::LongName,
             "navtex: the log x.log can't be opened: its name is too long\n",
         ),
         (
-            OpenFault::NoRoom,
+            FileOpenFault::NoRoom,
             "navtex: the log x.log can't be opened: there is no room on the disk\n",
         ),
         (
-            OpenFault::OnlyRead,
+            FileOpenFault::OnlyRead,
             "navtex: the log x.log can't be opened: its disk can only be read\n",
         ),
         (
-            OpenFault::NotRegular,
+            FileOpenFault::NotRegular,
             "navtex: the log x.log can't be opened: it is no regular file\n",
         ),
         (
-            OpenFault::NoLock,
+            FileOpenFault::NoLock,
             "navtex: the log x.log can't be opened: it can't be locked\n",
         ),
         (
-            OpenFault::Moved,
+            FileOpenFault::Moved,
             "navtex: the log x.log can't be opened: it was moved while it was opened\n",
         ),
         (
-            OpenFault::FolderUnsynced,
+            FileOpenFault::FolderUnsynced,
             "navtex: the log x.log can't be opened: its folder can't be brought to the disk\n",
         ),
     ] {

@@ -2,7 +2,7 @@
 use Rattle.std.proofs.Common.{◌≡◌, inl, inr, ℕ, zero, suc, ◌+◌, ◌≤◌, Bool, true, false, List, [], ◌∷◌, ◌++◌, length, take, drop, refl, sym, ◌∙◌, ap, subst, arith, append_assoc, length-append, length-take, length-drop}
 use Rattle.std.proofs.lemmas.List.{take_at, take_all, drop_at}
 use Rattle.nx_kept.specs.Disk.{Torn, Cut, Follows}
-use Rattle.nx_disk.specs.Events.{Event, seen_after, seen_of, LeftAfter, MayLeave}
+use Rattle.nx_disk.specs.Events.{DiskEvent, seen_after, seen_of, LeftAfter, MayLeave}
 
 -- a whole write is one that a crash may leave
 torn_whole : (at : ℕ) (bytes old : List ℕ) → at ≤ length old
@@ -56,14 +56,14 @@ left_after (suc (suc zero)) size false bytes seen left is = (seen, is, cut_none 
 left_after (suc (suc (suc more))) at true bytes seen left is = refl
 left_after (suc (suc (suc more))) at false bytes seen left is = is
 
-pub seen_is_left : (start : List ℕ) (first : List (List ℕ)) (events : List Event)
+pub seen_is_left : (start : List ℕ) (first : List (List ℕ)) (events : List DiskEvent)
     → MayLeave start first events (seen_of start events)
 seen_is_left start first [] = inl refl
 seen_is_left start first (event ∷ earlier) = left_after event.0 event.1 event.3 event.4
     (seen_of start earlier) (MayLeave start first earlier) (seen_is_left start first earlier)
 
 -- each outcome of a write, whole or torn
-pub write_follows : (start : List ℕ) (first : List (List ℕ)) (events : List Event) (at : ℕ)
+pub write_follows : (start : List ℕ) (first : List (List ℕ)) (events : List DiskEvent) (at : ℕ)
     (ok : Bool) (bytes : List ℕ)
     → at ≤ length (seen_of start events)
     → Follows (Torn at (length bytes)) (MayLeave start first events)
@@ -82,7 +82,8 @@ write_follows start first events at false bytes within c (inr is) = (
       (torn_none at (length bytes) (seen_of start events)),
 )
 
-pub sync_follows : (start : List ℕ) (first : List (List ℕ)) (events : List Event) (c : List ℕ) → c
+pub sync_follows : (start : List ℕ) (first : List (List ℕ)) (events : List DiskEvent) (c : List ℕ)
+    → c
     ≡ seen_of start events
     → MayLeave start first events c
 sync_follows start first events c is = subst (MayLeave start first events) (sym is)

@@ -1,7 +1,7 @@
 //! A file of the system.
 
 use super::grammar::{Count, Trial};
-use crate::{FileFault, LeftBefore, OpenFault, open};
+use crate::{FileFault, FileOpenFault, LeftBefore, open};
 use nx_kept::{DiskFailed, KeptLog};
 use std::fs;
 use std::os::unix::fs::symlink;
@@ -48,11 +48,11 @@ fn a_file_that_cannot_be_opened_is_told_why(rt: HostRuntime) -> Result<(), Fail>
         long.push_str("x")?;
     }
     for (path, why) in [
-        (".", OpenFault::NotRegular),
-        ("nx_disk_test_of_none/x.log", OpenFault::NoFolder),
-        (link, OpenFault::DeadLink),
-        ("nx_disk_test_of_none/", OpenFault::FolderName),
-        (long.as_str(), OpenFault::LongName),
+        (".", FileOpenFault::NotRegular),
+        ("nx_disk_test_of_none/x.log", FileOpenFault::NoFolder),
+        (link, FileOpenFault::DeadLink),
+        ("nx_disk_test_of_none/", FileOpenFault::FolderName),
+        (long.as_str(), FileOpenFault::LongName),
     ] {
         assert_eq!(rt;
             open(rt.alloc(), &rt, path, LeftBefore::any()).err(),

@@ -1,7 +1,7 @@
 -- What the parts of a finder do, of which the layers above know nothing.
 use Rattle.std.specs.Prelude.{ℕ, ◌-◌, ◌==◌, Bool, true, List, [], ◌∷◌, ◌++◌, length, take}
 use Rattle.nx_code.specs.Reading.{newline}
-use Rattle.nx_envelope.specs.Finder.{Hears, HoldsCopy}
+use Rattle.nx_envelope.specs.Finder.{HappensAt, HoldsCopy}
 use Rattle.nx_envelope.specs.declared.finder.Finder.{Finder}
 use Rattle.nx_envelope.specs.declared.found.How.{How}
 use Rattle.nx_envelope.specs.declared.found.How.TheVariants.{Full, Cut, Long}
@@ -15,7 +15,7 @@ found_text Long raw byte = raw ++ byte ∷ []
 
 -- what the finder answered to the byte behind the text, and what it holds of the copies of both
 pub record Hearing (text : List ℕ) (byte : ℕ) (answer : TextEvent) (now : Finder) : Type 0 where
-  pub hears : Hears text byte now answer
+  pub hears : HappensAt text byte now answer
   pub holds : HoldsCopy now.copy now.text (text ++ byte ∷ [])
 
 -- no text of a copy begins with these bytes, directly behind its header: there are none, or a

@@ -36,13 +36,14 @@ HasFaultAfter holds bytes why = StopsAt bytes (λ lines rest more.
 -- What a fault of the lines says of bytes of this extent; `taken` holds of the whole lines before
 -- it. A failed read leaves what follows. A fault of the air file is its first, and a cut line comes
 -- only where the bytes are all. Or the next line is refused, for this reason.
-abbrev pub StopsLines : {F : Type 0} → (List Line → Line → F → Type 0) → (List Line → Type 0)
+abbrev pub ExplainsLinesHeard : {F : Type 0} → (List Line → Line → F → Type 0)
+    → (List Line → Type 0)
     → Extent → List ℕ → HearFault F → Type 0
-StopsLines refuses taken extent bytes hear.Read =
+ExplainsLinesHeard refuses taken extent bytes hear.Read =
     HasReadFault extent taken bytes
-StopsLines refuses taken extent bytes (hear.Line why) =
+ExplainsLinesHeard refuses taken extent bytes (hear.Line why) =
     IsPlaced extent.at_end why × HasFaultAfter taken bytes why
-StopsLines refuses taken extent bytes (hear.Refused line why) =
+ExplainsLinesHeard refuses taken extent bytes (hear.Refused line why) =
     StopsAt bytes (λ lines rest more.
     IsLineRefused (λ before next. refuses before next why) air_limit lines rest more line
     × taken lines)
@@ -55,12 +56,12 @@ pub record HasHeardAll (taken : List Line → Type 0) (bytes : List ℕ) (count 
   pub counted : count ≡ length lines
 
 -- what a run over lines that writes nothing answers to bytes of this extent
-abbrev pub AnswersHearing : {F : Type 0} → (List Line → Line → F → Type 0) → (List Line → Type 0)
+abbrev pub AnswersLinesHeard : {F : Type 0} → (List Line → Line → F → Type 0) → (List Line → Type 0)
     → Extent → Result ℕ (HearFault F) → List ℕ → Type 0
-AnswersHearing refuses taken extent (Ok count) bytes =
+AnswersLinesHeard refuses taken extent (Ok count) bytes =
     extent.at_end × HasHeardAll taken bytes count
-AnswersHearing refuses taken extent (Err fault) bytes =
-    StopsLines refuses taken extent bytes fault
+AnswersLinesHeard refuses taken extent (Err fault) bytes =
+    ExplainsLinesHeard refuses taken extent bytes fault
 
 -- A run over lines that writes nothing, and has no writer: it answers so to the bytes that it read,
 -- and to the whole file, however it came.
@@ -68,7 +69,7 @@ abbrev pub HearsLines : {R F : Type 0} → (List Line → Line → F → Type 0)
     → Input R → Result ℕ (HearFault F) → Type 0
 HearsLines refuses taken i outcome =
     Reads i hear.Read (λ fault bytes. ⊤) outcome
-    (λ extent bytes. AnswersHearing refuses taken extent outcome bytes)
+    (λ extent bytes. AnswersLinesHeard refuses taken extent outcome bytes)
 
 -- bytes that wait to be written, and how many were written before them
 pub record Waiting : Type 0 where
@@ -149,11 +150,12 @@ pub record HasTakenSome {T F : Type 0} (r : LineRun T F) (lines : List Line)
 abbrev pub ExplainsLines : {T F : Type 0} → LineRun T F → Extent → (List ℕ → Type 0) → List ℕ
     → LinesFault F → Type 0
 ExplainsLines r extent wrote bytes run.Read =
-    StopsLines (r.taker.refuses r.first) (HasRunOver r wrote) extent bytes hear.Read
+    ExplainsLinesHeard (r.taker.refuses r.first) (HasRunOver r wrote) extent bytes hear.Read
 ExplainsLines r extent wrote bytes (run.Line why) =
-    StopsLines (r.taker.refuses r.first) (HasRunOver r wrote) extent bytes (hear.Line why)
+    ExplainsLinesHeard (r.taker.refuses r.first) (HasRunOver r wrote) extent bytes (hear.Line why)
 ExplainsLines r extent wrote bytes (run.Refused line why) =
-    StopsLines (r.taker.refuses r.first) (HasRunOver r wrote) extent bytes (hear.Refused line why)
+    ExplainsLinesHeard (r.taker.refuses r.first) (HasRunOver r wrote) extent bytes
+    (hear.Refused line why)
 ExplainsLines r extent wrote bytes (run.Write written) =
     StopsAt bytes (λ lines rest more. HasTakenSome r lines written)
 

@@ -10,7 +10,7 @@ use nx_code::NEWLINE;
 use std::simd::prelude::*;
 
 /// How many bytes are compared at once.
-const LANES: usize = 32;
+const BYTES_AT_ONCE: usize = 32;
 
 /// The place of the first line feed of a piece, if it has one.
 #[inline(always)]
@@ -18,7 +18,7 @@ pub(crate) fn first_feed(piece: &[u8]) -> Option<usize>
     ensures { IsFirstByte (is_byte newline) piece.now result }
 {
     // A short line ends within one vector; `memchr` sets out for long ones.
-    if piece.len() >= LANES {
+    if piece.len() >= BYTES_AT_ONCE {
         let near = feeds(piece);
         if near != 0 {
             return Some(near.trailing_zeros() as usize);

@@ -11,7 +11,7 @@ ghost use Rattle.nx_fec.specs.private.ScannerKept.{IsMarked, IsMarkedCommand, Is
 ghost use Rattle.nx_fec.specs.declared.air_files.lines.LineKind.{LineKind};
 
 use crate::air_files::channel::Channel;
-use crate::air_files::packed::PackedElements;
+use crate::air_files::packed_elements::PackedElements;
 use arrayvec::ArrayVec;
 use nx_code::decimal_number;
 

@@ -17,7 +17,7 @@ use crate::air_files::line_feeds::first_feed;
 use crate::air_files::lines::{
     LineKind, MAX_ELEMENTS, command, digits_behind, marked_command, moment_front, read_line, unpack,
 };
-use crate::air_files::packed::{PackedElements, pack_near};
+use crate::air_files::packed_elements::{PackedElements, pack_near};
 use crate::fault::LineFault;
 use arrayvec::ArrayVec;
 use nx_code::NEWLINE;

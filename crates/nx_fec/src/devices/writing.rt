@@ -19,7 +19,7 @@ pub(crate) const LINE_ELEMENTS: usize = 490;
 pub(crate) const LINE_BYTES: usize = LINE_ELEMENTS + 3;
 
 /// How many bytes are gathered for one write, which is 64 lines.
-pub(crate) const BATCH_BYTES: usize = 64 * LINE_BYTES;
+pub(crate) const LINE_BATCH_BYTES: usize = 64 * LINE_BYTES;
 
 /// Writes all these bytes, by as many calls as the writer needs. It stops at the first write that
 /// fails, and its fault says how many of the bytes were written.
@@ -58,7 +58,7 @@ pub fn write_bits<W: Write>(writer: &mut Counting<W>, bits: &[bool]) -> Result<(
     let mut batch = BoundedBytes::new();
     let mut sent = 0;
     for index in 0..bits.len().div_ceil(LINE_ELEMENTS) {
-        if batch.len() > BATCH_BYTES - LINE_BYTES {
+        if batch.len() > LINE_BATCH_BYTES - LINE_BYTES {
             sent = write_on(writer, sent, batch.as_slice())?;
             batch.clear();
         }
@@ -93,9 +93,9 @@ pub fn write_on<W: Write>(
 }
 
 /// Appends the line of these elements.
-fn push_line(line: &[bool], batch: &mut BoundedBytes<BATCH_BYTES>)
+fn push_line(line: &[bool], batch: &mut BoundedBytes<LINE_BATCH_BYTES>)
     requires short { length line.now ≤ LINE_ELEMENTS }
-    requires room { length batch.old + LINE_BYTES ≤ BATCH_BYTES }
+    requires room { length batch.old + LINE_BYTES ≤ LINE_BATCH_BYTES }
     ensures { batch.new ≡ batch.old ++ line_bytes (elements None line.now) }
 {
     let mut digits = [b'0'; LINE_ELEMENTS];
@@ -106,9 +106,9 @@ fn push_line(line: &[bool], batch: &mut BoundedBytes<BATCH_BYTES>)
 }
 
 /// Appends the line of elements that has these digits.
-pub(crate) fn push_digits(digits: &[u8], batch: &mut BoundedBytes<BATCH_BYTES>)
+pub(crate) fn push_digits(digits: &[u8], batch: &mut BoundedBytes<LINE_BATCH_BYTES>)
     requires short { length digits.now ≤ LINE_ELEMENTS }
-    requires room { length batch.old + LINE_BYTES ≤ BATCH_BYTES }
+    requires room { length batch.old + LINE_BYTES ≤ LINE_BATCH_BYTES }
     ensures { batch.new ≡ batch.old
         ++ (codes "B " ++ (digits.now ++ newline ∷ [])) }
 {

@@ -23,7 +23,7 @@ pub enum AlignedFault {
 }
 
 /// The word in a slot of elements that begin with slot 0. None past the last whole word.
-pub fn word_in(bits: &[bool], slot: usize) -> Option<Word>
+pub fn get_word(bits: &[bool], slot: usize) -> Option<Word>
     ensures { result ≡ slice_get (words_of bits.now) slot }
 {
     if slot < bits.len() / ELEMENTS {

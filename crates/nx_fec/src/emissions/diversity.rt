@@ -141,7 +141,7 @@ impl Diversity {
 
     /// Takes the next DX word, as `dx` takes what arrived of it.
     #[inline(always)]
-    pub fn hear_dx(&mut self, word: Word)
+    pub fn dx_by_word(&mut self, word: Word)
         ensures latest { IsLatest self.new (self.old ++ counts_as word ∷ []) }
         ensures stands { (words : List Counted) → IsLatest self.old words
             → IsLatest self.new (words ++ counts_as word ∷ []) }
@@ -178,7 +178,7 @@ impl Diversity {
     /// The class of the position that the next RX word completes, paired as by `rx`: the number of
     /// a combination, 33 for an idle position, and 0 for a lost one.
     #[inline(always)]
-    pub fn hear_rx(&self, word: Word) -> u8
+    pub fn rx_by_word(&self, word: Word) -> u8
         ensures paired { reception_of_class result
             ≡ pairing (third_last self.now) (counts_as word) }
         ensures stands { (words : List Counted) → IsLatest self.now words

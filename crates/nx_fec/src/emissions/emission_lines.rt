@@ -13,7 +13,7 @@ ghost use Rattle.nx_fec.specs.Transfers.{FailsOnce, WroteSome};
 
 use crate::air_files::bounded_bytes::BoundedBytes;
 use crate::devices::counting::Counting;
-use crate::devices::writing::{BATCH_BYTES, LINE_BYTES, LINE_ELEMENTS, push_digits, write_on};
+use crate::devices::writing::{LINE_BATCH_BYTES, LINE_BYTES, LINE_ELEMENTS, push_digits, write_on};
 use crate::emissions::positions::Position;
 use crate::fault::WriteFault;
 use nx_code::{ELEMENTS, Signal, Word, word_of};
@@ -59,7 +59,7 @@ pub(crate) fn write_emission<W: Write>(
     let mut batch = BoundedBytes::new();
     let mut sent = 0;
     for index in 0..positions.len().div_ceil(LINE_POSITIONS) {
-        if batch.len() > BATCH_BYTES - LINE_BYTES {
+        if batch.len() > LINE_BATCH_BYTES - LINE_BYTES {
             sent = write_on(writer, sent, batch.as_slice())?;
             batch.clear();
         }
@@ -70,9 +70,9 @@ pub(crate) fn write_emission<W: Write>(
 }
 
 /// Appends a line, by its index: the elements of 70 slots, or of as many as are left.
-fn push_slots(positions: &[Position], index: usize, batch: &mut BoundedBytes<BATCH_BYTES>)
+fn push_slots(positions: &[Position], index: usize, batch: &mut BoundedBytes<LINE_BATCH_BYTES>)
     requires some { LINE_POSITIONS * index < length positions.now }
-    requires room { length batch.old + LINE_BYTES ≤ BATCH_BYTES }
+    requires room { length batch.old + LINE_BYTES ≤ LINE_BATCH_BYTES }
     ensures { batch.new ≡ batch.old
         ++ line_bytes (bit_line (bits_of (emission (map sent_position positions.now))) index) }
 {

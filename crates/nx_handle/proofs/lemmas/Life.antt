@@ -19,10 +19,10 @@ use Rattle.nx_handle.specs.Life.{EndsWith, ending, ending_at, hearing, hearing_a
 use Rattle.nx_handle.specs.Opening.{AnswersMoment, AnswersOpening}
 use Rattle.nx_handle.specs.Selecting.{AnswersSelecting}
 use Rattle.nx_handle.specs.CallerRoom.{IsPut, Room}
-use Rattle.nx_handle.specs.WholeLife.{AreCloses, AreSteps, HasLogged, IsStep, Step, given_in, step, texts_of}
+use Rattle.nx_handle.specs.WholeLife.{AreCloses, AreSteps, HasLogged, IsStep, LifeStep, given_in, step, texts_of}
 use Rattle.nx_handle.specs.declared.kept.Kept.{Kept}
-use Rattle.nx_handle.specs.declared.kept.Stage.{Stage}
-use Rattle.nx_handle.specs.declared.kept.Stage.TheVariants.{Ending, Hearing}
+use Rattle.nx_handle.specs.declared.kept.LifeStage.{LifeStage}
+use Rattle.nx_handle.specs.declared.kept.LifeStage.TheVariants.{Ending, Hearing}
 use Rattle.nx_handle.specs.declared.status.Status.{Status}
 
 some-inj : {A : Type 0} {x y : A} → Some x ≡ Some y → x ≡ y
@@ -109,7 +109,7 @@ step-selects asked one channel old new a =
 
 -- ---- steps one after another
 
-pub steps-logged : (starts : Starts) (given : List Given) (before : List ℕ) (steps : List Step)
+pub steps-logged : (starts : Starts) (given : List Given) (before : List ℕ) (steps : List LifeStep)
     (first last : Option Kept) → HasLogged starts first given before → AreSteps first steps last
     → HasLogged starts last (given ++ given_in steps) (before ++ texts_of steps)
 steps-logged starts given before [] first last stood h =
@@ -126,13 +126,13 @@ steps-logged starts given before (one ∷ steps) first last stood h =
 
 -- ---- closing
 
-stage-ends : (stage : Stage) (these left : List MarkedCopy) → EndsWith stage these
+stage-ends : (stage : LifeStage) (these left : List MarkedCopy) → EndsWith stage these
     → ending_at stage ≡ Some left → these ≡ left
 stage-ends (Hearing listener) these left ends is = absurd (none-some is)
 stage-ends (Ending last) these left ends is = ends ∙ some-inj is
 
 stage-hears : (starts : Starts) (given : List Given) (copies left : List MarkedCopy)
-    (listener : Listening) (stage : Stage) → EndsWith stage left
+    (listener : Listening) (stage : LifeStage) → EndsWith stage left
     → hearing_at stage ≡ Some listener → HearsGiven starts listener given copies
     → PrintAllToEnd starts given (copies ++ left)
 stage-hears starts given copies left listener (Hearing other) ends is h =
@@ -181,7 +181,7 @@ closed-logged starts given log last (text ∷ texts) stood h =
     )
 
 pub life-from : (starts : Starts) (given : List Given) (first last : Option Kept)
-    (steps : List Step) (before : List ℕ) (texts : List (List ℕ))
+    (steps : List LifeStep) (before : List ℕ) (texts : List (List ℕ))
     → HasLogged starts first given before → AreSteps first steps last
     → AreCloses last texts None
     → (copies : List MarkedCopy) × PrintAllToEnd starts (given ++ given_in steps) copies
@@ -190,7 +190,7 @@ life-from starts given first last steps before texts stood goes closes =
     closed-logged starts (given ++ given_in steps) (before ++ texts_of steps) last texts
     (steps-logged starts given before steps first last stood goes) closes
 
-pub life-log : (moment : ℕ) (closed first last : Option Kept) (steps : List Step)
+pub life-log : (moment : ℕ) (closed first last : Option Kept) (steps : List LifeStep)
     (texts : List (List ℕ)) → AnswersOpening moment closed first 0
     → AreSteps first steps last → AreCloses last texts None
     → (copies : List MarkedCopy)

@@ -13,7 +13,7 @@ use Rattle.nx_handle.specs.Selecting.{AnswersSelecting, byte_status, command_sta
 use Rattle.nx_handle.specs.Selecting.{selecting_status}
 use Rattle.nx_handle.specs.Status.{number_of}
 use Rattle.nx_handle.specs.declared.kept.Kept.{Kept}
-use Rattle.nx_handle.specs.declared.kept.Stage.TheVariants.{Hearing}
+use Rattle.nx_handle.specs.declared.kept.LifeStage.TheVariants.{Hearing}
 use Rattle.nx_handle.specs.declared.status.Status.{Status}
 use Rattle.nx_handle.specs.declared.status.Status.TheVariants.{Done, Vital}
 

@@ -11,8 +11,8 @@ use Rattle.nx_handle.specs.Life.{HasHeard, hearing, hearing_at}
 use Rattle.nx_handle.specs.Opening.{moment_status, moment_told}
 use Rattle.nx_handle.specs.Status.{number_of}
 use Rattle.nx_handle.specs.declared.kept.Kept.{Kept}
-use Rattle.nx_handle.specs.declared.kept.Stage.{Stage}
-use Rattle.nx_handle.specs.declared.kept.Stage.TheVariants.{Hearing}
+use Rattle.nx_handle.specs.declared.kept.LifeStage.{LifeStage}
+use Rattle.nx_handle.specs.declared.kept.LifeStage.TheVariants.{Hearing}
 
 pub moment-done : (last moment : ℕ) → last ≤ moment → moment ≤ last_moment
     → 0 ≡ number_of (moment_status last moment)
@@ -32,7 +32,7 @@ moment-not-done (Back from at) e = absurd (omega (arith, e))
 pub same-kept : (kept : Kept) (was now : Listening) → kept.stage ≡ Hearing was → now ≡ was
     → record kept { stage = Hearing now } ≡ kept
 same-kept kept was now is same =
-    ap (λ (s : Stage). record kept { stage = s }) (ap Hearing same ∙ sym is)
+    ap (λ (s : LifeStage). record kept { stage = s }) (ap Hearing same ∙ sym is)
 
 -- those that hear stand after what was given
 pub has-heard : (starts : Starts) (receiver : Option Kept) (kept : Kept) (listener : Listening)

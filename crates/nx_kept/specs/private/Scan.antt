@@ -5,8 +5,8 @@ use Rattle.nx_kept.specs.declared.fault.OpenFault.{OpenFault}
 use Rattle.nx_kept.specs.declared.fault.OpenFault.TheVariants.{Read, Disk, Damaged as DamagedAt, Memory}
 use Rattle.nx_kept.specs.Kept.{closed_gate, IsTail, IsDamagedBehind}
 use Rattle.nx_kept.specs.Taker.{TookAll}
-use Rattle.nx_kept.specs.declared.scan.Step.{Step}
-use Rattle.nx_kept.specs.declared.scan.Step.TheVariants.{Tail, Record, Damaged}
+use Rattle.nx_kept.specs.declared.scan.ScanStep.{ScanStep}
+use Rattle.nx_kept.specs.declared.scan.ScanStep.TheVariants.{Tail, Record, Damaged}
 use Rattle.nx_kept.specs.declared.scan.Rest.{Rest}
 
 module _ (is_record : List ℕ → Type 0) (longest : ℕ) where
@@ -21,7 +21,7 @@ module _ (is_record : List ℕ → Type 0) (longest : ℕ) where
     pub size : n ≡ length first
 
   -- what a step tells of the bytes from a gate on
-  abbrev pub Steps : List ℕ → Step → Type 0
+  abbrev pub Steps : List ℕ → ScanStep → Type 0
   Steps bytes Tail = IsTail longest bytes
   Steps bytes (Record n) = IsAtRecord n bytes
   Steps bytes (Damaged place) = IsDamagedBehind is_record longest place bytes

@@ -3,8 +3,8 @@
 use Rattle.std.specs.Prelude.{◌≡◌, ◌≢◌, ℕ, ◌-◌, ◌^◌, Bool, true, false, List, [], ◌∷◌, ◌++◌, length, min, Option, None, Some}
 use Rattle.std.specs.List.{All}
 use Rattle.nx_log.specs.Reading.{Head, IsBlank, IsGap, IsHead, IsInReach, IsNoBracket, IsPart, IsTail, LogRead, begun, is_begun, line_behind, reach_behind}
-use Rattle.nx_log.specs.declared.entries.reader.Stage.{Stage}
-use Rattle.nx_log.specs.declared.entries.reader.Stage.TheVariants as stages
+use Rattle.nx_log.specs.declared.entries.reader.EntryStage.{EntryStage}
+use Rattle.nx_log.specs.declared.entries.reader.EntryStage.TheVariants as stages
 use Rattle.nx_log.specs.declared.entries.reader.TornLine.{TornLine}
 use Rattle.nx_log.specs.declared.entries.tail.Tail.{Tail}
 use Rattle.nx_log.specs.declared.entries.tail.Shape.{Shape}
@@ -135,7 +135,8 @@ IsSomeTail is_torn reach bytes =
     (torn : Option (List ℕ)) × (left : ℕ) × IsTail is_torn reach bytes torn left
 
 -- at this stage a reader stands so in a part: its entry goes on, or its tail
-abbrev pub StageIs : Stage → List ℕ → LogRead → Head → List ℕ → List ℕ → Option (List ℕ) → Type 0
+abbrev pub StageIs : EntryStage → List ℕ → LogRead → Head → List ℕ → List ℕ → Option (List ℕ)
+    → Type 0
 StageIs (stages.Begun entry) held before head front behind torn =
     (head ≡ begun) × (held ≡ front) × (behind ≡ []) × (torn ≡ None)
     × (entry.reach ≡ before.reach) × (entry.line ≡ min (line_behind before.bytes) (2 ^ 64 - 1))
@@ -144,7 +145,7 @@ StageIs (stages.Behind tail) held before head front behind torn =
     × StandsBehind tail before.bytes front (before.reach - length front) behind torn
 
 -- at this stage, with these bytes held, a reader stands for the part behind what was read before
-pub record StandsFor (stage : Stage) (held : List ℕ) (first : Bool) (before : LogRead)
+pub record StandsFor (stage : EntryStage) (held : List ℕ) (first : Bool) (before : LogRead)
     (bytes : List ℕ) : Type 0 where
   pub head : Head
   pub front : List ℕ

@@ -10,7 +10,7 @@ use Rattle.nx_log.specs.declared.entries.reader.Pushed.{Pushed}
 use Rattle.nx_log.specs.declared.entries.reader.Pushed.TheVariants.{All as TakenAll, Bad, Entry, Torn}
 use Rattle.nx_log.specs.LogReading.{LogReading}
 use Rattle.nx_log.specs.declared.entries.reader.Begun.{Begun as EntryBegun}
-use Rattle.nx_log.specs.declared.entries.reader.Stage.TheVariants.{Begun, Behind}
+use Rattle.nx_log.specs.declared.entries.reader.EntryStage.TheVariants.{Begun, Behind}
 use Rattle.nx_log.specs.declared.entries.start.EntryStart.{EntryStart}
 use Rattle.nx_log.specs.declared.entries.start.EntryStart.TheVariants.{Whole, Unfinished, Broken}
 use Rattle.nx_log.specs.declared.entries.tail.Tail.{Tail}

@@ -55,7 +55,7 @@ pub enum Pushed {
 
 /// What a reader has read of the bytes from the last bracket on.
 #[derive(Clone, Copy, Debug, Drop, PartialEq, Eq)]
-pub(crate) enum Stage {
+pub(crate) enum EntryStage {
     /// The beginning of an entry.
     Begun(Begun),
     /// What stands behind an entry, or behind the beginning of a torn one.
@@ -76,7 +76,7 @@ pub(crate) struct Begun {
 #[derive(Debug, Drop)]
 pub struct LogReader {
     /// What it has read from the last bracket on.
-    stage: Stage,
+    stage: EntryStage,
     /// The bytes of the entry that has begun, or of the one that was given last.
     held: ArrayVec<u8, MAX_LOGGED>,
     /// The line on which the next byte stands.
@@ -108,7 +108,7 @@ impl LogReader {
     {
         prove!(size_of::<LogReader>() == 4208);
         LogReader {
-            stage: Stage::Behind(Tail::behind(0)),
+            stage: EntryStage::Behind(Tail::behind(0)),
             held: ArrayVec::new(),
             line: 1,
         }
@@ -122,8 +122,8 @@ impl LogReader {
             → Takes bytes entries torn piece.now self.new result }
     {
         match self.stage {
-            Stage::Begun(entry) => self.go_on(entry, piece),
-            Stage::Behind(tail) => self.pass(tail, piece),
+            EntryStage::Begun(entry) => self.go_on(entry, piece),
+            EntryStage::Behind(tail) => self.pass(tail, piece),
         }
     }
 
@@ -147,8 +147,8 @@ impl LogReader {
             → IsAt self.now bytes entries torn → EndsSo bytes entries torn result }
     {
         match self.stage {
-            Stage::Begun(entry) => Some(TornLine { line: entry.line }),
-            Stage::Behind(tail) => tail.torn(),
+            EntryStage::Begun(entry) => Some(TornLine { line: entry.line }),
+            EntryStage::Behind(tail) => tail.torn(),
         }
     }
 
@@ -187,12 +187,12 @@ impl LogReader {
                 // What is held isn't whole yet, so it is less.
                 let taken = len.saturating_sub(held);
                 self.line = line_after(self.line, &bytes[..taken]);
-                self.stage = Stage::Behind(Tail::behind(entry.reach.saturating_sub(len)));
+                self.stage = EntryStage::Behind(Tail::behind(entry.reach.saturating_sub(len)));
                 Pushed::Entry { taken }
             }
             EntryStart::Unfinished => {
                 self.line = line_after(self.line, bytes);
-                self.stage = Stage::Begun(entry);
+                self.stage = EntryStage::Begun(entry);
                 Pushed::All
             }
             EntryStart::Broken(place) => {
@@ -213,13 +213,13 @@ impl LogReader {
         self.line = passed.line;
         match passed.end {
             TailEnd::All => {
-                self.stage = Stage::Behind(passed.tail);
+                self.stage = EntryStage::Behind(passed.tail);
                 Pushed::All
             }
             TailEnd::Bracket => {
                 self.held.clear();
                 self.held.push(b'[');
-                self.stage = Stage::Begun(Begun {
+                self.stage = EntryStage::Begun(Begun {
                     reach: passed.tail.reach,
                     line: passed.line,
                 });

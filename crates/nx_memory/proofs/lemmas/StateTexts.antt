@@ -11,9 +11,9 @@ use Rattle.std.proofs.lemmas.Option.{cond_some, none-some}
 use Rattle.std.proofs.lemmas.Slice.Eq.{bytes_eq-Decides}
 use Rattle.nx_memory.specs.declared.state.saved_line.SavedLine.{SavedLine}
 use Rattle.nx_memory.specs.declared.state.saved_line.SavedLine.TheVariants.{Station, Subject, Entry}
-use Rattle.nx_memory.specs.declared.state.state_reader.Stage.{Stage}
-use Rattle.nx_memory.specs.declared.state.state_reader.Stage.TheVariants.{Start, Version1, Version2}
-use Rattle.nx_memory.specs.declared.state.state_reader.Stage.TheVariants.{Channel0, Channel1, Channel2}
+use Rattle.nx_memory.specs.declared.state.state_reader.StateStage.{StateStage}
+use Rattle.nx_memory.specs.declared.state.state_reader.StateStage.TheVariants.{Start, Version1, Version2}
+use Rattle.nx_memory.specs.declared.state.state_reader.StateStage.TheVariants.{Channel0, Channel1, Channel2}
 use Rattle.nx_memory.specs.Saved.{SavedState, SavedStates, IsSavedState, AreSavedStates}
 use Rattle.nx_memory.specs.Saved.{nothing_saved, on_channel_0}
 use Rattle.nx_memory.specs.StateText.{spelling, said, section, last_line, text_1, text_2}
@@ -40,7 +40,8 @@ nothing_sound = record {
 }
 
 -- what a line opens
-pub record Opens (stage : Stage) (states : SavedStates) (line : List ℕ) (next : Stage) : Type 0
+pub record Opens (stage : StateStage) (states : SavedStates) (line : List ℕ)
+    (next : StateStage) : Type 0
   where
     pub lines : lines_read next states ≡ lines_read stage states ++ line ∷ []
     pub reading : IsReading next states
@@ -55,19 +56,19 @@ one_line_text head saved line new is =
     ∙ ap (λ (l : List (List ℕ)). head ∷ l) section_nothing
     ∙ ap (λ (l : List ℕ). l ∷ []) (sym is)
 
-opens_version : (b c : Bool) (next : Stage)
+opens_version : (b c : Bool) (next : StateStage)
     → cond b (Some Version1) (cond c (Some Version2) None) ≡ Some next
     → ((b ≡ true) × (Version1 ≡ next)) ⊎ ((c ≡ true) × (Version2 ≡ next))
 opens_version true c next e = inl (refl, cc)
 opens_version false true next e = inr (refl, cc)
 opens_version false false next e = absurd (none-some next e)
 
-reads_with : (stage next : Stage) (states : SavedStates) → IsReading stage states
+reads_with : (stage next : StateStage) (states : SavedStates) → IsReading stage states
     → IsAhead next states → IsReading next states
 reads_with stage next states is ahead =
     record { on_0 = is.on_0; on_1 = is.on_1; on_2 = is.on_2; ahead = ahead }
 
-pub opens : (stage : Stage) (states : SavedStates) (line : List ℕ) (next : Stage)
+pub opens : (stage : StateStage) (states : SavedStates) (line : List ℕ) (next : StateStage)
     → IsReading stage states → Some next ≡ opened stage line → Opens stage states line next
 opens Start states line next is e =
     elim (opens_version (bytes_eq line (codes "STATE 1")) (bytes_eq line (codes "STATE 2")) next
@@ -112,7 +113,7 @@ opens Channel1 states line next is e =
 opens Channel2 states line next is e = absurd (none-some next (sym e))
 
 -- a text begins with what was read
-sound_states : (stage : Stage) (states : SavedStates) → IsReading stage states
+sound_states : (stage : StateStage) (states : SavedStates) → IsReading stage states
     → AreSavedStates states
 sound_states stage states is = record { on_0 = is.on_0; on_1 = is.on_1; on_2 = is.on_2 }
 
@@ -128,7 +129,7 @@ all_read states rest =
     ∙ ap (λ (l : List (List ℕ)). section states.on_0 ++ codes "C1" ∷ l)
     (append_assoc (section states.on_1) (codes "C2" ∷ section states.on_2) rest))
 
-pub begins : (stage : Stage) (states : SavedStates) → IsReading stage states
+pub begins : (stage : StateStage) (states : SavedStates) → IsReading stage states
     → BeginsText (lines_read stage states)
 begins Start states is = record {
   next = codes "STATE 1";
@@ -184,7 +185,7 @@ begins Channel2 states is = record {
 }
 
 -- and with its last line it is one
-pub whole : (stage : Stage) (states : SavedStates) (line : List ℕ) → IsReading stage states
+pub whole : (stage : StateStage) (states : SavedStates) (line : List ℕ) → IsReading stage states
     → may_end stage ≡ true → line ≡ codes "END"
     → IsStateText (lines_read stage states ++ line ∷ []) states
 whole Start states line is may end = absurd (true≢false (sym may))
@@ -259,7 +260,8 @@ split xs ys c d r m long_xs long_ys short_c short_d e = elim (cut xs ys c d r m 
 ]
 
 -- a line that opens nothing isn't this one
-not_opened : (line word : List ℕ) (next : Stage) → cond (bytes_eq line word) (Some next) None ≡ None
+not_opened : (line word : List ℕ) (next : StateStage)
+    → cond (bytes_eq line word) (Some next) None ≡ None
     → line ≢ word
 not_opened line word next none e =
     none-some next (sym none ∙ ap (λ b. cond b (Some next) None) ((bytes_eq-Decides line word).1 e))
@@ -316,7 +318,7 @@ in_channel_2 states line more =
     (append_assoc (section states.on_1) (codes "C2" ∷ section states.on_2) (line ∷ more))
 
 -- no text of version 1 begins so
-no_text_1 : (stage : Stage) (states : SavedStates) (line : List ℕ) (more : List (List ℕ))
+no_text_1 : (stage : StateStage) (states : SavedStates) (line : List ℕ) (more : List (List ℕ))
     (saved : SavedState) → IsSavedState saved → opened stage line ≡ None
     → (may_end stage ≡ true → line ≢ codes "END") → IsRefusedAt stage states line
     → (lines_read stage states ++ line ∷ []) ++ more ≢ text_1 saved
@@ -339,7 +341,7 @@ no_text_1 Channel2 states line more saved sound unopened not_end refused e =
     versions_differ _ _ (sym e)
 
 -- nor one of version 2
-no_text_2 : (stage : Stage) (states : SavedStates) (line : List ℕ) (more : List (List ℕ))
+no_text_2 : (stage : StateStage) (states : SavedStates) (line : List ℕ) (more : List (List ℕ))
     (all : SavedStates) → AreSavedStates all → opened stage line ≡ None
     → (may_end stage ≡ true → line ≢ codes "END") → IsRefusedAt stage states line
     → (lines_read stage states ++ line ∷ []) ++ more ≢ text_2 all
@@ -382,7 +384,7 @@ no_text_2 Channel2 states line more all sound unopened not_end refused e =
     (λ tail. refused all.on_2 tail sound.on_2) two.2
 
 -- a line that opens nothing, ends nothing and is refused begins no text
-pub no_text : (stage : Stage) (states : SavedStates) (line : List ℕ) → opened stage line ≡ None
+pub no_text : (stage : StateStage) (states : SavedStates) (line : List ℕ) → opened stage line ≡ None
     → (may_end stage ≡ true → line ≢ codes "END") → IsRefusedAt stage states line
     → BeginsNoText (lines_read stage states ++ line ∷ [])
 no_text stage states line unopened not_end refused more all is = elim is [

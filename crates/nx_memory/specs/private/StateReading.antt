@@ -11,8 +11,8 @@ use Rattle.nx_memory.specs.Selection.{is_vital}
 use Rattle.nx_memory.specs.StateText.{rising, section}
 use Rattle.nx_memory.specs.declared.state.saved_line.SavedLine.{SavedLine}
 use Rattle.nx_memory.specs.declared.state.saved_line.SavedLine.TheVariants.{Station, Subject, Entry}
-use Rattle.nx_memory.specs.declared.state.state_reader.Stage.{Stage}
-use Rattle.nx_memory.specs.declared.state.state_reader.Stage.TheVariants.{Start, Version1, Version2, Channel0, Channel1, Channel2}
+use Rattle.nx_memory.specs.declared.state.state_reader.StateStage.{StateStage}
+use Rattle.nx_memory.specs.declared.state.state_reader.StateStage.TheVariants.{Start, Version1, Version2, Channel0, Channel1, Channel2}
 
 -- the line has a spelling within 16 bytes
 abbrev pub IsSpelled : SavedLine → Type 0
@@ -60,7 +60,7 @@ IsRefused saved line =
     → section later ≢ section saved ++ line ∷ more
 
 -- the stage of the reading that a line opens, where it says nothing of a channel itself
-abbrev pub opened : Stage → List ℕ → Option Stage
+abbrev pub opened : StateStage → List ℕ → Option StateStage
 opened Start line =
     if bytes_eq line (codes "STATE 1") then Some Version1
     else (if bytes_eq line (codes "STATE 2") then Some Version2 else None)
@@ -71,13 +71,13 @@ opened Channel1 line = if bytes_eq line (codes "C2") then Some Channel2 else Non
 opened Channel2 line = None
 
 -- the last line of a text may stand here
-abbrev pub may_end : Stage → Bool
+abbrev pub may_end : StateStage → Bool
 may_end Version1 = true
 may_end Channel2 = true
 may_end _ = false
 
 -- the lines that were read
-abbrev pub lines_read : Stage → SavedStates → List (List ℕ)
+abbrev pub lines_read : StateStage → SavedStates → List (List ℕ)
 lines_read Start states = []
 lines_read Version1 states = codes "STATE 1" ∷ section states.on_0
 lines_read Version2 states = codes "STATE 2" ∷ []
@@ -90,7 +90,7 @@ lines_read Channel2 states =
     ++ codes "C1" ∷ (section states.on_1 ++ codes "C2" ∷ section states.on_2))
 
 -- the channels whose lines haven't begun are new
-abbrev pub IsAhead : Stage → SavedStates → Type 0
+abbrev pub IsAhead : StateStage → SavedStates → Type 0
 IsAhead Start states =
     (states.on_0 ≡ nothing_saved) × (states.on_1 ≡ nothing_saved) × (states.on_2 ≡ nothing_saved)
 IsAhead Version1 states = (states.on_1 ≡ nothing_saved) × (states.on_2 ≡ nothing_saved)
@@ -101,14 +101,14 @@ IsAhead Channel1 states = states.on_2 ≡ nothing_saved
 IsAhead Channel2 states = Unit {0}
 
 -- what was read can be saved, and the rest is new
-pub record IsReading (stage : Stage) (states : SavedStates) : Type 0 where
+pub record IsReading (stage : StateStage) (states : SavedStates) : Type 0 where
   pub on_0 : IsSavedState states.on_0
   pub on_1 : IsSavedState states.on_1
   pub on_2 : IsSavedState states.on_2
   pub ahead : IsAhead stage states
 
 -- the channel whose lines come, if there is one, refuses the line
-abbrev pub IsRefusedAt : Stage → SavedStates → List ℕ → Type 0
+abbrev pub IsRefusedAt : StateStage → SavedStates → List ℕ → Type 0
 IsRefusedAt Start states line = Unit {0}
 IsRefusedAt Version1 states line = IsRefused states.on_0 line
 IsRefusedAt Version2 states line = Unit {0}

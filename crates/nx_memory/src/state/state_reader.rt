@@ -23,7 +23,7 @@ pub enum StateStep {
 
 /// How far the text of a state was read.
 #[derive(Clone, Copy)]
-pub(crate) enum Stage {
+pub(crate) enum StateStage {
     /// Nothing was read.
     Start,
     /// The text is of version 1, and the lines of its one channel come.
@@ -42,7 +42,7 @@ pub(crate) enum Stage {
 /// what they stand for, and nothing else.
 #[derive(Drop)]
 pub struct StateReader {
-    stage: Stage,
+    stage: StateStage,
     states: SavedSet,
 }
 
@@ -64,7 +64,7 @@ impl StateReader {
     {
         prove!(size_of::<StateReader>() == 9_800);
         StateReader {
-            stage: Stage::Start,
+            stage: StateStage::Start,
             states: SavedSet::new(),
         }
     }
@@ -85,7 +85,7 @@ impl StateReader {
             return StateStep::More;
         }
         if may_end(self.stage) && line == b"END".as_slice() {
-            self.stage = Stage::Start;
+            self.stage = StateStage::Start;
             return StateStep::Done(mem::replace(&mut self.states, SavedSet::new()));
         }
         if take_line(&mut self.states, self.stage, line) {
@@ -96,29 +96,29 @@ impl StateReader {
 }
 
 /// The stage that a line opens, where it says nothing of a channel itself.
-fn opened(stage: Stage, line: &[u8]) -> Option<Stage>
+fn opened(stage: StateStage, line: &[u8]) -> Option<StateStage>
     ensures { result ≡ the_opened stage line.now }
 {
     match stage {
-        Stage::Start if line == b"STATE 1".as_slice() => Some(Stage::Version1),
-        Stage::Start if line == b"STATE 2".as_slice() => Some(Stage::Version2),
-        Stage::Version2 if line == b"C0".as_slice() => Some(Stage::Channel0),
-        Stage::Channel0 if line == b"C1".as_slice() => Some(Stage::Channel1),
-        Stage::Channel1 if line == b"C2".as_slice() => Some(Stage::Channel2),
+        StateStage::Start if line == b"STATE 1".as_slice() => Some(StateStage::Version1),
+        StateStage::Start if line == b"STATE 2".as_slice() => Some(StateStage::Version2),
+        StateStage::Version2 if line == b"C0".as_slice() => Some(StateStage::Channel0),
+        StateStage::Channel0 if line == b"C1".as_slice() => Some(StateStage::Channel1),
+        StateStage::Channel1 if line == b"C2".as_slice() => Some(StateStage::Channel2),
         _ => None,
     }
 }
 
 /// Whether the last line of a text may stand here.
-fn may_end(stage: Stage) -> bool
+fn may_end(stage: StateStage) -> bool
     ensures { result ≡ the_may_end stage }
 {
-    matches!(stage, Stage::Version1 | Stage::Channel2)
+    matches!(stage, StateStage::Version1 | StateStage::Channel2)
 }
 
 /// Takes one more line of the channel whose lines come. `false` where none come, or it can't stand
 /// behind those so far, which then stay.
-fn take_line(states: &mut SavedSet, stage: Stage, line: &[u8]) -> bool
+fn take_line(states: &mut SavedSet, stage: StateStage, line: &[u8]) -> bool
     ensures taken { result ≡ true
         → lines_read stage states.new ≡ lines_read stage states.old ++ line.now ∷ [] }
     ensures unchanged { result ≡ false → states.new ≡ states.old }
@@ -126,10 +126,10 @@ fn take_line(states: &mut SavedSet, stage: Stage, line: &[u8]) -> bool
     ensures reading { IsReading stage states.old → IsReading stage states.new }
 {
     match stage {
-        Stage::Start | Stage::Version2 => false,
-        Stage::Version1 => states.on_0.take_line(line),
-        Stage::Channel0 => states.on_0.take_line(line),
-        Stage::Channel1 => states.on_1.take_line(line),
-        Stage::Channel2 => states.on_2.take_line(line),
+        StateStage::Start | StateStage::Version2 => false,
+        StateStage::Version1 => states.on_0.take_line(line),
+        StateStage::Channel0 => states.on_0.take_line(line),
+        StateStage::Channel1 => states.on_1.take_line(line),
+        StateStage::Channel2 => states.on_2.take_line(line),
     }
 }

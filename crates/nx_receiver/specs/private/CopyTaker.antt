@@ -16,7 +16,7 @@ use Rattle.nx_receiver.specs.declared.copy_taker.CopyTaker.{CopyTaker}
 use Rattle.nx_receiver.specs.Events.{Setting}
 use Rattle.nx_receiver.specs.CopyHearing.{CopyHearing}
 use Rattle.nx_receiver.specs.LockReader.{ReadsLock}
-use Rattle.nx_receiver.specs.private.LockReader.{HearsWord}
+use Rattle.nx_receiver.specs.private.LockReader.{IsBrought}
 use Rattle.nx_receiver.specs.copies.LockText.{text_after}
 use Rattle.nx_receiver.specs.private.CopyHearer.{HearsAll, TagGoesOn, over_with, tag_of}
 
@@ -48,7 +48,7 @@ pub record ReadsWord (old new : CopyTaker) (word : ℕ) (role : Role) (is_change
       → words n ≡ word → role ≡ role_of first n → ReadsLock new.reader first words (n + 1)
   pub hears : (first : Role) (words : ℕ → ℕ) (n : ℕ) → ReadsLock old.reader first words n
       → words n ≡ word → role ≡ role_of first n
-      → HearsWord (text_after first words n) (text_after first words (n + 1))
+      → IsBrought (text_after first words n) (text_after first words (n + 1))
       new.reader.finder event
   pub kept : new.tag ≡ tag_after (setting_of old) old.tag event
   pub force : setting_of new ≡ setting_of old

@@ -4,7 +4,7 @@ use Rattle.std.specs.Prelude.{◌≡◌, ◌⊎◌, ℕ, Bool, true, false, ◌+
 use Rattle.nx_sync.specs.Words.{role_of}
 use Rattle.nx_sync.specs.declared.step.Role.{Role}
 use Rattle.nx_sync.specs.declared.step.Role.TheVariants.{Rx}
-use Rattle.nx_envelope.specs.Finder.{BringNothing, Hears}
+use Rattle.nx_envelope.specs.Finder.{BringNothing, HappensAt}
 use Rattle.nx_envelope.specs.declared.finder.Finder.{Finder}
 use Rattle.nx_envelope.specs.declared.found.HeldCopy.{HeldCopy}
 use Rattle.nx_envelope.specs.declared.found.HeldCopy.TheVariants as held
@@ -33,12 +33,12 @@ pub record PrintsNothing (before after : List ℕ) (event : TextEvent) : Type 0 
 pub record PrintsByte (before after : List ℕ) (finder : Finder) (event : TextEvent) : Type 0 where
   pub byte : ℕ
   pub grows : after ≡ before ++ byte ∷ []
-  pub hears : Hears before byte finder event
+  pub hears : HappensAt before byte finder event
 
 -- the event is what a word brings that makes the one text of the other, and the finder has the copy
 -- that it ends
-abbrev pub HearsWord : List ℕ → List ℕ → Finder → TextEvent → Type 0
-HearsWord before after finder event =
+abbrev pub IsBrought : List ℕ → List ℕ → Finder → TextEvent → Type 0
+IsBrought before after finder event =
     PrintsNothing before after event ⊎ PrintsByte before after finder event
 
 -- words add bytes to the text, none of which begins or ends a copy
@@ -63,23 +63,24 @@ pub record HearsNext (old new : LockReading) (word : ℕ) (role : Role) (event :
         → words n ≡ word → role ≡ role_of first n → ReadsLock new first words (n + 1)
     pub hears : (first : Role) (words : ℕ → ℕ) (n : ℕ) → ReadsLock old first words n
         → words n ≡ word → role ≡ role_of first n
-        → HearsWord (text_after first words n) (text_after first words (n + 1)) new.finder event
+        → IsBrought (text_after first words n) (text_after first words (n + 1)) new.finder event
 
 -- The reader heard these words, DX and RX by turns, from a DX word to an RX word. None before the
 -- last one begins or ends a copy, and the event is what the last one brings.
-pub record HearsUpTo (old new : LockReading) (words : List ℕ) (event : TextEvent) : Type 0 where
-  pub mid : LockReading
-  pub before : List ℕ
-  pub last : ℕ
-  pub pairs : ℕ
-  pub whole : words ≡ before ++ last ∷ []
-  pub odd : length before ≡ 2 * pairs + 1
-  pub plain : ReadsPlain old mid before
-  pub next : HearsNext mid new last Rx event
+pub record HearsPairsUpTo (old new : LockReading) (words : List ℕ) (event : TextEvent) : Type 0
+  where
+    pub mid : LockReading
+    pub before : List ℕ
+    pub last : ℕ
+    pub pairs : ℕ
+    pub whole : words ≡ before ++ last ∷ []
+    pub odd : length before ≡ 2 * pairs + 1
+    pub plain : ReadsPlain old mid before
+    pub next : HearsNext mid new last Rx event
 
 -- The reader heard these words, the first of which is a DX word. None of them begins or ends a
 -- copy, and the event is `Nothing`. Or none before the last one does; that one is an RX word, and
 -- the event is what it brings.
-abbrev pub HearsWords : LockReading → LockReading → List ℕ → TextEvent → Type 0
-HearsWords old new words event =
-    ((event ≡ Nothing) × ReadsPlain old new words) ⊎ HearsUpTo old new words event
+abbrev pub HearsPairs : LockReading → LockReading → List ℕ → TextEvent → Type 0
+HearsPairs old new words event =
+    ((event ≡ Nothing) × ReadsPlain old new words) ⊎ HearsPairsUpTo old new words event

@@ -32,9 +32,6 @@ use std::alloc::{AllocError, Global};
 use std::io::{Read, Write};
 pub(crate) use unlogged::listen_unlogged;
 
-/// The most bytes of an air file.
-const AIR_LIMIT: u64 = 268_435_456;
-
 /// What a run that listened to an air file read and printed.
 #[derive(Clone, Copy, Debug, Drop, PartialEq, Eq)]
 pub struct Report {

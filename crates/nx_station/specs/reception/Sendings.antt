@@ -13,7 +13,7 @@ use Rattle.nx_station.specs.reception.Path.{PassesChannel, first_slot}
 
 -- The combinations tell the message: its head, any that print its text from the figure shift, and
 -- its end (ITU-R M.540).
-pub record Tells (message : MessageView) (numbers : List ℕ) : Type 0 where
+pub record TellsMessage (message : MessageView) (numbers : List ℕ) : Type 0 where
   pub body : List ℕ
   pub each : AllByRecursion IsCombination body
   pub reads : text (map combination body) Figures ≡ text_of message.lines
@@ -31,7 +31,7 @@ pub record ReceivedEmission : Type 0 where
 -- as these words
 pub record IsReceived (emission : ReceivedEmission) : Type 0 where
   pub sound : AllByRecursion (λ (message : MessageView). AreLines message.lines) emission.messages
-  pub told : AllZip Tells emission.messages emission.spellings
+  pub told : AllZip TellsMessage emission.messages emission.spellings
   pub passes : PassesChannel (layout emission.spellings) emission.heard
 
 -- a part of a list of bits: a gap of any bits, or an emission that is received

@@ -213,5 +213,5 @@ fn printing_by_class(rt: HostRuntime) {
     printer.print_behind(1, &mut printed);
     assert_eq!(rt; printed.count, 2);
     expect_text(&rt, "printed", &printed.bytes[..2], b"-A");
-    assert_eq!(rt; printer.print_class(2), Some(b'B'));
+    assert_eq!(rt; printer.step_by_class(2), Some(b'B'));
 }

@@ -13,11 +13,11 @@ use Rattle.nx_envelope.specs.Copies.{ended_copy, ended_copies, is_open, open_hea
 use Rattle.nx_envelope.specs.Finder.{Keeps, BeginsCopy, Ends, is_empty}
 use Rattle.nx_envelope.specs.private.Finding.{found_text}
 use Rattle.nx_envelope.specs.Header.{Header, start_marker}
-use Rattle.nx_envelope.specs.private.Stage.{IsStageOf}
+use Rattle.nx_envelope.specs.private.HeaderStage.{IsStageOf}
 use Rattle.nx_envelope.specs.declared.found.How.{How}
 use Rattle.nx_envelope.specs.declared.found.How.TheVariants.{Long}
 use Rattle.nx_envelope.specs.declared.identity.Identity.{Identity}
-use Rattle.nx_envelope.specs.declared.stage.Stage.TheVariants.{Nowhere}
+use Rattle.nx_envelope.specs.declared.header_stage.HeaderStage.TheVariants.{Nowhere}
 use Rattle.nx_envelope.proofs.lemmas.copies.Beginnings.{reverse-push, headers-push, header_at_end-push}
 use Rattle.nx_envelope.proofs.lemmas.copies.RawTexts.{IsPlain, raw-push, raw-newline, raw-none, ending_of-nil}
 use Rattle.nx_envelope.proofs.lemmas.copies.RawTexts.{ended_stays, marker_apart, no_start, ending-marker}

@@ -13,7 +13,7 @@ use Rattle.nx_envelope.specs.Finder.{is_ready_copy}
 use Rattle.nx_envelope.specs.private.Finding.{Hearing, found_text}
 use Rattle.nx_envelope.specs.Found.{IsFound, IsFoundOf}
 use Rattle.nx_envelope.specs.Header.{Header}
-use Rattle.nx_envelope.specs.private.Stage.{IsStageOf}
+use Rattle.nx_envelope.specs.private.HeaderStage.{IsStageOf}
 use Rattle.nx_envelope.specs.declared.finder.Finder.{Finder}
 use Rattle.nx_envelope.specs.declared.found.Found.{Found}
 use Rattle.nx_envelope.specs.declared.found.HeldCopy.{HeldCopy}
@@ -22,7 +22,7 @@ use Rattle.nx_envelope.specs.declared.found.TextEvent.TheVariants as events
 use Rattle.nx_envelope.specs.declared.found.How.{How}
 use Rattle.nx_envelope.specs.declared.found.How.TheVariants.{Cut, Long}
 use Rattle.nx_envelope.specs.declared.identity.Identity.{Identity}
-use Rattle.nx_envelope.specs.declared.stage.Stage.TheVariants.{Nowhere}
+use Rattle.nx_envelope.specs.declared.header_stage.HeaderStage.TheVariants.{Nowhere}
 use Rattle.nx_envelope.proofs.lemmas.copies.OneMoreByte.{OneOpen, open_headers-one, still_none, opens}
 use Rattle.nx_envelope.proofs.lemmas.copies.OneMoreByte.{drops_newline, adds, ends_marked, ends_long}
 use Rattle.nx_envelope.proofs.lemmas.copies.OneOpenCopy.{open_headers-nil, parts, copies_none, copies_one, is_ten}

@@ -10,11 +10,11 @@ use Rattle.nx_envelope.specs.private.Backward.{header_back, marker_back}
 use Rattle.nx_envelope.specs.Copies.{open_headers}
 use Rattle.nx_envelope.specs.Finder.{BringNothing, HoldsOpen, Keeps}
 use Rattle.nx_envelope.specs.private.Finding.{begins_no_text}
-use Rattle.nx_envelope.specs.private.Stage.{IsStageOf}
+use Rattle.nx_envelope.specs.private.HeaderStage.{IsStageOf}
 use Rattle.nx_envelope.specs.private.FourBytes.{IsEight, IsUnmarked}
 use Rattle.nx_envelope.specs.declared.identity.Identity.{Identity}
-use Rattle.nx_envelope.specs.declared.stage.Stage.{Stage}
-use Rattle.nx_envelope.specs.declared.stage.Stage.TheVariants.{Nowhere}
+use Rattle.nx_envelope.specs.declared.header_stage.HeaderStage.{HeaderStage}
+use Rattle.nx_envelope.specs.declared.header_stage.HeaderStage.TheVariants.{Nowhere}
 use Rattle.nx_envelope.proofs.lemmas.copies.Beginnings.{reverse-push}
 use Rattle.nx_envelope.proofs.lemmas.finder.EightBytes.{all_four}
 use Rattle.nx_envelope.proofs.lemmas.finder.Hearing.{goes_on, held}
@@ -69,12 +69,12 @@ no_markers a b c d back m1 m2 m3 m4 (suc (suc (suc (suc zero)))) few = (m1, (m2,
 no_markers a b c d back m1 m2 m3 m4 (suc (suc (suc (suc (suc count))))) few = absurd (omega arith)
 
 -- so many of these bytes went by where no copy is open, and the header at the end has this stage
-pub record WentBy (reached : Stage) (text bytes : List ℕ) (count : ℕ) : Type 0 where
+pub record WentBy (reached : HeaderStage) (text bytes : List ℕ) (count : ℕ) : Type 0 where
   pub none : open_headers (text ++ take count bytes) ≡ []
   pub stage : IsStageOf reached (reverse (text ++ take count bytes))
   pub brings : (k : ℕ) → k < count → Keeps (text ++ take k bytes) (slice_index bytes k)
 
-pub none_by : (stage : Stage) (text bytes : List ℕ) → open_headers text ≡ []
+pub none_by : (stage : HeaderStage) (text bytes : List ℕ) → open_headers text ≡ []
     → IsStageOf stage (reverse text) → WentBy stage text bytes 0
 none_by stage text bytes shut is = record {
   none = rw (append-nil text) shut;
@@ -83,7 +83,7 @@ none_by stage text bytes shut is = record {
 }
 
 -- the next byte completes no header
-pub one_by : (stage next : Stage) (text bytes : List ℕ) (k b : ℕ) → k < length bytes
+pub one_by : (stage next : HeaderStage) (text bytes : List ℕ) (k b : ℕ) → k < length bytes
     → b ≡ slice_index bytes k → WentBy stage text bytes k
     → header_back (b ∷ reverse (text ++ take k bytes)) ≡ None
     → IsStageOf next (b ∷ reverse (text ++ take k bytes)) → WentBy next text bytes (k + 1)
@@ -101,7 +101,7 @@ one_by stage next text bytes k b lt is w none stands =
           (subst (λ x. Keeps before x) is keeps);
     }
 
-pub all_by : (stage : Stage) (text bytes : List ℕ) (count : ℕ) → count ≤ length bytes
+pub all_by : (stage : HeaderStage) (text bytes : List ℕ) (count : ℕ) → count ≤ length bytes
     → WentBy stage text bytes count → BringNothing text (take count bytes)
 all_by stage text bytes count fits w = λ k lt.
     let below : k < count = omega (arith, length-take-le count bytes fits) in
@@ -160,7 +160,7 @@ plain_four eight count fresh kept text bytes identity h begins w m few short =
     (omega (arith, length-take count bytes))
 
 -- where a copy stands open, before and after, no header has come anywhere
-pub stage_stays : (stage : Stage) (back more : List ℕ) → IsStageOf stage back
+pub stage_stays : (stage : HeaderStage) (back more : List ℕ) → IsStageOf stage back
     → IsStageOf Nowhere back → IsStageOf Nowhere more → IsStageOf stage more
 stage_stays stage back more is before after = record {
   spaces = after.spaces ∙ sym before.spaces ∙ is.spaces;
@@ -170,7 +170,8 @@ stage_stays stage back more is before after = record {
 }
 
 -- nor does one begin with the next byte
-pub stage_open : (stage : Stage) (fresh : Bool) (kept text : List ℕ) (identity : Identity) (b : ℕ)
+pub stage_open : (stage : HeaderStage) (fresh : Bool) (kept text : List ℕ) (identity : Identity)
+    (b : ℕ)
     → HoldsOpen fresh kept text identity → IsStageOf stage (reverse text)
     → IsStageOf stage (reverse (text ++ b ∷ []))
 stage_open stage fresh kept text identity b h is =

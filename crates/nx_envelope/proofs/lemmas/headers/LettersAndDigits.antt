@@ -15,11 +15,11 @@ use Rattle.nx_envelope.specs.private.Backward.{ends_in, spaces_back, station_bac
 use Rattle.nx_envelope.specs.private.Backward.{tens_back, header_back}
 use Rattle.nx_envelope.specs.private.DigitBytes.{IsDigit}
 use Rattle.nx_code.specs.Reading.{IsCapital}
-use Rattle.nx_envelope.specs.private.Stage.{IsStageOf, is_spaces, station_in, subject_in, tens_in}
+use Rattle.nx_envelope.specs.private.HeaderStage.{IsStageOf, is_spaces, station_in, subject_in, tens_in}
 use Rattle.nx_envelope.specs.declared.digit.Digit.{Digit}
 use Rattle.nx_envelope.specs.declared.identity.Identity.{Identity}
 use Rattle.nx_envelope.specs.declared.letter.Letter.{Letter}
-use Rattle.nx_envelope.specs.declared.stage.Stage.{Stage}
+use Rattle.nx_envelope.specs.declared.header_stage.HeaderStage.{HeaderStage}
 
 abbrev pub letter_at : (x : ℕ) → IsCapital x → Letter
 letter_at x p = record { byte = x; in_range = p }
@@ -103,14 +103,15 @@ unfolding digit_of
 digit_of-none b not_so = digit_from-none b _ _ refl refl not_so
 
 -- what the back of a text is one byte later, at the stage that it stood at
-pub record StageParts (stage : Stage) (start : Bool) (b : ℕ) (back : List ℕ) : Type 0 where
+pub record StageParts (stage : HeaderStage) (start : Bool) (b : ℕ) (back : List ℕ) : Type 0 where
   pub spaces : spaces_back (b ∷ back) ≡ ((b == 32) && (start || is_spaces stage))
   pub station : station_back (b ∷ back) ≡ (if is_spaces stage then letter_of b else None)
   pub subject : subject_back (b ∷ back) ≡ both (station_in stage) (letter_of b)
   pub tens : tens_back (b ∷ back) ≡ both (subject_in stage) (digit_of b)
   pub header : header_back (b ∷ back) ≡ identity_with (both (tens_in stage) (digit_of b))
 
-pub stage_parts : (stage : Stage) (start : Bool) (b : ℕ) (back : List ℕ) → IsStageOf stage back
+pub stage_parts : (stage : HeaderStage) (start : Bool) (b : ℕ) (back : List ℕ)
+    → IsStageOf stage back
     → start ≡ ends_in start_marker back → StageParts stage start b back
 unfolding spaces_back station_back subject_back tens_back header_back
 stage_parts stage start b back h e = record {

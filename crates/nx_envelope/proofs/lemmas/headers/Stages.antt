@@ -7,30 +7,31 @@ use Rattle.nx_envelope.specs.private.Letters.{letter_of, digit_of, both, identit
 use Rattle.nx_envelope.specs.private.Backward.{ends_in, spaces_back, station_back, subject_back}
 use Rattle.nx_envelope.specs.private.Backward.{tens_back, header_back}
 use Rattle.nx_envelope.specs.private.DigitBytes.{IsDigit}
-use Rattle.nx_envelope.specs.private.Stage.{IsStageOf, is_spaces, station_in, subject_in, tens_in}
+use Rattle.nx_envelope.specs.private.HeaderStage.{IsStageOf, is_spaces, station_in, subject_in, tens_in}
 use Rattle.nx_envelope.specs.declared.digit.Digit.{Digit}
 use Rattle.nx_envelope.specs.declared.identity.Identity.{Identity}
 use Rattle.nx_envelope.specs.declared.letter.Letter.{Letter}
-use Rattle.nx_envelope.specs.declared.stage.Stage.{Stage}
-use Rattle.nx_envelope.specs.declared.stage.Stage.TheVariants.{Nowhere, Spaces, Station, Subject}
-use Rattle.nx_envelope.specs.declared.stage.Stage.TheVariants.{Tens}
+use Rattle.nx_envelope.specs.declared.header_stage.HeaderStage.{HeaderStage}
+use Rattle.nx_envelope.specs.declared.header_stage.HeaderStage.TheVariants.{Nowhere, Spaces, Station, Subject}
+use Rattle.nx_envelope.specs.declared.header_stage.HeaderStage.TheVariants.{Tens}
 use Rattle.nx_envelope.proofs.lemmas.headers.LettersAndDigits.{stage_parts, both-none, letter_of-none}
 use Rattle.nx_envelope.proofs.lemmas.headers.LettersAndDigits.{letter_of-space, digit_of-space, both_first}
 use Rattle.nx_envelope.proofs.lemmas.headers.LettersAndDigits.{both_second, identity_some, digit_of-some}
 use Rattle.nx_envelope.proofs.lemmas.copies.RawTexts.{IsPlain}
 
 -- a stage stands at the back and a flag tells whether it ends with ZCZC
-pub record Stands (stage : Stage) (start : Bool) (back : List ℕ) : Type 0 where
+pub record Stands (stage : HeaderStage) (start : Bool) (back : List ℕ) : Type 0 where
   pub is : IsStageOf stage back
   pub flag : start ≡ ends_in start_marker back
 
-abbrev pub next_spaces : Stage → Bool → ℕ → Bool
+abbrev pub next_spaces : HeaderStage → Bool → ℕ → Bool
 next_spaces stage start b = (b == 32) && (start || is_spaces stage)
 
-abbrev pub next_station : Stage → ℕ → Option Letter
+abbrev pub next_station : HeaderStage → ℕ → Option Letter
 next_station stage b = if is_spaces stage then letter_of b else None
 
-stage_is : (stage result : Stage) (start : Bool) (b : ℕ) (back : List ℕ) → Stands stage start back
+stage_is : (stage result : HeaderStage) (start : Bool) (b : ℕ) (back : List ℕ)
+    → Stands stage start back
     → next_spaces stage start b ≡ is_spaces result → next_station stage b ≡ station_in result
     → both (station_in stage) (letter_of b) ≡ subject_in result
     → both (subject_in stage) (digit_of b) ≡ tens_in result → IsStageOf result (b ∷ back)
@@ -87,14 +88,14 @@ pub from_nowhere : (start : Bool) (b : ℕ) (back : List ℕ) → b ≢ 32 → S
 from_nowhere start b back apart h =
     stage_is Nowhere Nowhere start b back h (other b _ apart) refl refl refl
 
-no_letter : (stage : Stage) → next_station stage 32 ≡ None
+no_letter : (stage : HeaderStage) → next_station stage 32 ≡ None
 no_letter Nowhere = refl
 no_letter Spaces = letter_of-space
 no_letter (Station l) = refl
 no_letter (Subject l m) = refl
 no_letter (Tens l m d) = refl
 
-pub with_space : (stage result : Stage) (start : Bool) (back : List ℕ)
+pub with_space : (stage result : HeaderStage) (start : Bool) (back : List ℕ)
     → (start || is_spaces stage) ≡ is_spaces result → station_in result ≡ None
     → subject_in result ≡ None → tens_in result ≡ None → Stands stage start back
     → IsStageOf result (32 ∷ back)
@@ -104,11 +105,11 @@ with_space stage result start back e station subject tens h =
     (rw digit_of-space (both-none (subject_in stage) ∙ sym tens))
 
 -- the header that a byte completes
-pub header_is : (stage : Stage) (b : ℕ) (back : List ℕ) → IsStageOf stage back
+pub header_is : (stage : HeaderStage) (b : ℕ) (back : List ℕ) → IsStageOf stage back
     → header_back (b ∷ back) ≡ identity_with (both (tens_in stage) (digit_of b))
 header_is stage b back h = (stage_parts stage (ends_in start_marker back) b back h refl).header
 
-pub not_spaces : (stage : Stage) → stage ≢ Spaces → is_spaces stage ≡ false
+pub not_spaces : (stage : HeaderStage) → stage ≢ Spaces → is_spaces stage ≡ false
 not_spaces Nowhere apart = refl
 not_spaces Spaces apart = absurd (apart refl)
 not_spaces (Station l) apart = refl
@@ -116,7 +117,7 @@ not_spaces (Subject l m) apart = refl
 not_spaces (Tens l m d) apart = refl
 
 -- only behind the first digit can a byte complete a header
-pub not_tens : (stage : Stage) → ((l m : Letter) (d : Digit) → stage ≢ Tens l m d)
+pub not_tens : (stage : HeaderStage) → ((l m : Letter) (d : Digit) → stage ≢ Tens l m d)
     → tens_in stage ≡ None
 not_tens Nowhere apart = refl
 not_tens Spaces apart = refl

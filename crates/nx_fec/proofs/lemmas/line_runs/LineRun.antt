@@ -16,7 +16,7 @@ use Rattle.nx_fec.specs.air_files.Lines.{IsAtByte, IsCause, IsLineRefused, Scann
 use Rattle.nx_fec.specs.air_files.Lines.{StopsAt, air_limit, line_bytes}
 use Rattle.nx_fec.specs.air_files.LineRuns.{AnswersLines, Beginning, ExplainsLines, HasGiven, HasTaken}
 use Rattle.nx_fec.specs.air_files.LineRuns.{HasTakenAll, HasTakenSome, IsPlaced, LineRun, Refusing}
-use Rattle.nx_fec.specs.air_files.LineRuns.{RunsLines, Standing, StopsLines, Waiting}
+use Rattle.nx_fec.specs.air_files.LineRuns.{RunsLines, Standing, ExplainsLinesHeard, Waiting}
 use Rattle.nx_fec.specs.air_files.LineRuns.{line_run, taker_of}
 use Rattle.nx_fec.specs.private.LineTaking.{IsHearing, IsTaking}
 use Rattle.nx_fec.specs.air_files.Scanner.{kind_kept}
@@ -240,16 +240,16 @@ cause-longer limit front lines rest more ys why (inr none) h =
 
 module _ {F : Type 0} (refuses : List Line → Line → F → Type 0) (holds : List Line → Type 0) where
   -- a line was refused
-  pub StopsLines-refused : (s : Scanning) (bytes piece : List ℕ) (count number : ℕ)
+  pub ExplainsLinesHeard-refused : (s : Scanning) (bytes piece : List ℕ) (count number : ℕ)
       (why : F) (lines : List Line) (latest : Option Line)
       → (kind_kept latest ≡ None → ⊥) → IfSome latest IsLine → number ≡ s.lines
       → Scans air_limit s (bytes ++ take count piece) (lines ++ option_to_list latest)
       → ((line : Line) → latest ≡ Some line → refuses lines line why × holds lines)
-      → (more : List ℕ) → StopsLines refuses holds inside ((bytes ++ piece) ++ more)
+      → (more : List ℕ) → ExplainsLinesHeard refuses holds inside ((bytes ++ piece) ++ more)
       (hear.Refused number why)
-  StopsLines-refused s bytes piece count number why lines None some good is scans h more =
+  ExplainsLinesHeard-refused s bytes piece count number why lines None some good is scans h more =
       absurd (some refl)
-  StopsLines-refused s bytes piece count number why lines (Some line) some good is scans h
+  ExplainsLinesHeard-refused s bytes piece count number why lines (Some line) some good is scans h
       more =
       let k = h line refl in
       record {
@@ -289,12 +289,12 @@ module _ {F : Type 0} (refuses : List Line → Line → F → Type 0) (holds : L
   }
 
   -- what is said of the bytes that were read holds of the whole file
-  pub StopsLines-whole : (bytes ys : List ℕ) (fault : HearFault F)
-      → StopsLines refuses holds (read_to (ys ≡ [])) bytes fault
-      → StopsLines refuses holds whole_input (bytes ++ ys) fault
-  StopsLines-whole bytes ys hear.Read h =
+  pub ExplainsLinesHeard-whole : (bytes ys : List ℕ) (fault : HearFault F)
+      → ExplainsLinesHeard refuses holds (read_to (ys ≡ [])) bytes fault
+      → ExplainsLinesHeard refuses holds whole_input (bytes ++ ys) fault
+  ExplainsLinesHeard-whole bytes ys hear.Read h =
       StopsAt-more ys _ _ bytes (λ lines rest more k. (k.0, tt, k.2)) h
-  StopsLines-whole bytes ys (hear.Line why) h = (
+  ExplainsLinesHeard-whole bytes ys (hear.Line why) h = (
     IsPlaced-any why,
     StopsAt-more ys _ _ bytes
         (λ lines rest more k. (
@@ -302,37 +302,38 @@ module _ {F : Type 0} (refuses : List Line → Line → F → Type 0) (holds : L
           k.1,
         )) h.1,
   )
-  StopsLines-whole bytes ys (hear.Refused line why) h =
+  ExplainsLinesHeard-whole bytes ys (hear.Refused line why) h =
       StopsAt-more ys _ _ bytes
       (λ lines rest more k. (refused-longer air_limit lines rest more ys line why k.0, k.1)) h
 
   -- a fault before the end, over the bytes that were read
-  pub StopsLines-piece : (extent : Extent) (bytes : List ℕ)
-      (fault : HearFault F) → StopsLines refuses holds inside bytes fault
-      → StopsLines refuses holds extent bytes fault
-  StopsLines-piece extent bytes hear.Read h = absurd h.here.1
-  StopsLines-piece extent bytes (hear.Line why) h = (IsPlaced-never extent.at_end why h.0, h.1)
-  StopsLines-piece extent bytes (hear.Refused line why) h = h
+  pub ExplainsLinesHeard-piece : (extent : Extent) (bytes : List ℕ)
+      (fault : HearFault F) → ExplainsLinesHeard refuses holds inside bytes fault
+      → ExplainsLinesHeard refuses holds extent bytes fault
+  ExplainsLinesHeard-piece extent bytes hear.Read h = absurd h.here.1
+  ExplainsLinesHeard-piece extent bytes (hear.Line why) h =
+      (IsPlaced-never extent.at_end why h.0, h.1)
+  ExplainsLinesHeard-piece extent bytes (hear.Refused line why) h = h
 
   -- no read failed before the end of a piece
-  pub StopsLines-not_read : {N : Type 0} (bytes : List ℕ) (fault : HearFault F)
-      → StopsLines refuses holds inside bytes fault
+  pub ExplainsLinesHeard-not_read : {N : Type 0} (bytes : List ℕ) (fault : HearFault F)
+      → ExplainsLinesHeard refuses holds inside bytes fault
       → ◌≡◌ {A = Result N (HearFault F)} (Err fault) (Err hear.Read) → ⊥
-  StopsLines-not_read bytes hear.Read h e = h.here.1
-  StopsLines-not_read bytes (hear.Line why) h e = cc
-  StopsLines-not_read bytes (hear.Refused line why) h e = cc
+  ExplainsLinesHeard-not_read bytes hear.Read h e = h.here.1
+  ExplainsLinesHeard-not_read bytes (hear.Line why) h e = cc
+  ExplainsLinesHeard-not_read bytes (hear.Refused line why) h e = cc
 
 -- what holds of the lines before a fault says more
-pub StopsLines-map : {F : Type 0} (refuses : List Line → Line → F → Type 0)
+pub ExplainsLinesHeard-map : {F : Type 0} (refuses : List Line → Line → F → Type 0)
     (P Q : List Line → Type 0) (extent : Extent)
     (bytes : List ℕ) (fault : HearFault F) → ((lines : List Line) → P lines → Q lines)
-    → StopsLines refuses P extent bytes fault
-    → StopsLines refuses Q extent bytes fault
-StopsLines-map refuses P Q extent bytes hear.Read f h =
+    → ExplainsLinesHeard refuses P extent bytes fault
+    → ExplainsLinesHeard refuses Q extent bytes fault
+ExplainsLinesHeard-map refuses P Q extent bytes hear.Read f h =
     StopsAt-map bytes _ _ (λ lines rest more k. (k.0, k.1, f lines k.2)) h
-StopsLines-map refuses P Q extent bytes (hear.Line why) f h =
+ExplainsLinesHeard-map refuses P Q extent bytes (hear.Line why) f h =
     (h.0, StopsAt-map bytes _ _ (λ lines rest more k. (k.0, f lines k.1)) h.1)
-StopsLines-map refuses P Q extent bytes (hear.Refused line why) f h =
+ExplainsLinesHeard-map refuses P Q extent bytes (hear.Refused line why) f h =
     StopsAt-map bytes _ _ (λ lines rest more k. (k.0, f lines k.1)) h
 
 -- a run at a piece that ended no line
@@ -418,7 +419,7 @@ module _ {T F : Type 0} (stands : Standing T) (begins : Beginning T) (refuses : 
       (HasGiven old new batch) ((bytes ++ piece) ++ more) (run.Refused number why)
   explains-refused first now s old new batch bytes piece count number why lines latest some
       good is scans h more =
-      StopsLines-refused (refuses first)
+      ExplainsLinesHeard-refused (refuses first)
       (λ lines. HasTaken stands first now lines (HasGiven old new batch)) s bytes piece count
       number why lines latest some good is scans h more
 
@@ -475,13 +476,13 @@ module _ {T F : Type 0} (stands : Standing T) (begins : Beginning T) (refuses : 
       → ExplainsLines (run_of first now old new) whole_input A
       (bytes ++ ys) fault
   ExplainsLines-whole first now old new A bytes ys run.Read h =
-      StopsLines-whole (refuses first) (λ lines. HasTaken stands first now lines A) bytes ys
+      ExplainsLinesHeard-whole (refuses first) (λ lines. HasTaken stands first now lines A) bytes ys
       hear.Read h
   ExplainsLines-whole first now old new A bytes ys (run.Line why) h =
-      StopsLines-whole (refuses first) (λ lines. HasTaken stands first now lines A) bytes ys
+      ExplainsLinesHeard-whole (refuses first) (λ lines. HasTaken stands first now lines A) bytes ys
       (hear.Line why) h
   ExplainsLines-whole first now old new A bytes ys (run.Refused line why) h =
-      StopsLines-whole (refuses first) (λ lines. HasTaken stands first now lines A) bytes ys
+      ExplainsLinesHeard-whole (refuses first) (λ lines. HasTaken stands first now lines A) bytes ys
       (hear.Refused line why) h
   ExplainsLines-whole first now old new A bytes ys (run.Write written) h =
       StopsAt-more ys _ _ bytes (λ lines rest more k. k) h

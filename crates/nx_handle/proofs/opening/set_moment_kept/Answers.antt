@@ -4,7 +4,7 @@ use Rattle.nx_handle.specs.Life.{hearing_at}
 use Rattle.nx_handle.specs.Opening.{AnswersMoment}
 use Rattle.nx_handle.specs.Status.{number_of}
 use Rattle.nx_handle.specs.declared.kept.Kept.{Kept}
-use Rattle.nx_handle.specs.declared.kept.Stage.TheVariants.{Hearing}
+use Rattle.nx_handle.specs.declared.kept.LifeStage.TheVariants.{Hearing}
 use Rattle.nx_handle.proofs.lemmas.Status.{has-heard, moment-done, moment-not-done, moment-refused, same-kept}
 use Rattle.nx_handle.proofs.opening.set_moment_kept.Goals as goal
 

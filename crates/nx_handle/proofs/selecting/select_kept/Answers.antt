@@ -1,7 +1,7 @@
 use Rattle.std.proofs.Common.{IsTrue, false, refl, subst}
 use Rattle.nx_receiver.specs.Commands.{by_byte, refuses_vital}
 use Rattle.nx_handle.specs.Selecting.{command_status}
-use Rattle.nx_handle.specs.declared.kept.Stage.TheVariants.{Hearing}
+use Rattle.nx_handle.specs.declared.kept.LifeStage.TheVariants.{Hearing}
 use Rattle.nx_handle.proofs.lemmas.Selecting.{Takes, command-done, selecting-done}
 use Rattle.nx_handle.proofs.selecting.select_kept.Goals as goal
 

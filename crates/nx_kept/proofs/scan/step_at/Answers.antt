@@ -2,7 +2,7 @@ use Rattle.std.proofs.Common.{◌+◌, ◌<◌, ℕ, List, length, drop, get_or,
 use Rattle.std.proofs.lemmas.List.{take_rest}
 use Rattle.nx_kept.specs.declared.grammar.RecordStart.TheVariants.{Whole, Unfinished, Broken}
 use Rattle.nx_kept.specs.Kept.{IsDamagedBehind}
-use Rattle.nx_kept.specs.Record.{Tells}
+use Rattle.nx_kept.specs.Record.{TellsRecord}
 use Rattle.nx_kept.proofs.lemmas.Steps.{all_shown, long_tail_shown, at_record, ends_early, breaks_shown, first_and_rest}
 use Rattle.nx_kept.proofs.scan.step_at.Goals as goal
 
@@ -16,7 +16,7 @@ pub returns-in-Whole : goal.returns-in-Whole
 returns-in-Whole g c = λ all shown.
     let bytes = c.args.bytes.now in
     let some : 0 < length bytes = omega arith in
-    let told = subst (λ (l : List ℕ). Tells g.G.Grammar.is_record l (Whole c.in-Whole.length))
+    let told = subst (λ (l : List ℕ). TellsRecord g.G.Grammar.is_record l (Whole c.in-Whole.length))
     (take_rest bytes 1) c.in-Whole.ensures in
     at_record g.G.Grammar.is_record g.G.Grammar.LONGEST g.met.G.Grammar.some g.met.G.Grammar.bounded
     g.met.G.Grammar.one (get_or bytes 0 0) c.in-Whole.length bytes (drop 1 bytes) all
@@ -27,7 +27,7 @@ returns-in-Unfinished g c = λ all shown.
     let bytes = c.args.bytes.now in
     let some : 0 < length bytes = omega arith in
     let behind : 0 < length (drop 1 bytes) = omega (arith, length-drop 1 bytes) in
-    let unfinished = subst (λ (l : List ℕ). Tells g.G.Grammar.is_record l Unfinished)
+    let unfinished = subst (λ (l : List ℕ). TellsRecord g.G.Grammar.is_record l Unfinished)
     (take_rest bytes 1) c.in-Unfinished.ensures in
     let short : length bytes < g.G.Grammar.LONGEST + 3 =
     omega (
@@ -48,7 +48,8 @@ pub returns-in-Broken : goal.returns-in-Broken
 returns-in-Broken g c = λ all shown.
     let bytes = c.args.bytes.now in
     let some : 0 < length bytes = omega arith in
-    let told = subst (λ (l : List ℕ). Tells g.G.Grammar.is_record l (Broken c.in-Broken.place))
+    let told = subst (λ (l : List ℕ). TellsRecord g.G.Grammar.is_record l
+    (Broken c.in-Broken.place))
     (take_rest bytes 1) c.in-Broken.ensures in
     breaks_shown g.G.Grammar.is_record g.G.Grammar.LONGEST g.met.G.Grammar.some
     g.met.G.Grammar.bounded g.met.G.Grammar.one (get_or bytes 0 0) bytes (drop 1 bytes) all

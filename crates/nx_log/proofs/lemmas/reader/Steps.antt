@@ -16,8 +16,8 @@ use Rattle.nx_log.specs.declared.entries.reader.BadLine.{BadLine}
 use Rattle.nx_log.specs.declared.entries.reader.Begun.{Begun as EntryBegun}
 use Rattle.nx_log.specs.declared.entries.reader.Pushed.{Pushed}
 use Rattle.nx_log.specs.declared.entries.reader.Pushed.TheVariants.{All as TakenAll, Bad, Entry, Torn}
-use Rattle.nx_log.specs.declared.entries.reader.Stage.{Stage}
-use Rattle.nx_log.specs.declared.entries.reader.Stage.TheVariants.{Begun, Behind}
+use Rattle.nx_log.specs.declared.entries.reader.EntryStage.{EntryStage}
+use Rattle.nx_log.specs.declared.entries.reader.EntryStage.TheVariants.{Begun, Behind}
 use Rattle.nx_log.specs.declared.entries.reader.TornLine.{TornLine}
 use Rattle.nx_log.specs.declared.entries.start.EntryStart.TheVariants.{Whole, Unfinished, Broken}
 use Rattle.nx_log.specs.declared.entries.tail.Shape.{Shape}
@@ -960,7 +960,7 @@ pub holds_at : (reader : LogReading) (bytes : List ℕ) (entries : List MarkedCo
     (told : List ℕ) → IsAt reader bytes entries told → HoldEntries bytes entries told
 holds_at reader bytes entries told at = by_stage reader.stage refl
   where
-    by_stage : (stage : Stage) → reader.stage ≡ stage → HoldEntries bytes entries told
+    by_stage : (stage : EntryStage) → reader.stage ≡ stage → HoldEntries bytes entries told
     by_stage (Begun entry) e =
         let r = last_begun reader bytes entries told entry at e in
         record { read = r.read; is = r.is; are_entries = r.are_entries; are_torn = r.are_torn }

@@ -19,7 +19,7 @@ use Rattle.nx_receiver.specs.private.LockPrinter.{HasPrintedWords}
 use Rattle.nx_receiver.specs.CopyHearing.{LockReading}
 use Rattle.nx_receiver.specs.copies.LockText.{AreNext, text_after}
 use Rattle.nx_receiver.specs.LockReader.{ReadsLock}
-use Rattle.nx_receiver.specs.private.LockReader.{HearsNext, HearsUpTo, HearsWord, PrintsPlain}
+use Rattle.nx_receiver.specs.private.LockReader.{HearsNext, HearsPairsUpTo, IsBrought, PrintsPlain}
 use Rattle.nx_receiver.specs.private.LockReader.{ReadsPlain}
 use Rattle.nx_receiver.proofs.lemmas.locks.ReaderWords.{dx_of_pair, has_read_dx, printer_of, prints_lock}
 use Rattle.nx_receiver.proofs.lemmas.locks.ReaderWords.{reads_on}
@@ -116,7 +116,7 @@ last_next {first} {words} {n} before last pairs odd all =
 
 -- where the last of some words brings nothing either, none of them does
 bytes_of_word : (before after : List ℕ) (finder : Finder)
-    → HearsWord before after finder Nothing → PrintsPlain before after
+    → IsBrought before after finder Nothing → PrintsPlain before after
 bytes_of_word before after finder (inl none) = record {
   bytes = [];
   grows = none.same ∙ sym (append-nil before);
@@ -139,7 +139,7 @@ prints_both before mid after one rest = record {
       (subst (λ l. BringNothing l rest.bytes) one.grows rest.nothing);
 }
 
-pub plain_up_to : {old new : LockReading} {next : List ℕ} → HearsUpTo old new next Nothing
+pub plain_up_to : {old new : LockReading} {next : List ℕ} → HearsPairsUpTo old new next Nothing
     → ReadsPlain old new next
 plain_up_to {old} {new} {next} h =
     let one : ℕ = h.last in
@@ -167,8 +167,8 @@ plain_up_to {old} {new} {next} h =
 
 -- pairs of words that bring nothing, and others behind them, up to one that may
 pub up_to_behind : {old mid new : LockReading} {event : TextEvent} (xs ys : List ℕ) (pairs : ℕ)
-    → length xs ≡ 2 * pairs → ReadsPlain old mid xs → HearsUpTo mid new ys event
-    → HearsUpTo old new (xs ++ ys) event
+    → length xs ≡ 2 * pairs → ReadsPlain old mid xs → HearsPairsUpTo mid new ys event
+    → HearsPairsUpTo old new (xs ++ ys) event
 up_to_behind xs ys pairs even plain h = record {
   mid = h.mid;
   before = xs ++ h.before;
@@ -185,7 +185,7 @@ pub pair_heard : {old mid new : LockReading} {event : TextEvent} {dx rx : ℕ}
     → ((sent : List Counted) → IsLatest old.diversity sent
     → IsLatest mid.diversity (sent ++ counts_as dx ∷ []))
     → mid.printer ≡ old.printer → mid.finder ≡ old.finder → HearsNext mid new rx Rx event
-    → HearsUpTo old new (dx ∷ rx ∷ []) event
+    → HearsPairsUpTo old new (dx ∷ rx ∷ []) event
 pair_heard {old} {mid} {new} {event} {dx} {rx} hears same found next = record {
   mid = mid;
   before = dx ∷ [];

@@ -10,7 +10,7 @@ use Rattle.std.proofs.lemmas.List.Elements.{All-nil, All-cons, All-head, All-tai
 use Rattle.nx_code.specs.Reading.{text}
 use Rattle.nx_sync.specs.declared.step.Role.{Role}
 use Rattle.nx_envelope.specs.Copies.{Copy, ended_copies, open_headers}
-use Rattle.nx_envelope.specs.Finder.{BeginsCopy, Ends, Keeps, HasReady, Hears, is_over}
+use Rattle.nx_envelope.specs.Finder.{BeginsCopy, Ends, Keeps, HasReady, HappensAt, is_over}
 use Rattle.nx_envelope.specs.Header.{Header}
 use Rattle.nx_envelope.specs.declared.finder.Finder.{Finder}
 use Rattle.nx_envelope.specs.declared.found.TextEvent.{TextEvent}
@@ -19,7 +19,7 @@ use Rattle.nx_receiver.specs.declared.copy_taker.CopyTag.{CopyTag}
 use Rattle.nx_receiver.specs.Events.{Setting}
 use Rattle.nx_receiver.specs.copies.FoundCopies.{FoundCopy, place_in, found_copy, ended_in, TaggedCopy}
 use Rattle.nx_receiver.specs.copies.FoundCopies.{tag}
-use Rattle.nx_receiver.specs.private.LockReader.{HearsWord, word_place}
+use Rattle.nx_receiver.specs.private.LockReader.{IsBrought, word_place}
 use Rattle.nx_receiver.specs.copies.LockText.{text_after}
 use Rattle.nx_receiver.specs.copies.LockText.{PlacedByte, printed_by, text_by, bytes_of}
 use Rattle.nx_receiver.specs.private.CopyTaker.{tag_after}
@@ -36,7 +36,7 @@ pub data AddsByte (before after : List PlacedByte) (place : ℕ) (finder : Finde
     (event : TextEvent) : Type 0 where
   no_byte : after ≡ before → event ≡ events.Nothing → AddsByte before after place finder event
   a_byte : (byte : ℕ) → after ≡ before ++ record { byte = byte; place = place } ∷ []
-      → Hears (bytes_of before) byte finder event → AddsByte before after place finder event
+      → HappensAt (bytes_of before) byte finder event → AddsByte before after place finder event
 
 abbrev placed_at : ℕ → ℕ → PlacedByte
 placed_at place b = record { byte = b; place = place }
@@ -61,7 +61,7 @@ added first words t n more e =
     ∙ ap (λ l. l ++ more) (sym before))
 
 pub adds_byte : (first : Role) (words : ℕ → ℕ) (t n : ℕ) (finder : Finder) (event : TextEvent)
-    → HearsWord (text_after first words n) (text_after first words (n + 1)) finder event
+    → IsBrought (text_after first words n) (text_after first words (n + 1)) finder event
     → AddsByte (text_by first words t n) (text_by first words t (n + 1)) (word_place t n) finder
     event
 unfolding text_by printed_by
@@ -75,7 +75,8 @@ adds_byte first words t n finder event (inr h) =
     (added first words t n (h.byte ∷ []) h.grows) in
     a_byte h.byte (ap (text_by first words t) (add-one n)
     ∙ ap (λ l. text_by first words t n ++ l) one)
-    (subst (λ (l : List ℕ). Hears l h.byte finder event) (sym (bytes_are_reading first words t n))
+    (subst (λ (l : List ℕ). HappensAt l h.byte finder event)
+    (sym (bytes_are_reading first words t n))
     h.hears)
 
 -- copies with what is in force: those of more copies, and where more elements come

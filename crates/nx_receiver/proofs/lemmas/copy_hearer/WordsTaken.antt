@@ -21,7 +21,7 @@ use Rattle.nx_receiver.specs.declared.copy_taker.CopyTaker.{CopyTaker}
 use Rattle.nx_receiver.specs.Events.{Setting}
 use Rattle.nx_receiver.specs.copies.FoundCopies.{TaggedCopy}
 use Rattle.nx_receiver.specs.CopyHearing.{LockReading}
-use Rattle.nx_receiver.specs.private.LockReader.{HearsUpTo, HearsWords}
+use Rattle.nx_receiver.specs.private.LockReader.{HearsPairsUpTo, HearsPairs}
 use Rattle.nx_receiver.specs.private.CopyTaker.{Hears, ReadsStep, ReadsWord, hearer_of, setting_of}
 use Rattle.nx_receiver.specs.private.CopyTaker.{tag_after}
 use Rattle.nx_receiver.specs.private.CopyTakerLaws.{hears_on}
@@ -80,7 +80,7 @@ word_parts one word first role e =
 -- words up to one that may bring something
 up_to_heard : (first : Setting) (old : CopyTaker) (reader : LockReading) (event : TextEvent)
     (words : List ℕ) (before after : Held) (h : List Bool) (s : List Setting)
-    (copies : List TaggedCopy) → HearsUpTo old.reader reader words event
+    (copies : List TaggedCopy) → HearsPairsUpTo old.reader reader words event
     → BringsWords before after words → HearerStands first (hearer_of before old) h s copies
     → HearsBits first (hearer_of before old) (hearer_of after (taken_by old reader event)) h s
     copies (flat_map elements words) (over_with (is_over event) false)
@@ -130,7 +130,7 @@ up_to_heard first old reader event words before after h s copies up brings w =
 
 -- a taker takes words at once
 pub words_taken : (old : CopyTaker) (reader : LockReading) (event : TextEvent) (words : List ℕ)
-    (before after : Held) → 0 < length words → HearsWords old.reader reader words event
+    (before after : Held) → 0 < length words → HearsPairs old.reader reader words event
     → BringsWords before after words
     → Hears before old (flat_map elements words) after (taken_by old reader event)
     (over_with (is_over event) false)

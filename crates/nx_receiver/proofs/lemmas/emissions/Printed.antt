@@ -15,7 +15,7 @@ use Rattle.nx_envelope.specs.declared.found.How.TheVariants.{Full}
 use Rattle.nx_fec.specs.emissions.Emission.{SentPosition, traffic_position, end_position, position_at}
 use Rattle.nx_fec.specs.emissions.Emission.{reception}
 use Rattle.nx_station.specs.Broadcast.{ending, printed_text}
-use Rattle.nx_station.specs.reception.Sendings.{Tells}
+use Rattle.nx_station.specs.reception.Sendings.{TellsMessage}
 use Rattle.nx_station.proofs.lemmas.strict_reading.ReadingBack.{told-prints, traffic-receptions}
 use Rattle.nx_sync.specs.Words.{role_of}
 use Rattle.nx_sync.specs.declared.step.Role.{Role}
@@ -39,7 +39,7 @@ pub record HearsMessage (first : Role) (words : ℕ → ℕ) (w : ℕ) (sent : L
   pub dx : role_of first w ≡ Dx
   pub taken : AreTaken words w sent
   pub numbers : List ℕ
-  pub told : Tells message numbers
+  pub told : TellsMessage message numbers
   pub before : List SentPosition
   pub behind : List SentPosition
   pub parts : sent ≡ before ++ (map traffic_position numbers ++ behind)

@@ -12,7 +12,7 @@ use Rattle.nx_envelope.specs.declared.identity.Identity.{Identity}
 use Rattle.nx_fec.specs.emissions.Emission.{SentPosition, phasing_position, traffic_position, end_position}
 use Rattle.nx_station.specs.Broadcast.{head, phasing_and_message, layout, digit_combination}
 use Rattle.nx_station.specs.Broadcast.{letter_combination}
-use Rattle.nx_station.specs.reception.Sendings.{Tells, positions_before}
+use Rattle.nx_station.specs.reception.Sendings.{TellsMessage, positions_before}
 use Rattle.nx_station.proofs.lemmas.broadcasts.Head.{letter_combination-prints, digit_combination-prints}
 use Rattle.nx_station.proofs.lemmas.broadcasts.Head.{digit_combination-range}
 use Rattle.nx_station.proofs.lemmas.strict_reading.ReadingBack.{Prints, Prints-nil, Prints-character, Prints-shift}
@@ -103,11 +103,11 @@ pub record SpelledAt (spellings : List (List ℕ)) (index : ℕ) (message : Mess
   pub numbers : List ℕ
   pub back : List (List ℕ)
   pub whole : spellings ≡ take index spellings ++ numbers ∷ back
-  pub told : Tells message numbers
+  pub told : TellsMessage message numbers
 
 pub spelled_at : (messages : List MessageView) (spellings : List (List ℕ)) (index : ℕ)
     (message : MessageView)
-    → AllZip Tells messages spellings → slice_get messages index ≡ Some message
+    → AllZip TellsMessage messages spellings → slice_get messages index ≡ Some message
     → SpelledAt spellings index message
 spelled_at [] spellings index message h e = cc
 spelled_at (m ∷ messages) [] index message h e = absurd h
@@ -117,7 +117,7 @@ spelled_at (m ∷ messages) (s ∷ spellings) zero message h e =
       numbers = s;
       back = spellings;
       whole = refl;
-      told = subst (λ (m : MessageView). Tells m s) same h.0;
+      told = subst (λ (m : MessageView). TellsMessage m s) same h.0;
     }
 spelled_at (m ∷ messages) (s ∷ spellings) (suc index) message h e =
     let rest = spelled_at messages spellings index message h.1 e in

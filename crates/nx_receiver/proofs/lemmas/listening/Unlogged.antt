@@ -7,14 +7,14 @@ use Rattle.std.specs.declared.alloc.AllocError.{AllocError}
 use Rattle.std.proofs.KnownBytes.{Consumes-nil}
 use Rattle.nx_fec.specs.air_files.AirFile.{Line}
 use Rattle.nx_fec.specs.air_files.LineRuns.{ExplainsLines, HasHeardAll, HasTaken, HasTakenAll, HearsLines}
-use Rattle.nx_fec.specs.air_files.LineRuns.{StopsLines, line_run}
+use Rattle.nx_fec.specs.air_files.LineRuns.{ExplainsLinesHeard, line_run}
 use Rattle.nx_fec.specs.air_files.HearFault.{HearFault}
 use Rattle.nx_fec.specs.air_files.HearFault as hear
 use Rattle.nx_fec.specs.Transfers.{CountedDevice, Extent, input, count_of}
 use Rattle.nx_fec.specs.declared.fault.LineFault.TheVariants as file
 use Rattle.nx_fec.specs.declared.air_files.line_runs.LinesFault.TheVariants as run
 use Rattle.nx_fec.specs.declared.air_files.line_runs.LinesRead.{LinesRead}
-use Rattle.nx_fec.proofs.lemmas.line_runs.LineRun.{StopsLines-map}
+use Rattle.nx_fec.proofs.lemmas.line_runs.LineRun.{ExplainsLinesHeard-map}
 use Rattle.nx_fec.proofs.lemmas.devices.TransferLaws.{Ok-not_err, Reads-on, read_failed-none}
 use Rattle.nx_memory.specs.Saved.{SavedStates}
 use Rattle.nx_receiver.specs.air_file_runs.Listen.{AnswersUnlogged, given_by}
@@ -53,23 +53,23 @@ told first now lines h = record { given = h.0; stood = h.1; here = tt }
 -- a fault of the lines, as one of a run that writes
 explains-run : (extent : Extent) (first now : Listening) (bytes : List ℕ)
     (fault : HearFault LineRefusal)
-    → StopsLines (RefusesFrom first) (StandsUnlogged first now) extent bytes fault
+    → ExplainsLinesHeard (RefusesFrom first) (StandsUnlogged first now) extent bytes fault
     → ExplainsLines (line_run listener_taker first now None None) extent (Appends None None) bytes
     (as_run_fault fault)
 explains-run extent first now bytes hear.Read h =
-    StopsLines-map (RefusesFrom first) (StandsUnlogged first now) _ extent bytes
+    ExplainsLinesHeard-map (RefusesFrom first) (StandsUnlogged first now) _ extent bytes
     hear.Read (told first now) h
 explains-run extent first now bytes (hear.Line why) h =
-    StopsLines-map (RefusesFrom first) (StandsUnlogged first now) _ extent bytes
+    ExplainsLinesHeard-map (RefusesFrom first) (StandsUnlogged first now) _ extent bytes
     (hear.Line why) (told first now) h
 explains-run extent first now bytes (hear.Refused line why) h =
-    StopsLines-map (RefusesFrom first) (StandsUnlogged first now) _ extent bytes
+    ExplainsLinesHeard-map (RefusesFrom first) (StandsUnlogged first now) _ extent bytes
     (hear.Refused line why) (told first now) h
 
 -- what a fault of the lines explains
 explains-unlogged : (extent : Extent) (first now : Listening)
     (bytes : List ℕ) (fault : HearFault LineRefusal)
-    → StopsLines (RefusesFrom first) (StandsUnlogged first now) extent bytes fault
+    → ExplainsLinesHeard (RefusesFrom first) (StandsUnlogged first now) extent bytes fault
     → AnswersUnlogged (starts_of first) extent
     (Err (lines_fault (as_run_fault fault))) bytes
 explains-unlogged extent first now bytes hear.Read h =
@@ -116,7 +116,7 @@ pub unlogged-fault : {R : Type 0} (saved : SavedStates) (first now : Listening)
     → ListensUnlogged saved remaining old new (Err (lines_fault (as_run_fault fault)))
 unlogged-fault saved first now remaining old new fault begun h =
     let said : (extent : Extent) (bytes : List ℕ)
-    → StopsLines (RefusesFrom first) (StandsUnlogged first now) extent bytes fault
+    → ExplainsLinesHeard (RefusesFrom first) (StandsUnlogged first now) extent bytes fault
     → AnswersLeaving saved extent (Err (lines_fault (as_run_fault fault))) bytes =
     λ extent bytes k. (
       subst (λ (starts : Starts). AnswersUnlogged starts extent

@@ -14,9 +14,9 @@ ghost use Rattle.nx_receiver.specs.private.Listener.{StandsFrom, listener_taker}
 ghost use Rattle.nx_receiver.specs.private.ListenFaults.{StandsFor, StopsAtLine};
 
 use crate::air_file_runs::listen_fault::ListenFault;
-use crate::air_file_runs::listening::{AIR_LIMIT, take_elements, take_setting};
+use crate::air_file_runs::listening::{take_elements, take_setting};
 use crate::listener::Listener;
-use nx_fec::{Batch, CHUNK, Counting, LineKind, LinesRead, Piece, Scanner, next_piece};
+use nx_fec::{AIR_LIMIT, Batch, CHUNK, Counting, LineKind, LinesRead, Piece, Scanner, next_piece};
 use std::io::{Read, Write};
 
 /// Reads an air file to its end, gives each of its lines to the listener, and writes what they

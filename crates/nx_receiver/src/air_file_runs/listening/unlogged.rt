@@ -2,7 +2,7 @@
 
 ghost use Rattle.std.specs.Prelude.{◌≡◌, ◌+◌, ◌<◌, ◌≤◌, ℕ, Bool, true, false, List, [], ◌∷◌, ◌++◌, drop, length, take, Some, None, Err, IfOk, IfSome, MatchResult, OnOk};
 ghost use Rattle.nx_fec.specs.air_files.AirFile.{IsLine, Line};
-ghost use Rattle.nx_fec.specs.air_files.LineRuns.{HearsLines, StopsLines};
+ghost use Rattle.nx_fec.specs.air_files.LineRuns.{HearsLines, ExplainsLinesHeard};
 ghost use Rattle.nx_fec.specs.air_files.Scanner.{kind_kept};
 ghost use Rattle.nx_fec.specs.private.LineTaking.{IsHearing, inside};
 ghost use Rattle.nx_fec.specs.Transfers.{input};
@@ -14,9 +14,11 @@ ghost use Rattle.nx_receiver.specs.private.Unlogged.{HasHeard, HasHeardGiven, Li
 ghost use Rattle.nx_receiver.specs.declared.air_file_runs.listen_fault.ListenFault.TheVariants.{Memory};
 
 use crate::air_file_runs::listen_fault::{LineRefusal, ListenFault};
-use crate::air_file_runs::listening::{AIR_LIMIT, Report, line_listener, take_setting};
+use crate::air_file_runs::listening::{Report, line_listener, take_setting};
 use crate::listener::Listener;
-use nx_fec::{CHUNK, Channel, Counting, LineKind, PackedElements, Piece, Scanner, next_piece};
+use nx_fec::{
+    AIR_LIMIT, CHUNK, Channel, Counting, LineKind, PackedElements, Piece, Scanner, next_piece,
+};
 use nx_memory::SavedSet;
 use std::alloc::{AllocError, Global};
 use std::io::Read;
@@ -81,7 +83,7 @@ fn hear_piece(
         → MatchResult result
         (λ _. IsHearing (StandsUnlogged first listener.new) scanner.new (bytes ++ piece.now))
         (λ fault. (more : List ℕ) → StandsFor hearing_fault
-        (StopsLines (RefusesFrom first) (StandsUnlogged first listener.new) inside
+        (ExplainsLinesHeard (RefusesFrom first) (StandsUnlogged first listener.new) inside
         ((bytes ++ piece.now) ++ more)) fault) }
     ensures room { OnOk result (scanner.new.room + length piece.now ≡ scanner.old.room) }
 {
@@ -106,7 +108,7 @@ fn hear_line(
         (λ count. IsHearing (StandsUnlogged first listener.new) scanner.new
         (bytes ++ take count piece.now))
         (λ fault. (more : List ℕ) → StandsFor hearing_fault
-        (StopsLines (RefusesFrom first) (StandsUnlogged first listener.new) inside
+        (ExplainsLinesHeard (RefusesFrom first) (StandsUnlogged first listener.new) inside
         ((bytes ++ piece.now) ++ more)) fault) }
     ensures some { IfOk result (λ count. (0 < count) × (count ≤ length piece.now)
         × (scanner.new.room + count ≡ scanner.old.room)) }

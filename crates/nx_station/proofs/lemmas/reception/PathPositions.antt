@@ -16,7 +16,7 @@ use Rattle.nx_fec.specs.emissions.Emission.{position_at}
 use Rattle.nx_station.specs.Broadcast.{IsSpelled, AreSpelled, digit_combination, ending, head}
 use Rattle.nx_station.specs.Broadcast.{layout, phasing_and_message, first_phasing, further_phasing}
 use Rattle.nx_station.specs.Broadcast.{letter_combination}
-use Rattle.nx_station.specs.reception.Sendings.{Tells}
+use Rattle.nx_station.specs.reception.Sendings.{TellsMessage}
 use Rattle.nx_station.proofs.lemmas.broadcasts.Head.{digit_combination-range}
 
 -- the number of a combination
@@ -113,7 +113,7 @@ ending-combinations Figures = (
 
 -- what is spelled is told
 pub spelled-tells : (message : MessageView) (numbers : List ℕ) → IsSpelled message numbers
-    → Tells message numbers
+    → TellsMessage message numbers
 spelled-tells message numbers h = record {
   body = h.text;
   each = fits-combinations Figures h.text h.spells.fits;
@@ -122,13 +122,13 @@ spelled-tells message numbers h = record {
 }
 
 pub all_tell : (messages : List MessageView) (spellings : List (List ℕ))
-    → AreSpelled messages spellings → AllZip Tells messages spellings
+    → AreSpelled messages spellings → AllZip TellsMessage messages spellings
 all_tell [] [] h = tt
 all_tell [] (s ∷ ss) h = absurd h
 all_tell (m ∷ ms) [] h = absurd h
 all_tell (m ∷ ms) (s ∷ ss) h = (spelled-tells m s h.0, all_tell ms ss h.1)
 
-told-combinations : (message : MessageView) (numbers : List ℕ) → Tells message numbers
+told-combinations : (message : MessageView) (numbers : List ℕ) → TellsMessage message numbers
     → AllByRecursion IsCombination numbers
 told-combinations message numbers h =
     let last = ending (shift_after_all (map combination h.body) Figures) in
@@ -154,14 +154,15 @@ traffic-inner : (numbers : List ℕ) → AllByRecursion IsCombination numbers
 traffic-inner [] h = tt
 traffic-inner (n ∷ numbers) h = (h.0, traffic-inner numbers h.1)
 
-message-inner : (count : ℕ) (message : MessageView) (numbers : List ℕ) → Tells message numbers
+message-inner : (count : ℕ) (message : MessageView) (numbers : List ℕ)
+    → TellsMessage message numbers
     → AllByRecursion IsInner (phasing_and_message count numbers)
 message-inner count message numbers h =
     each-append IsInner (replicate count phasing_position) (map traffic_position numbers)
     (phasing-inner count) (traffic-inner numbers (told-combinations message numbers h))
 
 others-inner : (messages : List MessageView) (spellings : List (List ℕ))
-    → AllZip Tells messages spellings
+    → AllZip TellsMessage messages spellings
     → AllByRecursion IsInner (flat_map (phasing_and_message further_phasing) spellings)
 others-inner [] [] h = tt
 others-inner [] (s ∷ ss) h = absurd h
@@ -178,7 +179,7 @@ pub record HasInner (positions : List SentPosition) : Type 0 where
   pub whole : positions ≡ inner ++ replicate end_positions end_position
 
 pub told-inner : (messages : List MessageView) (spellings : List (List ℕ)) → spellings ≢ []
-    → AllZip Tells messages spellings → HasInner (layout spellings)
+    → AllZip TellsMessage messages spellings → HasInner (layout spellings)
 unfolding layout
 told-inner messages [] some h = absurd (some refl)
 told-inner [] (s ∷ ss) some h = absurd h

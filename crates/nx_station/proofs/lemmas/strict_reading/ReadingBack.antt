@@ -21,7 +21,7 @@ use Rattle.nx_station.specs.Broadcast.{IsSpelled, AreSpelled, IsBroadcast, head,
 use Rattle.nx_station.specs.Broadcast.{phasing_and_message, layout, header, printed_text}
 use Rattle.nx_station.specs.Broadcast.{digit_combination, first_phasing, further_phasing}
 use Rattle.nx_station.specs.Broadcast.{letter_combination}
-use Rattle.nx_station.specs.reception.Sendings.{Tells}
+use Rattle.nx_station.specs.reception.Sendings.{TellsMessage}
 use Rattle.nx_station.proofs.lemmas.reception.PathPositions.{spelled-tells}
 use Rattle.nx_station.proofs.lemmas.broadcasts.Head.{letter_combination-prints, digit_combination-prints}
 use Rattle.nx_station.proofs.lemmas.broadcasts.Head.{digit_combination-range}
@@ -152,7 +152,7 @@ ending-prints Figures = Prints-shift Letters Figures _ _ Letters end-prints
 -- ---- a message, and a list of messages
 
 pub told-prints : (message : MessageView) (numbers : List ℕ) (first : Shift)
-    → Tells message numbers
+    → TellsMessage message numbers
     → Prints first (map combination numbers) (printed_text message) Letters
 told-prints message numbers first h =
     let last = shift_after_all (map combination h.body) Figures in

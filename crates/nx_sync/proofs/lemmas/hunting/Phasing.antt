@@ -148,10 +148,10 @@ module _ (earlier : List Bool) where
   unfolding phase
   placed i = ap (λ xs. number_of (take 7 xs)) (drop-append-add earlier (phasing 24) i)
 
-  pub word_in : (t k i : ℕ) → t + 7 * k ≡ length earlier + i
+  pub number_at_bit : (t k i : ℕ) → t + 7 * k ≡ length earlier + i
       → word_of_lock (earlier ++ phasing 24) t k ≡ phase 24 i
   unfolding word_of_lock
-  word_in t k i e = ap (λ j. number_of (take 7 (drop j (earlier ++ phasing 24)))) e ∙ placed i
+  number_at_bit t k i e = ap (λ j. number_of (take 7 (drop j (earlier ++ phasing 24)))) e ∙ placed i
 
   pub phasing_heard : length (earlier ++ phasing 24) ≡ length earlier + 336
   phasing_heard = length-append earlier (phasing 24)
@@ -236,7 +236,7 @@ module _ (earlier : List Bool) where
         let all : (j : ℕ) → j < losing_count → is_wrong (f (k + j)) ≡ true = λ j h.
         let i : ℕ = o + 7 * j in
         let kind = phase_at 24 i (omega arith) in
-        ap is_wrong (word_in t (k + j) i (omega arith))
+        ap is_wrong (number_at_bit t (k + j) i (omega arith))
         ∙ (kind.wrong ∙ limit-true (i % 14) (λ z. omega arith) (λ s. omega arith)) in
         let few = (at_none (first_role (earlier ++ phasing 24) t) f w (quiet w (omega arith))).1 in
         let b : ℕ = w + 1 - marked_words in
@@ -259,8 +259,8 @@ module _ (earlier : List Bool) where
         let end : IsSecondPhasing1 first f (k + 3) = record {
           two = omega arith;
           dx = role_of-three_on k first swapped;
-          this = word_in t (k + 3) 21 (omega arith) ∙ twenty_one.first refl;
-          before = ap f d ∙ (word_in t (k + 1) 7 (omega arith) ∙ seven.first refl);
+          this = number_at_bit t (k + 3) 21 (omega arith) ∙ twenty_one.first refl;
+          before = ap f d ∙ (number_at_bit t (k + 1) 7 (omega arith) ∙ seven.first refl);
         } in
         let ends = IsSecondPhasing1-to first f (k + 6) (omega arith)
         (subst (IsSecondPhasing1 first f) (sym e) end) in
@@ -327,7 +327,7 @@ module _ (earlier : List Bool) where
         let c : ℕ = 14 * x.a + 7 * (j - x.g) in
         let at : t + 7 * j ≡ length earlier + c = omega (arith, x.place) in
         let kind = phase_at 24 c (omega arith) in
-        ap is_wrong (word_in t j c at)
+        ap is_wrong (number_at_bit t j c at)
         ∙ (kind.wrong ∙ limit-zero (c % 14)
         (elim (cases_eq (c % 14) 0) [ inl z ↦ inl z | inr n ↦ inr (omega arith) ])) in
         elim (cases_lt i x.g) [
@@ -361,7 +361,7 @@ module _ (earlier : List Bool) where
         let kind = phase_at 24 308 (omega arith) in
         let five = end.0 in
         let e : word_of_lock (earlier ++ phasing 24) t (w - 3) ≡ phasing_2 =
-        word_in t (w - 3) 308 (omega arith) ∙ kind.second refl in
+        number_at_bit t (w - 3) 308 (omega arith) ∙ kind.second refl in
         let one : word_of_lock (earlier ++ phasing 24) t (w - 3) ≡ phasing_1 = end.1.this in
         omega (arith, e, one)
 

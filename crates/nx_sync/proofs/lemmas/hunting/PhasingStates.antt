@@ -24,7 +24,7 @@ use Rattle.nx_sync.proofs.lemmas.states.KeptPast.{wrong_in-same, IsPattern-less,
 use Rattle.nx_sync.proofs.lemmas.words.Computed.{IsSecondPhasing1-to, at_none, holds-from, least_released}
 use Rattle.nx_sync.proofs.lemmas.words.Releases.{stands_longer}
 use Rattle.nx_sync.proofs.lemmas.hunting.Phasing.{phase_at, length-phasing, limit-true, limit-zero}
-use Rattle.nx_sync.proofs.lemmas.hunting.Phasing.{role_of-three_on, word_in, phasing_heard, inside_aligned}
+use Rattle.nx_sync.proofs.lemmas.hunting.Phasing.{role_of-three_on, number_at_bit, phasing_heard, inside_aligned}
 
 -- phasing without its first pairs
 drop-pairs : (q n : ℕ) → drop (14 * q) (phasing (q + n)) ≡ phasing n
@@ -169,7 +169,7 @@ module _ (earlier : List Bool) where
         let c : ℕ = t + 7 * k - length earlier in
         let e : t + 7 * k ≡ length earlier + c = omega arith in
         let kind = phase_at 24 c (omega arith) in
-        ap is_wrong (word_in earlier t k c e) ∙ (kind.wrong ∙ limit-true (c % 14)
+        ap is_wrong (number_at_bit earlier t k c e) ∙ (kind.wrong ∙ limit-true (c % 14)
         (λ z. let j : t + 7 * k ≡ length earlier + 7 * (c / 7) = omega arith in
         between.apart k (c / 7) j)
         (λ s. let j : t + 7 * k ≡ length earlier + 7 * (c / 7) = omega arith in
@@ -210,10 +210,11 @@ module _ (earlier : List Bool) where
         ap (role_of (first_role (earlier ++ phasing 24) t)) e ∙ ap other_role swapped
 
     first_p1 : word_of_lock (earlier ++ phasing 24) t (k + 1) ≡ phasing_1
-    first_p1 = word_in earlier t (k + 1) 7 (omega arith) ∙ (phase_at 24 7 (omega arith)).first refl
+    first_p1 = number_at_bit earlier t (k + 1) 7 (omega arith)
+        ∙ (phase_at 24 7 (omega arith)).first refl
 
     second_p1 : word_of_lock (earlier ++ phasing 24) t (k + 3) ≡ phasing_1
-    second_p1 = word_in earlier t (k + 3) 21 (omega arith)
+    second_p1 = number_at_bit earlier t (k + 3) 21 (omega arith)
         ∙ (phase_at 24 21 (omega arith)).first refl
 
     pub swapped_second : IsSecondPhasing1 (first_role (earlier ++ phasing 24) t)
@@ -306,7 +307,7 @@ module _ (earlier : List Bool) (i : ℕ) (low : pattern_elements ≤ i) (high : 
       let e : t + 7 * k ≡ length earlier + c = omega arith in
       let kind = phase_at 24 c (omega arith) in
       let limit : c % 7 ≡ 0 = omega (arith, x.place) in
-      ap is_wrong (word_in earlier t k c e)
+      ap is_wrong (number_at_bit earlier t k c e)
       ∙ (kind.wrong ∙ limit-zero (c % 14)
       (elim (cases_eq (c % 14) 0) [ inl z ↦ inl z | inr n ↦ inr (omega arith) ]))
 
@@ -324,7 +325,7 @@ module _ (earlier : List Bool) (i : ℕ) (low : pattern_elements ≤ i) (high : 
         | inl below ↦ let even = even_apart (first_role (earlier ++ phasing 24) t) k x.g dx x.dx
             (omega arith) in omega arith
       ] in
-      word_in earlier t k c e ∙ kind.second pair
+      number_at_bit earlier t k c e ∙ kind.second pair
 
   -- how many were wrong up to the word that is over at the first of the phasing words, where the
   -- lock began before them

@@ -1,7 +1,7 @@
 use Rattle.std.proofs.Common.{[], reverse, sym, ap, subst, ◌∙◌}
 use Rattle.nx_envelope.specs.Finder.{is_ready_copy}
 use Rattle.nx_envelope.specs.FinderView.{FinderView}
-use Rattle.nx_envelope.specs.private.Stage.{IsStageOf}
+use Rattle.nx_envelope.specs.private.HeaderStage.{IsStageOf}
 use Rattle.nx_envelope.proofs.lemmas.finder.Hearing.{closes_held, closes_shut, none_held, none-nil}
 use Rattle.nx_envelope.proofs.finder.Finder.close.Goals as goal
 use Rattle.nx_envelope.proofs.finder.Finder.close.Goals.{in-Open, in-Nothing}

@@ -5,7 +5,7 @@ use Rattle.nx_envelope.specs.FinderView.{FinderView}
 use Rattle.nx_envelope.specs.Header.{start_marker}
 use Rattle.nx_envelope.specs.private.Backward.{last_four}
 use Rattle.nx_envelope.specs.private.Finding.{Hearing}
-use Rattle.nx_envelope.specs.private.Stage.{IsStageOf}
+use Rattle.nx_envelope.specs.private.HeaderStage.{IsStageOf}
 use Rattle.nx_envelope.proofs.lemmas.copies.Beginnings.{reverse-push}
 use Rattle.nx_envelope.proofs.lemmas.finder.Hearing.{last_four-push, none_held}
 use Rattle.nx_envelope.proofs.lemmas.finder.PlainBytes.{stage_open}

@@ -3,7 +3,7 @@ use Rattle.std.specs.Int.{to_le_bytes, w32}
 use Rattle.nx_envelope.specs.Finder.{StandsAfter}
 use Rattle.nx_envelope.specs.FinderView.{FinderView}
 use Rattle.nx_envelope.specs.private.Finding.{begins_no_text}
-use Rattle.nx_envelope.specs.private.Stage.{IsStageOf}
+use Rattle.nx_envelope.specs.private.HeaderStage.{IsStageOf}
 use Rattle.nx_envelope.specs.declared.found.HeldCopy.{HeldCopy}
 use Rattle.nx_envelope.specs.declared.found.HeldCopy.TheVariants.{Open}
 use Rattle.nx_envelope.proofs.lemmas.finder.EightBytes.{four_on}

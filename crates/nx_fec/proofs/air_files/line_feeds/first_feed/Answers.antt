@@ -7,5 +7,6 @@ pub returns-then-near-ne0 : goal.returns-then-near-ne0
 returns-then-near-ne0 c =
     let lowest = bit_at-trailing_zeros w64 c.feeds-near.result (omega (arith, c.if-near-ne0.true))
     c.feeds-near.type_inv in
-    first-feed c.args.piece.now c.feeds-near.result _ c.if-piece-ge-LANES.true c.feeds-near.ensures
+    first-feed c.args.piece.now c.feeds-near.result _ c.if-piece-ge-BYTES_AT_ONCE.true
+    c.feeds-near.ensures
     lowest.1 lowest.2

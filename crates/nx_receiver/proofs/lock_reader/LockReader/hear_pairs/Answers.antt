@@ -4,7 +4,7 @@ use Rattle.std.proofs.lemmas.Grind.{get_or_default_zero}
 use Rattle.std.proofs.lemmas.List.{append_assoc, length-take-le, take_more}
 use Rattle.nx_envelope.specs.declared.found.TextEvent.{TextEvent}
 use Rattle.nx_receiver.specs.CopyHearing.{LockReading}
-use Rattle.nx_receiver.specs.private.LockReader.{HearsUpTo, ReadsPlain}
+use Rattle.nx_receiver.specs.private.LockReader.{HearsPairsUpTo, ReadsPlain}
 use Rattle.nx_receiver.proofs.lemmas.copy_hearer.PlainPairs.{plain_up_to, up_to_behind}
 use Rattle.nx_receiver.proofs.lock_reader.LockReader.hear_pairs.Goals as goal
 
@@ -12,7 +12,8 @@ use Rattle.nx_receiver.proofs.lock_reader.LockReader.hear_pairs.Goals as goal
 pair_behind : {old mid new : LockReading} {event : TextEvent} {dx rx : ℕ} (words : List ℕ)
     (heard : ℕ) → heard % 2 ≡ 0 → heard + 1 < length words → dx ≡ slice_index words heard
     → rx ≡ slice_index words (heard + 1) → ReadsPlain old mid (take heard words)
-    → HearsUpTo mid new (dx ∷ rx ∷ []) event → HearsUpTo old new (take (heard + 2) words) event
+    → HearsPairsUpTo mid new (dx ∷ rx ∷ []) event
+    → HearsPairsUpTo old new (take (heard + 2) words) event
 pair_behind {old} {mid} {new} {event} {dx} {rx} words heard even within dx_is rx_is plain pair =
     let size : length (take heard words) ≡ 2 * (heard / 2) =
     omega (arith, length-take-le heard words (omega (arith, within)), even) in
@@ -24,7 +25,7 @@ pair_behind {old} {mid} {new} {event} {dx} {rx} words heard even within dx_is rx
     ∙ append_assoc (take heard words) (slice_index words heard ∷ [])
     (slice_index words (heard + 1) ∷ [])
     ∙ ap₂ (λ x y. take heard words ++ x ∷ y ∷ []) (sym dx_is) (sym rx_is) in
-    subst (λ l. HearsUpTo old new l event) (sym whole)
+    subst (λ l. HearsPairsUpTo old new l event) (sym whole)
     (up_to_behind (take heard words) (dx ∷ rx ∷ []) (heard / 2) size plain pair)
 
 pub loop-heard-preserved : goal.loop-heard-preserved
@@ -41,7 +42,7 @@ loop-heard-preserved c =
     record {
       within = omega (arith, within);
       even = omega (arith, so_far.even);
-      plain = plain_up_to (subst (HearsUpTo c.args.self.now c.hear_pair-event.new.self
+      plain = plain_up_to (subst (HearsPairsUpTo c.args.self.now c.hear_pair-event.new.self
           (take (heard + 2) words)) c.in-Nothing.is pair);
     }
 

@@ -2,7 +2,7 @@
 
 use crate::tests::{expect_text, shown};
 use nx_code::Word;
-use nx_fec::{AlignedFault, decode_aligned, word_in};
+use nx_fec::{AlignedFault, decode_aligned, get_word};
 use std::alloc::Global;
 use std::process::Abort;
 
@@ -32,8 +32,8 @@ fn damaged_a(rt: HostRuntime) {
         let bits = bits_of(&rt, rt.alloc(), &words);
         let decoded = decode_aligned(rt.alloc(), &bits).expect(&rt, "memory");
         expect_text(&rt, shown(text), &decoded, text);
-        assert_eq!(rt; word_in(&bits, 13), Word::new(rx), "{dx} {rx}");
-        assert!(rt; word_in(&bits, 15).is_none(), "{dx} {rx}");
+        assert_eq!(rt; get_word(&bits, 13), Word::new(rx), "{dx} {rx}");
+        assert!(rt; get_word(&bits, 15).is_none(), "{dx} {rx}");
     }
 }
 

@@ -61,10 +61,10 @@ fn words_by_turns(rt: HostRuntime) {
         ("third", idle, a, 1),
         ("fourth", wrong, wrong, 2),
     ] {
-        diversity.hear_dx(dx);
-        assert_eq!(rt; diversity.hear_rx(rx), class, "the {pair} pair");
+        diversity.dx_by_word(dx);
+        assert_eq!(rt; diversity.rx_by_word(rx), class, "the {pair} pair");
     }
-    assert_eq!(rt; diversity.hear_rx(wrong), 2);
-    diversity.hear_dx(a);
-    assert_eq!(rt; diversity.hear_rx(idle), 33);
+    assert_eq!(rt; diversity.rx_by_word(wrong), 2);
+    diversity.dx_by_word(a);
+    assert_eq!(rt; diversity.rx_by_word(idle), 33);
 }

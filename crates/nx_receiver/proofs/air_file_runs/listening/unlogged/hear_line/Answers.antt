@@ -3,7 +3,7 @@ use Rattle.std.specs.Option.{is_some}
 use Rattle.std.proofs.lemmas.Result.{err_from_is_err_and}
 use Rattle.nx_fec.specs.air_files.Lines.{air_limit}
 use Rattle.nx_fec.specs.air_files.HearFault as hear
-use Rattle.nx_fec.proofs.lemmas.line_runs.LineRun.{IsPlaced-at_byte, StopsAt-cause, StopsLines-refused}
+use Rattle.nx_fec.proofs.lemmas.line_runs.LineRun.{IsPlaced-at_byte, StopsAt-cause, ExplainsLinesHeard-refused}
 use Rattle.nx_fec.proofs.lemmas.line_runs.LineRun.{hearing-ended, hearing-open, no-kind, some-kind}
 use Rattle.nx_receiver.specs.Listener.{starts_of}
 use Rattle.nx_receiver.specs.private.Listener.{RefusesFrom}
@@ -44,7 +44,7 @@ pub returns-in-Err-clause-heard : goal.returns-in-Err-clause-heard
 returns-in-Err-clause-heard c = λ first bytes h more. record {
   why = hear.Refused c.lines.result c.in-Err.why;
   is = c.of_refusal.ensures;
-  explained = StopsLines-refused (RefusesFrom first)
+  explained = ExplainsLinesHeard-refused (RefusesFrom first)
       (StandsUnlogged first c.take_unlogged.new.listener) _ bytes c.args.piece.now
       c.in_ok-count.count
       _ _ h.lines c.push_line.new.self.latest

@@ -3,11 +3,11 @@ use Rattle.std.proofs.lemmas.Result.{err_from_is_err_and}
 use Rattle.std.proofs.KnownBytes.{Consumes-trans, Consumes-kept}
 use Rattle.nx_fec.specs.air_files.Lines.{IsCause}
 use Rattle.nx_fec.specs.private.LineTaking.{inside}
-use Rattle.nx_fec.specs.air_files.LineRuns.{StopsLines}
+use Rattle.nx_fec.specs.air_files.LineRuns.{ExplainsLinesHeard}
 use Rattle.nx_fec.specs.air_files.HearFault as hear
 use Rattle.nx_fec.proofs.lemmas.line_runs.Hearing.{HearsLines-of, Line-unread}
-use Rattle.nx_fec.proofs.lemmas.line_runs.LineRun.{IsPlaced-end, StopsAt-end, StopsLines-not_read}
-use Rattle.nx_fec.proofs.lemmas.line_runs.LineRun.{StopsLines-piece, scanned-within}
+use Rattle.nx_fec.proofs.lemmas.line_runs.LineRun.{IsPlaced-end, StopsAt-end, ExplainsLinesHeard-not_read}
+use Rattle.nx_fec.proofs.lemmas.line_runs.LineRun.{ExplainsLinesHeard-piece, scanned-within}
 use Rattle.nx_fec.proofs.lemmas.devices.TransferLaws.{Ok-not_err, read_failed-none}
 use Rattle.nx_receiver.specs.private.Listener.{RefusesFrom}
 use Rattle.nx_receiver.specs.private.ListenFaults.{StandsFor, hearing_fault}
@@ -32,7 +32,8 @@ returns-in_err-hear_piece-in-Bytes g c = λ first s.
     let stands = StandsUnlogged first c.hear_piece.new.listener in
     let piece = take c.in-Bytes.count c.next_piece.new.buffer in
     let p = err_from_is_err_and c.from_residual.result c.from_residual.ensures.1 in
-    let stops = subst (λ l. StandsFor hearing_fault (StopsLines (RefusesFrom first) stands inside
+    let stops = subst (λ l. StandsFor hearing_fault
+    (ExplainsLinesHeard (RefusesFrom first) stands inside
     l) c.in_err-hear_piece-in-Bytes.field-0.0) (append-nil (r.0 ++ piece))
     (c.in_err-hear_piece-in-Bytes.ensures.heard first r.0 r.2 []) in
     rw p.1 (rw p.2 (record {
@@ -40,8 +41,10 @@ returns-in_err-hear_piece-in-Bytes g c = λ first s.
       is = stops.is;
       explained = HearsLines-of (RefusesFrom first) stands
           _ _ (r.0 ++ piece) (Consumes-trans _ _ _ _ _ r.1 c.in-Bytes.ensures.2)
-          (StopsLines-piece (RefusesFrom first) stands _ (r.0 ++ piece) stops.why stops.explained)
-          (read_failed-none _ _ _ (StopsLines-not_read (RefusesFrom first) stands (r.0 ++ piece)
+          (ExplainsLinesHeard-piece (RefusesFrom first) stands _ (r.0 ++ piece) stops.why
+          stops.explained)
+          (read_failed-none _ _ _ (ExplainsLinesHeard-not_read (RefusesFrom first) stands
+          (r.0 ++ piece)
           stops.why stops.explained) c.in-Bytes.ensures.3)
           (omega (arith, c.in-Bytes.ensures.3));
     }))

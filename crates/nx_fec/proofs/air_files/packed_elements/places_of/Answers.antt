@@ -1,0 +1,10 @@
+use Rattle.std.proofs.Common.{eqb, take, arith, w8}
+use Rattle.std.proofs.lemmas.List.{length-take-le}
+use Rattle.std.proofs.lemmas.Simd.{bitmask_splat}
+use Rattle.nx_fec.proofs.air_files.packed_elements.places_of.Goals as goal
+
+pub returns : goal.returns
+returns c =
+    let digits = c.args.digits.now in
+    bitmask_splat w8 eqb (take 64 digits) 64 c.args.byte (length-take-le 64 digits c.requires)
+    (omega arith)
