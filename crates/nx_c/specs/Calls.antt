@@ -15,8 +15,8 @@ use Rattle.nx_handle.specs.declared.status.Status.TheVariants.{Done, StateNoRoom
 use Rattle.nx_memory.specs.Saved.{AreSavedStates, SavedStates}
 use Rattle.nx_receiver.specs.air_file_runs.Chain.{HasGoneOn}
 use Rattle.nx_receiver.specs.air_file_runs.Listen.{AnswersListening}
-use Rattle.nx_receiver.specs.laws.ListenOnce.{HasPrintedOnce}
-use Rattle.nx_receiver.specs.copies.Shares.{Starts, all_at_zero, starts_from}
+use Rattle.nx_receiver.specs.air_file_runs.ListenOnce.{HasPrintedOnce}
+use Rattle.nx_copies.specs.copies.Shares.{Starts, all_at_zero, starts_from}
 use Rattle.nx_receiver.specs.air_file_runs.State.{BeginsWith, ExplainsState, state_bytes}
 use Rattle.nx_receiver.specs.declared.air_file_runs.listen_fault.ListenFault.{ListenFault}
 use Rattle.nx_receiver.specs.declared.air_file_runs.listen_fault.ListenFault.TheVariants.{Memory}

@@ -9,8 +9,8 @@ ghost use Rattle.nx_handle.specs.Status.{number_of};
 ghost use Rattle.nx_handle.specs.declared.status.Status.TheVariants.{Done, StateNoRoom};
 ghost use Rattle.nx_memory.specs.Saved.{AreSavedStates};
 ghost use Rattle.nx_receiver.specs.air_file_runs.Listen.{IsLogOf};
-ghost use Rattle.nx_receiver.specs.laws.ListenOnce.{HasPrintedOnce};
-ghost use Rattle.nx_receiver.specs.copies.Shares.{all_at_zero};
+ghost use Rattle.nx_receiver.specs.air_file_runs.ListenOnce.{HasPrintedOnce};
+ghost use Rattle.nx_copies.specs.copies.Shares.{all_at_zero};
 ghost use Rattle.nx_receiver.specs.air_file_runs.State.{BeginsWith, state_bytes};
 
 use crate::faults::{listen_told, resume_told, told};

@@ -1,9 +1,9 @@
 //! Elements into a receiver, and entries out of it.
 
 ghost use Rattle.std.specs.Prelude.{◌≡◌, ◌==◌, ◌++◌, List, map, IfOk, OnOk};
-ghost use Rattle.nx_receiver.specs.Events.{Event, Start, elements};
+ghost use Rattle.nx_copies.specs.Events.{Event, Start, elements};
 ghost use Rattle.nx_receiver.specs.Receiver.{Stands};
-ghost use Rattle.nx_receiver.specs.copies.FoundCopies.{TaggedCopy};
+ghost use Rattle.nx_copies.specs.copies.FoundCopies.{TaggedCopy};
 
 use nx_fec::{Counting, WriteFault};
 use nx_memory::Recall;

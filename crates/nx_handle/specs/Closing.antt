@@ -2,10 +2,10 @@
 use Rattle.std.specs.Prelude.{◌≡◌, ◌≢◌, ℕ, ◌≤◌, nat_lt, if◌then◌else◌, List, [], ◌∷◌, length, Option}
 use Rattle.std.specs.Prelude.{Some, None, MatchOption}
 use Rattle.nx_fec.specs.declared.air_files.channel.Channel.{Channel}
-use Rattle.nx_receiver.specs.copies.FoundCopies.{copy_of}
-use Rattle.nx_receiver.specs.declared.entry.Entry.{Entry}
-use Rattle.nx_receiver.specs.copies.Log.{IsEntry}
-use Rattle.nx_receiver.specs.copies.Shares.{MarkedCopy, marked}
+use Rattle.nx_copies.specs.copies.FoundCopies.{copy_of}
+use Rattle.nx_copies.specs.declared.entry.Entry.{Entry}
+use Rattle.nx_copies.specs.copies.Log.{IsEntry}
+use Rattle.nx_copies.specs.copies.Shares.{MarkedCopy, marked}
 use Rattle.nx_handle.specs.Hearing.{longest_entry}
 use Rattle.nx_handle.specs.Life.{EndsWith, ending, ending_at}
 use Rattle.nx_handle.specs.Status.{number_of}

@@ -1,10 +1,10 @@
 -- The life of a receiver that is kept between calls: it is closed; it is opened, and hears; its end
 -- begins, and hands out what it prints; then it is closed again (this profile).
 use Rattle.std.specs.Prelude.{◌≡◌, List, ◌++◌, Option, Some, None}
-use Rattle.nx_receiver.specs.copies.InTurn.{PrintAllToEnd}
+use Rattle.nx_copies.specs.copies.InTurn.{PrintAllToEnd}
 use Rattle.nx_receiver.specs.Listener.{last_copies}
 use Rattle.nx_handle.specs.Receivers.{HearsGiven, Listening}
-use Rattle.nx_receiver.specs.copies.Shares.{Given, MarkedCopy, Starts}
+use Rattle.nx_copies.specs.copies.Shares.{Given, MarkedCopy, Starts}
 use Rattle.nx_handle.specs.declared.kept.Kept.{Kept}
 use Rattle.nx_handle.specs.declared.kept.LifeStage.{LifeStage}
 use Rattle.nx_handle.specs.declared.kept.LifeStage.TheVariants.{Hearing, Ending}

@@ -6,7 +6,7 @@ use Rattle.nx_fec.specs.air_files.Channels.{channel_number}
 use Rattle.nx_log.specs.Logged.{IsLoggedAs}
 use Rattle.nx_log.specs.View.{IsViewOf}
 use Rattle.nx_log.specs.declared.entries.entry.EntryView.{EntryView}
-use Rattle.nx_receiver.specs.copies.Shares.{MarkedCopy}
+use Rattle.nx_copies.specs.copies.Shares.{MarkedCopy}
 use Rattle.nx_handle.specs.Status.{number_of}
 use Rattle.nx_handle.specs.CallerRoom.{IsPut, Room, after_putting}
 use Rattle.nx_handle.specs.declared.entries.LogEntry.{LogEntry}

@@ -2,7 +2,7 @@
 use Rattle.std.specs.Prelude.{List}
 use Rattle.nx_memory.specs.declared.memories.entry.MemoryEntry.{MemoryEntry}
 use Rattle.nx_receiver.specs.Listener.{HearsOver, ListeningOver}
-use Rattle.nx_receiver.specs.copies.Shares.{Given, MarkedCopy, Starts}
+use Rattle.nx_copies.specs.copies.Shares.{Given, MarkedCopy, Starts}
 
 -- contracts see a plain memory as its entries
 abbrev pub content : List MemoryEntry → List MemoryEntry

@@ -5,7 +5,7 @@ use Rattle.nx_fec.specs.declared.air_files.channel.Channel.{Channel}
 use Rattle.nx_memory.specs.Saved.{AreSavedStates, SavedStates}
 use Rattle.nx_receiver.specs.air_file_runs.Chain.{Leaves}
 use Rattle.nx_handle.specs.Receivers.{HearsGiven, Listening}
-use Rattle.nx_receiver.specs.copies.Shares.{Given, MarkedCopy, Starts, saved_of, share, start_on, starts_from}
+use Rattle.nx_copies.specs.copies.Shares.{Given, MarkedCopy, Starts, saved_of, share, start_on, starts_from}
 use Rattle.nx_receiver.specs.air_file_runs.State.{BeginsWith, ExplainsState, state_bytes}
 use Rattle.nx_receiver.specs.declared.air_file_runs.state_fault.StateFault.{StateFault}
 use Rattle.nx_handle.specs.StateFaults.{state_status}

@@ -4,12 +4,12 @@ use Rattle.nx_code.specs.Reading.{capital_a, capital_z}
 use Rattle.nx_fec.specs.air_files.Channels.{channel_number}
 use Rattle.nx_fec.specs.declared.air_files.channel.Channel.{Channel}
 use Rattle.nx_memory.specs.Selection.{is_vital}
-use Rattle.nx_receiver.specs.Events.{Command}
+use Rattle.nx_copies.specs.Events.{Command}
 use Rattle.nx_receiver.specs.Listener.{then_command}
 use Rattle.nx_receiver.specs.declared.command.Command.{Command as TheCommand}
 use Rattle.nx_receiver.specs.declared.command.Command.TheVariants.{RefuseStation, AcceptStation, RefuseSubject, AcceptSubject}
 use Rattle.nx_handle.specs.Receivers.{HearsGiven, Listening}
-use Rattle.nx_receiver.specs.copies.Shares.{Given, MarkedCopy, Starts}
+use Rattle.nx_copies.specs.copies.Shares.{Given, MarkedCopy, Starts}
 use Rattle.nx_handle.specs.Life.{hearing}
 use Rattle.nx_handle.specs.Status.{number_of}
 use Rattle.nx_handle.specs.declared.kept.Kept.{Kept}

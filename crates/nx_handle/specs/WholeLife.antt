@@ -1,8 +1,8 @@
 -- The whole life of a receiver that is kept between calls (this profile).
 use Rattle.std.specs.Prelude.{◌≡◌, ℕ, List, [], ◌∷◌, ◌++◌, map, Option}
 use Rattle.std.specs.List.{flat_map}
-use Rattle.nx_receiver.specs.copies.Log.{IsLog}
-use Rattle.nx_receiver.specs.copies.Shares.{Given, MarkedCopy, Starts}
+use Rattle.nx_copies.specs.copies.Log.{IsLog}
+use Rattle.nx_copies.specs.copies.Shares.{Given, MarkedCopy, Starts}
 use Rattle.nx_handle.specs.Closing.{Closes}
 use Rattle.nx_handle.specs.Life.{HasHeard}
 use Rattle.nx_handle.specs.declared.kept.Kept.{Kept}

@@ -2,9 +2,9 @@
 
 ghost use Rattle.std.specs.Prelude.{◌≡◌, ◌≤◌, ℕ, List, [], ◌∷◌, IfSome, None, Some, MatchOption, if◌then◌else◌};
 ghost use Rattle.nx_envelope.specs.Moment.{last_moment};
-ghost use Rattle.nx_receiver.specs.copies.FoundCopies.{copy_of};
+ghost use Rattle.nx_copies.specs.copies.FoundCopies.{copy_of};
 ghost use Rattle.nx_receiver.specs.Listener.{AreInRange, last_copies};
-ghost use Rattle.nx_receiver.specs.copies.Shares.{MarkedCopy, marked};
+ghost use Rattle.nx_copies.specs.copies.Shares.{MarkedCopy, marked};
 ghost use Rattle.nx_handle.specs.Closing.{AnswersClosing, TakesLast};
 ghost use Rattle.nx_handle.specs.Life.{EndsWith};
 ghost use Rattle.nx_handle.specs.CallerRoom.{room};
@@ -12,8 +12,9 @@ ghost use Rattle.nx_handle.specs.CallerRoom.{room};
 use crate::caller_room::put;
 use crate::kept::{Ending, Kept, LifeStage};
 use crate::status::Status;
+use nx_copies::{MAX_ENTRY, entry_bytes};
 use nx_fec::Channel;
-use nx_receiver::{Entry, LastEntries, MAX_ENTRY, entry_bytes};
+use nx_receiver::{Entry, LastEntries};
 use std::mem::replace;
 
 /// Ends the elements of all channels, and hands out what their end prints, by channel: one entry a

@@ -13,8 +13,8 @@ use crate::caller_room::put;
 use crate::kept::{Kept, LifeStage};
 use crate::pieces::hear_all;
 use crate::status::Status;
+use nx_copies::MAX_ENTRY;
 use nx_fec::Channel;
-use nx_receiver::MAX_ENTRY;
 
 /// Hears elements of a channel, 0 to 2, each a byte, 1 for B and 0 for Y: up to and with the one
 /// that ends the first copy that is printed. `heard` is how many it heard; the bytes of the entry

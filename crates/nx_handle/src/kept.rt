@@ -4,8 +4,9 @@ ghost use Rattle.std.proofs.Props.{props};
 ghost use Rattle.nx_receiver.specs.Listener.{AreInRange};
 
 use arrayvec::ArrayVec;
+use nx_copies::MAX_ENTRY;
 use nx_memory::PlainRecall;
-use nx_receiver::{LastEntries, Listener, MAX_ENTRY};
+use nx_receiver::{LastEntries, Listener};
 
 /// What is left of what the end prints.
 #[derive(Drop)]

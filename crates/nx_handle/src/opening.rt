@@ -1,7 +1,7 @@
 //! Opening a receiver, and setting its moment.
 
 ghost use Rattle.std.specs.Prelude.{◌≡◌, [], OnErr, OnOk, Some};
-ghost use Rattle.nx_receiver.specs.copies.Shares.{starts_from};
+ghost use Rattle.nx_copies.specs.copies.Shares.{starts_from};
 ghost use Rattle.nx_handle.specs.Life.{HasHeard, hearing};
 ghost use Rattle.nx_handle.specs.Opening.{AnswersMoment, AnswersOpening, moment_told};
 

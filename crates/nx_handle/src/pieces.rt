@@ -5,9 +5,10 @@ ghost use Rattle.nx_fec.specs.air_files.AirFile.{element_digit};
 ghost use Rattle.nx_handle.specs.Hearing.{HearsElements, element_of, elements_of};
 
 use arrayvec::ArrayVec;
+use nx_copies::MAX_ENTRY;
 use nx_fec::{Channel, PackedElements};
 use nx_memory::PlainRecall;
-use nx_receiver::{Listener, MAX_ENTRY};
+use nx_receiver::Listener;
 
 /// The most elements of a piece.
 const MAX_PIECE: usize = 512;

@@ -5,9 +5,9 @@ use Rattle.nx_envelope.specs.declared.found.How.TheVariants.{Full}
 use Rattle.nx_fec.specs.declared.air_files.channel.Channel.TheVariants.{Zero}
 use Rattle.nx_memory.specs.Memory.{seconds_known}
 use Rattle.nx_memory.specs.declared.memories.entry.MemoryEntry.{MemoryEntry}
-use Rattle.nx_receiver.specs.copies.FoundCopies.{TaggedCopy}
-use Rattle.nx_receiver.specs.copies.Shares.{MarkedCopy, marked}
-use Rattle.nx_receiver.specs.examples.Repeats.{eb02, first_copy, heard_at}
+use Rattle.nx_copies.specs.copies.FoundCopies.{TaggedCopy}
+use Rattle.nx_copies.specs.copies.Shares.{MarkedCopy, marked}
+use Rattle.nx_promises.specs.examples.Repeats.{eb02, first_copy, heard_at}
 use Rattle.nx_station.specs.reception.PathExample.{ea01}
 use Rattle.nx_watch.specs.Watch.{starts_at}
 use Rattle.nx_left_on.specs.Chain.{Watch, stopped}

@@ -5,7 +5,7 @@ use Rattle.nx_fec.specs.air_files.AirFile.{Line}
 use Rattle.nx_fec.specs.Transfers.{Devices, IsReadOut}
 use Rattle.nx_left_on.specs.Chain.{Ending, GoesOn, Watch, acting_at, kept_all_at, kept_some_at}
 use Rattle.nx_left_on.specs.Chain.{lines_of}
-use Rattle.nx_receiver.specs.copies.Shares.{MarkedCopy}
+use Rattle.nx_copies.specs.copies.Shares.{MarkedCopy}
 use Rattle.nx_watch.specs.Acting.{most_bytes}
 use Rattle.nx_watch.specs.AnyLines.{AreLines}
 use Rattle.nx_watch.specs.Watch.{HasRead, Stop, moments_at, starts_at}

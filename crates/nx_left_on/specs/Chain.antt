@@ -8,12 +8,12 @@ use Rattle.nx_fec.specs.air_files.AirFile.{Line}
 use Rattle.nx_fec.specs.declared.air_files.channel.Channel.{Channel}
 use Rattle.nx_log.specs.Logged.{remembered_on}
 use Rattle.nx_memory.specs.Memory.{newest_moment, seconds_known}
-use Rattle.nx_receiver.specs.Events.{Event, Start, elements_among, first_setting}
-use Rattle.nx_receiver.specs.copies.FoundCopies.{AreFoundIn, FoundCopy, TaggedCopy, ended_so_far, tagged_copies}
-use Rattle.nx_receiver.specs.copies.InTurn.{PrintAllToEnd, PrintsInTurn}
+use Rattle.nx_copies.specs.Events.{Event, Start, elements_among, first_setting}
+use Rattle.nx_copies.specs.copies.FoundCopies.{AreFoundIn, FoundCopy, TaggedCopy, ended_so_far, tagged_copies}
+use Rattle.nx_copies.specs.copies.InTurn.{PrintAllToEnd, PrintsInTurn}
 use Rattle.nx_receiver.specs.air_file_runs.Listen.{events_on, given_by}
-use Rattle.nx_receiver.specs.copies.Printing.{printed_copies}
-use Rattle.nx_receiver.specs.copies.Shares.{Given, MarkedCopy, Starts, copies_on, start_on}
+use Rattle.nx_copies.specs.copies.Printing.{printed_copies}
+use Rattle.nx_copies.specs.copies.Shares.{Given, MarkedCopy, Starts, copies_on, start_on}
 use Rattle.nx_sync.specs.Locks.{IsNow, Lock, Now}
 use Rattle.nx_watch.specs.Acting.{acting_lines}
 use Rattle.nx_watch.specs.Watch.{StandsForEntries, Stop, moments_at, starts_at, unread, unwritten}

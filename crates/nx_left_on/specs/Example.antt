@@ -8,10 +8,10 @@ use Rattle.nx_fec.specs.air_files.BitLines.{bit_lines}
 use Rattle.nx_fec.specs.emissions.Emission.{bits_of}
 use Rattle.nx_fec.specs.declared.air_files.channel.Channel.TheVariants.{Zero}
 use Rattle.nx_kept.specs.Kept.{closed_gate, open_gate}
-use Rattle.nx_receiver.specs.examples.Chain.{found_on}
-use Rattle.nx_receiver.specs.examples.Repeats.{first_copy}
-use Rattle.nx_receiver.specs.copies.Shares.{MarkedCopy, marked}
-use Rattle.nx_receiver.specs.examples.Emission.{damaged_words, worked_log}
+use Rattle.nx_promises.specs.examples.Chain.{found_on}
+use Rattle.nx_promises.specs.examples.Repeats.{first_copy}
+use Rattle.nx_copies.specs.copies.Shares.{MarkedCopy, marked}
+use Rattle.nx_promises.specs.examples.Emission.{damaged_words, worked_log}
 use Rattle.nx_left_on.specs.Chain.{Watch, acting_at, answered, stopped}
 use Rattle.nx_watch.specs.Watch.{starts_at}
 

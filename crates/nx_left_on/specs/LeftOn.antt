@@ -10,11 +10,11 @@ use Rattle.nx_log.specs.Logged.{kept_entries}
 use Rattle.nx_memory.specs.Memory.{most_entries, seconds_known}
 use Rattle.nx_memory.specs.Selection.{admits}
 use Rattle.nx_memory.specs.declared.memories.entry.MemoryEntry.{MemoryEntry}
-use Rattle.nx_receiver.specs.Events.{Event, Setting, elements_among, first_setting, setting_at}
-use Rattle.nx_receiver.specs.copies.FoundCopies.{FoundCopy, TaggedCopy}
+use Rattle.nx_copies.specs.Events.{Event, Setting, elements_among, first_setting, setting_at}
+use Rattle.nx_copies.specs.copies.FoundCopies.{FoundCopy, TaggedCopy}
 use Rattle.nx_receiver.specs.air_file_runs.Listen.{events_on}
-use Rattle.nx_receiver.specs.copies.Printing.{copies_of, entries_after, entries_made, is_remembered}
-use Rattle.nx_receiver.specs.copies.Shares.{copies_on}
+use Rattle.nx_copies.specs.copies.Printing.{copies_of, entries_after, entries_made, is_remembered}
+use Rattle.nx_copies.specs.copies.Shares.{copies_on}
 use Rattle.nx_station.specs.reception.Sendings.{IsCut, IsSentAt, Part}
 use Rattle.nx_left_on.specs.Chain.{HadEnded, Watch, all_copies, all_put, copies_in, events_in}
 use Rattle.nx_left_on.specs.Chain.{start_in}

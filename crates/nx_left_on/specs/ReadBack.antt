@@ -3,7 +3,7 @@ use Rattle.std.specs.Prelude.{◌≡◌, ◌⊎◌, ℕ, List, [], ◌∷◌, �
 use Rattle.std.specs.List.{AllZip, flat_map}
 use Rattle.nx_kept.specs.Kept.{closed_gate, open_gate}
 use Rattle.nx_log.specs.Logged.{IsLoggedAs}
-use Rattle.nx_receiver.specs.copies.Shares.{MarkedCopy}
+use Rattle.nx_copies.specs.copies.Shares.{MarkedCopy}
 use Rattle.nx_watch.specs.CutTold.{BeginsWithEntry}
 
 -- the bytes begin with those of this logged entry

@@ -3,8 +3,8 @@
 
 ghost use Rattle.std.specs.Prelude.{[], ◌∷◌};
 ghost use Rattle.nx_fec.specs.declared.air_files.channel.Channel.TheVariants.{One, Zero};
-ghost use Rattle.nx_receiver.specs.examples.Repeats.{first_copy};
-ghost use Rattle.nx_receiver.specs.laws.Once.{FewBetween, IsUnknownAtFirst};
+ghost use Rattle.nx_promises.specs.examples.Repeats.{first_copy};
+ghost use Rattle.nx_copies.specs.laws.Once.{FewBetween, IsUnknownAtFirst};
 ghost use Rattle.nx_station.specs.reception.PathExample.{ea01, example_message};
 ghost use Rattle.nx_left_on.specs.Chain.{ClocksAreNear, IsChain};
 ghost use Rattle.nx_left_on.specs.Example.{first_moment, one_entry, watches_apart};

@@ -6,7 +6,7 @@ ghost use Rattle.std.specs.List.{AllZip, concat};
 ghost use Rattle.nx_log.specs.LogReader.{IsAt};
 ghost use Rattle.nx_log.specs.LogReading.{LogReading};
 ghost use Rattle.nx_log.specs.Reading.{HoldEntries, HoldEntriesToEnd, StopAtLine};
-ghost use Rattle.nx_receiver.specs.copies.Shares.{MarkedCopy};
+ghost use Rattle.nx_copies.specs.copies.Shares.{MarkedCopy};
 ghost use Rattle.nx_watch.specs.Watch.{RestsWithEntries, StandsForEntries};
 ghost use Rattle.nx_left_on.specs.ReadBack.{AreEntriesAmong, AreThenThoseOfTail, IsAsPut, all_of};
 

@@ -4,7 +4,7 @@ use Rattle.std.specs.Prelude.{ℕ, Bool, List, length}
 use Rattle.nx_envelope.specs.Copies.{headers}
 use Rattle.nx_sync.specs.Words.{word_of_lock}
 use Rattle.nx_code.specs.Word.{wrong_in}
-use Rattle.nx_receiver.specs.copies.LockText.{bytes_of, lock_text}
+use Rattle.nx_copies.specs.copies.LockText.{bytes_of, lock_text}
 
 -- the text of the first n words of the lock at t, byte for byte
 unfoldable pub shown_text : List Bool → ℕ → ℕ → List ℕ

@@ -8,7 +8,7 @@ use Rattle.nx_sync.specs.Locks.{Lock, Now, hunting, locked, IsNow}
 use Rattle.nx_sync.specs.Words.{last_bit, whole_words}
 use Rattle.nx_sync.specs.declared.step.Change.{Change}
 use Rattle.nx_sync.specs.declared.step.Change.TheVariants.{Locked}
-use Rattle.nx_receiver.specs.copies.Log.{missing_newline}
+use Rattle.nx_copies.specs.copies.Log.{missing_newline}
 use Rattle.nx_locks.specs.LockText.{headers_shown, shown_text, wrong_words}
 use Rattle.nx_locks.specs.ReportText.{closing_lines, last_line, opening_line}
 

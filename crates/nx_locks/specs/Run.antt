@@ -9,10 +9,10 @@ use Rattle.nx_fec.specs.air_files.LineRuns.{HasReadFault}
 use Rattle.nx_fec.specs.air_files.Lines.{IsAirFile, StopsAt, air_limit}
 use Rattle.nx_fec.specs.declared.air_files.channel.Channel.TheVariants.{Zero}
 use Rattle.nx_fec.specs.Transfers.{Contents, Devices, Extent, Transfers, contents_of, line_by_line}
-use Rattle.nx_receiver.specs.Events.{elements_among, first_setting, settings}
+use Rattle.nx_copies.specs.Events.{elements_among, first_setting, settings}
 use Rattle.nx_receiver.specs.air_file_runs.Listen.{AreTaken, HasListenFault, HasLoggedSome, events_on}
 use Rattle.nx_receiver.specs.air_file_runs.Listen.{moment_after}
-use Rattle.nx_receiver.specs.copies.Shares.{all_at_zero, start_on}
+use Rattle.nx_copies.specs.copies.Shares.{all_at_zero, start_on}
 use Rattle.nx_receiver.specs.declared.air_file_runs.listen_fault.ListenFault.{ListenFault}
 use Rattle.nx_receiver.specs.declared.air_file_runs.listen_fault.ListenFault.TheVariants.{Memory, Read, Write}
 use Rattle.nx_receiver.specs.declared.air_file_runs.listen_fault.ListenFault.TheVariants.{LineCut}

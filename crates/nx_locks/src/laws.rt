@@ -7,9 +7,9 @@ ghost use Rattle.nx_fec.specs.declared.air_files.channel.Channel.TheVariants.{Ze
 ghost use Rattle.nx_locks.specs.Found.{IsCopyAmong, StandsIn, shown_texts};
 ghost use Rattle.nx_locks.specs.Report.{IsReport};
 ghost use Rattle.nx_locks.specs.Run.{IsReportOf, IsReportOfFile, IsReportOfLines, elements_on_0};
-ghost use Rattle.nx_receiver.specs.copies.FoundCopies.{TaggedCopy};
+ghost use Rattle.nx_copies.specs.copies.FoundCopies.{TaggedCopy};
 ghost use Rattle.nx_receiver.specs.air_file_runs.Listen.{IsLogOfFile};
-ghost use Rattle.nx_receiver.specs.copies.Shares.{MarkedCopy, Starts, copies_on};
+ghost use Rattle.nx_copies.specs.copies.Shares.{MarkedCopy, Starts, copies_on};
 
 /// An air file has one report, and so have lines after which nothing is closed.
 pub fn a_file_has_one_report()

@@ -9,14 +9,14 @@ ghost use Rattle.nx_envelope.specs.Finder.{HappensAt};
 ghost use Rattle.nx_envelope.specs.declared.finder.Finder.{Finder};
 ghost use Rattle.nx_code.specs.Reading.{newline};
 ghost use Rattle.nx_locks.specs.private.Reader.{HearsWord, IsFresh, ShowsWord, ShowsWords, TakesByte, counted};
-ghost use Rattle.nx_receiver.specs.copies.Log.{is_of_lines};
+ghost use Rattle.nx_copies.specs.copies.Log.{is_of_lines};
 ghost use Rattle.nx_sync.specs.Ahead.{ArePairs};
 ghost use Rattle.nx_sync.specs.declared.step.Role.TheVariants.{Dx as DxRole};
 
 use crate::report_text::{Shown, append_some};
 use nx_code::{NEWLINE, Word, check_bits};
+use nx_copies::LockReader;
 use nx_envelope::TextEvent;
-use nx_receiver::LockReader;
 use nx_sync::Role;
 use std::marker::Model;
 

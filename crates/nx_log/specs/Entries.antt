@@ -1,6 +1,6 @@
 -- Bytes that are a logged entry, and bytes that lack its end (this profile).
 use Rattle.std.specs.Prelude.{◌≢◌, ℕ, List, [], ◌++◌}
-use Rattle.nx_receiver.specs.copies.Shares.{MarkedCopy}
+use Rattle.nx_copies.specs.copies.Shares.{MarkedCopy}
 use Rattle.nx_log.specs.Logged.{IsLoggedAs}
 
 -- the bytes are those of a logged entry

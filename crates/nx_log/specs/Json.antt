@@ -6,8 +6,8 @@ use Rattle.nx_envelope.specs.Copies.{errors_of}
 use Rattle.nx_code.specs.Reading.{newline}
 use Rattle.nx_envelope.specs.Moment.{IsShownAs}
 use Rattle.nx_fec.specs.air_files.Channels.{channel_number}
-use Rattle.nx_receiver.specs.copies.Log.{how_name}
-use Rattle.nx_receiver.specs.copies.Shares.{MarkedCopy}
+use Rattle.nx_copies.specs.copies.Log.{how_name}
+use Rattle.nx_copies.specs.copies.Shares.{MarkedCopy}
 use Rattle.nx_log.specs.Times.{joined}
 
 -- a number, and a letter as a text

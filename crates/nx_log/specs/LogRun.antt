@@ -4,7 +4,7 @@ use Rattle.std.specs.Prelude.{Result, Ok, Err, IsErrOf}
 use Rattle.std.specs.List.{AllZip, concat}
 use Rattle.std.specs.Io.KnownBytes.{Appends, Consumes}
 use Rattle.nx_fec.specs.Transfers.{Contents, Devices, IsReadOut, WroteSome, contents_of}
-use Rattle.nx_receiver.specs.copies.Shares.{MarkedCopy}
+use Rattle.nx_copies.specs.copies.Shares.{MarkedCopy}
 use Rattle.nx_log.specs.Json.{IsJsonLine}
 use Rattle.nx_log.specs.Logged.{IsLoggedAs}
 use Rattle.nx_log.specs.Query.{admitted}

@@ -9,10 +9,10 @@ use Rattle.nx_envelope.specs.Moment.{last_moment}
 use Rattle.nx_fec.specs.declared.air_files.channel.Channel.{Channel}
 use Rattle.nx_memory.specs.Memory.{most_entries}
 use Rattle.nx_memory.specs.declared.memories.entry.MemoryEntry.{MemoryEntry}
-use Rattle.nx_receiver.specs.copies.FoundCopies.{TaggedCopy}
-use Rattle.nx_receiver.specs.copies.Log.{IsEntry, IsLog}
-use Rattle.nx_receiver.specs.copies.Printing.{entry_of, is_good, is_number_00}
-use Rattle.nx_receiver.specs.copies.Shares.{MarkedCopy, copies_on}
+use Rattle.nx_copies.specs.copies.FoundCopies.{TaggedCopy}
+use Rattle.nx_copies.specs.copies.Log.{IsEntry, IsLog}
+use Rattle.nx_copies.specs.copies.Printing.{entry_of, is_good, is_number_00}
+use Rattle.nx_copies.specs.copies.Shares.{MarkedCopy, copies_on}
 
 -- a byte of a text: a character of the code, which a newline is too, or the asterisk of a lost one
 unfoldable pub is_text_byte : ℕ → Bool

@@ -8,8 +8,8 @@ use Rattle.nx_code.specs.Reading.{IsCapital}
 use Rattle.nx_fec.specs.air_files.Channels.{same_channel}
 use Rattle.nx_fec.specs.declared.air_files.channel.Channel.{Channel}
 use Rattle.nx_log.specs.declared.queries.query.Query.{Query}
-use Rattle.nx_receiver.specs.copies.Printing.{is_good}
-use Rattle.nx_receiver.specs.copies.Shares.{MarkedCopy}
+use Rattle.nx_copies.specs.copies.Printing.{is_good}
+use Rattle.nx_copies.specs.copies.Shares.{MarkedCopy}
 
 -- a text that names letters: one letter A to Z, or more
 pub record AreLetters (text : List ℕ) : Type 0 where

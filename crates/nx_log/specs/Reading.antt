@@ -3,7 +3,7 @@
 use Rattle.std.specs.Prelude.{◌≡◌, ◌≢◌, ◌⊎◌, ℕ, ◌+◌, ◌-◌, ◌<◌, ◌≤◌, ◌==◌, if◌then◌else◌, Bool, true, false, List, [], ◌∷◌, ◌++◌, length, take, count_by, Option, Some, None}
 use Rattle.std.specs.List.{All}
 use Rattle.nx_code.specs.Reading.{newline, space}
-use Rattle.nx_receiver.specs.copies.Shares.{MarkedCopy}
+use Rattle.nx_copies.specs.copies.Shares.{MarkedCopy}
 use Rattle.nx_log.specs.Entries.{IsUnfinishedEntry, IsWholeEntry}
 use Rattle.nx_log.specs.Logged.{IsLoggedAs}
 

@@ -3,7 +3,7 @@
 use Rattle.std.specs.Prelude.{◌≡◌, ◌⊎◌, ℕ, ◌+◌, ◌==◌, ⊤, List, [], ◌∷◌, ◌++◌, count_by, drop, map, Option, None, Some}
 use Rattle.std.specs.List.{All}
 use Rattle.nx_code.specs.Reading.{newline}
-use Rattle.nx_receiver.specs.copies.Shares.{MarkedCopy}
+use Rattle.nx_copies.specs.copies.Shares.{MarkedCopy}
 use Rattle.nx_log.specs.Notices.{Notice, damaged_at, torn_at}
 use Rattle.nx_log.specs.Reading.{HoldEntries, HoldEntriesToEnd, IsNoBracket, StopAtLine, bracket}
 

@@ -3,7 +3,7 @@ use Rattle.std.specs.Prelude.{◌≡◌, ℕ, ◌≤◌, true, List, length, tak
 use Rattle.nx_envelope.specs.Copies.{errors_of}
 use Rattle.nx_log.specs.declared.entries.head.LoggedHead.{LoggedHead}
 use Rattle.nx_log.specs.declared.entries.entry.EntryView.{EntryView}
-use Rattle.nx_receiver.specs.copies.Shares.{MarkedCopy, marked}
+use Rattle.nx_copies.specs.copies.Shares.{MarkedCopy, marked}
 use Rattle.nx_log.specs.Logged.{IsLoggedAs}
 
 -- the copy that a head and a text say, which was selected

@@ -4,8 +4,8 @@ ghost use Rattle.std.specs.Prelude.{◌≡◌, ℕ, List, length, Some, None, if
 ghost use Rattle.nx_envelope.specs.Copies.{errors_of};
 ghost use Rattle.nx_log.specs.Logged.{is_kept as the_is_kept};
 ghost use Rattle.nx_log.specs.View.{IsViewOf, copy_said};
-ghost use Rattle.nx_receiver.specs.copies.Printing.{entry_of};
-ghost use Rattle.nx_receiver.specs.copies.Printing as spec;
+ghost use Rattle.nx_copies.specs.copies.Printing.{entry_of};
+ghost use Rattle.nx_copies.specs.copies.Printing as spec;
 
 use crate::entries::entry::EntryView;
 use crate::entries::head::LoggedHead;

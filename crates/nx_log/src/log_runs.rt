@@ -9,7 +9,7 @@ ghost use Rattle.nx_log.specs.LogRun.{RunsOverLog, most_read};
 ghost use Rattle.nx_log.specs.Notices.{HaveToldAll, Notice, damaged_at, notices_of};
 ghost use Rattle.nx_log.specs.Reading.{IsNoBracket};
 ghost use Rattle.nx_log.specs.Salvage.{BeginsAnew, Stretch, bytes_in, first_of, lines_in, told_of};
-ghost use Rattle.nx_receiver.specs.copies.Shares.{MarkedCopy};
+ghost use Rattle.nx_copies.specs.copies.Shares.{MarkedCopy};
 ghost use Rattle.nx_log.specs.private.LogRunning.{EndsAll, EndsRun, EndsTold, IsReading, IsRunning};
 ghost use Rattle.nx_log.specs.declared.damage.Damaged.{Damaged as WithDamaged};
 ghost use Rattle.nx_log.specs.declared.damage.Damaged.TheVariants as damage;

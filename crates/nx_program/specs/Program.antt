@@ -19,8 +19,8 @@ use Rattle.nx_log.specs.declared.damage.Damaged.{Damaged}
 use Rattle.nx_log.specs.declared.log_fault.LogFault.{LogFault}
 use Rattle.nx_log.specs.declared.queries.query.Query.{Query}
 use Rattle.nx_log.specs.declared.writing.form.Form.{Form}
-use Rattle.nx_receiver.specs.copies.Shares.{all_at_zero}
-use Rattle.nx_receiver.specs.laws.ListenOnce.{ListensOnce}
+use Rattle.nx_copies.specs.copies.Shares.{all_at_zero}
+use Rattle.nx_receiver.specs.air_file_runs.ListenOnce.{ListensOnce}
 use Rattle.nx_receiver.specs.air_file_runs.Resume.{ReadStateAlone, Resumes}
 use Rattle.nx_receiver.specs.declared.air_file_runs.listen_fault.ListenFault.{ListenFault}
 use Rattle.nx_receiver.specs.declared.air_file_runs.listen_fault.ListenFault.TheVariants as listen

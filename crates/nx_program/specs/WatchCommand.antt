@@ -8,7 +8,7 @@ use Rattle.nx_kept.specs.Kept.{IsDamaged, IsKeptLog}
 use Rattle.nx_kept.specs.declared.disk.DiskFile.{Ghosts as TellsOfDisk}
 use Rattle.nx_log.specs.Entries.{IsWholeEntry}
 use Rattle.nx_log.specs.Notices.{Notices}
-use Rattle.nx_receiver.specs.copies.Shares.{MarkedCopy}
+use Rattle.nx_copies.specs.copies.Shares.{MarkedCopy}
 use Rattle.nx_disk.specs.declared.file.FileFault.{FileFault}
 use Rattle.nx_disk.specs.declared.file.FileFault.TheVariants as file
 use Rattle.nx_watch.specs.Watch.{AnswersWatch, FailsWithin, HasCause, RefusesLog, StandsForEntries}

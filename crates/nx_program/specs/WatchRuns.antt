@@ -13,8 +13,8 @@ use Rattle.nx_left_on.specs.Call.{CallEnd, IsOfCall, TellsAllKept, all_kept, lef
 use Rattle.nx_left_on.specs.Call.{left_behind}
 use Rattle.nx_left_on.specs.Chain.{ClocksAreNear, IsChain, Watch, all_put}
 use Rattle.nx_left_on.specs.LeftOn.{IsHeardInTimeOver}
-use Rattle.nx_receiver.specs.copies.Shares.{MarkedCopy, copies_on}
-use Rattle.nx_receiver.specs.laws.Once.{IsPrintedOnce}
+use Rattle.nx_copies.specs.copies.Shares.{MarkedCopy, copies_on}
+use Rattle.nx_copies.specs.laws.Once.{IsPrintedOnce}
 use Rattle.nx_watch.specs.Stamp.{Stamp}
 use Rattle.nx_watch.specs.Watch.{StandsForEntries}
 use Rattle.nx_program.specs.WatchCommand.{Beside, WatchesLog, beside}

@@ -11,7 +11,7 @@ ghost use Rattle.nx_program.specs.WatchCommand.{WatchesLog, with_faults};
 ghost use Rattle.nx_program.specs.WatchRuns.{AreOfOneLog, ComesBehind, CouldLeave, KeepsOnce, Leaves, MayBeLeftAsFound, OpensFresh, StandsAlike, WatchRun, beside_of, cut_at_any_moment, streams_of};
 ghost use Rattle.nx_program.specs.declared.arguments.Call.TheVariants.{Watch};
 ghost use Rattle.nx_program.specs.declared.fault.Fault.{Fault};
-ghost use Rattle.nx_receiver.specs.copies.Shares.{MarkedCopy};
+ghost use Rattle.nx_copies.specs.copies.Shares.{MarkedCopy};
 ghost use Rattle.nx_watch.specs.Watch.{StandsForEntries};
 
 use crate::watch_command::{LogFiles, SystemFiles};

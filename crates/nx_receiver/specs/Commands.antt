@@ -6,8 +6,8 @@ use Rattle.nx_envelope.specs.declared.letter.Letter.{Letter}
 use Rattle.nx_fec.specs.declared.air_files.lines.LineKind.{LineKind}
 use Rattle.nx_fec.specs.declared.air_files.lines.LineKind.TheVariants as line
 use Rattle.nx_memory.specs.Selection.{is_vital}
-use Rattle.nx_receiver.specs.Events.{Command, refuse_station, accept_station, refuse_subject}
-use Rattle.nx_receiver.specs.Events.{accept_subject}
+use Rattle.nx_copies.specs.Events.{Command, refuse_station, accept_station, refuse_subject}
+use Rattle.nx_copies.specs.Events.{accept_subject}
 use Rattle.nx_receiver.specs.declared.command.Command.{Command as TheCommand}
 use Rattle.nx_receiver.specs.declared.command.Command.TheVariants.{RefuseStation, AcceptStation, RefuseSubject, AcceptSubject}
 

@@ -1,20 +1,11 @@
 -- What contracts see of what a receiver keeps but its memory, and of what is in force (this
 -- profile).
 use Rattle.std.specs.Prelude.{ℕ}
-use Rattle.nx_code.specs.declared.printing.Printer.{Printer}
-use Rattle.nx_fec.specs.declared.emissions.diversity.Diversity.{Diversity}
 use Rattle.nx_sync.specs.Synchroniser.{Held}
-use Rattle.nx_envelope.specs.declared.finder.Finder.{Finder}
 use Rattle.nx_memory.specs.Selection.{Refused}
-use Rattle.nx_receiver.specs.Events.{Setting}
+use Rattle.nx_copies.specs.Events.{Setting}
+use Rattle.nx_copies.specs.LockReader.{LockReading}
 use Rattle.nx_receiver.specs.declared.copy_taker.CopyTag.{CopyTag}
-
--- what contracts see of a reader: what arrived of the latest three DX words, the shift in force,
--- and the finder of the copies in the text
-pub record LockReading : Type 0 where
-  pub diversity : Diversity
-  pub printer : Printer
-  pub finder : Finder
 
 -- what contracts see of a hearer: the synchroniser, the reader of the lock's text, what is refused,
 -- the moment, and what was in force at the header that was heard last

@@ -1,11 +1,7 @@
 pub mod Commands
 pub mod CopyHearing
-pub mod Events
 pub mod Listener
-pub mod LockReader
+pub mod Moments
 pub mod Receiver
 pub mod air_file_runs
-pub mod copies
-pub mod examples
-pub mod laws
 pub mod private

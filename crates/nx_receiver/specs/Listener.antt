@@ -9,15 +9,15 @@ use Rattle.nx_fec.specs.declared.air_files.channel.Channel.{Channel}
 use Rattle.nx_fec.specs.declared.air_files.channel.Channel.TheVariants.{Zero, One, Two}
 use Rattle.nx_memory.specs.Ring.{RingMemory}
 use Rattle.nx_memory.specs.declared.memories.entry.MemoryEntry.{MemoryEntry}
-use Rattle.nx_receiver.specs.Events as events
-use Rattle.nx_receiver.specs.Events.{Event, elements_among}
-use Rattle.nx_receiver.specs.copies.FoundCopies.{TaggedCopy}
-use Rattle.nx_receiver.specs.copies.InTurn.{PrintsInTurn}
-use Rattle.nx_receiver.specs.copies.Log.{IsEntry}
+use Rattle.nx_copies.specs.Events as events
+use Rattle.nx_copies.specs.Events.{Event, elements_among}
+use Rattle.nx_copies.specs.copies.FoundCopies.{TaggedCopy}
+use Rattle.nx_copies.specs.copies.InTurn.{PrintsInTurn}
+use Rattle.nx_copies.specs.copies.Log.{IsEntry}
 use Rattle.nx_receiver.specs.Receiver.{Receiving, Stands, entry_list, text_of}
-use Rattle.nx_receiver.specs.copies.Shares.{Given, MarkedCopy, Starts, copies_on, marked, share}
-use Rattle.nx_receiver.specs.copies.Shares.{start_on}
-use Rattle.nx_receiver.specs.copies.Shares.{to_all, to_one}
+use Rattle.nx_copies.specs.copies.Shares.{Given, MarkedCopy, Starts, copies_on, marked, share}
+use Rattle.nx_copies.specs.copies.Shares.{start_on}
+use Rattle.nx_copies.specs.copies.Shares.{to_all, to_one}
 use Rattle.nx_receiver.specs.declared.listener.LastEntries.{LastEntries}
 
 -- what contracts see of a listener over memories of this kind: the receiver of each channel,

@@ -6,15 +6,15 @@ use Rattle.nx_envelope.specs.Copies.{errors_of}
 use Rattle.nx_envelope.specs.Moment.{last_moment}
 use Rattle.nx_memory.specs.Memory.{most_entries}
 use Rattle.nx_memory.specs.declared.memories.entry.MemoryEntry.{MemoryEntry}
-use Rattle.nx_receiver.specs.declared.entry.Entry.{Entry}
-use Rattle.nx_receiver.specs.declared.entry.EntryHead.{EntryHead}
+use Rattle.nx_copies.specs.declared.entry.Entry.{Entry}
+use Rattle.nx_copies.specs.declared.entry.EntryHead.{EntryHead}
 use Rattle.nx_receiver.specs.declared.fault.ReceiverFault.{ReceiverFault}
 use Rattle.nx_receiver.specs.declared.fault.ReceiverFault.TheVariants.{MomentRange, Memory}
-use Rattle.nx_receiver.specs.Events.{Event, Start, Setting, elements_among, first_setting, settings}
-use Rattle.nx_receiver.specs.Events.{setting_after_all, elements}
-use Rattle.nx_receiver.specs.copies.Log.{HasPrinted}
-use Rattle.nx_receiver.specs.copies.Printing.{printed_copies, entries_after}
-use Rattle.nx_receiver.specs.copies.FoundCopies.{TaggedCopy, copy_of, headed_copy}
+use Rattle.nx_copies.specs.Events.{Event, Start, Setting, elements_among, first_setting, settings}
+use Rattle.nx_copies.specs.Events.{setting_after_all, elements}
+use Rattle.nx_copies.specs.copies.Log.{HasPrinted}
+use Rattle.nx_copies.specs.copies.Printing.{printed_copies, entries_after}
+use Rattle.nx_copies.specs.copies.FoundCopies.{TaggedCopy, copy_of, headed_copy}
 use Rattle.nx_receiver.specs.private.CopyHearer.{HearerStands}
 use Rattle.nx_receiver.specs.CopyHearing.{CopyHearing, in_force}
 

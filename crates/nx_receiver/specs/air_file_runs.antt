@@ -2,5 +2,6 @@
 pub mod Chain
 pub mod Listen
 pub mod ListenFrom
+pub mod ListenOnce
 pub mod Resume
 pub mod State

@@ -5,8 +5,6 @@ pub mod CopyTakerLaws
 pub mod ListenFaults
 pub mod Listener
 pub mod ListenerBegins
-pub mod LockPrinter
-pub mod LockReader
 pub mod StateParts
 pub mod Taken
 pub mod Unlogged

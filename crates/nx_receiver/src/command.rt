@@ -3,9 +3,9 @@
 ghost use Rattle.std.specs.Prelude.{◌≡◌, [], ◌∷◌};
 ghost use Rattle.nx_fec.specs.air_files.Scanner.{line_with};
 ghost use Rattle.nx_receiver.specs.Commands.{GivesCommand, said};
-ghost use Rattle.nx_receiver.specs.Events as events;
+ghost use Rattle.nx_copies.specs.Events as events;
 ghost use Rattle.nx_receiver.specs.air_file_runs.Listen.{given_of};
-ghost use Rattle.nx_receiver.specs.copies.Shares.{to_one};
+ghost use Rattle.nx_copies.specs.copies.Shares.{to_one};
 
 use nx_envelope::Letter;
 use nx_fec::{Channel, LineKind};

@@ -6,10 +6,10 @@ ghost use Rattle.std.specs.Prelude.{◌≡◌, ◌+◌, ◌<◌, ◌≤◌, List
 ghost use Rattle.nx_memory.specs.Selection.{admits};
 ghost use Rattle.nx_receiver.specs.Commands.{refuses_vital, said};
 ghost use Rattle.nx_receiver.specs.declared.command.Command.TheVariants.{RefuseSubject};
-ghost use Rattle.nx_receiver.specs.Events.{Setting, Start, first_setting, refused_after};
-ghost use Rattle.nx_receiver.specs.copies.FoundCopies.{TaggedCopy};
+ghost use Rattle.nx_copies.specs.Events.{Setting, Start, first_setting, refused_after};
+ghost use Rattle.nx_copies.specs.copies.FoundCopies.{TaggedCopy};
 ghost use Rattle.nx_receiver.specs.private.CopyHearer.{HasEndedAll, HearerStands, HearsAll, IsOver, LockIsOver, TagGoesOn, over_now, ready_copies};
-ghost use Rattle.nx_receiver.specs.private.LockReader.{is_open};
+ghost use Rattle.nx_copies.specs.ReaderWords.{is_open};
 ghost use Rattle.nx_receiver.specs.CopyHearing.{in_force};
 
 use crate::command::Command;
@@ -112,7 +112,7 @@ impl CopyHearer {
     pub(crate) fn finder(&self) -> &Finder
         ensures { result.now ≡ self.now.reader.finder }
     {
-        &self.taker.reader.finder
+        self.taker.reader.finder()
     }
 
     /// Ends the text of a lock that is over, or that of the lock that stands, where all elements

@@ -13,8 +13,8 @@ ghost use Rattle.nx_envelope.specs.Finder.{is_over};
 ghost use Rattle.nx_receiver.specs.private.CopyTaker.{Hears, HearsPart, ReadsStep, setting_of, tag_after};
 ghost use Rattle.nx_receiver.specs.private.CopyHearer.{IsFresh, over_with};
 
-use crate::lock_reader::LockReader;
 use nx_code::{ELEMENTS, Word};
+use nx_copies::LockReader;
 use nx_envelope::TextEvent;
 use nx_memory::Selection;
 use nx_sync::{Step, Synchroniser};

@@ -2,7 +2,7 @@
 
 ghost use Rattle.std.specs.Prelude.{◌≤◌, IfErr, OnOk};
 ghost use Rattle.nx_envelope.specs.Moment.{last_moment};
-ghost use Rattle.nx_receiver.specs.Events.{Refuses};
+ghost use Rattle.nx_receiver.specs.Moments.{Refuses};
 
 use nx_envelope::LAST_MOMENT;
 use std::alloc::AllocError;

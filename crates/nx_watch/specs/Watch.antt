@@ -14,11 +14,11 @@ use Rattle.nx_kept.specs.declared.disk.DiskFile.{Ghosts as TellsOfDisk}
 use Rattle.nx_log.specs.Entries.{IsWholeEntry}
 use Rattle.nx_log.specs.Logged.{IsLoggedAs, remembered_on}
 use Rattle.nx_memory.specs.Saved.{SavedState, SavedStates}
-use Rattle.nx_receiver.specs.Events.{none_refused}
-use Rattle.nx_receiver.specs.copies.InTurn.{PrintAllToEnd, PrintsInTurn}
+use Rattle.nx_copies.specs.Events.{none_refused}
+use Rattle.nx_copies.specs.copies.InTurn.{PrintAllToEnd, PrintsInTurn}
 use Rattle.nx_receiver.specs.air_file_runs.Listen.{given_by}
-use Rattle.nx_receiver.specs.copies.Log.{IsLog}
-use Rattle.nx_receiver.specs.copies.Shares.{Given, MarkedCopy, Starts, starts_from}
+use Rattle.nx_copies.specs.copies.Log.{IsLog}
+use Rattle.nx_copies.specs.copies.Shares.{Given, MarkedCopy, Starts, starts_from}
 use Rattle.nx_watch.specs.Acting.{acting_lines, count_without, ends_watch, first_without, goes_on}
 use Rattle.nx_watch.specs.Acting.{in_force, moments_behind, most_bytes}
 use Rattle.nx_watch.specs.AnyLines.{AreLines, cut_line}

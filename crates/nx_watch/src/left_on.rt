@@ -5,7 +5,7 @@ ghost use Rattle.nx_fec.specs.Transfers.{devices};
 ghost use Rattle.nx_kept.specs.Disk.{OnlyReads};
 ghost use Rattle.nx_kept.specs.Kept.{IsDamaged, IsKeptLog};
 ghost use Rattle.nx_log.specs.Entries.{IsWholeEntry};
-ghost use Rattle.nx_receiver.specs.copies.Shares.{MarkedCopy};
+ghost use Rattle.nx_copies.specs.copies.Shares.{MarkedCopy};
 ghost use Rattle.nx_watch.specs.Watch.{AnswersWatch, FailsWithin, HasCause, RefusesLog, StandsForEntries, longest_entry};
 ghost use Rattle.nx_watch.specs.LineRun.{TellsOfLines};
 ghost use Rattle.nx_watch.specs.Stamps.{IsFresh, counted_of, stamps_of};

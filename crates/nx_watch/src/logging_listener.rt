@@ -6,11 +6,11 @@ ghost use Rattle.nx_envelope.specs.Moment.{last_moment};
 ghost use Rattle.nx_fec.specs.air_files.AirFile.{IsLine, Line, elements, moment};
 ghost use Rattle.nx_fec.specs.Transfers.{CountedDevice};
 ghost use Rattle.nx_log.specs.Logged.{IsLoggedAs};
-ghost use Rattle.nx_receiver.specs.Events.{Refuses};
-ghost use Rattle.nx_receiver.specs.copies.InTurn.{PrintAllToEnd};
+ghost use Rattle.nx_receiver.specs.Moments.{Refuses};
+ghost use Rattle.nx_copies.specs.copies.InTurn.{PrintAllToEnd};
 ghost use Rattle.nx_receiver.specs.air_file_runs.Listen.{given_by};
 ghost use Rattle.nx_receiver.specs.Listener.{last_copies, starts_of, then_elements};
-ghost use Rattle.nx_receiver.specs.copies.Shares.{MarkedCopy, Starts};
+ghost use Rattle.nx_copies.specs.copies.Shares.{MarkedCopy, Starts};
 ghost use Rattle.nx_watch.specs.declared.kept_log.keeper.Keeper.{Keeper as TheKeeper};
 ghost use Rattle.nx_watch.specs.declared.logging_listener.LoggingListener.{LoggingListener as TheLoggingListener};
 ghost use Rattle.nx_watch.specs.LineRun.{HasTold, MayAct, force_behind};
@@ -23,9 +23,10 @@ use crate::kept_log::keeper::Keeper;
 use crate::lines::refusal::Refusal;
 use crate::lines::telling::tell_failed_put;
 use arrayvec::ArrayVec;
+use nx_copies::{MAX_ENTRY, entry_bytes};
 use nx_fec::{Channel, Counting, LineKind, PackedElements, Scanner};
 use nx_kept::DiskFile;
-use nx_receiver::{Command, LastEntries, Listener, MAX_ENTRY, MomentFault, entry_bytes};
+use nx_receiver::{Command, LastEntries, Listener, MomentFault};
 use std::io::Write;
 
 /// The receivers of a watch, and who keeps the entries that they print.

@@ -19,9 +19,10 @@ use crate::stamped::StampedReader;
 use crate::watch_fault::WatchFault;
 use crate::watch_report::WatchReport;
 use arrayvec::ArrayVec;
+use nx_copies::MAX_ENTRY;
 use nx_fec::Counting;
 use nx_kept::DiskFile;
-use nx_receiver::{Listener, MAX_ENTRY};
+use nx_receiver::Listener;
 use std::io::{Read, Write};
 
 /// Watches the lines of an input with these receivers, and answers how that ended; and the file.

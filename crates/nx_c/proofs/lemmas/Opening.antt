@@ -1,7 +1,7 @@
 -- What opening answers, where what is kept gets a block of its own, or no memory for it.
 use Rattle.std.proofs.Common.{◌≡◌, ◌≢◌, ◌⊎◌, inl, inr, ℕ, zero, suc, List, [], ◌∷◌, arith, refl, sym, ◌∙◌, subst, Option, Some, None}
 use Rattle.nx_receiver.specs.air_file_runs.State.{BeginsWith}
-use Rattle.nx_receiver.specs.copies.Shares.{Starts, all_at_zero, starts_from, to_all}
+use Rattle.nx_copies.specs.copies.Shares.{Starts, all_at_zero, starts_from, to_all}
 use Rattle.nx_handle.specs.Life.{HasHeard}
 use Rattle.nx_handle.specs.Opening.{AnswersOpening, opening_status}
 use Rattle.nx_handle.specs.Saving.{OpensFrom}

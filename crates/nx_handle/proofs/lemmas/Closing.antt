@@ -2,10 +2,10 @@
 use Rattle.std.proofs.Common.{◌≡◌, ◌<◌, ◌≤◌, ℕ, List, [], length, arith, refl, sym, ap, ◌∙◌, subst, Option, Some, None}
 use Rattle.std.proofs.lemmas.Grind.{common_steps}
 use Rattle.nx_fec.specs.declared.air_files.channel.Channel.{Channel}
-use Rattle.nx_receiver.specs.copies.FoundCopies.{copy_of}
-use Rattle.nx_receiver.specs.copies.Log.{IsEntry}
-use Rattle.nx_receiver.specs.copies.Shares.{marked}
-use Rattle.nx_receiver.specs.declared.entry.Entry.{Entry}
+use Rattle.nx_copies.specs.copies.FoundCopies.{copy_of}
+use Rattle.nx_copies.specs.copies.Log.{IsEntry}
+use Rattle.nx_copies.specs.copies.Shares.{marked}
+use Rattle.nx_copies.specs.declared.entry.Entry.{Entry}
 use Rattle.nx_handle.specs.Closing.{AnswersClosing, HandsOut, TakesLast, closing_status}
 use Rattle.nx_handle.specs.Life.{ending}
 use Rattle.nx_handle.specs.Status.{number_of}

@@ -5,13 +5,13 @@ use Rattle.std.proofs.lemmas.Bool.{cases_lt}
 use Rattle.std.proofs.lemmas.List.{length-drop, length-map, length-take, length-take-le, map-append, take-append-drop, take-map}
 use Rattle.std.proofs.Math.Seq.{take-add, take-append-add}
 use Rattle.nx_fec.specs.declared.air_files.channel.Channel.{Channel}
-use Rattle.nx_receiver.specs.copies.FoundCopies.{TaggedCopy}
-use Rattle.nx_receiver.specs.copies.InTurn.{PrintsInTurn}
+use Rattle.nx_copies.specs.copies.FoundCopies.{TaggedCopy}
+use Rattle.nx_copies.specs.copies.InTurn.{PrintsInTurn}
 use Rattle.nx_receiver.specs.Listener.{IsSpelled, then_elements}
 use Rattle.nx_handle.specs.Receivers.{HearsGiven, Listening}
-use Rattle.nx_receiver.specs.copies.Log.{IsEntry, IsLog, entry_head}
-use Rattle.nx_receiver.specs.copies.Shares.{Given, MarkedCopy, Starts, marked}
-use Rattle.nx_receiver.proofs.lemmas.receiver.Log.{one-log}
+use Rattle.nx_copies.specs.copies.Log.{IsEntry, IsLog, entry_head}
+use Rattle.nx_copies.specs.copies.Shares.{Given, MarkedCopy, Starts, marked}
+use Rattle.nx_copies.proofs.lemmas.printing.Log.{one-log}
 use Rattle.nx_handle.specs.Hearing.{HearsElements, element_of, elements_of}
 
 -- elements of a channel are heard, and print these copies

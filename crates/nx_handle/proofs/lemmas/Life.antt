@@ -5,14 +5,14 @@ use Rattle.std.proofs.Math.Seq.{take-append_seam}
 use Rattle.std.specs.List.{concat}
 use Rattle.nx_fec.specs.air_files.Channels.{channel_number}
 use Rattle.nx_fec.specs.declared.air_files.channel.Channel.{Channel}
-use Rattle.nx_receiver.specs.Events as events
-use Rattle.nx_receiver.specs.Events.{Command, command}
-use Rattle.nx_receiver.specs.copies.InTurn.{PrintAllToEnd}
+use Rattle.nx_copies.specs.Events as events
+use Rattle.nx_copies.specs.Events.{Command, command}
+use Rattle.nx_copies.specs.copies.InTurn.{PrintAllToEnd}
 use Rattle.nx_handle.specs.Receivers.{HearsGiven, Listening}
-use Rattle.nx_receiver.specs.copies.Log.{IsLog}
-use Rattle.nx_receiver.specs.copies.Shares.{Given, MarkedCopy, Starts, all_at_zero, marked, to_all, to_one}
+use Rattle.nx_copies.specs.copies.Log.{IsLog}
+use Rattle.nx_copies.specs.copies.Shares.{Given, MarkedCopy, Starts, all_at_zero, marked, to_all, to_one}
 use Rattle.nx_receiver.proofs.lemmas.listening.Listener.{none-given}
-use Rattle.nx_receiver.proofs.lemmas.receiver.Log.{logs_join, no-log, one-log}
+use Rattle.nx_copies.proofs.lemmas.printing.Log.{logs_join, no-log, one-log}
 use Rattle.nx_handle.specs.Closing.{HandsOut}
 use Rattle.nx_handle.specs.Hearing.{AnswersHearing, elements_of}
 use Rattle.nx_handle.specs.Life.{EndsWith, ending, ending_at, hearing, hearing_at}

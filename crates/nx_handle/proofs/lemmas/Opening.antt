@@ -1,7 +1,7 @@
 -- What opening answers, by the moment that is set where it has begun.
 use Rattle.std.proofs.Common.{◌≡◌, ◌≢◌, inl, ℕ, [], arith, refl, sym, subst, Option, None}
 use Rattle.std.proofs.lemmas.Grind.{common_steps}
-use Rattle.nx_receiver.specs.copies.Shares.{all_at_zero}
+use Rattle.nx_copies.specs.copies.Shares.{all_at_zero}
 use Rattle.nx_handle.specs.Life.{HasHeard, hearing}
 use Rattle.nx_handle.specs.Opening.{AnswersMoment, AnswersOpening, SetsMoment, moment_status, opening_status}
 use Rattle.nx_handle.specs.Status.{number_of}

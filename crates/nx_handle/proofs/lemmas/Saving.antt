@@ -1,7 +1,7 @@
 -- What opening from what is saved answers.
 use Rattle.std.proofs.Common.{◌≡◌, ◌⊎◌, inl, inr, ℕ, Bool, false, List, [], is_some, refl, subst, Option, Some, None}
 use Rattle.nx_memory.specs.Saved.{SavedStates}
-use Rattle.nx_receiver.specs.copies.Shares.{starts_from}
+use Rattle.nx_copies.specs.copies.Shares.{starts_from}
 use Rattle.nx_receiver.specs.air_file_runs.State.{BeginsWith}
 use Rattle.nx_handle.specs.Life.{HasHeard}
 use Rattle.nx_handle.specs.Saving.{OpensFrom}

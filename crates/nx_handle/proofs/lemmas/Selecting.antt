@@ -3,11 +3,11 @@ use Rattle.std.proofs.Common.{◌≡◌, ℕ, Bool, true, false, IsTrue, if◌th
 use Rattle.nx_fec.specs.air_files.Channels.{channel_number}
 use Rattle.nx_fec.specs.declared.air_files.channel.Channel.{Channel}
 use Rattle.nx_fec.specs.declared.air_files.channel.Channel.TheVariants.{Zero, One, Two}
-use Rattle.nx_receiver.specs.Events.{Command}
+use Rattle.nx_copies.specs.Events.{Command}
 use Rattle.nx_receiver.specs.Listener.{then_command}
 use Rattle.nx_handle.specs.Receivers.{HearsGiven, Listening}
 use Rattle.nx_receiver.specs.declared.command.Command.{Command as TheCommand}
-use Rattle.nx_receiver.specs.copies.Shares.{Given, MarkedCopy, Starts}
+use Rattle.nx_copies.specs.copies.Shares.{Given, MarkedCopy, Starts}
 use Rattle.nx_handle.specs.Life.{hearing_at}
 use Rattle.nx_handle.specs.Selecting.{AnswersSelecting, byte_status, command_status}
 use Rattle.nx_handle.specs.Selecting.{selecting_status}

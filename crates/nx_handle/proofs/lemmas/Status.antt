@@ -2,11 +2,11 @@
 use Rattle.std.proofs.Common.{◌≡◌, ◌≤◌, ℕ, List, arith, sym, ap, ◌∙◌, Option, Some}
 use Rattle.std.proofs.lemmas.Grind.{common_steps}
 use Rattle.nx_envelope.specs.Moment.{last_moment}
-use Rattle.nx_receiver.specs.Events.{Refuses}
+use Rattle.nx_receiver.specs.Moments.{Refuses}
 use Rattle.nx_receiver.specs.declared.fault.MomentFault.{MomentFault}
 use Rattle.nx_receiver.specs.declared.fault.MomentFault.TheVariants.{Back, Range}
 use Rattle.nx_handle.specs.Receivers.{HearsGiven, Listening}
-use Rattle.nx_receiver.specs.copies.Shares.{Given, MarkedCopy, Starts}
+use Rattle.nx_copies.specs.copies.Shares.{Given, MarkedCopy, Starts}
 use Rattle.nx_handle.specs.Life.{HasHeard, hearing, hearing_at}
 use Rattle.nx_handle.specs.Opening.{moment_status, moment_told}
 use Rattle.nx_handle.specs.Status.{number_of}

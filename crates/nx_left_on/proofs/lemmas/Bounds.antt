@@ -16,13 +16,13 @@ use Rattle.nx_code.specs.Lists.{last_of}
 use Rattle.nx_envelope.specs.Identity.{same_identity}
 use Rattle.nx_memory.specs.Memory.{is_known, most_entries, newest_moment, seconds_known}
 use Rattle.nx_memory.specs.declared.memories.entry.MemoryEntry.{MemoryEntry}
-use Rattle.nx_receiver.specs.Events.{Setting, first_setting, setting_at}
-use Rattle.nx_receiver.specs.copies.FoundCopies.{FoundCopy, TaggedCopy, tagged_copies}
-use Rattle.nx_receiver.specs.copies.Printing.{copies_of, entries_after, entries_made, entry_made}
-use Rattle.nx_receiver.specs.copies.Printing.{entry_of, is_entered, is_printed, is_remembered}
-use Rattle.nx_receiver.specs.laws.Once.{FewBetween, IsUnknownAtFirst}
-use Rattle.nx_receiver.specs.examples.Chain.{copy_heard, found_on}
-use Rattle.nx_receiver.specs.examples.Repeats.{eb02, first_copy, heard_at}
+use Rattle.nx_copies.specs.Events.{Setting, first_setting, setting_at}
+use Rattle.nx_copies.specs.copies.FoundCopies.{FoundCopy, TaggedCopy, tagged_copies}
+use Rattle.nx_copies.specs.copies.Printing.{copies_of, entries_after, entries_made, entry_made}
+use Rattle.nx_copies.specs.copies.Printing.{entry_of, is_entered, is_printed, is_remembered}
+use Rattle.nx_copies.specs.laws.Once.{FewBetween, IsUnknownAtFirst}
+use Rattle.nx_promises.specs.examples.Chain.{copy_heard, found_on}
+use Rattle.nx_promises.specs.examples.Repeats.{eb02, first_copy, heard_at}
 use Rattle.nx_station.specs.reception.PathExample.{ea01, example_message}
 use Rattle.nx_left_on.specs.Bounds.{copies_between, entry_then, other_entries, silent_watch, spaced}
 use Rattle.nx_left_on.specs.Bounds.{watch_behind, watches_between}

@@ -26,33 +26,33 @@ use Rattle.nx_station.specs.reception.PathExample.{ea01, example_message, exampl
 use Rattle.nx_station.specs.reception.Sendings.{IsCut, IsSentAt, Part}
 use Rattle.nx_station.proofs.lemmas.reception.PathExamples.{example_sent}
 use Rattle.nx_sync.specs.Locks.{IsNow, locked}
-use Rattle.nx_receiver.specs.copies.FoundCopies.{AreFoundIn}
-use Rattle.nx_receiver.specs.examples.Chain.{copy_heard, found_on}
-use Rattle.nx_receiver.specs.laws.Emissions.{copy_of_sending}
-use Rattle.nx_receiver.specs.Events.{Event, Setting, at_moment, elements_among, first_setting}
-use Rattle.nx_receiver.specs.Events.{none_refused, setting_at, settings}
-use Rattle.nx_receiver.specs.examples.Repeats.{first_copy, heard_at}
-use Rattle.nx_receiver.specs.copies.FoundCopies.{FoundCopy, TaggedCopy, ended_so_far, found_to_end}
-use Rattle.nx_receiver.specs.copies.FoundCopies.{open_so_far, tag, tagged_copies}
-use Rattle.nx_receiver.specs.copies.InTurn.{PrintAllToEnd, PrintsInTurn}
+use Rattle.nx_copies.specs.copies.FoundCopies.{AreFoundIn}
+use Rattle.nx_promises.specs.examples.Chain.{copy_heard, found_on}
+use Rattle.nx_copies.specs.laws.Emissions.{copy_of_sending}
+use Rattle.nx_copies.specs.Events.{Event, Setting, at_moment, elements_among, first_setting}
+use Rattle.nx_copies.specs.Events.{none_refused, setting_at, settings}
+use Rattle.nx_promises.specs.examples.Repeats.{first_copy, heard_at}
+use Rattle.nx_copies.specs.copies.FoundCopies.{FoundCopy, TaggedCopy, ended_so_far, found_to_end}
+use Rattle.nx_copies.specs.copies.FoundCopies.{open_so_far, tag, tagged_copies}
+use Rattle.nx_copies.specs.copies.InTurn.{PrintAllToEnd, PrintsInTurn}
 use Rattle.nx_receiver.specs.air_file_runs.Listen.{events_on, given_by}
-use Rattle.nx_receiver.specs.copies.Log.{HasPrinted, IsEntry, PrintsToEnd}
-use Rattle.nx_receiver.specs.copies.Printing.{entries_made, entry_made, entry_of, if_printed, is_entered}
-use Rattle.nx_receiver.specs.copies.Printing.{is_printed, printed_copies}
-use Rattle.nx_receiver.specs.copies.Shares.{MarkedCopy, Starts, copies_on, marked, start_on}
-use Rattle.nx_receiver.proofs.lemmas.chain.Alone.{found-none, printed-alone}
-use Rattle.nx_receiver.proofs.lemmas.emissions.Found.{sending_found}
-use Rattle.nx_receiver.proofs.lemmas.examples.AirFile.{bits, inside, one-sending, place-within}
-use Rattle.nx_receiver.proofs.lemmas.examples.Emission.{alone, cut_is, events, events_are}
-use Rattle.nx_receiver.proofs.lemmas.examples.Emission.{first_bits, found}
-use Rattle.nx_receiver.proofs.lemmas.examples.Emission.{one_found, one_in, sent_there, stands_is}
-use Rattle.nx_receiver.proofs.lemmas.examples.Worked.{damaged_computed}
-use Rattle.nx_receiver.proofs.lemmas.examples.WorkedLog.{all_selected, log_is}
-use Rattle.nx_receiver.proofs.lemmas.listening.ElementLines.{events-lines, events-others}
-use Rattle.nx_receiver.proofs.lemmas.receiver.Logged.{end_adds, one_printed}
-use Rattle.nx_receiver.proofs.lemmas.channels.Marked.{of-one}
-use Rattle.nx_receiver.proofs.lemmas.channels.Some.{some-in_turn}
-use Rattle.nx_receiver.specs.examples.Emission.{damaged_words, worked_log}
+use Rattle.nx_copies.specs.copies.Log.{HasPrinted, IsEntry, PrintsToEnd}
+use Rattle.nx_copies.specs.copies.Printing.{entries_made, entry_made, entry_of, if_printed, is_entered}
+use Rattle.nx_copies.specs.copies.Printing.{is_printed, printed_copies}
+use Rattle.nx_copies.specs.copies.Shares.{MarkedCopy, Starts, copies_on, marked, start_on}
+use Rattle.nx_promises.proofs.lemmas.chain.Alone.{found-none, printed-alone}
+use Rattle.nx_copies.proofs.lemmas.emissions.Found.{sending_found}
+use Rattle.nx_promises.proofs.lemmas.examples.AirFile.{bits, inside, one-sending, place-within}
+use Rattle.nx_promises.proofs.lemmas.examples.Emission.{alone, cut_is, events, events_are}
+use Rattle.nx_promises.proofs.lemmas.examples.Emission.{first_bits, found}
+use Rattle.nx_promises.proofs.lemmas.examples.Emission.{one_found, one_in, sent_there, stands_is}
+use Rattle.nx_promises.proofs.lemmas.examples.Worked.{damaged_computed}
+use Rattle.nx_promises.proofs.lemmas.examples.WorkedLog.{all_selected, log_is}
+use Rattle.nx_promises.proofs.lemmas.listening.ElementLines.{events-lines, events-others}
+use Rattle.nx_copies.proofs.lemmas.printing.Logged.{end_adds, one_printed}
+use Rattle.nx_copies.proofs.lemmas.channels.Marked.{of-one}
+use Rattle.nx_copies.proofs.lemmas.channels.Some.{some-in_turn}
+use Rattle.nx_promises.specs.examples.Emission.{damaged_words, worked_log}
 use Rattle.nx_watch.specs.Acting.{acting_behind, acting_lines, moment_said, with_start}
 use Rattle.nx_watch.specs.declared.lines.line_effects.StartMoments.{StartMoments}
 use Rattle.nx_left_on.specs.Chain.{ClocksAreNear, GoesOn, HadEnded, IsChain, IsLeftBy, Judges}

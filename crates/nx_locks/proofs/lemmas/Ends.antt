@@ -7,7 +7,7 @@ use Rattle.nx_sync.specs.Steps.{LockStands}
 use Rattle.nx_sync.specs.Words.{word_of_lock, first_role, whole_words}
 use Rattle.nx_sync.specs.declared.step.Change.TheVariants.{Locked}
 use Rattle.nx_sync.proofs.lemmas.states.UniqueStates.{now-unique}
-use Rattle.nx_receiver.specs.copies.Log.{is_of_lines, missing_newline}
+use Rattle.nx_copies.specs.copies.Log.{is_of_lines, missing_newline}
 use Rattle.nx_locks.specs.LockText.{headers_shown, shown_text, wrong_words}
 use Rattle.nx_locks.specs.Report.{AreShown, IsNowShown, IsOpened, IsShown, now_headers}
 use Rattle.nx_locks.specs.Report.{now_locks, past_headers}

@@ -19,15 +19,15 @@ use Rattle.nx_sync.specs.Words.{whole_words}
 use Rattle.nx_sync.specs.declared.step.Change.{Change}
 use Rattle.nx_sync.specs.declared.step.Change.TheVariants.{Locked}
 use Rattle.nx_sync.proofs.lemmas.states.UniqueStates.{locks-unique, now-unique}
-use Rattle.nx_receiver.specs.Events.{Event, Setting, elements_among, first_setting, setting_at}
-use Rattle.nx_receiver.specs.copies.FoundCopies.{FoundCopy, TaggedCopy, all_in, found_copy, found_to_end}
-use Rattle.nx_receiver.specs.copies.FoundCopies.{past_copies, past_text, standing_text, tag, tagged_copies}
+use Rattle.nx_copies.specs.Events.{Event, Setting, elements_among, first_setting, setting_at}
+use Rattle.nx_copies.specs.copies.FoundCopies.{FoundCopy, TaggedCopy, all_in, found_copy, found_to_end}
+use Rattle.nx_copies.specs.copies.FoundCopies.{past_copies, past_text, standing_text, tag, tagged_copies}
 use Rattle.nx_receiver.specs.air_file_runs.Listen.{IsLogOfFile, events_on, given_by}
-use Rattle.nx_receiver.specs.copies.Log.{missing_newline}
-use Rattle.nx_receiver.specs.copies.LockText.{PlacedByte, bytes_of, lock_text}
-use Rattle.nx_receiver.specs.copies.Printing.{entry_made, if_printed, is_printed, printed_copies}
-use Rattle.nx_receiver.specs.copies.Shares.{MarkedCopy, Starts, copies_on, start_on}
-use Rattle.nx_receiver.proofs.lemmas.channels.Shares.{to_end-on}
+use Rattle.nx_copies.specs.copies.Log.{missing_newline}
+use Rattle.nx_copies.specs.copies.LockText.{PlacedByte, bytes_of, lock_text}
+use Rattle.nx_copies.specs.copies.Printing.{entry_made, if_printed, is_printed, printed_copies}
+use Rattle.nx_copies.specs.copies.Shares.{MarkedCopy, Starts, copies_on, start_on}
+use Rattle.nx_copies.proofs.lemmas.channels.Shares.{to_end-on}
 use Rattle.nx_locks.specs.Found.{IsCopyAmong, StandsIn, now_texts, past_texts, shown_texts}
 use Rattle.nx_locks.specs.LockText.{shown_text}
 use Rattle.nx_locks.specs.Report.{AreShown, IsEndShown, IsReport, IsShown}

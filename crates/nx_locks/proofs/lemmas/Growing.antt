@@ -9,11 +9,11 @@ use Rattle.nx_sync.specs.Locks.{Lock, IsPattern, Past}
 use Rattle.nx_sync.specs.Words.{word_of_lock, first_role}
 use Rattle.nx_sync.specs.declared.step.Change.{Change}
 use Rattle.nx_sync.proofs.lemmas.states.KeptPast.{word_at-more, wrong_in-same}
-use Rattle.nx_receiver.specs.copies.Log.{is_of_lines, missing_newline}
-use Rattle.nx_receiver.specs.copies.LockText.{bytes_of, text_by}
-use Rattle.nx_receiver.specs.private.LockReader.{word_place}
-use Rattle.nx_receiver.specs.copies.LockText.{text_after}
-use Rattle.nx_receiver.proofs.lemmas.locks.Texts.{bytes_are_reading, lock_text-more}
+use Rattle.nx_copies.specs.copies.Log.{is_of_lines, missing_newline}
+use Rattle.nx_copies.specs.copies.LockText.{bytes_of, text_by}
+use Rattle.nx_copies.specs.ReaderWords.{word_place}
+use Rattle.nx_copies.specs.copies.LockText.{text_after}
+use Rattle.nx_copies.proofs.lemmas.locks.Texts.{bytes_are_reading, lock_text-more}
 use Rattle.nx_receiver.proofs.lemmas.copy_hearer.Bits as watching
 use Rattle.nx_locks.specs.LockText.{headers_shown, shown_text, wrong_words}
 use Rattle.nx_locks.specs.Report.{AreShown, IsClosing, IsOpened, IsOpening, IsShown, moment_at}

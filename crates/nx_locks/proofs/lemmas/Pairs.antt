@@ -5,7 +5,7 @@ use Rattle.std.specs.Option.{option_to_list}
 use Rattle.nx_sync.specs.Words.{other_role, role_of}
 use Rattle.nx_sync.specs.declared.step.Role.{Role}
 use Rattle.nx_sync.specs.declared.step.Role.TheVariants.{Dx, Rx}
-use Rattle.nx_receiver.specs.copies.LockText.{text_after}
+use Rattle.nx_copies.specs.copies.LockText.{text_after}
 use Rattle.nx_locks.specs.private.Reader.{Reading, ReadsLock, ShowsWord, ShowsWords}
 
 -- behind a DX word stands an RX word

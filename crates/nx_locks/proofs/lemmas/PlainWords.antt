@@ -11,9 +11,9 @@ use Rattle.nx_envelope.specs.Copies.{headers}
 use Rattle.nx_envelope.specs.Finder.{BringNothing, Keeps}
 use Rattle.nx_sync.specs.declared.step.Role.TheVariants.{Dx}
 use Rattle.nx_code.proofs.lemmas.WordCounts.{one_if, wrong_in-add, wrong_in-le}
-use Rattle.nx_receiver.specs.copies.Log.{is_of_lines}
-use Rattle.nx_receiver.specs.LockReader.{HasReadWords, ReadsWords}
-use Rattle.nx_receiver.specs.copies.LockText.{AreNext, text_after}
+use Rattle.nx_copies.specs.copies.Log.{is_of_lines}
+use Rattle.nx_copies.specs.LockReader.{HasReadWords, ReadsWords}
+use Rattle.nx_copies.specs.copies.LockText.{AreNext, text_after}
 use Rattle.nx_code.proofs.lemmas.WordCounts.{wrong_in-same}
 use Rattle.nx_locks.specs.private.Reader.{HasHeardWords, Reading, ShowsWords}
 use Rattle.nx_locks.proofs.lemmas.ReaderWords.{line_pushed}

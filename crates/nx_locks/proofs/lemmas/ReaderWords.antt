@@ -14,12 +14,12 @@ use Rattle.nx_envelope.specs.declared.identity.Identity.{Identity}
 use Rattle.nx_code.specs.Word.{is_wrong, wrong_in}
 use Rattle.nx_code.proofs.lemmas.WordCounts.{one_if}
 use Rattle.nx_sync.specs.declared.step.Role.{Role}
-use Rattle.nx_receiver.specs.copies.Log.{is_of_lines}
-use Rattle.nx_receiver.specs.CopyHearing.{LockReading}
-use Rattle.nx_receiver.specs.LockReader.{HasReadWords}
-use Rattle.nx_receiver.specs.LockReader as receiver
-use Rattle.nx_receiver.specs.copies.LockText.{positions}
-use Rattle.nx_receiver.specs.copies.LockText.{text_after}
+use Rattle.nx_copies.specs.copies.Log.{is_of_lines}
+use Rattle.nx_copies.specs.LockReader.{LockReading}
+use Rattle.nx_copies.specs.LockReader.{HasReadWords}
+use Rattle.nx_copies.specs.LockReader as receiver
+use Rattle.nx_copies.specs.copies.LockText.{positions}
+use Rattle.nx_copies.specs.copies.LockText.{text_after}
 use Rattle.nx_locks.specs.private.Reader.{HasHeard, IsFresh, Reading, ReadsLock, TakesByte, counted}
 use Rattle.nx_locks.specs.private.Reader.{one_more}
 

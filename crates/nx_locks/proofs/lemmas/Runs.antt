@@ -20,10 +20,10 @@ use Rattle.nx_fec.specs.declared.air_files.line_runs.LinesFault.{LinesFault}
 use Rattle.nx_fec.specs.declared.air_files.line_runs.LinesFault.TheVariants as run
 use Rattle.nx_fec.specs.declared.air_files.line_runs.LinesRead.{LinesRead}
 use Rattle.nx_fec.proofs.lemmas.devices.TransferLaws.{Ok-not_err, Reads-on, Writes-none}
-use Rattle.nx_receiver.specs.Events as events
-use Rattle.nx_receiver.specs.Events.{Command, command, elements_among}
+use Rattle.nx_copies.specs.Events as events
+use Rattle.nx_copies.specs.Events.{Command, command, elements_among}
 use Rattle.nx_receiver.specs.air_file_runs.Listen.{HasLoggedSome, events_on, given_of, lines_fault}
-use Rattle.nx_receiver.specs.copies.Shares.{all_at_zero, events_for, to_one}
+use Rattle.nx_copies.specs.copies.Shares.{all_at_zero, events_for, to_one}
 use Rattle.nx_locks.specs.Run.{ExplainsShowing, HasShown, HasShownAll, IsReportOf, ShowsLocks}
 use Rattle.nx_locks.specs.private.ReportWriterBegins.{begins-report}
 use Rattle.nx_locks.specs.private.ReportWriter.{HasClosed, HasClosedSome, HasTooMany}
@@ -40,7 +40,7 @@ use Rattle.nx_fec.proofs.lemmas.line_runs.LineRun.{StopsAt-map}
 use Rattle.nx_receiver.proofs.lemmas.listening.Runs.{as-err, err-of, next-refused}
 use Rattle.nx_receiver.proofs.lemmas.listening.Runs.{read-back, run-err-of, write-back}
 use Rattle.nx_receiver.proofs.lemmas.listening.Runs.{write-not_read}
-use Rattle.nx_receiver.proofs.lemmas.receiver.Logged.{bits_of-append}
+use Rattle.nx_copies.proofs.lemmas.printing.Logged.{bits_of-append}
 use Rattle.nx_receiver.proofs.lemmas.receiver.Events.{bits_of-more}
 
 -- what the lines gave was written: their report so far

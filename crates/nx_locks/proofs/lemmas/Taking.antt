@@ -20,18 +20,18 @@ use Rattle.nx_fec.specs.declared.air_files.channel.Channel.TheVariants.{Zero, On
 use Rattle.nx_fec.specs.declared.air_files.line_runs.LinesFault.{LinesFault}
 use Rattle.nx_fec.specs.declared.air_files.line_runs.LinesFault.TheVariants as run
 use Rattle.nx_memory.specs.Selection.{is_vital}
-use Rattle.nx_receiver.specs.Events as events
-use Rattle.nx_receiver.specs.Events.{Command, Event, Setting, command, elements_among, element}
-use Rattle.nx_receiver.specs.Events.{first_setting, setting_after, setting_after_all, settings}
+use Rattle.nx_copies.specs.Events as events
+use Rattle.nx_copies.specs.Events.{Command, Event, Setting, command, elements_among, element}
+use Rattle.nx_copies.specs.Events.{first_setting, setting_after, setting_after_all, settings}
 use Rattle.nx_receiver.specs.air_file_runs.Listen.{events_on, given_by, given_of, has_moment, moment_after}
 use Rattle.nx_receiver.specs.private.Taken.{AreTakenAfter, IsTakenAfter}
 use Rattle.nx_receiver.proofs.lemmas.listening.Taken.{are-taken}
-use Rattle.nx_receiver.specs.copies.Shares.{all_at_zero, events_for, share, start_on, to_one}
-use Rattle.nx_receiver.proofs.lemmas.channels.Shares.{share-one}
+use Rattle.nx_copies.specs.copies.Shares.{all_at_zero, events_for, share, start_on, to_one}
+use Rattle.nx_copies.proofs.lemmas.channels.Shares.{share-one}
 use Rattle.nx_receiver.proofs.lemmas.chain.Moments.{after-more}
 use Rattle.nx_receiver.proofs.lemmas.listening.Listener.{given_by-one, moment-on, moment-one, moment-other}
 use Rattle.nx_receiver.proofs.lemmas.listening.Listener.{taken-one}
-use Rattle.nx_receiver.proofs.lemmas.receiver.Logged.{bits_of-append, settings-append}
+use Rattle.nx_copies.proofs.lemmas.printing.Logged.{bits_of-append, settings-append}
 use Rattle.nx_locks.specs.Run.{elements_on_0, ending_of, moments_on_0}
 use Rattle.nx_locks.specs.private.ReportWriter.{ExplainsLine, IsShowing, RefusesLine, StandsFrom}
 use Rattle.nx_locks.specs.private.ReportWriter.{BeginsFrom, RefusesFrom, report_taker}

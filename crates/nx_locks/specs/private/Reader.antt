@@ -7,10 +7,10 @@ use Rattle.nx_envelope.specs.Copies.{headers}
 use Rattle.nx_code.specs.Word.{is_wrong, wrong_in}
 use Rattle.nx_sync.specs.Words.{role_of}
 use Rattle.nx_sync.specs.declared.step.Role.{Role}
-use Rattle.nx_receiver.specs.copies.Log.{is_of_lines}
-use Rattle.nx_receiver.specs.LockReader as receiver
-use Rattle.nx_receiver.specs.CopyHearing.{LockReading}
-use Rattle.nx_receiver.specs.copies.LockText.{text_after}
+use Rattle.nx_copies.specs.copies.Log.{is_of_lines}
+use Rattle.nx_copies.specs.LockReader as receiver
+use Rattle.nx_copies.specs.LockReader.{LockReading}
+use Rattle.nx_copies.specs.copies.LockText.{text_after}
 
 -- what contracts see of a reader that counts: what reads the words, three counts, and whether the
 -- last line of the text is open

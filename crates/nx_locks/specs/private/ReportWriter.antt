@@ -9,7 +9,7 @@ use Rattle.nx_fec.specs.declared.fault.LineFault.TheVariants as file
 use Rattle.nx_fec.specs.declared.air_files.line_runs.LinesFault.{LinesFault}
 use Rattle.nx_fec.specs.declared.air_files.line_runs.LinesFault.TheVariants as run
 use Rattle.nx_receiver.specs.air_file_runs.Listen.{AreTaken, has_moment}
-use Rattle.nx_receiver.specs.copies.Shares.{all_at_zero}
+use Rattle.nx_copies.specs.copies.Shares.{all_at_zero}
 use Rattle.nx_receiver.specs.private.Listener as any_run
 use Rattle.nx_receiver.specs.declared.air_file_runs.listen_fault.LineRefusal.{LineRefusal}
 use Rattle.nx_locks.specs.Report.{IsReport, now_headers, now_locks, past_headers}

@@ -4,7 +4,7 @@ use Rattle.nx_envelope.specs.Copies.{most_found}
 use Rattle.nx_envelope.specs.Identity.{identity_bytes}
 use Rattle.nx_envelope.specs.Moment.{IsShownAs, last_moment}
 use Rattle.nx_log.specs.declared.entries.head.LoggedHead.{LoggedHead}
-use Rattle.nx_receiver.specs.copies.Log.{channel_mark, how_name}
+use Rattle.nx_copies.specs.copies.Log.{channel_mark, how_name}
 
 -- the head with this civil time, and more behind its newline
 abbrev pub head_and : LoggedHead → List ℕ → List ℕ → List ℕ

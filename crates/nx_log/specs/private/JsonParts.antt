@@ -3,7 +3,7 @@
 use Rattle.std.specs.Prelude.{ℕ, List, ◌∷◌, ◌++◌, codes, decimal}
 use Rattle.nx_fec.specs.air_files.Channels.{channel_number}
 use Rattle.nx_log.specs.declared.entries.head.LoggedHead.{LoggedHead}
-use Rattle.nx_receiver.specs.copies.Log.{how_name}
+use Rattle.nx_copies.specs.copies.Log.{how_name}
 
 -- up to the text
 abbrev pub json_head : LoggedHead → List ℕ

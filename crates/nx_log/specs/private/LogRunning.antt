@@ -3,7 +3,7 @@ use Rattle.std.specs.Prelude.{◌≡◌, ◌≢◌, ⊤, ℕ, ◌-◌, ◌^◌, 
 use Rattle.std.specs.Prelude.{Result, Ok, Err}
 use Rattle.nx_fec.specs.Transfers.{Contents}
 use Rattle.nx_fec.specs.air_files.LineRuns.{HasGiven}
-use Rattle.nx_receiver.specs.copies.Shares.{MarkedCopy}
+use Rattle.nx_copies.specs.copies.Shares.{MarkedCopy}
 use Rattle.nx_log.specs.LogReading.{LogReading}
 use Rattle.nx_log.specs.LogReader.{IsAt, StopAt}
 use Rattle.nx_log.specs.LogRun.{BeginSalvage, IsOutput, WroteOutput, WrotePart}

@@ -7,7 +7,7 @@ use Rattle.nx_envelope.specs.Moment.{IsShownAs, last_moment}
 use Rattle.nx_envelope.specs.declared.found.How.{How}
 use Rattle.nx_envelope.specs.declared.identity.Identity.{Identity}
 use Rattle.nx_fec.specs.declared.air_files.channel.Channel.{Channel}
-use Rattle.nx_receiver.specs.copies.Log.{channel_mark, how_name, missing_newline}
+use Rattle.nx_copies.specs.copies.Log.{channel_mark, how_name, missing_newline}
 use Rattle.nx_log.specs.Logged.{is_text_byte}
 use Rattle.nx_log.specs.Reading.{bracket}
 

@@ -1,7 +1,7 @@
 -- What a reader of a log takes, step by step.
 use Rattle.std.specs.Prelude.{◌≡◌, ◌≢◌, ℕ, ◌+◌, ◌-◌, ◌<◌, ◌≤◌, ◌^◌, List, [], ◌∷◌, ◌++◌, length, min, take, drop, ⊤, true}
 use Rattle.std.specs.List.{All}
-use Rattle.nx_receiver.specs.copies.Shares.{MarkedCopy}
+use Rattle.nx_copies.specs.copies.Shares.{MarkedCopy}
 use Rattle.nx_log.specs.Entries.{IsUnfinishedEntry}
 use Rattle.nx_log.specs.LogReader.{most_lines}
 use Rattle.nx_log.specs.Reading.{AreRead, Head, IsHead, IsNoBracket, IsPart, LogRead, bracket, entries_of, is_begun, is_first, line_behind}

@@ -11,8 +11,8 @@ use crate::entries::entry::{errors_in, is_text};
 use crate::entries::head::{behind_newline, count_at, how_at, mark_at, name_at, time_at};
 use crate::entries::moment::moment_of;
 use itoa::Buffer;
+use nx_copies::entry_end;
 use nx_envelope::{CIVIL_LEN, MAX_FOUND};
-use nx_receiver::entry_end;
 
 /// Endings of a civil time. What begins a civil time is one with the end of the first or of the
 /// second. These are the same but for the last digit of the day: a month has its 1st, 11th and

@@ -2,14 +2,14 @@
 
 ghost use Rattle.std.specs.Prelude.{◌≡◌, ◌≢◌, ◌↔◌, ℕ, List, ◌++◌, All, IfNone, IfSome, IsTrue};
 ghost use Rattle.nx_envelope.specs.Copies.{errors_of};
-ghost use Rattle.nx_receiver.specs.copies.Shares.{MarkedCopy};
+ghost use Rattle.nx_copies.specs.copies.Shares.{MarkedCopy};
 ghost use Rattle.nx_log.specs.Entries.{IsWholeEntry};
 ghost use Rattle.nx_log.specs.Logged.{IsLoggedAs, is_text_byte as the_is_text_byte};
 ghost use Rattle.nx_log.specs.View.{IsViewOf};
 
 use crate::entries::head::{LoggedHead, head_at};
 use nx_code::char_to_code;
-use nx_receiver::entry_end;
+use nx_copies::entry_end;
 
 /// The most bytes of a logged entry.
 pub const MAX_LOGGED: usize = 4146;

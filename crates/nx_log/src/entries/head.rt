@@ -8,7 +8,7 @@ ghost use Rattle.nx_envelope.specs.Moment.{IsShownAs, last_moment};
 ghost use Rattle.nx_envelope.specs.declared.identity.Identity.{Identity as TheIdentity};
 ghost use Rattle.nx_envelope.specs.declared.found.How.{How as TheHow};
 ghost use Rattle.nx_fec.specs.declared.air_files.channel.Channel.{Channel as TheChannel};
-ghost use Rattle.nx_receiver.specs.copies.Log.{channel_mark, how_name};
+ghost use Rattle.nx_copies.specs.copies.Log.{channel_mark, how_name};
 ghost use Rattle.nx_log.specs.private.Heads.{BeginsWithHead, IsHead};
 ghost use Rattle.nx_log.specs.declared.entries.head.LoggedHead.{LoggedHead as TheHead};
 

@@ -2,7 +2,7 @@
 
 ghost use Rattle.std.specs.Prelude.{◌≡◌, ◌+◌, ◌-◌, ◌≤◌, ◌==◌, ℕ, List, [], ◌++◌, count_by, length, min, take};
 ghost use Rattle.nx_code.specs.Reading.{newline};
-ghost use Rattle.nx_receiver.specs.copies.Shares.{MarkedCopy};
+ghost use Rattle.nx_copies.specs.copies.Shares.{MarkedCopy};
 ghost use Rattle.nx_log.specs.LogReader.{most_lines};
 ghost use Rattle.nx_log.specs.Reading.{line_behind};
 ghost use Rattle.nx_log.specs.Starts.{StartsAs};

@@ -8,7 +8,7 @@ ghost use Rattle.nx_log.specs.Logged.{is_text_byte};
 ghost use Rattle.nx_log.specs.Times.{joined};
 ghost use Rattle.nx_log.specs.View.{IsSeen, copy_said};
 ghost use Rattle.nx_log.specs.private.JsonParts.{json_head, json_tail};
-ghost use Rattle.nx_receiver.specs.copies.Log.{how_name as the_how_name};
+ghost use Rattle.nx_copies.specs.copies.Log.{how_name as the_how_name};
 
 use crate::entries::entry::EntryView;
 use arrayvec::ArrayVec;

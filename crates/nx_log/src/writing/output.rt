@@ -9,7 +9,7 @@ ghost use Rattle.nx_log.specs.Logged.{IsLoggedAs};
 ghost use Rattle.nx_log.specs.private.LogRunning.{HasGivenOutput};
 ghost use Rattle.nx_log.specs.declared.writing.form.Form.{Form as TheForm};
 ghost use Rattle.nx_log.specs.declared.queries.query.Query.{Query as TheQuery};
-ghost use Rattle.nx_receiver.specs.copies.Shares.{MarkedCopy};
+ghost use Rattle.nx_copies.specs.copies.Shares.{MarkedCopy};
 
 use crate::entries::entry::whole_entry;
 use crate::queries::query::Query;

@@ -3,7 +3,6 @@ pub mod Bits
 pub mod Hears
 pub mod Packed
 pub mod Parts
-pub mod PlainPairs
 pub mod PlainWords
 pub mod Takes
 pub mod Texts

@@ -2,7 +2,4 @@
 pub mod Events
 pub mod Feeds
 pub mod Given
-pub mod Judging
-pub mod Log
-pub mod Logged
 pub mod Printing

@@ -2,7 +2,6 @@
 pub mod Answers
 pub mod Behind
 pub mod Bounds
-pub mod Chains
 pub mod Going
 pub mod Reading
 pub mod Splits

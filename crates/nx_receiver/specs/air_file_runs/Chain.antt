@@ -9,11 +9,11 @@ use Rattle.nx_fec.specs.Transfers.{Contents}
 use Rattle.nx_memory.specs.Memory.{most_entries}
 use Rattle.nx_memory.specs.Saved.{SavedState, SavedStates}
 use Rattle.nx_memory.specs.declared.memories.entry.MemoryEntry.{MemoryEntry}
-use Rattle.nx_receiver.specs.Events.{Event, Start, first_setting, setting_after_all}
-use Rattle.nx_receiver.specs.copies.FoundCopies.{AreFoundIn, FoundCopy, TaggedCopy, tagged_copies}
+use Rattle.nx_copies.specs.Events.{Event, Start, first_setting, setting_after_all}
+use Rattle.nx_copies.specs.copies.FoundCopies.{AreFoundIn, FoundCopy, TaggedCopy, tagged_copies}
 use Rattle.nx_receiver.specs.air_file_runs.Listen.{IsLogOfFile, events_on}
-use Rattle.nx_receiver.specs.copies.Printing.{entries_after}
-use Rattle.nx_receiver.specs.copies.Shares.{MarkedCopy, Starts, saved_of, start_on, starts_from}
+use Rattle.nx_copies.specs.copies.Printing.{entries_after}
+use Rattle.nx_copies.specs.copies.Shares.{MarkedCopy, Starts, saved_of, start_on, starts_from}
 
 -- two lists of entries agree in their last 200: a memory would hold the same of both
 abbrev pub AgreeInLast : List MemoryEntry → List MemoryEntry → Type 0

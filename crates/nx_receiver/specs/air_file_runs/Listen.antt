@@ -18,11 +18,12 @@ use Rattle.nx_fec.specs.declared.air_files.line_runs.LinesFault.TheVariants as r
 use Rattle.nx_fec.specs.declared.fault.LineFault.{LineFault}
 use Rattle.nx_fec.specs.declared.fault.LineFault.TheVariants as file
 use Rattle.nx_memory.specs.Selection.{is_vital}
-use Rattle.nx_receiver.specs.Events as events
-use Rattle.nx_receiver.specs.Events.{Command, Event, element, command, Refuses}
-use Rattle.nx_receiver.specs.copies.InTurn.{PrintAllToEnd, PrintsInTurn}
-use Rattle.nx_receiver.specs.copies.Log.{IsLog}
-use Rattle.nx_receiver.specs.copies.Shares.{Given, MarkedCopy, Starts, share, to_all, to_one}
+use Rattle.nx_copies.specs.Events as events
+use Rattle.nx_copies.specs.Events.{Command, Event, element, command}
+use Rattle.nx_receiver.specs.Moments.{Refuses}
+use Rattle.nx_copies.specs.copies.InTurn.{PrintAllToEnd, PrintsInTurn}
+use Rattle.nx_copies.specs.copies.Log.{IsLog}
+use Rattle.nx_copies.specs.copies.Shares.{Given, MarkedCopy, Starts, share, to_all, to_one}
 use Rattle.nx_receiver.specs.declared.air_file_runs.listen_fault.ListenFault.{ListenFault}
 use Rattle.nx_receiver.specs.declared.air_file_runs.listen_fault.ListenFault.TheVariants.{Memory, Read, Write}
 use Rattle.nx_receiver.specs.declared.air_file_runs.listen_fault.ListenFault.TheVariants.{AirTooLong, LineLong}

@@ -4,8 +4,8 @@ use Rattle.std.specs.Prelude.{Result, Ok, Err, IfOk}
 use Rattle.nx_fec.specs.Transfers.{Devices, contents_of}
 use Rattle.nx_memory.specs.Saved.{SavedStates}
 use Rattle.nx_receiver.specs.air_file_runs.Chain.{HasGoneOn}
-use Rattle.nx_receiver.specs.laws.ListenOnce.{ListensOnce}
-use Rattle.nx_receiver.specs.copies.Shares.{starts_from}
+use Rattle.nx_receiver.specs.air_file_runs.ListenOnce.{ListensOnce}
+use Rattle.nx_copies.specs.copies.Shares.{starts_from}
 use Rattle.nx_receiver.specs.declared.air_file_runs.listen_fault.ListenFault.{ListenFault}
 use Rattle.nx_receiver.specs.declared.air_file_runs.listening.Report.{Report}
 

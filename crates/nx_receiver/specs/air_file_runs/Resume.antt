@@ -9,8 +9,8 @@ use Rattle.nx_fec.specs.Transfers.{as_read, contents_of, whole_input}
 use Rattle.nx_memory.specs.Saved.{AreSavedStates, SavedStates}
 use Rattle.nx_receiver.specs.air_file_runs.Chain.{HasGoneOn, IsChain, Run, all_logs, files}
 use Rattle.nx_receiver.specs.air_file_runs.Listen.{AnswersListening, AnswersUnlogged, IsLogOf, unknown_contents}
-use Rattle.nx_receiver.specs.laws.ListenOnce.{HasPrintedOnce}
-use Rattle.nx_receiver.specs.copies.Shares.{starts_from}
+use Rattle.nx_receiver.specs.air_file_runs.ListenOnce.{HasPrintedOnce}
+use Rattle.nx_copies.specs.copies.Shares.{starts_from}
 use Rattle.nx_receiver.specs.air_file_runs.State.{BeginsWith, ExplainsState, IsStateBytes, state_bytes}
 use Rattle.nx_receiver.specs.declared.air_file_runs.listen_fault.ListenFault.TheVariants as listen
 use Rattle.nx_receiver.specs.declared.air_file_runs.listening.Report.{Report}

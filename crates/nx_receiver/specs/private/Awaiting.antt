@@ -5,11 +5,11 @@ use Rattle.nx_code.specs.Lists.{last_of}
 use Rattle.nx_envelope.specs.Moment.{last_moment}
 use Rattle.nx_memory.specs.Memory.{most_entries}
 use Rattle.nx_memory.specs.declared.memories.entry.MemoryEntry.{MemoryEntry}
-use Rattle.nx_receiver.specs.Events.{Event, Start, Setting, elements_among, first_setting, settings}
-use Rattle.nx_receiver.specs.Events.{setting_after_all, elements}
-use Rattle.nx_receiver.specs.copies.FoundCopies.{TaggedCopy}
-use Rattle.nx_receiver.specs.copies.Log.{HasPrinted}
-use Rattle.nx_receiver.specs.copies.Printing.{printed_copies, entries_after}
+use Rattle.nx_copies.specs.Events.{Event, Start, Setting, elements_among, first_setting, settings}
+use Rattle.nx_copies.specs.Events.{setting_after_all, elements}
+use Rattle.nx_copies.specs.copies.FoundCopies.{TaggedCopy}
+use Rattle.nx_copies.specs.copies.Log.{HasPrinted}
+use Rattle.nx_copies.specs.copies.Printing.{printed_copies, entries_after}
 use Rattle.nx_receiver.specs.Receiver.{Receiving, Stands}
 use Rattle.nx_receiver.specs.declared.copy_taker.Over.{Over}
 use Rattle.nx_receiver.specs.private.CopyHearer.{IsOver}

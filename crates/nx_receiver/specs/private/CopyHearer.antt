@@ -10,7 +10,6 @@ use Rattle.nx_sync.specs.Locks.{Lock, Now, hunting, locked, IsNow}
 use Rattle.nx_sync.specs.Words.{word_of_lock, first_role, whole_words}
 use Rattle.nx_sync.specs.declared.step.Role.{Role}
 use Rattle.nx_envelope.specs.Copies.{Copy, open_headers}
-use Rattle.nx_envelope.specs.Header.{Header}
 use Rattle.nx_envelope.specs.Finder.{HasReady, is_ready}
 use Rattle.nx_envelope.specs.declared.found.Found.{Found}
 use Rattle.nx_envelope.specs.declared.found.HeldCopy.{HeldCopy}
@@ -20,13 +19,14 @@ use Rattle.nx_memory.specs.Selection.{admits}
 use Rattle.nx_receiver.specs.declared.copy_taker.Over.{Over}
 use Rattle.nx_receiver.specs.declared.copy_taker.Over.TheVariants as over
 use Rattle.nx_receiver.specs.declared.copy_taker.CopyTag.{CopyTag}
-use Rattle.nx_receiver.specs.Events.{Setting}
-use Rattle.nx_receiver.specs.LockReader.{ReadsLock}
-use Rattle.nx_receiver.specs.CopyHearing.{LockReading, CopyHearing, in_force}
-use Rattle.nx_receiver.specs.copies.LockText.{PlacedByte, bytes_of}
-use Rattle.nx_receiver.specs.copies.FoundCopies.{FoundCopy, place_in, ended_in, past_text, past_copies}
-use Rattle.nx_receiver.specs.copies.FoundCopies.{standing_text, ended_so_far, found_to_end, TaggedCopy}
-use Rattle.nx_receiver.specs.copies.FoundCopies.{tag, tagged_found}
+use Rattle.nx_copies.specs.Events.{Setting}
+use Rattle.nx_copies.specs.LockReader.{ReadsLock}
+use Rattle.nx_receiver.specs.CopyHearing.{CopyHearing, in_force}
+use Rattle.nx_copies.specs.LockReader.{LockReading}
+use Rattle.nx_copies.specs.copies.LockText.{PlacedByte, bytes_of}
+use Rattle.nx_copies.specs.copies.FoundCopies.{FoundCopy, place_of_header, ended_in, past_text, past_copies}
+use Rattle.nx_copies.specs.copies.FoundCopies.{standing_text, ended_so_far, found_to_end, TaggedCopy}
+use Rattle.nx_copies.specs.copies.FoundCopies.{tag, tagged_found}
 
 -- what a copy of the identity bears of what is in force at its second digit
 abbrev pub tag_of : Setting → Identity → CopyTag
@@ -41,10 +41,6 @@ setting_in first settings place = slice_index_or settings place first
 unfoldable pub copies_by : Setting → List Setting → List FoundCopy → List TaggedCopy
 copies_by first settings copies =
     map (λ copy. tag (setting_in first settings copy.place) copy) copies
-
--- the place of a header: that of its second digit, the byte before the index behind it
-abbrev pub place_of_header : List PlacedByte → Header → ℕ
-place_of_header text header = place_in text (header.behind - 1)
 
 -- the tag is that of each copy that stands open in the text; there is at most one
 unfoldable pub HasTag : Setting → List Setting → List PlacedByte → CopyTag → Type 0

@@ -13,11 +13,11 @@ use Rattle.nx_envelope.specs.declared.found.TextEvent.TheVariants as events
 use Rattle.nx_receiver.specs.declared.copy_taker.Over.{Over}
 use Rattle.nx_receiver.specs.declared.copy_taker.CopyTag.{CopyTag}
 use Rattle.nx_receiver.specs.declared.copy_taker.CopyTaker.{CopyTaker}
-use Rattle.nx_receiver.specs.Events.{Setting}
+use Rattle.nx_copies.specs.Events.{Setting}
 use Rattle.nx_receiver.specs.CopyHearing.{CopyHearing}
-use Rattle.nx_receiver.specs.LockReader.{ReadsLock}
-use Rattle.nx_receiver.specs.private.LockReader.{IsBrought}
-use Rattle.nx_receiver.specs.copies.LockText.{text_after}
+use Rattle.nx_copies.specs.LockReader.{ReadsLock}
+use Rattle.nx_copies.specs.ReaderWords.{IsBrought}
+use Rattle.nx_copies.specs.copies.LockText.{text_after}
 use Rattle.nx_receiver.specs.private.CopyHearer.{HearsAll, TagGoesOn, over_with, tag_of}
 
 -- what is in force for a taker

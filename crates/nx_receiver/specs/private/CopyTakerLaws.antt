@@ -8,8 +8,8 @@ use Rattle.nx_sync.specs.Synchroniser.{Held}
 use Rattle.nx_receiver.specs.declared.copy_taker.CopyTaker.{CopyTaker}
 use Rattle.nx_receiver.specs.declared.copy_taker.CopyTag.{CopyTag}
 use Rattle.nx_receiver.specs.declared.copy_taker.Over.{Over}
-use Rattle.nx_receiver.specs.Events.{Setting}
-use Rattle.nx_receiver.specs.copies.FoundCopies.{TaggedCopy}
+use Rattle.nx_copies.specs.Events.{Setting}
+use Rattle.nx_copies.specs.copies.FoundCopies.{TaggedCopy}
 use Rattle.nx_receiver.specs.CopyHearing.{CopyHearing, in_force}
 use Rattle.nx_receiver.specs.private.CopyTaker.{Hears, hearer_of}
 use Rattle.nx_receiver.specs.private.CopyHearer.{HasEnded, HearsBits, IsOver, TagGoesOn}

@@ -9,16 +9,17 @@ use Rattle.nx_fec.specs.Transfers.{WroteSome, count_of}
 use Rattle.nx_fec.specs.declared.air_files.channel.Channel.{Channel}
 use Rattle.nx_memory.specs.Selection.{is_vital}
 use Rattle.nx_memory.specs.declared.memories.entry.MemoryEntry.{MemoryEntry}
-use Rattle.nx_receiver.specs.Events as events
-use Rattle.nx_receiver.specs.Events.{Event, Start, elements_among, Refuses}
-use Rattle.nx_receiver.specs.copies.InTurn.{PrintAllToEnd, PrintsInTurn}
+use Rattle.nx_copies.specs.Events as events
+use Rattle.nx_copies.specs.Events.{Event, Start, elements_among}
+use Rattle.nx_receiver.specs.Moments.{Refuses}
+use Rattle.nx_copies.specs.copies.InTurn.{PrintAllToEnd, PrintsInTurn}
 use Rattle.nx_receiver.specs.air_file_runs.Listen.{AreTaken, given_by, has_moment, moment_after}
-use Rattle.nx_receiver.specs.copies.Log.{IsLog}
+use Rattle.nx_copies.specs.copies.Log.{IsLog}
 use Rattle.nx_receiver.specs.Listener.{HearsGiven, Listening, ListeningOver}
 use Rattle.nx_receiver.specs.Listener.{elements_given, receiver_on, starts_of}
 use Rattle.nx_receiver.specs.Receiver.{HandsOutNoneBefore, Stands}
-use Rattle.nx_receiver.specs.copies.Shares.{Given, MarkedCopy, Starts}
-use Rattle.nx_receiver.specs.copies.FoundCopies.{TaggedCopy}
+use Rattle.nx_copies.specs.copies.Shares.{Given, MarkedCopy, Starts}
+use Rattle.nx_copies.specs.copies.FoundCopies.{TaggedCopy}
 use Rattle.nx_receiver.specs.declared.fault.MomentFault.{MomentFault}
 use Rattle.nx_receiver.specs.declared.air_file_runs.listening.Report.{Report}
 use Rattle.nx_receiver.specs.declared.air_file_runs.listen_fault.LineRefusal.{LineRefusal}

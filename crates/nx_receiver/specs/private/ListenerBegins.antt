@@ -3,14 +3,14 @@ use Rattle.std.specs.Prelude.{◌≡◌, ℕ, List, [], refl}
 use Rattle.std.proofs.Common.{◌∙◌, ap, sym, subst, append-nil}
 use Rattle.nx_fec.specs.air_files.AirFile.{Line}
 use Rattle.nx_memory.specs.declared.memories.entry.MemoryEntry.{MemoryEntry}
-use Rattle.nx_receiver.specs.Events.{Event, Setting, Start, first_setting, settings}
-use Rattle.nx_receiver.specs.copies.FoundCopies.{FoundCopy, TaggedCopy, tagged_copies}
-use Rattle.nx_receiver.specs.copies.InTurn.{PrintsInTurn}
+use Rattle.nx_copies.specs.Events.{Event, Setting, Start, first_setting, settings}
+use Rattle.nx_copies.specs.copies.FoundCopies.{FoundCopy, TaggedCopy, tagged_copies}
+use Rattle.nx_copies.specs.copies.InTurn.{PrintsInTurn}
 use Rattle.nx_receiver.specs.air_file_runs.Listen.{given_by}
-use Rattle.nx_receiver.specs.copies.Log.{HasPrinted}
-use Rattle.nx_receiver.specs.copies.Printing.{printed_copies}
+use Rattle.nx_copies.specs.copies.Log.{HasPrinted}
+use Rattle.nx_copies.specs.copies.Printing.{printed_copies}
 use Rattle.nx_receiver.specs.Receiver.{Receiving, Stands}
-use Rattle.nx_receiver.specs.copies.Shares.{Given, Starts}
+use Rattle.nx_copies.specs.copies.Shares.{Given, Starts}
 use Rattle.nx_receiver.specs.private.Listener.{BeginsListening, BeginsLog, HearsLog, IsListening}
 use Rattle.nx_receiver.specs.Listener.{Listening}
 use Rattle.nx_receiver.specs.private.CopyHearer.{copies_by}

@@ -4,7 +4,7 @@ use Rattle.nx_envelope.specs.Moment.{last_moment}
 use Rattle.nx_fec.specs.air_files.AirFile.{Line, moment, elements, refuse_subject}
 use Rattle.nx_memory.specs.Selection.{is_vital}
 use Rattle.nx_receiver.specs.air_file_runs.Listen.{has_moment, moment_after}
-use Rattle.nx_receiver.specs.copies.Shares.{Starts}
+use Rattle.nx_copies.specs.copies.Shares.{Starts}
 
 -- A line is taken after these lines: a moment in range, and not before the one in force; elements
 -- once there was a moment; and no refusal of a vital subject.

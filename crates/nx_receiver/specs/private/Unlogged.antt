@@ -11,7 +11,7 @@ use Rattle.nx_memory.specs.Saved.{SavedStates}
 use Rattle.nx_receiver.specs.air_file_runs.Chain.{HasGoneOn}
 use Rattle.nx_receiver.specs.air_file_runs.Listen.{AnswersUnlogged, unknown_contents}
 use Rattle.nx_receiver.specs.air_file_runs.ListenFrom.{reported}
-use Rattle.nx_receiver.specs.copies.Shares.{Given, Starts, starts_from}
+use Rattle.nx_copies.specs.copies.Shares.{Given, Starts, starts_from}
 use Rattle.nx_receiver.specs.declared.air_file_runs.listen_fault.ListenFault.{ListenFault}
 use Rattle.nx_receiver.specs.declared.air_file_runs.listen_fault.ListenFault.TheVariants.{Read}
 use Rattle.nx_receiver.specs.declared.air_file_runs.listen_fault.LineRefusal.{LineRefusal}

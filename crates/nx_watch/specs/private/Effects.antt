@@ -6,7 +6,7 @@ use Rattle.nx_envelope.specs.Moment.{last_moment}
 use Rattle.nx_fec.specs.air_files.AirFile.{Line, elements, moment, refuse_subject}
 use Rattle.nx_fec.specs.declared.air_files.channel.Channel.{Channel}
 use Rattle.nx_memory.specs.Selection.{is_vital}
-use Rattle.nx_receiver.specs.Events.{Refuses}
+use Rattle.nx_receiver.specs.Moments.{Refuses}
 use Rattle.nx_watch.specs.Acting.{acting_lines, acts, count_without, ends_watch, first_without}
 use Rattle.nx_watch.specs.Acting.{given, in_force, moment_said, moments_behind, went_far_back}
 use Rattle.nx_watch.specs.LineRun.{MayAct}

@@ -8,8 +8,8 @@ use Rattle.nx_kept.specs.declared.disk.DiskFile.{Ghosts as TellsOfDisk}
 use Rattle.nx_log.specs.Logged.{IsLoggedAs}
 use Rattle.nx_receiver.specs.air_file_runs.Listen.{given_by}
 use Rattle.nx_receiver.specs.Listener.{HearsGiven, moment_in_force, starts_of}
-use Rattle.nx_receiver.specs.copies.InTurn.{PrintAllToEnd}
-use Rattle.nx_receiver.specs.copies.Shares.{Given, MarkedCopy, Starts}
+use Rattle.nx_copies.specs.copies.InTurn.{PrintAllToEnd}
+use Rattle.nx_copies.specs.copies.Shares.{Given, MarkedCopy, Starts}
 use Rattle.nx_watch.specs.LineRun.{Standing, WereGiven, force_behind}
 use Rattle.nx_watch.specs.Watch.{AnswersOver, FailsWithin, HasCause, TellsOfCut, WatchDevices}
 use Rattle.nx_watch.specs.declared.kept_log.keeper.Keeper.{Keeper}

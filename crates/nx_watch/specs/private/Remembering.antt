@@ -6,8 +6,8 @@ use Rattle.nx_fec.specs.declared.air_files.channel.Channel.TheVariants.{Zero, On
 use Rattle.nx_log.specs.Logged.{IsLoggedAs, is_kept, kept_entries}
 use Rattle.nx_memory.specs.Memory.{most_entries}
 use Rattle.nx_memory.specs.declared.memories.entry.MemoryEntry.{MemoryEntry}
-use Rattle.nx_receiver.specs.copies.Printing.{entry_of}
-use Rattle.nx_receiver.specs.copies.Shares.{MarkedCopy, copies_on}
+use Rattle.nx_copies.specs.copies.Printing.{entry_of}
+use Rattle.nx_copies.specs.copies.Shares.{MarkedCopy, copies_on}
 use Rattle.nx_watch.specs.declared.kept_log.log_memory.LogMemory.{LogMemory}
 
 -- what is remembered of a channel

@@ -8,7 +8,7 @@ ghost use Rattle.nx_fec.specs.declared.air_files.channel.Channel.{Channel as The
 ghost use Rattle.nx_log.specs.Logged.{IsLoggedAs, remembered_on};
 ghost use Rattle.nx_memory.specs.Memory.{most_entries};
 ghost use Rattle.nx_memory.specs.declared.memories.entry.MemoryEntry.{MemoryEntry as TheEntry};
-ghost use Rattle.nx_receiver.specs.copies.Shares.{MarkedCopy};
+ghost use Rattle.nx_copies.specs.copies.Shares.{MarkedCopy};
 ghost use Rattle.nx_watch.specs.Watch.{all_saved_at};
 ghost use Rattle.nx_watch.specs.private.Remembering.{RemembersMore, entry_found, memory_on};
 

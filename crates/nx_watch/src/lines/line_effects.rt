@@ -3,7 +3,7 @@
 ghost use Rattle.std.specs.Prelude.{◌≡◌, ◌+◌, ◌^◌, ◌<◌, ◌≤◌, ℕ, List, [], ◌∷◌, ◌++◌, Option, Some, None, Err, IsSome, MatchResult, OnOk, true, false};
 ghost use Rattle.nx_fec.specs.air_files.AirFile.{Line, moment};
 ghost use Rattle.nx_fec.specs.air_files.Scanner.{kind_of};
-ghost use Rattle.nx_receiver.specs.Events.{Refuses};
+ghost use Rattle.nx_receiver.specs.Moments.{Refuses};
 ghost use Rattle.nx_watch.specs.declared.lines.line_effects.LineEffects.{LineEffects as TheEffects};
 ghost use Rattle.nx_watch.specs.declared.lines.line_effects.StartMoments.{StartMoments as TheStart};
 ghost use Rattle.nx_watch.specs.Acting.{acts, given, in_force, is_far_back as far_back, moment_said, moments_behind};

@@ -1,11 +1,11 @@
 use Rattle.std.proofs.Common.{rules}
 use Rattle.std.proofs.Common.{Ok, ap, sym, ◌∙◌}
 use Rattle.nx_fec.specs.Transfers.{whole_input}
-use Rattle.nx_receiver.proofs.lemmas.once.Listen.{printed-once}
+use Rattle.nx_receiver.proofs.lemmas.listening.Once.{printed-once}
 use Rattle.nx_receiver.specs.air_file_runs.Chain.{HasGoneOn}
 use Rattle.nx_receiver.specs.air_file_runs.Listen.{AnswersListening}
-use Rattle.nx_receiver.specs.laws.ListenOnce.{HasPrintedOnce}
-use Rattle.nx_receiver.specs.copies.Shares.{starts_from}
+use Rattle.nx_receiver.specs.air_file_runs.ListenOnce.{HasPrintedOnce}
+use Rattle.nx_copies.specs.copies.Shares.{starts_from}
 use Rattle.nx_c.proofs.lemmas.State.{leaves-whole, moved}
 use Rattle.nx_c.proofs.receiving.go_on.Goals as goal
 

@@ -2,10 +2,10 @@ use Rattle.std.proofs.Common.{arith}
 use Rattle.std.proofs.lemmas.Grind.{common_steps}
 use Rattle.std.proofs.Common.{ap, sym, ◌∙◌, subst}
 use Rattle.nx_fec.specs.Transfers.{whole_input}
-use Rattle.nx_receiver.proofs.lemmas.once.Listen.{printed-once}
+use Rattle.nx_receiver.proofs.lemmas.listening.Once.{printed-once}
 use Rattle.nx_receiver.specs.air_file_runs.Listen.{AnswersListening}
-use Rattle.nx_receiver.specs.laws.ListenOnce.{HasPrintedOnce}
-use Rattle.nx_receiver.specs.copies.Shares.{all_at_zero}
+use Rattle.nx_receiver.specs.air_file_runs.ListenOnce.{HasPrintedOnce}
+use Rattle.nx_copies.specs.copies.Shares.{all_at_zero}
 use Rattle.nx_c.proofs.lemmas.State.{moved, told}
 use Rattle.nx_c.proofs.receiving.nx_listen.Goals as goal
 use Rattle.nx_c.proofs.receiving.nx_listen.Goals.{in-Ok, in-Err}

@@ -2,7 +2,7 @@ use Rattle.std.proofs.Common.{◌≡◌, ℕ, ◌+◌, ◌-◌, ◌++◌, ◌∙
 use Rattle.std.proofs.Common.{subst, sym, ap, arith, append-nil, append_assoc, take_all}
 use Rattle.std.proofs.Common.{length-drop}
 use Rattle.std.proofs.lemmas.List.{map-append, take_rest}
-use Rattle.nx_receiver.specs.Events.{Event, element, elements}
+use Rattle.nx_copies.specs.Events.{Event, element, elements}
 use Rattle.nx_receiver.specs.Receiver.{Stands, entry_list}
 use Rattle.nx_receiver.proofs.lemmas.listening.Listener.{elements-next}
 use Rattle.nx_example.proofs.hearing.hear.Goals as goal

@@ -1,7 +1,7 @@
 use Rattle.std.proofs.Common.{◌≡◌, ◌-◌, ◌≤◌, List, ◌++◌, length, take}
-use Rattle.nx_receiver.specs.Events.{Event, Start, elements}
+use Rattle.nx_copies.specs.Events.{Event, Start, elements}
 use Rattle.nx_receiver.specs.Receiver.{Stands}
-use Rattle.nx_receiver.specs.copies.FoundCopies.{TaggedCopy}
+use Rattle.nx_copies.specs.copies.FoundCopies.{TaggedCopy}
 use Rattle.nx_example.proofs.hearing.hear.Given as goal
 
 -- no write has failed, and the receiver stands after the first elements

@@ -1,6 +1,6 @@
-use Rattle.nx_receiver.specs.copies.Shares.{copies_on, share, start_on}
-use Rattle.nx_receiver.proofs.lemmas.channels.Shares.{to_end-on}
-use Rattle.nx_receiver.proofs.lemmas.once.Found.{printed_once}
+use Rattle.nx_copies.specs.copies.Shares.{copies_on, share, start_on}
+use Rattle.nx_copies.proofs.lemmas.channels.Shares.{to_end-on}
+use Rattle.nx_copies.proofs.lemmas.once.Found.{printed_once}
 use Rattle.nx_handle.proofs.laws.a_message_heard_in_a_life_has_one_entry.Goals as goal
 
 pub returns : goal.returns

@@ -1,5 +1,5 @@
 use Rattle.std.proofs.Common.{[], refl}
-use Rattle.nx_receiver.specs.copies.Shares.{starts_from}
+use Rattle.nx_copies.specs.copies.Shares.{starts_from}
 use Rattle.nx_handle.proofs.lemmas.Status.{has-heard}
 use Rattle.nx_handle.proofs.opening.begin.Goals as goal
 

@@ -1,6 +1,6 @@
 use Rattle.std.proofs.Common.{◌≡◌, ◌∙◌, [], ap, subst, sym, None}
-use Rattle.nx_receiver.specs.copies.Shares.{all_at_zero, starts_from}
-use Rattle.nx_receiver.proofs.lemmas.channels.Shares.{from-nothing}
+use Rattle.nx_copies.specs.copies.Shares.{all_at_zero, starts_from}
+use Rattle.nx_copies.proofs.lemmas.channels.Shares.{from-nothing}
 use Rattle.nx_handle.specs.Life.{HasHeard, hearing}
 use Rattle.nx_handle.specs.Opening.{AnswersMoment, AnswersOpening}
 use Rattle.nx_handle.proofs.lemmas.Opening.{opens, opens-not}

@@ -15,13 +15,13 @@ use Rattle.nx_memory.specs.Memory.{most_entries, newest_moment, newest_of, secon
 use Rattle.nx_memory.specs.Saved.{SavedStates, later_of}
 use Rattle.nx_memory.specs.declared.memories.entry.MemoryEntry.{MemoryEntry}
 use Rattle.nx_memory.proofs.lemmas.Content.{content-nil}
-use Rattle.nx_receiver.specs.Events.{first_setting}
-use Rattle.nx_receiver.specs.copies.FoundCopies.{TaggedCopy}
-use Rattle.nx_receiver.specs.copies.Printing.{entries_after, entry_of, printed_copies}
-use Rattle.nx_receiver.specs.copies.Shares.{MarkedCopy, Starts, copies_on, saved_of, starts_from}
-use Rattle.nx_receiver.proofs.lemmas.channels.Shares.{copies_on-append}
+use Rattle.nx_copies.specs.Events.{first_setting}
+use Rattle.nx_copies.specs.copies.FoundCopies.{TaggedCopy}
+use Rattle.nx_copies.specs.copies.Printing.{entries_after, entry_of, printed_copies}
+use Rattle.nx_copies.specs.copies.Shares.{MarkedCopy, Starts, copies_on, saved_of, starts_from}
+use Rattle.nx_copies.proofs.lemmas.channels.Shares.{copies_on-append}
 use Rattle.nx_receiver.proofs.lemmas.chain.Printing.{last_agrees, same_log}
-use Rattle.nx_receiver.proofs.lemmas.receiver.Logged.{printed_copies-append}
+use Rattle.nx_copies.proofs.lemmas.printing.Logged.{printed_copies-append}
 use Rattle.nx_watch.specs.Start.{remembered_at}
 use Rattle.nx_left_on.specs.Chain.{ClocksAreNear, GoesOn, IsChain, Watch, all_copies, all_put}
 use Rattle.nx_left_on.specs.Chain.{copies_in, events_in, lines_of, start_in}

@@ -1,6 +1,6 @@
 -- What the log of a chain of watches stands for.
 use Rattle.std.proofs.Common.{List, [], ◌∷◌, ◌++◌, sym, subst, append-nil, append_assoc}
-use Rattle.nx_receiver.specs.copies.Shares.{MarkedCopy}
+use Rattle.nx_copies.specs.copies.Shares.{MarkedCopy}
 use Rattle.nx_left_on.specs.Chain.{IsChain, Watch, all_put}
 use Rattle.nx_watch.specs.Watch.{StandsForEntries}
 

@@ -12,13 +12,13 @@ use Rattle.nx_fec.specs.declared.air_files.channel.Channel.{Channel}
 use Rattle.nx_log.specs.Logged.{is_kept, kept_entries}
 use Rattle.nx_memory.specs.Memory.{seconds_known}
 use Rattle.nx_memory.specs.declared.memories.entry.MemoryEntry.{MemoryEntry}
-use Rattle.nx_receiver.specs.copies.FoundCopies.{TaggedCopy}
-use Rattle.nx_receiver.specs.copies.Printing.{copies_of, entries_after, entries_made, entry_made, entry_of}
-use Rattle.nx_receiver.specs.copies.Printing.{if_printed, is_good, is_number_00, is_printed, printed_copies}
-use Rattle.nx_receiver.specs.copies.Shares.{MarkedCopy, copies_on}
-use Rattle.nx_receiver.proofs.lemmas.channels.Shares.{copies_on-append}
-use Rattle.nx_receiver.proofs.lemmas.receiver.Judging.{entered, unknown}
-use Rattle.nx_receiver.proofs.lemmas.receiver.Logged.{entries_after-append, printed_copies-append}
+use Rattle.nx_copies.specs.copies.FoundCopies.{TaggedCopy}
+use Rattle.nx_copies.specs.copies.Printing.{copies_of, entries_after, entries_made, entry_made, entry_of}
+use Rattle.nx_copies.specs.copies.Printing.{if_printed, is_good, is_number_00, is_printed, printed_copies}
+use Rattle.nx_copies.specs.copies.Shares.{MarkedCopy, copies_on}
+use Rattle.nx_copies.proofs.lemmas.channels.Shares.{copies_on-append}
+use Rattle.nx_copies.proofs.lemmas.printing.Judging.{entered, unknown}
+use Rattle.nx_copies.proofs.lemmas.printing.Logged.{entries_after-append, printed_copies-append}
 use Rattle.nx_left_on.specs.Chain.{ClocksAreNear, IsChain, Watch, all_copies, all_put}
 use Rattle.nx_left_on.specs.LeftOn.{AreFewOver, IsUnknownOver, JudgedCopy, made_before}
 use Rattle.nx_left_on.proofs.lemmas.chains.Chains.{entries-append, entries_on, kept-append, watch-climbs}

@@ -6,17 +6,17 @@ use Rattle.std.specs.List.{All}
 use Rattle.std.proofs.lemmas.List.Elements.{All-append, All-nil}
 use Rattle.std.proofs.lemmas.List.Elements.{All-weaker}
 use Rattle.nx_code.specs.Lists.{Begins}
-use Rattle.nx_receiver.specs.Events.{Event, Setting, elements_among}
-use Rattle.nx_receiver.specs.copies.FoundCopies.{FoundCopy, ended_so_far}
-use Rattle.nx_receiver.specs.copies.FoundCopies.{found_to_end, open_in, open_so_far}
-use Rattle.nx_receiver.specs.copies.FoundCopies.{tagged_copies}
-use Rattle.nx_receiver.specs.copies.LockText.{lock_text}
-use Rattle.nx_receiver.proofs.lemmas.locks.Found.{IsByteIn, IsCopyIn, one_told, open_in_placed}
-use Rattle.nx_receiver.proofs.lemmas.locks.Found.{text_placed}
-use Rattle.nx_receiver.proofs.lemmas.locks.Growing.{ended_go_on, whole_heard}
-use Rattle.nx_receiver.proofs.lemmas.emissions.Places.{found_rise}
-use Rattle.nx_receiver.proofs.lemmas.receiver.Logged.{bits_of-append, end_adds, ended_placed}
-use Rattle.nx_receiver.proofs.lemmas.receiver.Logged.{tagged_copies-append}
+use Rattle.nx_copies.specs.Events.{Event, Setting, elements_among}
+use Rattle.nx_copies.specs.copies.FoundCopies.{FoundCopy, ended_so_far}
+use Rattle.nx_copies.specs.copies.FoundCopies.{found_to_end, open_in, open_so_far}
+use Rattle.nx_copies.specs.copies.FoundCopies.{tagged_copies}
+use Rattle.nx_copies.specs.copies.LockText.{lock_text}
+use Rattle.nx_copies.proofs.lemmas.locks.Found.{IsByteIn, IsCopyIn, one_told, open_in_placed}
+use Rattle.nx_copies.proofs.lemmas.locks.Found.{text_placed}
+use Rattle.nx_copies.proofs.lemmas.locks.Growing.{ended_go_on, whole_heard}
+use Rattle.nx_copies.proofs.lemmas.emissions.Places.{found_rise}
+use Rattle.nx_copies.proofs.lemmas.printing.Logged.{bits_of-append, end_adds, ended_placed}
+use Rattle.nx_copies.proofs.lemmas.printing.Logged.{tagged_copies-append}
 use Rattle.nx_sync.proofs.lemmas.states.StateChanges.{standing_after}
 use Rattle.nx_sync.specs.Locks.{IsNow, Lock, Now, hunting, locked}
 use Rattle.nx_sync.specs.Words.{first_role, whole_words, word_of_lock}

@@ -10,12 +10,12 @@ use Rattle.nx_fec.specs.air_files.AirFile.{refuse_station, refuse_subject}
 use Rattle.nx_envelope.specs.Moment.{last_moment}
 use Rattle.nx_fec.specs.declared.air_files.channel.Channel.{Channel}
 use Rattle.nx_receiver.specs.air_file_runs.Listen.{given_by, given_of}
-use Rattle.nx_receiver.specs.copies.FoundCopies.{FoundCopy}
-use Rattle.nx_receiver.specs.copies.InTurn.{PrintsInTurn}
-use Rattle.nx_receiver.specs.copies.Shares.{MarkedCopy, Starts}
-use Rattle.nx_receiver.proofs.lemmas.channels.Added.{nothing-given}
-use Rattle.nx_receiver.proofs.lemmas.channels.One.{one-in_turn}
-use Rattle.nx_receiver.proofs.lemmas.channels.Some.{later-some}
+use Rattle.nx_copies.specs.copies.FoundCopies.{FoundCopy}
+use Rattle.nx_copies.specs.copies.InTurn.{PrintsInTurn}
+use Rattle.nx_copies.specs.copies.Shares.{MarkedCopy, Starts}
+use Rattle.nx_copies.proofs.lemmas.channels.Added.{nothing-given}
+use Rattle.nx_copies.proofs.lemmas.channels.One.{one-in_turn}
+use Rattle.nx_copies.proofs.lemmas.channels.Some.{later-some}
 use Rattle.nx_watch.specs.Acting.{acting_behind, acting_lines, acts, moment_said, moments_said}
 use Rattle.nx_watch.specs.Acting.{with_start}
 use Rattle.nx_watch.specs.declared.lines.line_effects.StartMoments.{StartMoments}

@@ -13,10 +13,10 @@ use Rattle.nx_envelope.proofs.lemmas.headers.Identities.{same_identity-true, sam
 use Rattle.nx_fec.specs.declared.air_files.channel.Channel.{Channel}
 use Rattle.nx_memory.specs.Memory.{most_entries, seconds_known}
 use Rattle.nx_memory.specs.declared.memories.entry.MemoryEntry.{MemoryEntry}
-use Rattle.nx_receiver.specs.copies.FoundCopies.{TaggedCopy}
-use Rattle.nx_receiver.specs.copies.Printing.{copies_of, entries_made, entry_of, printed_copies}
-use Rattle.nx_receiver.specs.copies.Shares.{MarkedCopy, copies_on}
-use Rattle.nx_receiver.proofs.lemmas.channels.Shares.{copies_on-append}
+use Rattle.nx_copies.specs.copies.FoundCopies.{TaggedCopy}
+use Rattle.nx_copies.specs.copies.Printing.{copies_of, entries_made, entry_of, printed_copies}
+use Rattle.nx_copies.specs.copies.Shares.{MarkedCopy, copies_on}
+use Rattle.nx_copies.proofs.lemmas.channels.Shares.{copies_on-append}
 use Rattle.nx_left_on.specs.Chain.{ClocksAreNear, IsChain, Watch, all_copies, all_put}
 use Rattle.nx_left_on.specs.Chain.{copies_in}
 use Rattle.nx_left_on.specs.LeftOn.{AreFewOver, JudgedCopy, made_before}

@@ -6,11 +6,11 @@ use Rattle.std.proofs.lemmas.List.Concat.{flat_map-append}
 use Rattle.std.proofs.lemmas.List.Elements.{All-cons, All-head, All-nil, All-tail, filter-append}
 use Rattle.nx_envelope.specs.declared.identity.Identity.{Identity}
 use Rattle.nx_fec.specs.declared.air_files.channel.Channel.{Channel}
-use Rattle.nx_receiver.specs.copies.FoundCopies.{TaggedCopy}
-use Rattle.nx_receiver.specs.copies.Printing.{copies_of}
-use Rattle.nx_receiver.specs.copies.Shares.{MarkedCopy, copies_on}
-use Rattle.nx_receiver.proofs.lemmas.channels.Shares.{copies_on-append}
-use Rattle.nx_receiver.proofs.lemmas.once.Repeats.{split}
+use Rattle.nx_copies.specs.copies.FoundCopies.{TaggedCopy}
+use Rattle.nx_copies.specs.copies.Printing.{copies_of}
+use Rattle.nx_copies.specs.copies.Shares.{MarkedCopy, copies_on}
+use Rattle.nx_copies.proofs.lemmas.channels.Shares.{copies_on-append}
+use Rattle.nx_copies.proofs.lemmas.once.Repeats.{split}
 use Rattle.nx_left_on.specs.Chain.{ClocksAreNear, IsChain, Watch, all_copies, all_put, copies_in}
 use Rattle.nx_left_on.specs.LeftOn.{JudgedCopy, judged_before}
 use Rattle.nx_left_on.proofs.lemmas.entries.Keeping.{bears, none-printed}

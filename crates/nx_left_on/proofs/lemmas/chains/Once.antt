@@ -21,22 +21,22 @@ use Rattle.nx_memory.specs.declared.memories.entry.MemoryEntry.{MemoryEntry}
 use Rattle.nx_station.specs.reception.Sendings.{IsCut, IsSentAt, Part, Sending}
 use Rattle.nx_sync.specs.Locks.{IsNow}
 use Rattle.nx_sync.proofs.lemmas.states.StateChanges.{standing_after}
-use Rattle.nx_receiver.specs.laws.Emissions.{copies_at, copy_of_sending}
-use Rattle.nx_receiver.specs.Events.{Event, elements_among}
-use Rattle.nx_receiver.specs.copies.FoundCopies.{FoundCopy, TaggedCopy, ended_so_far, found_to_end, tag}
-use Rattle.nx_receiver.specs.copies.FoundCopies.{tagged_copies}
+use Rattle.nx_copies.specs.laws.Emissions.{copies_at, copy_of_sending}
+use Rattle.nx_copies.specs.Events.{Event, elements_among}
+use Rattle.nx_copies.specs.copies.FoundCopies.{FoundCopy, TaggedCopy, ended_so_far, found_to_end, tag}
+use Rattle.nx_copies.specs.copies.FoundCopies.{tagged_copies}
 use Rattle.nx_receiver.specs.air_file_runs.Listen.{events_on}
-use Rattle.nx_receiver.specs.laws.Once.{IsPrintedOnce}
-use Rattle.nx_receiver.specs.copies.Printing.{copies_of, entries_after, entries_made, is_good}
-use Rattle.nx_receiver.specs.copies.Printing.{printed_copies}
-use Rattle.nx_receiver.specs.copies.Shares.{MarkedCopy, copies_on}
-use Rattle.nx_receiver.proofs.lemmas.emissions.Found.{one_ended, sending_errors, sending_found}
-use Rattle.nx_receiver.proofs.lemmas.emissions.Places.{found_rise}
-use Rattle.nx_receiver.proofs.lemmas.locks.Found.{IsCopyIn}
-use Rattle.nx_receiver.proofs.lemmas.locks.Growing.{ended_go_on}
-use Rattle.nx_receiver.proofs.lemmas.once.Found.{contains_filter, has_first, no_errors-good}
-use Rattle.nx_receiver.proofs.lemmas.once.Rising.{contains_map, one_of_key}
-use Rattle.nx_receiver.proofs.lemmas.receiver.Logged.{ended_placed}
+use Rattle.nx_copies.specs.laws.Once.{IsPrintedOnce}
+use Rattle.nx_copies.specs.copies.Printing.{copies_of, entries_after, entries_made, is_good}
+use Rattle.nx_copies.specs.copies.Printing.{printed_copies}
+use Rattle.nx_copies.specs.copies.Shares.{MarkedCopy, copies_on}
+use Rattle.nx_copies.proofs.lemmas.emissions.Found.{one_ended, sending_errors, sending_found}
+use Rattle.nx_copies.proofs.lemmas.emissions.Places.{found_rise}
+use Rattle.nx_copies.proofs.lemmas.locks.Found.{IsCopyIn}
+use Rattle.nx_copies.proofs.lemmas.locks.Growing.{ended_go_on}
+use Rattle.nx_copies.proofs.lemmas.once.Found.{contains_filter, has_first, no_errors-good}
+use Rattle.nx_copies.proofs.lemmas.once.Rising.{contains_map, one_of_key}
+use Rattle.nx_copies.proofs.lemmas.printing.Logged.{ended_placed}
 use Rattle.nx_watch.specs.Start.{is_in_order, is_last_known, is_near, passing}
 use Rattle.nx_watch.proofs.lemmas.log.Start.{All-passing}
 use Rattle.nx_left_on.specs.Chain.{ClocksAreNear, HadEnded, IsChain, Judges, Watch}

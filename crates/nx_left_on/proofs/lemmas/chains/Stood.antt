@@ -16,9 +16,9 @@ use Rattle.nx_fec.specs.air_files.AirFile.{Line, accept_station, accept_subject,
 use Rattle.nx_fec.specs.air_files.AirFile.{refuse_station, refuse_subject}
 use Rattle.nx_fec.specs.Transfers.{CountedDevice, IsReadOut}
 use Rattle.nx_receiver.specs.air_file_runs.Listen.{given_by}
-use Rattle.nx_receiver.specs.copies.InTurn.{PrintsInTurn}
-use Rattle.nx_receiver.specs.copies.Shares.{MarkedCopy}
-use Rattle.nx_receiver.proofs.lemmas.channels.Added.{nothing-given}
+use Rattle.nx_copies.specs.copies.InTurn.{PrintsInTurn}
+use Rattle.nx_copies.specs.copies.Shares.{MarkedCopy}
+use Rattle.nx_copies.proofs.lemmas.channels.Added.{nothing-given}
 use Rattle.nx_watch.specs.Acting.{ends_watch, goes_on, goes_on_behind, moment_said, moments_behind}
 use Rattle.nx_watch.specs.Acting.{moments_said, with_start}
 use Rattle.nx_watch.specs.AnyLines.{AreLines, cut_line, ended}

@@ -9,13 +9,13 @@ use Rattle.nx_fec.specs.air_files.AirFile.{Line, accept_station, accept_subject,
 use Rattle.nx_fec.specs.air_files.AirFile.{refuse_station, refuse_subject}
 use Rattle.nx_fec.specs.air_files.Channels.{channel_of, same_channel}
 use Rattle.nx_fec.specs.declared.air_files.channel.Channel.{Channel}
-use Rattle.nx_receiver.specs.Events as fed
-use Rattle.nx_receiver.specs.Events.{Event, Setting, at_moment, command, element, elements_among}
-use Rattle.nx_receiver.specs.Events.{setting_after, setting_at, settings}
-use Rattle.nx_receiver.specs.copies.FoundCopies.{FoundCopy, TaggedCopy, tag, tagged_copies}
+use Rattle.nx_copies.specs.Events as fed
+use Rattle.nx_copies.specs.Events.{Event, Setting, at_moment, command, element, elements_among}
+use Rattle.nx_copies.specs.Events.{setting_after, setting_at, settings}
+use Rattle.nx_copies.specs.copies.FoundCopies.{FoundCopy, TaggedCopy, tag, tagged_copies}
 use Rattle.nx_receiver.specs.air_file_runs.Listen.{events_on}
-use Rattle.nx_receiver.proofs.lemmas.once.Rising.{Above, Rises}
-use Rattle.nx_receiver.proofs.lemmas.receiver.Logged.{length-settings}
+use Rattle.nx_copies.proofs.lemmas.once.Rising.{Above, Rises}
+use Rattle.nx_copies.proofs.lemmas.printing.Logged.{length-settings}
 use Rattle.nx_watch.specs.Acting.{in_force, moments_said}
 use Rattle.nx_watch.specs.LineRun.{MayAct, force_behind}
 

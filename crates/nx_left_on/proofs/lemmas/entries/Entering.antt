@@ -7,10 +7,10 @@ use Rattle.nx_memory.specs.Content.{IsContent}
 use Rattle.nx_memory.specs.Memory.{content_after, most_entries, newest_moment}
 use Rattle.nx_memory.specs.declared.memories.entry.MemoryEntry.{MemoryEntry}
 use Rattle.nx_memory.proofs.lemmas.Content.{content_after-IsContent}
-use Rattle.nx_receiver.specs.copies.FoundCopies.{TaggedCopy}
-use Rattle.nx_receiver.specs.copies.Printing.{entries_after, entries_made, entry_made, entry_of, is_entered}
-use Rattle.nx_receiver.specs.copies.Printing.{is_good, is_number_00, is_printed, is_remembered}
-use Rattle.nx_receiver.proofs.lemmas.receiver.Judging.{content_grows, newest_is_last}
+use Rattle.nx_copies.specs.copies.FoundCopies.{TaggedCopy}
+use Rattle.nx_copies.specs.copies.Printing.{entries_after, entries_made, entry_made, entry_of, is_entered}
+use Rattle.nx_copies.specs.copies.Printing.{is_good, is_number_00, is_printed, is_remembered}
+use Rattle.nx_copies.proofs.lemmas.printing.Judging.{content_grows, newest_is_last}
 use Rattle.nx_left_on.proofs.lemmas.entries.Climbing.{Climbs}
 
 -- the last of the entries are what a memory can hold, and none is later than this moment

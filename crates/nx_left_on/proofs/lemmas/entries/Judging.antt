@@ -6,17 +6,17 @@ use Rattle.nx_code.specs.Lists.{Begins}
 use Rattle.nx_fec.specs.air_files.AirFile.{Line}
 use Rattle.nx_fec.specs.declared.air_files.channel.Channel.{Channel}
 use Rattle.nx_memory.specs.declared.memories.entry.MemoryEntry.{MemoryEntry}
-use Rattle.nx_receiver.specs.Events.{Event, Setting, Start, elements_among, first_setting, setting_at}
-use Rattle.nx_receiver.specs.copies.FoundCopies.{FoundCopy, TaggedCopy, ended_so_far, found_to_end, tag}
-use Rattle.nx_receiver.specs.copies.FoundCopies.{tagged_copies}
+use Rattle.nx_copies.specs.Events.{Event, Setting, Start, elements_among, first_setting, setting_at}
+use Rattle.nx_copies.specs.copies.FoundCopies.{FoundCopy, TaggedCopy, ended_so_far, found_to_end, tag}
+use Rattle.nx_copies.specs.copies.FoundCopies.{tagged_copies}
 use Rattle.nx_receiver.specs.air_file_runs.Listen.{events_on, given_by, given_of}
-use Rattle.nx_receiver.specs.copies.Log.{printed_of}
-use Rattle.nx_receiver.specs.copies.Printing.{entries_after, entry_made, if_printed, is_printed}
-use Rattle.nx_receiver.specs.copies.Printing.{printed_copies}
-use Rattle.nx_receiver.specs.copies.Shares.{MarkedCopy, Starts, copies_on, share, start_on}
-use Rattle.nx_receiver.proofs.lemmas.channels.Shares.{copies_on-append, share-append, to_end-on}
-use Rattle.nx_receiver.proofs.lemmas.receiver.Logged.{ended_placed, printed_copies-append}
-use Rattle.nx_receiver.proofs.lemmas.receiver.Logged.{tagged_copies-more}
+use Rattle.nx_copies.specs.copies.Log.{printed_of}
+use Rattle.nx_copies.specs.copies.Printing.{entries_after, entry_made, if_printed, is_printed}
+use Rattle.nx_copies.specs.copies.Printing.{printed_copies}
+use Rattle.nx_copies.specs.copies.Shares.{MarkedCopy, Starts, copies_on, share, start_on}
+use Rattle.nx_copies.proofs.lemmas.channels.Shares.{copies_on-append, share-append, to_end-on}
+use Rattle.nx_copies.proofs.lemmas.printing.Logged.{ended_placed, printed_copies-append}
+use Rattle.nx_copies.proofs.lemmas.printing.Logged.{tagged_copies-more}
 use Rattle.nx_left_on.specs.Chain.{AreFoundOf, Ending, GoesOn, HadEnded, PrintOf, Puts}
 use Rattle.nx_left_on.specs.Chain.{Watch, answered, events_in, lines_of, start_in, stopped}
 use Rattle.nx_left_on.specs.Chain.{stopped_closing, with_copies}

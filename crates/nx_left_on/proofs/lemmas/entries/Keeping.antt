@@ -13,10 +13,10 @@ use Rattle.nx_memory.specs.Memory.{IsLive, most_entries, seconds_known}
 use Rattle.nx_memory.specs.declared.memories.entry.MemoryEntry.{MemoryEntry}
 use Rattle.nx_memory.proofs.lemmas.Known.{known_from_live}
 use Rattle.nx_log.specs.Logged.{is_kept, kept_entries}
-use Rattle.nx_receiver.specs.copies.FoundCopies.{TaggedCopy}
-use Rattle.nx_receiver.specs.copies.Printing.{copies_of, entries_made, entry_made, entry_of, if_printed}
-use Rattle.nx_receiver.specs.copies.Printing.{is_number_00, is_printed, printed_copies}
-use Rattle.nx_receiver.proofs.lemmas.receiver.Judging.{remembered}
+use Rattle.nx_copies.specs.copies.FoundCopies.{TaggedCopy}
+use Rattle.nx_copies.specs.copies.Printing.{copies_of, entries_made, entry_made, entry_of, if_printed}
+use Rattle.nx_copies.specs.copies.Printing.{is_number_00, is_printed, printed_copies}
+use Rattle.nx_copies.proofs.lemmas.printing.Judging.{remembered}
 use Rattle.nx_left_on.proofs.lemmas.entries.Climbing.{Climbs}
 
 abbrev pub bears : Identity → TaggedCopy → Bool

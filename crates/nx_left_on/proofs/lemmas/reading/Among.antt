@@ -13,7 +13,7 @@ use Rattle.nx_log.proofs.lemmas.reading.Brackets.{entry_bracket}
 use Rattle.nx_log.proofs.lemmas.reading.Entries.{one_entry}
 use Rattle.nx_log.proofs.lemmas.reading.Gaps.{begins}
 use Rattle.nx_log.proofs.lemmas.reading.Parts.{none_there, same_head}
-use Rattle.nx_receiver.specs.copies.Shares.{MarkedCopy}
+use Rattle.nx_copies.specs.copies.Shares.{MarkedCopy}
 use Rattle.nx_watch.specs.CutTold.{BeginsWithEntry}
 use Rattle.nx_watch.specs.Watch.{StandsForEntries}
 use Rattle.nx_left_on.specs.ReadBack.{AreEntriesAmong, AreThenThoseOfTail}

@@ -7,7 +7,7 @@ use Rattle.nx_log.specs.Logged.{IsLoggedAs}
 use Rattle.nx_log.specs.Reading.{Head, HoldEntriesToEnd, IsBlank, IsNoBracket, IsPart, IsTail, begun, is_begun, is_first, nothing, reach_behind, torn_line, whole}
 use Rattle.nx_log.proofs.lemmas.reader.Steps.{are_read, with_part}
 use Rattle.nx_log.proofs.lemmas.reading.Brackets.{entry_bracket}
-use Rattle.nx_receiver.specs.copies.Shares.{MarkedCopy}
+use Rattle.nx_copies.specs.copies.Shares.{MarkedCopy}
 use Rattle.nx_left_on.specs.ReadBack.{IsAsPut, all_of}
 use Rattle.nx_left_on.proofs.lemmas.reading.Rests.{IsSpace, Rests, blanks_of, head_more, part_more, reach_most, rest_space, rests_first}
 

@@ -12,7 +12,7 @@ use Rattle.nx_log.specs.Reading.{AreRead, Head, IsBlank, IsGap, IsHead, IsLonges
 use Rattle.nx_log.proofs.lemmas.reader.Begun.{bracket_begins}
 use Rattle.nx_log.proofs.lemmas.reader.Tails.{reach_append}
 use Rattle.nx_log.proofs.lemmas.reading.Fronts.{front_is_log}
-use Rattle.nx_receiver.specs.copies.Shares.{MarkedCopy}
+use Rattle.nx_copies.specs.copies.Shares.{MarkedCopy}
 use Rattle.nx_watch.specs.Watch.{StandsForEntries}
 use Rattle.nx_left_on.proofs.lemmas.reading.Rests.{Closed, Rests, blanks_of, close, head_more, part_more, reach_least, reach_most, reach_space, rest_closed, rest_gate, rest_kept, rest_space, rests_first}
 

@@ -13,7 +13,7 @@ use Rattle.nx_log.proofs.lemmas.reader.Steps.{are_read, with_part}
 use Rattle.nx_log.proofs.lemmas.reader.Tails.{all_last, reach_append}
 use Rattle.nx_log.proofs.lemmas.reading.Brackets.{entry_bracket}
 use Rattle.nx_log.proofs.lemmas.reading.Fronts.{Ended, ended}
-use Rattle.nx_receiver.specs.copies.Shares.{MarkedCopy}
+use Rattle.nx_copies.specs.copies.Shares.{MarkedCopy}
 use Rattle.nx_watch.specs.Watch.{RestsWithEntries}
 use Rattle.nx_left_on.specs.ReadBack.{all_of}
 

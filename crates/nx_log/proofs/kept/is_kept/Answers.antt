@@ -4,7 +4,7 @@ use Rattle.nx_log.proofs.lemmas.texts.QueryTexts.{last-known, none-before}
 use Rattle.nx_log.proofs.kept.is_kept.Goals as goal
 use Rattle.nx_log.specs.Logged.{is_kept}
 use Rattle.nx_log.specs.View.{copy_said}
-use Rattle.nx_receiver.specs.copies.Printing.{is_good}
+use Rattle.nx_copies.specs.copies.Printing.{is_good}
 
 pub returns-then-is_good : goal.returns-then-is_good
 unfolding is_kept

@@ -3,7 +3,7 @@ use Rattle.nx_log.proofs.lemmas.texts.QueryTexts.{kept-none, kept-some}
 use Rattle.nx_log.proofs.kept.remembered_of.Goals as goal
 use Rattle.nx_log.specs.Logged.{is_kept}
 use Rattle.nx_log.specs.View.{copy_said}
-use Rattle.nx_receiver.specs.copies.Printing.{entry_of}
+use Rattle.nx_copies.specs.copies.Printing.{entry_of}
 
 pub returns-then-is_kept : goal.returns-then-is_kept
 returns-then-is_kept c = λ bytes v.

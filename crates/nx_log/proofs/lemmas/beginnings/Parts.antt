@@ -16,7 +16,7 @@ use Rattle.nx_envelope.specs.declared.identity.Identity.{Identity}
 use Rattle.nx_envelope.specs.declared.letter.Letter.{Letter}
 use Rattle.nx_fec.specs.declared.air_files.channel.Channel.{Channel}
 use Rattle.nx_fec.specs.declared.air_files.channel.Channel.TheVariants.{Zero, One, Two}
-use Rattle.nx_receiver.specs.copies.Log.{channel_mark, how_name}
+use Rattle.nx_copies.specs.copies.Log.{channel_mark, how_name}
 use Rattle.nx_log.specs.private.Stages.{IsCount, IsEnd, IsMark, IsName, IsPartOf, IsTextOf, IsTime, ShowsSome}
 use Rattle.nx_log.proofs.lemmas.beginnings.Dates.{completed_time, first_ending, second_ending}
 use Rattle.nx_log.proofs.lemmas.beginnings.Lists.{Extends, ends_with_one, part_of_longer, some_elements, no_elements}

@@ -16,7 +16,7 @@ use Rattle.nx_envelope.specs.declared.identity.Identity.{Identity}
 use Rattle.nx_envelope.specs.declared.letter.Letter.{Letter}
 use Rattle.nx_fec.specs.declared.air_files.channel.Channel.{Channel}
 use Rattle.nx_fec.specs.declared.air_files.channel.Channel.TheVariants.{Zero}
-use Rattle.nx_receiver.specs.copies.Log.{channel_mark, how_name, missing_newline}
+use Rattle.nx_copies.specs.copies.Log.{channel_mark, how_name, missing_newline}
 use Rattle.nx_log.specs.Logged.{is_text_byte}
 use Rattle.nx_log.specs.private.Stages.{CanBe, FromCharacters, FromEnd, FromErrors, FromMark, FromName, FromNewline, FromText, FromTime, IsBehindText, IsCount, IsEnd, IsMark, IsName, IsNewline, IsPartOf, IsTextOf, IsTime}
 use Rattle.nx_log.proofs.lemmas.texts.Moments.{same_time}

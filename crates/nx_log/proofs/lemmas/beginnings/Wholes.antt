@@ -6,8 +6,8 @@ use Rattle.nx_code.specs.Reading.{asterisk}
 use Rattle.std.proofs.lemmas.List.{take-append-drop}
 use Rattle.nx_code.specs.Reading.{newline}
 use Rattle.nx_envelope.specs.Identity.{identity_bytes}
-use Rattle.nx_receiver.specs.copies.Log.{channel_mark, how_name, missing_newline}
-use Rattle.nx_receiver.specs.copies.Shares.{MarkedCopy}
+use Rattle.nx_copies.specs.copies.Log.{channel_mark, how_name, missing_newline}
+use Rattle.nx_copies.specs.copies.Shares.{MarkedCopy}
 use Rattle.nx_log.specs.Entries.{IsWholeEntry, IsUnfinishedEntry}
 use Rattle.nx_log.specs.Logged.{IsLoggedAs}
 use Rattle.nx_log.specs.View.{copy_said}

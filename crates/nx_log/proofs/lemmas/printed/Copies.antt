@@ -10,8 +10,8 @@ use Rattle.nx_envelope.specs.Header.{Header}
 use Rattle.nx_code.specs.Reading.{newline}
 use Rattle.nx_envelope.proofs.lemmas.copies.Endings.{ended_both, open_both}
 use Rattle.nx_sync.specs.Locks.{Lock, Now, hunting, locked}
-use Rattle.nx_receiver.specs.copies.FoundCopies.{FoundCopy, all_in, ended_in, ended_so_far, found_copy, found_to_end, past_copies, past_text, standing_text}
-use Rattle.nx_receiver.specs.copies.LockText.{PlacedByte, bytes_of}
+use Rattle.nx_copies.specs.copies.FoundCopies.{FoundCopy, all_in, ended_in, ended_so_far, found_copy, found_to_end, past_copies, past_text, standing_text}
+use Rattle.nx_copies.specs.copies.LockText.{PlacedByte, bytes_of}
 use Rattle.nx_log.proofs.lemmas.printed.Texts.{IsTextByte, lock_text_is}
 
 -- a text of a logged entry

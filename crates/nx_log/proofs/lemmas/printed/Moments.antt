@@ -10,18 +10,18 @@ use Rattle.nx_fec.specs.air_files.AirFile.{refuse_subject, accept_subject}
 use Rattle.nx_fec.specs.air_files.Channels.{channel_of, same_channel}
 use Rattle.nx_fec.specs.declared.air_files.channel.Channel.{Channel}
 use Rattle.nx_memory.specs.declared.memories.entry.MemoryEntry.{MemoryEntry}
-use Rattle.nx_receiver.specs.Events as fed
-use Rattle.nx_receiver.specs.Events.{Event, Setting, Start, at_moment, command, element, elements_among, first_setting, setting_after, settings}
-use Rattle.nx_receiver.specs.copies.FoundCopies.{FoundCopy, TaggedCopy, tag, tagged_copies}
-use Rattle.nx_receiver.specs.copies.InTurn.{HavePrinted, PrintAllToEnd}
+use Rattle.nx_copies.specs.Events as fed
+use Rattle.nx_copies.specs.Events.{Event, Setting, Start, at_moment, command, element, elements_among, first_setting, setting_after, settings}
+use Rattle.nx_copies.specs.copies.FoundCopies.{FoundCopy, TaggedCopy, tag, tagged_copies}
+use Rattle.nx_copies.specs.copies.InTurn.{HavePrinted, PrintAllToEnd}
 use Rattle.nx_receiver.specs.air_file_runs.Listen.{AreTaken, events_on, given_by, given_of}
-use Rattle.nx_receiver.specs.copies.Log.{printed_of}
-use Rattle.nx_receiver.specs.copies.Printing.{entry_made, if_printed, is_number_00, is_printed, is_remembered, printed_copies}
-use Rattle.nx_receiver.specs.copies.Shares.{Given, MarkedCopy, Starts, copies_on, events_for, share, start_on}
+use Rattle.nx_copies.specs.copies.Log.{printed_of}
+use Rattle.nx_copies.specs.copies.Printing.{entry_made, if_printed, is_number_00, is_printed, is_remembered, printed_copies}
+use Rattle.nx_copies.specs.copies.Shares.{Given, MarkedCopy, Starts, copies_on, events_for, share, start_on}
 use Rattle.nx_receiver.specs.private.Taken.{AreTakenAfter, IsTakenAfter}
-use Rattle.nx_receiver.proofs.lemmas.channels.Shares.{to_end-on}
+use Rattle.nx_copies.proofs.lemmas.channels.Shares.{to_end-on}
 use Rattle.nx_receiver.proofs.lemmas.listening.Taken.{taken-each}
-use Rattle.nx_receiver.proofs.lemmas.channels.Marked.{all-on}
+use Rattle.nx_copies.proofs.lemmas.channels.Marked.{all-on}
 use Rattle.nx_log.specs.Logged.{IsLogged}
 use Rattle.nx_log.proofs.lemmas.printed.Copies.{IsFoundText, IsGoodFound, ended_so_far_are, found_to_end_are}
 

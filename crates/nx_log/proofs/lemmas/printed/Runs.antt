@@ -5,7 +5,7 @@ use Rattle.nx_fec.specs.Transfers.{Contents, Extent}
 use Rattle.nx_fec.specs.air_files.AirFile.{Line}
 use Rattle.nx_receiver.specs.air_file_runs.Listen.{AnswersListening, HasLogged, IsLogOfFile, IsLogOfLines}
 use Rattle.nx_receiver.specs.air_file_runs.Resume.{AnswersResuming}
-use Rattle.nx_receiver.specs.copies.Shares.{MarkedCopy, Starts, starts_from}
+use Rattle.nx_copies.specs.copies.Shares.{MarkedCopy, Starts, starts_from}
 use Rattle.nx_receiver.specs.declared.air_file_runs.listen_fault.ListenFault.{ListenFault}
 use Rattle.nx_receiver.specs.declared.air_file_runs.listen_fault.ListenFault.TheVariants.{Memory, Read, Write, AirTooLong, LineLong, LineCut, BadLine, NoMoment, Moment, Vital}
 use Rattle.nx_receiver.specs.declared.air_file_runs.listening.Report.{Report}

@@ -11,8 +11,8 @@ use Rattle.nx_code.specs.Table.{row_of, table}
 use Rattle.nx_code.specs.declared.shifts.Shift.{Shift}
 use Rattle.nx_code.specs.declared.shifts.Shift.TheVariants.{Letters}
 use Rattle.nx_code.proofs.lemmas.Character.{in_code-printed}
-use Rattle.nx_receiver.specs.copies.LockText.{bytes_of, lock_text, positions}
-use Rattle.nx_receiver.proofs.lemmas.locks.Texts.{bytes_are_reading}
+use Rattle.nx_copies.specs.copies.LockText.{bytes_of, lock_text, positions}
+use Rattle.nx_copies.proofs.lemmas.locks.Texts.{bytes_are_reading}
 use Rattle.nx_sync.specs.Words.{word_of_lock, first_role}
 use Rattle.nx_log.specs.Logged.{is_text_byte}
 

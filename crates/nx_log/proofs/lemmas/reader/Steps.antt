@@ -4,7 +4,7 @@ use Rattle.std.specs.Prelude.{◌==◌}
 use Rattle.std.specs.List.{All}
 use Rattle.std.proofs.lemmas.List.{length-drop, length-take, append_cancel_left, take-append-drop, take_all}
 use Rattle.std.proofs.lemmas.List.Elements.{All-append, All-nil, All-tail}
-use Rattle.nx_receiver.specs.copies.Shares.{MarkedCopy}
+use Rattle.nx_copies.specs.copies.Shares.{MarkedCopy}
 use Rattle.nx_code.specs.Reading.{space}
 use Rattle.nx_log.specs.Entries.{IsUnfinishedEntry, IsWholeEntry}
 use Rattle.nx_log.specs.LogReading.{LogReading}

@@ -20,8 +20,8 @@ use Rattle.nx_envelope.specs.declared.found.How.{How}
 use Rattle.nx_envelope.specs.declared.found.How.TheVariants.{Full, Cut, Long}
 use Rattle.nx_fec.specs.declared.air_files.channel.Channel.{Channel}
 use Rattle.nx_fec.specs.declared.air_files.channel.Channel.TheVariants.{Zero, One, Two}
-use Rattle.nx_receiver.specs.copies.Log.{channel_mark, how_name, is_of_lines, missing_newline}
-use Rattle.nx_receiver.specs.copies.Shares.{MarkedCopy}
+use Rattle.nx_copies.specs.copies.Log.{channel_mark, how_name, is_of_lines, missing_newline}
+use Rattle.nx_copies.specs.copies.Shares.{MarkedCopy}
 use Rattle.std.proofs.lemmas.List.Sums.{count_by-le-length}
 use Rattle.nx_code.specs.Reading.{asterisk}
 use Rattle.nx_log.specs.Entries.{IsUnfinishedEntry}

@@ -4,8 +4,8 @@ use Rattle.std.proofs.Common.{inl, inr}
 use Rattle.nx_envelope.specs.Copies.{errors_of}
 use Rattle.nx_code.specs.Reading.{newline}
 use Rattle.nx_fec.specs.declared.air_files.channel.Channel.{Channel}
-use Rattle.nx_receiver.specs.copies.Log.{IsEntry, entry_head, channel_mark, how_name, is_of_lines, missing_newline}
-use Rattle.nx_receiver.specs.copies.Shares.{MarkedCopy}
+use Rattle.nx_copies.specs.copies.Log.{IsEntry, entry_head, channel_mark, how_name, is_of_lines, missing_newline}
+use Rattle.nx_copies.specs.copies.Shares.{MarkedCopy}
 use Rattle.std.proofs.Common.{eq-eqb, false, lit<, lit≤}
 use Rattle.std.specs.Prelude.{if◌then◌else◌, codes, decimal}
 use Rattle.nx_envelope.specs.Identity.{identity_bytes}

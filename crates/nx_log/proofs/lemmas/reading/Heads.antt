@@ -6,7 +6,7 @@ use Rattle.nx_envelope.specs.Moment.{IsShownAs}
 use Rattle.nx_envelope.specs.declared.identity.Identity.{Identity}
 use Rattle.nx_envelope.specs.declared.found.How.{How}
 use Rattle.nx_fec.specs.declared.air_files.channel.Channel.{Channel}
-use Rattle.nx_receiver.specs.copies.Log.{channel_mark, how_name}
+use Rattle.nx_copies.specs.copies.Log.{channel_mark, how_name}
 use Rattle.nx_log.specs.declared.entries.head.LoggedHead.{LoggedHead}
 use Rattle.nx_log.specs.private.Heads.{BeginsWithHead, IsHead}
 use Rattle.nx_log.proofs.lemmas.texts.Moments.{same_time}

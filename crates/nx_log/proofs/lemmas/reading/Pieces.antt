@@ -8,7 +8,7 @@ use Rattle.nx_envelope.specs.declared.found.How.{How}
 use Rattle.nx_envelope.specs.declared.found.How.TheVariants.{Full, Cut, Long}
 use Rattle.nx_fec.specs.declared.air_files.channel.Channel.{Channel}
 use Rattle.nx_fec.specs.declared.air_files.channel.Channel.TheVariants.{Zero, One, Two}
-use Rattle.nx_receiver.specs.copies.Log.{channel_mark, how_name}
+use Rattle.nx_copies.specs.copies.Log.{channel_mark, how_name}
 
 -- a piece is the same, and so is what stands behind it
 pub record Same {A : Type 0} (a b : A) (x y : List ℕ) : Type 0 where

@@ -2,7 +2,7 @@
 use Rattle.std.proofs.Common.{◌≡◌, inl, inr, ℕ, ◌+◌, ◌≤◌, List, ◌++◌, take, drop, ap, sym, ◌∙◌, subst, arith}
 use Rattle.std.proofs.lemmas.Bool.{cases_lt}
 use Rattle.std.proofs.lemmas.List.{take-append-drop, take-take}
-use Rattle.nx_receiver.specs.copies.Shares.{MarkedCopy}
+use Rattle.nx_copies.specs.copies.Shares.{MarkedCopy}
 use Rattle.nx_log.specs.Reading.{HoldEntries, HoldEntriesToEnd, IsLogRead, IsOfLog, LogRead, StopAtLine, line_behind}
 use Rattle.nx_log.proofs.lemmas.reading.Parts.{same_read}
 use Rattle.nx_log.proofs.lemmas.reading.Fronts.{front_is_log}

@@ -8,7 +8,7 @@ use Rattle.nx_code.specs.Reading.{newline}
 use Rattle.nx_log.specs.declared.entries.head.LoggedHead.{LoggedHead}
 use Rattle.nx_log.specs.declared.entries.entry.EntryView.{EntryView}
 use Rattle.nx_log.specs.private.Heads.{BeginsWithHead, IsHead, head_and}
-use Rattle.nx_receiver.specs.copies.Log.{IsEntry, channel_mark, entry_head, how_name, missing_newline}
+use Rattle.nx_copies.specs.copies.Log.{IsEntry, channel_mark, entry_head, how_name, missing_newline}
 use Rattle.std.specs.Prelude.{codes, decimal}
 use Rattle.std.proofs.Common.{append-nil, sym}
 use Rattle.nx_envelope.specs.Identity.{identity_bytes}

@@ -14,7 +14,7 @@ use Rattle.nx_fec.specs.air_files.LineRuns.{HasGiven}
 use Rattle.nx_code.specs.Reading.{newline}
 use Rattle.nx_fec.specs.Transfers.{Contents, Devices, WroteSome, contents_of}
 use Rattle.nx_fec.specs.declared.fault.WriteFault.{WriteFault}
-use Rattle.nx_receiver.specs.copies.Shares.{MarkedCopy}
+use Rattle.nx_copies.specs.copies.Shares.{MarkedCopy}
 use Rattle.nx_log.specs.LogReading.{LogReading}
 use Rattle.nx_log.specs.LogReader.{IsAt, StopAt, Takes, most_lines}
 use Rattle.nx_log.specs.LogRun.{AnswersLogRun, AnswersRun, AreAll, BeginSalvage, IsInForm, IsOutput, WroteOutput, WrotePart, most_read}

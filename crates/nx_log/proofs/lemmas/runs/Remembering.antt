@@ -4,17 +4,17 @@ use Rattle.std.specs.Prelude.{filter, if◌then◌else◌}
 use Rattle.std.proofs.lemmas.List.{length-append, length-drop}
 use Rattle.nx_code.specs.Lists.{last_of}
 use Rattle.nx_memory.specs.declared.memories.entry.MemoryEntry.{MemoryEntry}
-use Rattle.nx_receiver.specs.copies.FoundCopies.{TaggedCopy}
-use Rattle.nx_receiver.specs.copies.Printing.{entries_made, entry_made, entry_of, if_printed, is_entered, is_good, is_number_00, is_printed, printed_copies}
+use Rattle.nx_copies.specs.copies.FoundCopies.{TaggedCopy}
+use Rattle.nx_copies.specs.copies.Printing.{entries_made, entry_made, entry_of, if_printed, is_entered, is_good, is_number_00, is_printed, printed_copies}
 use Rattle.std.proofs.lemmas.Bool.{cases_lt}
 use Rattle.nx_fec.specs.declared.air_files.channel.Channel.{Channel}
 use Rattle.nx_memory.specs.Memory.{most_entries}
 use Rattle.nx_memory.specs.Saved.{SavedStates}
 use Rattle.nx_receiver.specs.air_file_runs.Chain.{GoesOn, Run, copies_in, events_in, start_in}
-use Rattle.nx_receiver.specs.Events.{first_setting}
-use Rattle.nx_receiver.specs.copies.FoundCopies.{FoundCopy, tagged_copies}
-use Rattle.nx_receiver.specs.copies.Printing.{entries_after}
-use Rattle.nx_receiver.specs.copies.Shares.{Starts, copies_on, saved_of}
+use Rattle.nx_copies.specs.Events.{first_setting}
+use Rattle.nx_copies.specs.copies.FoundCopies.{FoundCopy, tagged_copies}
+use Rattle.nx_copies.specs.copies.Printing.{entries_after}
+use Rattle.nx_copies.specs.copies.Shares.{Starts, copies_on, saved_of}
 use Rattle.nx_receiver.proofs.lemmas.chain.Runs.{chain_prints, found_same}
 use Rattle.nx_log.specs.Logged.{is_kept, kept_entries, remembered_on}
 

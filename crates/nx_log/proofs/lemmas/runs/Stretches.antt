@@ -11,7 +11,7 @@ use Rattle.std.proofs.lemmas.List.Elements.{All-append, All-cons, All-drop, All-
 use Rattle.std.proofs.lemmas.List.Sums.{count_by-le-length, sum_by-append}
 use Rattle.memchr.specs.Find.{IsFirstByte, is_byte}
 use Rattle.nx_code.specs.Reading.{newline}
-use Rattle.nx_receiver.specs.copies.Shares.{MarkedCopy}
+use Rattle.nx_copies.specs.copies.Shares.{MarkedCopy}
 use Rattle.nx_log.specs.Notices.{damaged_at, torn_at}
 use Rattle.nx_log.specs.Reading.{HoldEntries, IsBlank, IsNext, IsNoBracket, IsOfLog, LogRead, StopAtLine, begun, line_behind}
 use Rattle.nx_log.specs.Salvage.{AreCut, BeginsAnew, BeginsBehind, IsPassedOver, Stretch, bytes_in, lines_in, told_in, told_of, told_torn}

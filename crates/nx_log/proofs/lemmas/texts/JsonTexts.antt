@@ -17,7 +17,7 @@ use Rattle.nx_envelope.specs.Moment.{IsShownAs}
 use Rattle.nx_envelope.specs.declared.found.How.{How}
 use Rattle.nx_envelope.specs.declared.found.How.TheVariants.{Full, Cut, Long}
 use Rattle.nx_fec.specs.air_files.Channels.{channel_number}
-use Rattle.nx_receiver.specs.copies.Log.{how_name}
+use Rattle.nx_copies.specs.copies.Log.{how_name}
 use Rattle.nx_log.proofs.lemmas.texts.Moments.{months_small, year_small}
 use Rattle.nx_log.proofs.lemmas.texts.QueryTexts.{text_low}
 use Rattle.nx_log.specs.Json.{IsJsonLine}

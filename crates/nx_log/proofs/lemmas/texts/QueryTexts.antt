@@ -4,8 +4,8 @@ use Rattle.std.specs.Prelude.{IsTrue, IsAscii, ◌==◌, ◌&&◌, ◌||◌, if�
 use Rattle.serde_json.specs.Data.{Data, member, no_members, number, object, string, unsigned}
 use Rattle.nx_envelope.specs.Copies.{errors_of}
 use Rattle.nx_fec.specs.air_files.Channels.{channel_number}
-use Rattle.nx_receiver.specs.copies.Log.{how_name}
-use Rattle.nx_receiver.specs.copies.Shares.{MarkedCopy}
+use Rattle.nx_copies.specs.copies.Log.{how_name}
+use Rattle.nx_copies.specs.copies.Shares.{MarkedCopy}
 use Rattle.nx_log.specs.Json.{entry_data}
 use Rattle.std.specs.List.{All}
 use Rattle.std.proofs.lemmas.Bool.Decides.{Decides-eqb}

@@ -11,7 +11,7 @@ use Rattle.nx_left_on.specs.Call.{IsOfCall, TellsAllKept}
 use Rattle.nx_left_on.specs.Chain.{IsChain, Watch, all_put}
 use Rattle.nx_left_on.proofs.lemmas.chains.Once.{put-once}
 use Rattle.nx_left_on.proofs.lemmas.chains.Stood.{answer-left, answer-over, answer-some}
-use Rattle.nx_receiver.specs.copies.Shares.{MarkedCopy}
+use Rattle.nx_copies.specs.copies.Shares.{MarkedCopy}
 use Rattle.nx_watch.specs.Stamp.{Stamp}
 use Rattle.nx_watch.specs.Watch.{AnswersWatch, StandsForEntries}
 use Rattle.nx_watch.specs.declared.watch_report.WatchReport.{WatchReport}

@@ -4,9 +4,9 @@ use Rattle.nx_fec.specs.Transfers.{devices}
 use Rattle.nx_station.specs.Damage.{Damages}
 use Rattle.nx_station.specs.FileSending.{Sends}
 use Rattle.nx_locks.specs.Run.{ShowsLocks}
-use Rattle.nx_receiver.specs.laws.ListenOnce.{ListensOnce}
+use Rattle.nx_receiver.specs.air_file_runs.ListenOnce.{ListensOnce}
 use Rattle.nx_receiver.specs.air_file_runs.Resume.{Resumes}
-use Rattle.nx_receiver.specs.copies.Shares.{all_at_zero}
+use Rattle.nx_copies.specs.copies.Shares.{all_at_zero}
 use Rattle.nx_receiver.specs.declared.air_file_runs.resume_fault.Want.TheVariants.{Log, State}
 use Rattle.nx_program.specs.Program.{IsUntouchedByWant, PerformsOnStreams, ReadsStateBeforeWant}
 use Rattle.nx_program.specs.declared.fault.CallFault.TheVariants as call

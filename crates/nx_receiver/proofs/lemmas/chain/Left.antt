@@ -13,19 +13,19 @@ use Rattle.nx_memory.specs.Memory.{most_entries}
 use Rattle.nx_memory.specs.declared.memories.entry.MemoryEntry.{MemoryEntry}
 use Rattle.nx_sync.specs.Locks.{IsNow, Lock, Now}
 use Rattle.nx_receiver.specs.air_file_runs.Chain.{Leaves}
-use Rattle.nx_receiver.specs.Events.{Event, Setting, Start, elements_among, first_setting, settings}
-use Rattle.nx_receiver.specs.copies.FoundCopies.{AreFoundIn, FoundCopy, ended_so_far, found_copy, found_to_end}
-use Rattle.nx_receiver.specs.copies.FoundCopies.{open_so_far, standing_text, TaggedCopy, tag}
-use Rattle.nx_receiver.specs.copies.FoundCopies.{tagged_copies}
-use Rattle.nx_receiver.specs.copies.LockText.{PlacedByte, bytes_of}
-use Rattle.nx_receiver.specs.copies.Printing.{entries_after, entries_made, entry_made, entry_of}
-use Rattle.nx_receiver.specs.copies.Printing.{is_entered, is_good, is_number_00, is_printed}
+use Rattle.nx_copies.specs.Events.{Event, Setting, Start, elements_among, first_setting, settings}
+use Rattle.nx_copies.specs.copies.FoundCopies.{AreFoundIn, FoundCopy, ended_so_far, found_copy, found_to_end}
+use Rattle.nx_copies.specs.copies.FoundCopies.{open_so_far, standing_text, TaggedCopy, tag}
+use Rattle.nx_copies.specs.copies.FoundCopies.{tagged_copies}
+use Rattle.nx_copies.specs.copies.LockText.{PlacedByte, bytes_of}
+use Rattle.nx_copies.specs.copies.Printing.{entries_after, entries_made, entry_made, entry_of}
+use Rattle.nx_copies.specs.copies.Printing.{is_entered, is_good, is_number_00, is_printed}
 use Rattle.nx_receiver.specs.Receiver.{Receiving, Stands}
 use Rattle.nx_receiver.specs.private.CopyHearer.{copies_by}
 use Rattle.nx_receiver.specs.CopyHearing.{in_force}
 use Rattle.nx_receiver.proofs.lemmas.chain.Runs.{found_same}
-use Rattle.nx_receiver.proofs.lemmas.receiver.Logged.{end_adds, entries_after-append}
-use Rattle.nx_receiver.proofs.lemmas.receiver.Logged.{tagged_copies-append}
+use Rattle.nx_copies.proofs.lemmas.printing.Logged.{end_adds, entries_after-append}
+use Rattle.nx_copies.proofs.lemmas.printing.Logged.{tagged_copies-append}
 
 -- a copy that is cut makes no entry
 cut-made : (entries : List MemoryEntry) (copy : TaggedCopy) → copy.how ≡ Cut

@@ -15,14 +15,14 @@ use Rattle.nx_fec.specs.declared.air_files.channel.Channel.TheVariants.{Zero, On
 use Rattle.nx_fec.specs.air_files.AirFile.{Line, accept_station, accept_subject, elements, moment}
 use Rattle.nx_fec.specs.air_files.AirFile.{refuse_station, refuse_subject}
 use Rattle.nx_receiver.specs.air_file_runs.Chain.{GoesOn, Run, copies_in, events_in, start_in}
-use Rattle.nx_receiver.specs.Events.{Command, Event, Setting, at_moment, command, element}
-use Rattle.nx_receiver.specs.Events.{first_setting, setting_after, settings}
-use Rattle.nx_receiver.specs.copies.FoundCopies.{FoundCopy, TaggedCopy, tag, tagged_copies}
+use Rattle.nx_copies.specs.Events.{Command, Event, Setting, at_moment, command, element}
+use Rattle.nx_copies.specs.Events.{first_setting, setting_after, settings}
+use Rattle.nx_copies.specs.copies.FoundCopies.{FoundCopy, TaggedCopy, tag, tagged_copies}
 use Rattle.nx_receiver.specs.air_file_runs.Listen.{events_on, given_of, moment_after}
 use Rattle.nx_receiver.specs.private.Taken.{AreTakenAfter, IsTakenAfter}
 use Rattle.nx_receiver.proofs.lemmas.listening.Taken.{taken-each}
-use Rattle.nx_receiver.specs.Events as fed
-use Rattle.nx_receiver.specs.copies.Shares.{Starts, events_for, saved_of, starts_from}
+use Rattle.nx_copies.specs.Events as fed
+use Rattle.nx_copies.specs.copies.Shares.{Starts, events_for, saved_of, starts_from}
 
 -- from this moment on
 abbrev IsFrom : ℕ → Event → Type 0

@@ -6,11 +6,11 @@ use Rattle.nx_code.specs.Lists.{last_of}
 use Rattle.nx_memory.specs.Memory.{content_after, is_known, most_entries}
 use Rattle.nx_memory.specs.declared.memories.entry.MemoryEntry.{MemoryEntry}
 use Rattle.nx_receiver.specs.air_file_runs.Chain.{AgreeInLast}
-use Rattle.nx_receiver.specs.copies.Printing.{entries_after, entries_made, entry_made, entry_of}
-use Rattle.nx_receiver.specs.copies.Printing.{if_printed, is_entered, is_good, is_number_00, is_printed}
-use Rattle.nx_receiver.specs.copies.Printing.{printed_copies}
-use Rattle.nx_receiver.specs.copies.FoundCopies.{TaggedCopy}
-use Rattle.nx_receiver.proofs.lemmas.receiver.Judging.{content_grows}
+use Rattle.nx_copies.specs.copies.Printing.{entries_after, entries_made, entry_made, entry_of}
+use Rattle.nx_copies.specs.copies.Printing.{if_printed, is_entered, is_good, is_number_00, is_printed}
+use Rattle.nx_copies.specs.copies.Printing.{printed_copies}
+use Rattle.nx_copies.specs.copies.FoundCopies.{TaggedCopy}
+use Rattle.nx_copies.proofs.lemmas.printing.Judging.{content_grows}
 
 -- ---- one copy
 

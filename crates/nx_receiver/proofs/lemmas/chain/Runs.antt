@@ -17,24 +17,24 @@ use Rattle.nx_fec.specs.Transfers.{Contents}
 use Rattle.nx_receiver.specs.air_file_runs.Chain.{AgreeInLast, GoesOn, HasGoneOn, IsChain, Leaves}
 use Rattle.nx_receiver.specs.air_file_runs.Chain.{Run, all_copies, all_events, all_logs, all_printed, copies_in}
 use Rattle.nx_receiver.specs.air_file_runs.Chain.{events_in, files, start_in}
-use Rattle.nx_receiver.specs.Events.{Event, Setting, Start, at_moment, command, element}
-use Rattle.nx_receiver.specs.Events.{elements_among, first_setting, refused_after, setting_after}
-use Rattle.nx_receiver.specs.Events.{setting_after_all}
-use Rattle.nx_receiver.specs.copies.FoundCopies.{AreFoundIn, FoundCopy, found_to_end, tagged_copies}
-use Rattle.nx_receiver.specs.copies.InTurn.{PrintAllToEnd}
+use Rattle.nx_copies.specs.Events.{Event, Setting, Start, at_moment, command, element}
+use Rattle.nx_copies.specs.Events.{elements_among, first_setting, refused_after, setting_after}
+use Rattle.nx_copies.specs.Events.{setting_after_all}
+use Rattle.nx_copies.specs.copies.FoundCopies.{AreFoundIn, FoundCopy, found_to_end, tagged_copies}
+use Rattle.nx_copies.specs.copies.InTurn.{PrintAllToEnd}
 use Rattle.nx_receiver.specs.air_file_runs.Listen.{HasListened, IsLogOfFile, events_on, given_by}
-use Rattle.nx_receiver.specs.copies.Log.{IsLog, printed_of}
-use Rattle.nx_receiver.specs.copies.Printing.{entries_after, entries_made, printed_copies}
-use Rattle.nx_receiver.specs.copies.Shares.{MarkedCopy, Starts, copies_on, saved_of, start_on, starts_from}
+use Rattle.nx_copies.specs.copies.Log.{IsLog, printed_of}
+use Rattle.nx_copies.specs.copies.Printing.{entries_after, entries_made, printed_copies}
+use Rattle.nx_copies.specs.copies.Shares.{MarkedCopy, Starts, copies_on, saved_of, start_on, starts_from}
 use Rattle.nx_receiver.specs.declared.air_file_runs.listening.Report.{Report}
-use Rattle.nx_receiver.proofs.lemmas.channels.Shares.{copies_on-append, to_end-on}
+use Rattle.nx_copies.proofs.lemmas.channels.Shares.{copies_on-append, to_end-on}
 use Rattle.nx_receiver.proofs.lemmas.chain.Printing.{all_of_few, few_of_last, last_agrees, same_end}
 use Rattle.nx_receiver.proofs.lemmas.chain.Printing.{same_log}
-use Rattle.nx_receiver.proofs.lemmas.receiver.Logged.{entries_after-append, printed_copies-append}
-use Rattle.nx_receiver.proofs.lemmas.locks.Found.{one_told}
-use Rattle.nx_receiver.proofs.lemmas.receiver.Log.{logs_join, one_log}
+use Rattle.nx_copies.proofs.lemmas.printing.Logged.{entries_after-append, printed_copies-append}
+use Rattle.nx_copies.proofs.lemmas.locks.Found.{one_told}
+use Rattle.nx_copies.proofs.lemmas.printing.Log.{logs_join, one_log}
 use Rattle.nx_receiver.proofs.lemmas.receiver.Events.{force-append}
-use Rattle.nx_receiver.proofs.lemmas.channels.One.{one-to_end}
+use Rattle.nx_copies.proofs.lemmas.channels.One.{one-to_end}
 
 -- ---- one run
 

@@ -17,18 +17,18 @@ use Rattle.nx_code.specs.Reading.{shift_after_all, text}
 use Rattle.nx_code.specs.declared.shifts.Shift.TheVariants.{Letters}
 use Rattle.nx_envelope.specs.Finder as finders
 use Rattle.nx_receiver.specs.declared.copy_taker.CopyTag.{CopyTag}
-use Rattle.nx_receiver.specs.Events.{Setting}
-use Rattle.nx_receiver.specs.copies.FoundCopies.{FoundCopy, ended_in, past_copies, standing_text}
-use Rattle.nx_receiver.specs.copies.FoundCopies.{ended_so_far, TaggedCopy, tag}
-use Rattle.nx_receiver.specs.LockReader.{ReadsLock}
-use Rattle.nx_receiver.specs.copies.LockText.{dx_words}
-use Rattle.nx_receiver.specs.CopyHearing.{LockReading}
-use Rattle.nx_receiver.specs.copies.LockText.{PlacedByte, lock_text, text_by}
+use Rattle.nx_copies.specs.Events.{Setting}
+use Rattle.nx_copies.specs.copies.FoundCopies.{FoundCopy, ended_in, past_copies, standing_text}
+use Rattle.nx_copies.specs.copies.FoundCopies.{ended_so_far, TaggedCopy, tag}
+use Rattle.nx_copies.specs.LockReader.{ReadsLock}
+use Rattle.nx_copies.specs.copies.LockText.{dx_words}
+use Rattle.nx_copies.specs.LockReader.{LockReading}
+use Rattle.nx_copies.specs.copies.LockText.{PlacedByte, lock_text, text_by}
 use Rattle.nx_receiver.specs.private.CopyHearer.{HasTag, ReadsNow, ReadsOver, copies_by, setting_in}
-use Rattle.nx_receiver.proofs.lemmas.locks.Found.{IsByteIn, IsCopyIn, text_placed}
-use Rattle.nx_receiver.proofs.lemmas.locks.Growing.{past_copies-more, whole_heard}
-use Rattle.nx_receiver.proofs.lemmas.locks.Texts.{lock_text-more, positions-same}
-use Rattle.nx_receiver.proofs.lemmas.receiver.Logged.{ended_placed, past_is}
+use Rattle.nx_copies.proofs.lemmas.locks.Found.{IsByteIn, IsCopyIn, text_placed}
+use Rattle.nx_copies.proofs.lemmas.locks.Growing.{past_copies-more, whole_heard}
+use Rattle.nx_copies.proofs.lemmas.locks.Texts.{lock_text-more, positions-same}
+use Rattle.nx_copies.proofs.lemmas.printing.Logged.{ended_placed, past_is}
 use Rattle.nx_receiver.proofs.lemmas.copy_hearer.Texts.{tag-later}
 
 -- words that are the same up to a word leave the reader where it stands

@@ -16,21 +16,21 @@ use Rattle.nx_envelope.specs.Finder.{is_over}
 use Rattle.nx_receiver.specs.declared.copy_taker.CopyTaker.{CopyTaker}
 use Rattle.nx_receiver.specs.declared.copy_taker.CopyTag.{CopyTag}
 use Rattle.nx_receiver.specs.declared.copy_taker.Over.{Over}
-use Rattle.nx_receiver.specs.Events.{Setting}
-use Rattle.nx_receiver.specs.copies.FoundCopies.{FoundCopy, ended_in, past_copies, standing_text}
-use Rattle.nx_receiver.specs.copies.FoundCopies.{ended_so_far, TaggedCopy}
-use Rattle.nx_receiver.specs.LockReader.{ReadsLock}
-use Rattle.nx_receiver.specs.private.LockReader.{word_place}
-use Rattle.nx_receiver.specs.copies.LockText.{PlacedByte, lock_text}
+use Rattle.nx_copies.specs.Events.{Setting}
+use Rattle.nx_copies.specs.copies.FoundCopies.{FoundCopy, ended_in, past_copies, standing_text}
+use Rattle.nx_copies.specs.copies.FoundCopies.{ended_so_far, TaggedCopy}
+use Rattle.nx_copies.specs.LockReader.{ReadsLock}
+use Rattle.nx_copies.specs.ReaderWords.{word_place}
+use Rattle.nx_copies.specs.copies.LockText.{PlacedByte, lock_text}
 use Rattle.nx_receiver.specs.private.CopyHearer.{HasTag, IsOver, LockIsOver, ReadsNow, ReadsOver}
 use Rattle.nx_receiver.specs.private.CopyHearer.{HearerStands, copies_by, over_with}
 use Rattle.nx_receiver.specs.private.CopyTaker.{ReadsWord, setting_of, tag_after}
 use Rattle.nx_receiver.specs.private.CopyTaker.{hearer_of}
 use Rattle.nx_receiver.specs.CopyHearing.{CopyHearing}
-use Rattle.nx_receiver.proofs.lemmas.locks.Found.{text_placed}
-use Rattle.nx_receiver.proofs.lemmas.locks.Growing.{past_copies-more}
-use Rattle.nx_receiver.proofs.lemmas.locks.Texts.{lock_text-more}
-use Rattle.nx_receiver.proofs.lemmas.receiver.Logged.{ended_placed}
+use Rattle.nx_copies.proofs.lemmas.locks.Found.{text_placed}
+use Rattle.nx_copies.proofs.lemmas.locks.Growing.{past_copies-more}
+use Rattle.nx_copies.proofs.lemmas.locks.Texts.{lock_text-more}
+use Rattle.nx_copies.proofs.lemmas.printing.Logged.{ended_placed}
 use Rattle.nx_receiver.proofs.lemmas.copy_hearer.Texts.{AfterWord, Brought, adds_byte, after_word}
 use Rattle.nx_receiver.proofs.lemmas.copy_hearer.Texts.{copies_by-append}
 use Rattle.nx_receiver.proofs.lemmas.copy_hearer.Bits.{copies_by-later, reads-more}

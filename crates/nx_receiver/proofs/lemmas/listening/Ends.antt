@@ -14,22 +14,22 @@ use Rattle.nx_fec.specs.Transfers.{WroteSome, count_of}
 use Rattle.nx_fec.specs.declared.air_files.channel.Channel.{Channel}
 use Rattle.nx_fec.specs.declared.air_files.channel.Channel.TheVariants.{Zero, One, Two}
 use Rattle.nx_fec.proofs.lemmas.devices.WritingLaws.{WroteSome-front}
-use Rattle.nx_receiver.specs.Events.{Event, Start}
-use Rattle.nx_receiver.specs.copies.FoundCopies.{TaggedCopy, copy_of}
-use Rattle.nx_receiver.specs.copies.InTurn.{PrintAllToEnd}
-use Rattle.nx_receiver.specs.copies.Log.{IsLog, PrintsToEnd}
+use Rattle.nx_copies.specs.Events.{Event, Start}
+use Rattle.nx_copies.specs.copies.FoundCopies.{TaggedCopy, copy_of}
+use Rattle.nx_copies.specs.copies.InTurn.{PrintAllToEnd}
+use Rattle.nx_copies.specs.copies.Log.{IsLog, PrintsToEnd}
 use Rattle.nx_receiver.specs.Receiver.{Receiving, Stands, entry_list}
-use Rattle.nx_receiver.specs.copies.Shares.{Given, MarkedCopy, Starts, copies_on, marked, share}
-use Rattle.nx_receiver.specs.copies.Shares.{start_on}
+use Rattle.nx_copies.specs.copies.Shares.{Given, MarkedCopy, Starts, copies_on, marked, share}
+use Rattle.nx_copies.specs.copies.Shares.{start_on}
 use Rattle.nx_receiver.specs.Listener.{AreInRange, HearsOver, last_copies}
 use Rattle.nx_receiver.specs.private.Listener.{HasClosed, HasClosedSome, HearsLog}
 use Rattle.nx_receiver.specs.Listener.{Listening, ListeningOver}
-use Rattle.nx_receiver.specs.declared.entry.Entry.{Entry}
+use Rattle.nx_copies.specs.declared.entry.Entry.{Entry}
 use Rattle.nx_receiver.specs.declared.listener.LastEntries.{LastEntries}
 use Rattle.nx_receiver.specs.declared.air_file_runs.listening.Report.{Report}
 use Rattle.nx_memory.specs.declared.memories.entry.MemoryEntry.{MemoryEntry}
 use Rattle.nx_receiver.proofs.lemmas.listening.Listener.{counts-on}
-use Rattle.nx_receiver.proofs.lemmas.receiver.Log.{logs_join, some_log}
+use Rattle.nx_copies.proofs.lemmas.printing.Log.{logs_join, some_log}
 
 -- an entry is one copy
 at-most-one : (entry : Option Entry) → length (entry_list entry) ≤ 1

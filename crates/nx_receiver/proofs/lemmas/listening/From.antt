@@ -16,13 +16,13 @@ use Rattle.nx_receiver.specs.air_file_runs.ListenFrom.{GoesOnBy, reported}
 use Rattle.nx_receiver.specs.Listener.{Listening}
 use Rattle.nx_receiver.specs.private.Listener.{HasClosed, IsListening, listener_taker}
 use Rattle.nx_receiver.specs.Listener.{starts_of}
-use Rattle.nx_receiver.specs.copies.Shares.{Starts, starts_from}
+use Rattle.nx_copies.specs.copies.Shares.{Starts, starts_from}
 use Rattle.nx_receiver.specs.declared.air_file_runs.listen_fault.ListenFault.{ListenFault}
 use Rattle.nx_receiver.specs.declared.air_file_runs.listen_fault.ListenFault.TheVariants.{Read, Write}
 use Rattle.nx_receiver.specs.declared.air_file_runs.listening.Report.{Report}
 use Rattle.nx_receiver.proofs.lemmas.chain.Runs.{LeavesEach, goes_on}
 use Rattle.nx_receiver.proofs.lemmas.listening.Runs.{listened}
-use Rattle.nx_receiver.proofs.lemmas.once.Listen.{listens-once, on-some, printed-once}
+use Rattle.nx_receiver.proofs.lemmas.listening.Once.{listens-once, on-some, printed-once}
 
 -- an outcome that is this fault
 pub err-is : (outcome : Result (Report × SavedStates) ListenFault) (fault : ListenFault)

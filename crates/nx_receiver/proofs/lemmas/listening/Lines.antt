@@ -12,11 +12,11 @@ use Rattle.nx_fec.specs.declared.air_files.lines.LineKind.{LineKind}
 use Rattle.nx_fec.specs.declared.air_files.lines.LineKind.TheVariants.{Elements}
 use Rattle.nx_fec.specs.declared.air_files.channel.Channel.{Channel}
 use Rattle.nx_receiver.specs.Commands.{refuses_vital}
-use Rattle.nx_receiver.specs.Events.{Command, command}
-use Rattle.nx_receiver.specs.Events as fed
+use Rattle.nx_copies.specs.Events.{Command, command}
+use Rattle.nx_copies.specs.Events as fed
 use Rattle.nx_receiver.specs.air_file_runs.Listen.{given_by, given_of, is_moment_line, refusal_fault}
 use Rattle.nx_receiver.specs.Receiver.{TakesEvent}
-use Rattle.nx_receiver.specs.copies.Shares.{Given, Starts, to_one}
+use Rattle.nx_copies.specs.copies.Shares.{Given, Starts, to_one}
 use Rattle.nx_receiver.specs.Listener.{Listening}
 use Rattle.nx_receiver.specs.private.Listener.{IsListening}
 use Rattle.nx_receiver.specs.Listener.{content, receiver_on}

@@ -16,10 +16,10 @@ use Rattle.nx_fec.specs.air_files.Channels.{channel_of, same_channel}
 use Rattle.nx_fec.specs.declared.air_files.channel.Channel.{Channel}
 use Rattle.nx_fec.specs.declared.air_files.channel.Channel.TheVariants.{Zero, One, Two}
 use Rattle.nx_envelope.specs.Moment.{last_moment}
-use Rattle.nx_receiver.specs.Events.{Event, Setting, Start, element, first_setting}
-use Rattle.nx_receiver.specs.Events.{setting_after_all}
-use Rattle.nx_receiver.specs.Events as fed
-use Rattle.nx_receiver.specs.copies.InTurn.{HavePrinted, PrintsInTurn}
+use Rattle.nx_copies.specs.Events.{Event, Setting, Start, element, first_setting}
+use Rattle.nx_copies.specs.Events.{setting_after_all}
+use Rattle.nx_copies.specs.Events as fed
+use Rattle.nx_copies.specs.copies.InTurn.{HavePrinted, PrintsInTurn}
 use Rattle.nx_receiver.specs.air_file_runs.Listen.{AreTaken, events_on, given_by, given_of}
 use Rattle.nx_receiver.specs.air_file_runs.Listen.{has_moment}
 use Rattle.nx_receiver.specs.air_file_runs.Listen.{is_moment_line, moment_after}
@@ -33,7 +33,7 @@ use Rattle.nx_receiver.specs.Listener.{with_receiver}
 use Rattle.nx_receiver.specs.private.Listener.{BeginsListening, BeginsLog, HearsTo}
 use Rattle.nx_receiver.specs.private.Listener.{HearsLog, IsListening}
 use Rattle.nx_receiver.specs.private.ListenerBegins.{printed-so_far}
-use Rattle.nx_receiver.specs.copies.Log.{HasPrinted, IsLog}
+use Rattle.nx_copies.specs.copies.Log.{HasPrinted, IsLog}
 use Rattle.nx_memory.specs.declared.memories.entry.MemoryEntry.{MemoryEntry}
 use Rattle.nx_receiver.specs.Receiver.{HandsOutNoneBefore, HeadsText, Receiving, Stands, TakesEvent}
 use Rattle.nx_receiver.specs.Receiver.{headed_list, text_of}
@@ -42,18 +42,18 @@ use Rattle.nx_receiver.specs.declared.copy_taker.Over.{Over}
 use Rattle.nx_receiver.proofs.lemmas.receiver.Feeds.{heard_then, nothing_awaited, printed_then}
 use Rattle.std.specs.Prelude.{IfSome, Result, Ok, Err, OnOk}
 use Rattle.std.proofs.lemmas.List.Elements.{All-nil, All-cons}
-use Rattle.nx_receiver.specs.copies.Shares.{Given, MarkedCopy, Starts, copies_on, events_for}
-use Rattle.nx_receiver.specs.copies.Shares.{marked}
-use Rattle.nx_receiver.specs.copies.Shares.{share, start_on, to_all, to_one}
-use Rattle.nx_receiver.specs.copies.FoundCopies.{TaggedCopy, headed_copy}
-use Rattle.nx_receiver.specs.declared.entry.EntryHead.{EntryHead}
-use Rattle.nx_receiver.proofs.lemmas.channels.Shares.{copies_on-append, copies_on-marked}
-use Rattle.nx_receiver.proofs.lemmas.channels.Shares.{copies_on-other}
-use Rattle.nx_receiver.proofs.lemmas.channels.Shares.{in_turn-more, in_turn-none, in_turn-other}
-use Rattle.nx_receiver.proofs.lemmas.channels.Shares.{same_channel-refl}
-use Rattle.nx_receiver.proofs.lemmas.channels.Shares.{share-one}
-use Rattle.nx_receiver.proofs.lemmas.receiver.Log.{logs_join, no-log, some_log}
-use Rattle.nx_receiver.proofs.lemmas.receiver.Logged.{has_printed_on, some_printed}
+use Rattle.nx_copies.specs.copies.Shares.{Given, MarkedCopy, Starts, copies_on, events_for}
+use Rattle.nx_copies.specs.copies.Shares.{marked}
+use Rattle.nx_copies.specs.copies.Shares.{share, start_on, to_all, to_one}
+use Rattle.nx_copies.specs.copies.FoundCopies.{TaggedCopy, headed_copy}
+use Rattle.nx_copies.specs.declared.entry.EntryHead.{EntryHead}
+use Rattle.nx_copies.proofs.lemmas.channels.Shares.{copies_on-append, copies_on-marked}
+use Rattle.nx_copies.proofs.lemmas.channels.Shares.{copies_on-other}
+use Rattle.nx_copies.proofs.lemmas.channels.Shares.{in_turn-more, in_turn-none, in_turn-other}
+use Rattle.nx_copies.proofs.lemmas.channels.Shares.{same_channel-refl}
+use Rattle.nx_copies.proofs.lemmas.channels.Shares.{share-one}
+use Rattle.nx_copies.proofs.lemmas.printing.Log.{logs_join, no-log, some_log}
+use Rattle.nx_copies.proofs.lemmas.printing.Logged.{has_printed_on, some_printed}
 use Rattle.nx_receiver.proofs.lemmas.receiver.Events.{bits_of-more, force-append, force-more}
 
 -- what one more line gives

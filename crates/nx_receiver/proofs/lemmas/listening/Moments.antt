@@ -18,24 +18,24 @@ use Rattle.nx_fec.specs.air_files.Lines.{IsAirFile, air_limit}
 use Rattle.nx_fec.proofs.lemmas.lines.LineLaws.{IsAirFile-unique}
 use Rattle.nx_fec.proofs.lemmas.devices.WritingLaws.{WroteSome-front}
 use Rattle.nx_memory.specs.declared.memories.entry.MemoryEntry.{MemoryEntry}
-use Rattle.nx_receiver.specs.Events.{Event, Setting, Start, at_moment, element, command}
-use Rattle.nx_receiver.specs.Events.{first_setting, setting_after, settings}
-use Rattle.nx_receiver.specs.copies.FoundCopies.{FoundCopy, TaggedCopy, tag, tagged_copies}
+use Rattle.nx_copies.specs.Events.{Event, Setting, Start, at_moment, element, command}
+use Rattle.nx_copies.specs.Events.{first_setting, setting_after, settings}
+use Rattle.nx_copies.specs.copies.FoundCopies.{FoundCopy, TaggedCopy, tag, tagged_copies}
 use Rattle.nx_receiver.specs.air_file_runs.Listen.{AreTaken, HasLoggedSome, IsLogOf, IsLogOfLines, events_on}
 use Rattle.nx_receiver.specs.air_file_runs.Listen.{given_by, given_of}
 use Rattle.nx_receiver.specs.private.Taken.{AreTakenAfter, IsTakenAfter}
 use Rattle.nx_receiver.proofs.lemmas.listening.Taken.{taken-each}
 use Rattle.nx_receiver.specs.private.Listener.{BeginsListening}
-use Rattle.nx_receiver.specs.copies.InTurn.{HavePrinted, PrintAllToEnd}
-use Rattle.nx_receiver.specs.copies.Log.{IsLog, printed_of}
-use Rattle.nx_receiver.specs.copies.Printing.{entry_made, if_printed, is_printed, printed_copies}
-use Rattle.nx_receiver.specs.Events as fed
-use Rattle.nx_receiver.specs.copies.Shares.{MarkedCopy, Starts, copies_on, events_for, start_on}
-use Rattle.nx_receiver.proofs.lemmas.channels.Shares.{to_end-on}
-use Rattle.nx_receiver.proofs.lemmas.receiver.Log.{log_begins, one_log, some_log}
-use Rattle.nx_receiver.proofs.lemmas.channels.Marked.{all-on}
-use Rattle.nx_receiver.proofs.lemmas.channels.One.{one-in_turn, one-to_end}
-use Rattle.nx_receiver.proofs.lemmas.channels.Some.{some-in_turn, some-to_end}
+use Rattle.nx_copies.specs.copies.InTurn.{HavePrinted, PrintAllToEnd}
+use Rattle.nx_copies.specs.copies.Log.{IsLog, printed_of}
+use Rattle.nx_copies.specs.copies.Printing.{entry_made, if_printed, is_printed, printed_copies}
+use Rattle.nx_copies.specs.Events as fed
+use Rattle.nx_copies.specs.copies.Shares.{MarkedCopy, Starts, copies_on, events_for, start_on}
+use Rattle.nx_copies.proofs.lemmas.channels.Shares.{to_end-on}
+use Rattle.nx_copies.proofs.lemmas.printing.Log.{log_begins, one_log, some_log}
+use Rattle.nx_copies.proofs.lemmas.channels.Marked.{all-on}
+use Rattle.nx_copies.proofs.lemmas.channels.One.{one-in_turn, one-to_end}
+use Rattle.nx_copies.proofs.lemmas.channels.Some.{some-in_turn, some-to_end}
 
 -- an event that is a moment is in range
 abbrev pub IsInRange : Event → Type 0

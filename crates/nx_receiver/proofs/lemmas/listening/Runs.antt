@@ -20,11 +20,11 @@ use Rattle.nx_fec.specs.declared.air_files.line_runs.LinesFault.TheVariants as r
 use Rattle.nx_fec.specs.declared.air_files.line_runs.LinesRead.{LinesRead}
 use Rattle.nx_fec.proofs.lemmas.line_runs.LineRun.{StopsAt-map}
 use Rattle.nx_fec.proofs.lemmas.devices.TransferLaws.{Ok-not_err, Reads-on, Writes-none, read_failed-none}
-use Rattle.nx_receiver.specs.Events.{elements_among}
+use Rattle.nx_copies.specs.Events.{elements_among}
 use Rattle.nx_receiver.specs.air_file_runs.Listen.{AnswersListening, HasListened, HasLogged, HasLoggedSome}
 use Rattle.nx_receiver.specs.air_file_runs.Listen.{IsLogOf, Listens, RefusesAfter, given_by, given_of}
 use Rattle.nx_receiver.specs.air_file_runs.Listen.{lines_fault, refusal_fault}
-use Rattle.nx_receiver.specs.copies.Shares.{Starts}
+use Rattle.nx_copies.specs.copies.Shares.{Starts}
 use Rattle.nx_receiver.specs.private.Listener.{HasClosed, HasClosedSome, IsListening}
 use Rattle.nx_receiver.specs.Listener.{Listening}
 use Rattle.nx_receiver.specs.private.Listener.{RefusesLine, StandsFrom, listener_taker}

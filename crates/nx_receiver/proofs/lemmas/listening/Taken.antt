@@ -10,7 +10,7 @@ use Rattle.nx_fec.specs.air_files.AirFile.{Line, moment, elements, refuse_statio
 use Rattle.nx_fec.specs.air_files.AirFile.{refuse_subject, accept_subject}
 use Rattle.nx_memory.specs.Selection.{is_vital}
 use Rattle.nx_receiver.specs.air_file_runs.Listen.{AreTaken, RefusesAfter, has_moment, moment_after}
-use Rattle.nx_receiver.specs.copies.Shares.{Starts}
+use Rattle.nx_copies.specs.copies.Shares.{Starts}
 use Rattle.nx_receiver.specs.private.Taken.{AreTakenAfter, IsTakenAfter}
 use Rattle.nx_receiver.specs.declared.fault.MomentFault.TheVariants.{Range, Back}
 use Rattle.nx_receiver.specs.declared.air_file_runs.listen_fault.ListenFault.{ListenFault}

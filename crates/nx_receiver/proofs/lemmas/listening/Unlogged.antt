@@ -18,7 +18,7 @@ use Rattle.nx_fec.proofs.lemmas.line_runs.LineRun.{ExplainsLinesHeard-map}
 use Rattle.nx_fec.proofs.lemmas.devices.TransferLaws.{Ok-not_err, Reads-on, read_failed-none}
 use Rattle.nx_memory.specs.Saved.{SavedStates}
 use Rattle.nx_receiver.specs.air_file_runs.Listen.{AnswersUnlogged, given_by}
-use Rattle.nx_receiver.specs.copies.Shares.{Starts, starts_from}
+use Rattle.nx_copies.specs.copies.Shares.{Starts, starts_from}
 use Rattle.nx_receiver.specs.Listener.{Listening, starts_of}
 use Rattle.nx_receiver.specs.private.Listener.{HasClosed, IsListening}
 use Rattle.nx_receiver.specs.private.Listener.{RefusesFrom, RefusesLine, StandsFrom}

@@ -3,14 +3,14 @@
 use Rattle.std.proofs.Common.{◌≡◌, ℕ, Bool, List, [], ◌∷◌, ◌++◌, map, refl, sym, ap, ◌∙◌, subst}
 use Rattle.std.proofs.Common.{append-nil}
 use Rattle.nx_memory.specs.declared.memories.entry.MemoryEntry.{MemoryEntry}
-use Rattle.nx_receiver.specs.Events.{Event, Command, Setting, Start, at_moment, elements_among}
-use Rattle.nx_receiver.specs.Events.{command, element, first_setting, setting_after}
-use Rattle.nx_receiver.specs.Events.{setting_after_all, settings, elements}
+use Rattle.nx_copies.specs.Events.{Event, Command, Setting, Start, at_moment, elements_among}
+use Rattle.nx_copies.specs.Events.{command, element, first_setting, setting_after}
+use Rattle.nx_copies.specs.Events.{setting_after_all, settings, elements}
 use Rattle.nx_receiver.specs.Receiver.{Receiving, Stands}
-use Rattle.nx_receiver.specs.copies.FoundCopies.{TaggedCopy}
+use Rattle.nx_copies.specs.copies.FoundCopies.{TaggedCopy}
 use Rattle.nx_receiver.specs.private.CopyHearer.{HearerStands, all_in_force}
 use Rattle.nx_receiver.specs.CopyHearing.{CopyHearing, in_force}
-use Rattle.nx_receiver.proofs.lemmas.receiver.Logged.{bits_of-append, settings-append}
+use Rattle.nx_copies.proofs.lemmas.printing.Logged.{bits_of-append, settings-append}
 
 -- elements as events
 bits_of-elements : (bits : List Bool) → elements_among (elements bits) ≡ bits

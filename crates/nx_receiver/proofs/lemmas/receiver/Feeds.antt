@@ -7,12 +7,12 @@ use Rattle.std.proofs.lemmas.Bool.{cases_lt}
 use Rattle.std.proofs.lemmas.List.{drop-drop, length-take, map-append, take-take}
 use Rattle.nx_memory.specs.declared.memories.entry.MemoryEntry.{MemoryEntry}
 use Rattle.nx_receiver.specs.declared.copy_taker.Over.{Over}
-use Rattle.nx_receiver.specs.Events.{Event, Setting, Start, elements_among, element, first_setting}
-use Rattle.nx_receiver.specs.Events.{setting_after_all, settings, elements}
-use Rattle.nx_receiver.specs.copies.Log.{HasPrinted}
+use Rattle.nx_copies.specs.Events.{Event, Setting, Start, elements_among, element, first_setting}
+use Rattle.nx_copies.specs.Events.{setting_after_all, settings, elements}
+use Rattle.nx_copies.specs.copies.Log.{HasPrinted}
 use Rattle.nx_receiver.specs.Receiver.{HandsOutNoneBefore, Receiving, Stands, StandsOver}
 use Rattle.nx_receiver.specs.private.Awaiting.{Awaits, AwaitsOver, FinishesNext, HearsUpTo}
-use Rattle.nx_receiver.specs.copies.FoundCopies.{TaggedCopy}
+use Rattle.nx_copies.specs.copies.FoundCopies.{TaggedCopy}
 use Rattle.nx_receiver.specs.private.CopyHearer.{HasEnded, HearsAll, IsOver, all_in_force}
 use Rattle.nx_receiver.specs.CopyHearing.{CopyHearing, in_force}
 use Rattle.nx_receiver.proofs.lemmas.receiver.Events.{bits_of-more, force-more, settings-more}

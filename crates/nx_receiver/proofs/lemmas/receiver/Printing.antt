@@ -7,20 +7,20 @@ use Rattle.std.proofs.lemmas.Bool.{and_parts}
 use Rattle.nx_code.specs.Lists.{last_of}
 use Rattle.nx_memory.specs.Memory.{most_entries}
 use Rattle.nx_memory.specs.declared.memories.entry.MemoryEntry.{MemoryEntry}
-use Rattle.nx_receiver.specs.Events.{Event, Setting, Start, elements_among, first_setting}
-use Rattle.nx_receiver.specs.Events.{setting_after_all, settings}
-use Rattle.nx_receiver.specs.copies.FoundCopies.{FoundCopy, TaggedCopy, headed_copy, tagged_copies}
-use Rattle.nx_receiver.specs.copies.Log.{HasPrinted, PrintsToEnd}
-use Rattle.nx_receiver.specs.copies.Printing.{entries_after, entries_made, entry_made, if_printed}
-use Rattle.nx_receiver.specs.copies.Printing.{is_printed, printed_copies}
+use Rattle.nx_copies.specs.Events.{Event, Setting, Start, elements_among, first_setting}
+use Rattle.nx_copies.specs.Events.{setting_after_all, settings}
+use Rattle.nx_copies.specs.copies.FoundCopies.{FoundCopy, TaggedCopy, headed_copy, tagged_copies}
+use Rattle.nx_copies.specs.copies.Log.{HasPrinted, PrintsToEnd}
+use Rattle.nx_copies.specs.copies.Printing.{entries_after, entries_made, entry_made, if_printed}
+use Rattle.nx_copies.specs.copies.Printing.{is_printed, printed_copies}
 use Rattle.nx_receiver.specs.Receiver.{Receiving, Stands}
-use Rattle.nx_receiver.specs.declared.entry.EntryHead.{EntryHead}
+use Rattle.nx_copies.specs.declared.entry.EntryHead.{EntryHead}
 use Rattle.nx_receiver.specs.declared.copy_taker.Over.{Over}
 use Rattle.nx_receiver.specs.private.Awaiting.{AwaitsOver}
 use Rattle.nx_receiver.specs.private.CopyHearer.{HasEnded, HasEndedAll, HearerStands, copies_by}
 use Rattle.nx_receiver.specs.private.CopyHearer.{IsOver}
 use Rattle.nx_receiver.specs.CopyHearing.{CopyHearing, in_force}
-use Rattle.nx_receiver.proofs.lemmas.receiver.Logged.{printed_copies-append, entries_after-append}
+use Rattle.nx_copies.proofs.lemmas.printing.Logged.{printed_copies-append, entries_after-append}
 
 -- where no copy has ended, none is printed, and none entered
 pub printed_none : (entries : List MemoryEntry) (copies : List TaggedCopy) → copies ≡ []

@@ -8,13 +8,13 @@ use Rattle.nx_fec.specs.Transfers.{WroteSome}
 use Rattle.nx_memory.specs.Saved.{AreSavedStates, SavedStates}
 use Rattle.nx_receiver.specs.air_file_runs.Listen.{Listens}
 use Rattle.nx_receiver.specs.air_file_runs.Resume.{AnswersAir, IsUnread, ResumesBy}
-use Rattle.nx_receiver.specs.copies.Shares.{starts_from}
+use Rattle.nx_copies.specs.copies.Shares.{starts_from}
 use Rattle.nx_receiver.specs.air_file_runs.State.{state_bytes}
 use Rattle.nx_receiver.specs.declared.air_file_runs.listening.Report.{Report}
 use Rattle.nx_receiver.specs.declared.air_file_runs.resume_fault.ResumeFault.TheVariants as resume
 use Rattle.nx_receiver.specs.declared.air_file_runs.resume_fault.Want.TheVariants.{Log, State}
 use Rattle.nx_receiver.specs.private.Unlogged.{ListensUnlogged}
-use Rattle.nx_receiver.proofs.lemmas.once.Listen.{printed-once}
+use Rattle.nx_receiver.proofs.lemmas.listening.Once.{printed-once}
 
 -- what holds of known bytes, and what follows from it
 later : (o : Option (List ℕ)) (P Q : List ℕ → Type 0) → ((xs : List ℕ) → P xs → Q xs)

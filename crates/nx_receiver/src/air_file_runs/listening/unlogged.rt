@@ -6,7 +6,7 @@ ghost use Rattle.nx_fec.specs.air_files.LineRuns.{HearsLines, ExplainsLinesHeard
 ghost use Rattle.nx_fec.specs.air_files.Scanner.{kind_kept};
 ghost use Rattle.nx_fec.specs.private.LineTaking.{IsHearing, inside};
 ghost use Rattle.nx_fec.specs.Transfers.{input};
-ghost use Rattle.nx_receiver.specs.copies.Shares.{Given, Starts};
+ghost use Rattle.nx_copies.specs.copies.Shares.{Given, Starts};
 ghost use Rattle.nx_receiver.specs.Listener.{Listening, then_elements};
 ghost use Rattle.nx_receiver.specs.private.Listener.{HasClosed, RefusesFrom, RefusesLine};
 ghost use Rattle.nx_receiver.specs.private.ListenFaults.{StandsFor, hearing_fault};

@@ -4,9 +4,10 @@ ghost use Rattle.std.specs.Prelude.{◌≤◌};
 ghost use Rattle.nx_memory.specs.Memory.{newest_moment};
 
 use super::super::{AGAIN, FIRST, SECOND, first_copy};
+use nx_copies::judge;
 use nx_envelope::{Found, Identity};
 use nx_memory::{PlainRecall, Recall, RingRecall};
-use nx_receiver::{EntryHead, judge};
+use nx_receiver::EntryHead;
 
 /// Whether a copy is printed that was found at this moment.
 fn judge_found<M: Recall>(found: &Found, moment: u64, selected: bool, memory: &mut M) -> bool

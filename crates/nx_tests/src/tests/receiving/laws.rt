@@ -1,8 +1,8 @@
 //! Each law of the receiver is called once.
 
 use nx_memory::PlainRecall;
-use nx_receiver::laws;
-use nx_receiver::laws::{chain, channels, listening, once, resuming, sending};
+use nx_promises as laws;
+use nx_promises::{chain, channels, listening, once, resuming, sending};
 
 #[test]
 fn laws_of_the_log() {

@@ -9,7 +9,7 @@ use Rattle.nx_receiver.specs.Listener.{HearsGiven, starts_of}
 use Rattle.nx_watch.specs.declared.watch_report.WatchReport.{WatchReport}
 use Rattle.nx_watch.specs.declared.watch_fault.WatchFault.{WatchFault}
 use Rattle.nx_watch.specs.declared.watch_fault.WatchFault.TheVariants.{Damaged, Memory}
-use Rattle.nx_receiver.specs.copies.Shares.{Starts, starts_from}
+use Rattle.nx_copies.specs.copies.Shares.{Starts, starts_from}
 use Rattle.nx_watch.specs.CutTold.{TellsOfSomeCut}
 use Rattle.nx_watch.specs.LineRun.{HasTold, TellsOfLines}
 use Rattle.nx_watch.specs.Watch.{AnswersOver, HasCause, RefusesLog, starts_at}

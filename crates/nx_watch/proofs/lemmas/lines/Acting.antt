@@ -14,7 +14,7 @@ use Rattle.std.proofs.lemmas.List.{take-append-le, take_all}
 use Rattle.std.proofs.lemmas.List.Sums.{sum_by-append}
 use Rattle.nx_envelope.specs.Moment.{last_moment}
 use Rattle.nx_memory.specs.Memory.{seconds_known}
-use Rattle.nx_receiver.specs.Events.{Refuses}
+use Rattle.nx_receiver.specs.Moments.{Refuses}
 use Rattle.nx_receiver.specs.declared.fault.MomentFault.{MomentFault}
 use Rattle.nx_receiver.specs.declared.fault.MomentFault.TheVariants.{Back, Range}
 use Rattle.nx_fec.specs.air_files.AirFile.{Line, moment, elements, refuse_station, accept_station}

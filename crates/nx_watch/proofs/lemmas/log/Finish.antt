@@ -17,12 +17,12 @@ use Rattle.nx_kept.proofs.lemmas.Stages.{weaker}
 use Rattle.nx_log.specs.Logged.{IsLoggedAs}
 use Rattle.nx_fec.specs.declared.air_files.channel.Channel.TheVariants.{Zero, One, Two}
 use Rattle.nx_receiver.specs.air_file_runs.Listen.{given_by, given_of}
-use Rattle.nx_receiver.specs.copies.InTurn.{PrintAllToEnd, PrintsInTurn}
-use Rattle.nx_receiver.proofs.lemmas.channels.One.{one-in_turn, one-to_end}
-use Rattle.nx_receiver.proofs.lemmas.channels.Some.{later-some}
+use Rattle.nx_copies.specs.copies.InTurn.{PrintAllToEnd, PrintsInTurn}
+use Rattle.nx_copies.proofs.lemmas.channels.One.{one-in_turn, one-to_end}
+use Rattle.nx_copies.proofs.lemmas.channels.Some.{later-some}
 use Rattle.nx_receiver.specs.Listener.{HearsGiven, starts_of}
-use Rattle.nx_receiver.specs.copies.Log.{IsLog}
-use Rattle.nx_receiver.specs.copies.Shares.{MarkedCopy, Starts, marked}
+use Rattle.nx_copies.specs.copies.Log.{IsLog}
+use Rattle.nx_copies.specs.copies.Shares.{MarkedCopy, Starts, marked}
 use Rattle.nx_watch.specs.Acting.{acting_lines, goes_on, most_bytes}
 use Rattle.nx_watch.specs.declared.lines.line_effects.StartMoments.{StartMoments}
 use Rattle.nx_watch.specs.Watch.{AnswersOver, AnswersStop, FailsWithin, FailsWrites, HadFailed, HadKept, HadWritten, HasCause, HasRead, HasWatchedOver, KeepsAll, KeepsSome, LeavesAtAnyMoment, StoodOver, TellsOfCut}

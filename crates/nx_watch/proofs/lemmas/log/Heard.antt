@@ -2,11 +2,11 @@
 use Rattle.std.proofs.Common.{◌≡◌, ◌++◌, ◌∙◌, Bool, true, false, cond, List, [], ap, append-nil, refl, subst, sym}
 use Rattle.nx_fec.specs.air_files.Channels.{same_channel}
 use Rattle.nx_fec.specs.declared.air_files.channel.Channel.{Channel}
-use Rattle.nx_receiver.specs.Events as fed
-use Rattle.nx_receiver.specs.Events.{Event, Setting, elements_among, setting_after_all}
+use Rattle.nx_copies.specs.Events as fed
+use Rattle.nx_copies.specs.Events.{Event, Setting, elements_among, setting_after_all}
 use Rattle.nx_receiver.specs.Listener.{HearsGiven, Listening, content, receiver_on, then_elements}
 use Rattle.nx_receiver.specs.Receiver.{Stands}
-use Rattle.nx_receiver.specs.copies.Shares.{Given, MarkedCopy, Starts, share, start_on, to_one}
+use Rattle.nx_copies.specs.copies.Shares.{Given, MarkedCopy, Starts, share, start_on, to_one}
 use Rattle.nx_receiver.proofs.lemmas.listening.Listener.{SetsMoment, hears-next}
 
 if-empty : (b : Bool) → cond b (fed.elements []) [] ≡ []

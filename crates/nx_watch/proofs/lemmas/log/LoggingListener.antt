@@ -18,18 +18,19 @@ use Rattle.nx_log.specs.Entries.{IsWholeEntry}
 use Rattle.nx_log.specs.Logged.{IsLogged, IsLoggedAs}
 use Rattle.nx_log.proofs.lemmas.printed.Moments.{AreInRange, IsInRange, end_logged, given_logged}
 use Rattle.nx_receiver.specs.Commands.{refuses_vital}
-use Rattle.nx_receiver.specs.Events as fed
-use Rattle.nx_receiver.specs.Events.{Command, Event, Refuses, at_moment, command}
-use Rattle.nx_receiver.specs.copies.FoundCopies.{TaggedCopy, copy_of}
-use Rattle.nx_receiver.specs.copies.InTurn.{PrintAllToEnd}
+use Rattle.nx_copies.specs.Events as fed
+use Rattle.nx_copies.specs.Events.{Command, Event, at_moment, command}
+use Rattle.nx_receiver.specs.Moments.{Refuses}
+use Rattle.nx_copies.specs.copies.FoundCopies.{TaggedCopy, copy_of}
+use Rattle.nx_copies.specs.copies.InTurn.{PrintAllToEnd}
 use Rattle.nx_receiver.specs.air_file_runs.Listen.{given_by, given_of}
 use Rattle.nx_receiver.specs.Receiver.{entry_list}
-use Rattle.nx_receiver.specs.declared.entry.Entry.{Entry}
+use Rattle.nx_copies.specs.declared.entry.Entry.{Entry}
 use Rattle.nx_receiver.specs.declared.listener.LastEntries.{LastEntries}
 use Rattle.nx_fec.specs.declared.air_files.channel.Channel.TheVariants.{Zero as OnZero, One, Two}
 use Rattle.nx_receiver.specs.Listener.{HearsGiven, IsSpelled, Listening, last_copies, moment_in_force, starts_of, then_command, then_elements, then_moment}
-use Rattle.nx_receiver.specs.copies.Log.{IsEntry, IsLog}
-use Rattle.nx_receiver.specs.copies.Shares.{Given, MarkedCopy, Starts, events_for, marked, share, to_one}
+use Rattle.nx_copies.specs.copies.Log.{IsEntry, IsLog}
+use Rattle.nx_copies.specs.copies.Shares.{Given, MarkedCopy, Starts, events_for, marked, share, to_one}
 use Rattle.nx_receiver.specs.declared.fault.MomentFault.{MomentFault}
 use Rattle.nx_receiver.proofs.lemmas.listening.Listener.{given_by-one, in_force-append as given-append}
 use Rattle.nx_watch.proofs.lemmas.lines.Acting.{said-in}

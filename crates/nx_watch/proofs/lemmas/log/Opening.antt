@@ -16,7 +16,7 @@ use Rattle.nx_kept.proofs.lemmas.KeptLaws.{one_list}
 use Rattle.nx_kept.proofs.lemmas.Stages.{joined, weaker}
 use Rattle.nx_log.specs.Entries.{IsWholeEntry}
 use Rattle.nx_log.specs.Logged.{IsLoggedAs}
-use Rattle.nx_receiver.specs.copies.Shares.{MarkedCopy, Starts}
+use Rattle.nx_copies.specs.copies.Shares.{MarkedCopy, Starts}
 use Rattle.nx_watch.specs.LineRun.{HasTold}
 use Rattle.nx_watch.specs.LinesTold.{IsToldAtEnd, IsToldByRead}
 use Rattle.nx_watch.specs.Stamp.{Stamp}

@@ -20,10 +20,10 @@ use Rattle.nx_log.proofs.lemmas.reading.Entries.{one_entry}
 use Rattle.nx_memory.specs.Memory.{most_entries}
 use Rattle.nx_memory.specs.Saved.{SavedState}
 use Rattle.nx_memory.specs.declared.memories.entry.MemoryEntry.{MemoryEntry}
-use Rattle.nx_receiver.specs.Events.{none_refused}
-use Rattle.nx_receiver.specs.copies.FoundCopies.{TaggedCopy}
-use Rattle.nx_receiver.specs.copies.Printing.{entry_of, is_good, is_number_00}
-use Rattle.nx_receiver.specs.copies.Shares.{MarkedCopy, copies_on}
+use Rattle.nx_copies.specs.Events.{none_refused}
+use Rattle.nx_copies.specs.copies.FoundCopies.{TaggedCopy}
+use Rattle.nx_copies.specs.copies.Printing.{entry_of, is_good, is_number_00}
+use Rattle.nx_copies.specs.copies.Shares.{MarkedCopy, copies_on}
 use Rattle.nx_watch.specs.private.Remembering.{RemembersBehind, RemembersMore, entry_found, memory_on}
 use Rattle.nx_watch.specs.declared.kept_log.log_memory.LogMemory.{LogMemory}
 

@@ -1,12 +1,12 @@
 use Rattle.std.proofs.Common.{◌++◌, ◌∷◌, [], ap, append-nil, append_assoc, arith, length, subst, sym}
 use Rattle.std.specs.List.{All}
 use Rattle.std.proofs.lemmas.List.Elements.{All-head, All-tail}
-use Rattle.nx_receiver.specs.copies.FoundCopies.{copy_of}
-use Rattle.nx_receiver.specs.copies.InTurn.{PrintAllToEnd}
+use Rattle.nx_copies.specs.copies.FoundCopies.{copy_of}
+use Rattle.nx_copies.specs.copies.InTurn.{PrintAllToEnd}
 use Rattle.nx_receiver.specs.air_file_runs.Listen.{given_by}
 use Rattle.nx_receiver.specs.Listener.{last_copies}
-use Rattle.nx_receiver.specs.copies.Log.{IsEntry}
-use Rattle.nx_receiver.specs.copies.Shares.{marked}
+use Rattle.nx_copies.specs.copies.Log.{IsEntry}
+use Rattle.nx_copies.specs.copies.Shares.{marked}
 use Rattle.nx_watch.specs.private.LoggingListener.{IsCopyInRange}
 use Rattle.nx_watch.proofs.lemmas.log.LoggingListener.{end-spelled, zip-push}
 use Rattle.nx_watch.proofs.logging_listener.keep_last.Goals as goal

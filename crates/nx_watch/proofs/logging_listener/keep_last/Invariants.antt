@@ -4,10 +4,10 @@ use Rattle.nx_envelope.specs.Moment.{last_moment}
 use Rattle.nx_fec.specs.air_files.AirFile.{Line}
 use Rattle.nx_fec.specs.Transfers.{CountedDevice}
 use Rattle.nx_log.specs.Logged.{IsLoggedAs}
-use Rattle.nx_receiver.specs.copies.InTurn.{PrintAllToEnd}
+use Rattle.nx_copies.specs.copies.InTurn.{PrintAllToEnd}
 use Rattle.nx_receiver.specs.air_file_runs.Listen.{given_by}
 use Rattle.nx_receiver.specs.Listener.{last_copies}
-use Rattle.nx_receiver.specs.copies.Shares.{MarkedCopy, Starts}
+use Rattle.nx_copies.specs.copies.Shares.{MarkedCopy, Starts}
 use Rattle.nx_watch.specs.private.Keeping.{KeepsWith}
 use Rattle.nx_watch.specs.private.LoggingListener.{IsCopyInRange, IsLineInRange}
 use Rattle.nx_watch.specs.declared.kept_log.keeper.Keeper.{Keeper}

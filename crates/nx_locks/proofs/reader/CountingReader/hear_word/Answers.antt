@@ -1,7 +1,7 @@
 use Rattle.std.proofs.Common.{Option, Some, None, ℕ, ap, ◌∙◌, arith, append-nil, sym}
 use Rattle.std.specs.Option.{option_map}
 use Rattle.nx_envelope.specs.declared.found.TextEvent.{TextEvent}
-use Rattle.nx_receiver.specs.copies.LockText.{text_after}
+use Rattle.nx_copies.specs.copies.LockText.{text_after}
 use Rattle.nx_locks.specs.private.Reader.{Reading}
 use Rattle.nx_locks.proofs.lemmas.ReaderWords.{heard_none, heard_some, is_counted}
 use Rattle.nx_locks.proofs.reader.CountingReader.hear_word.Goals as goal

@@ -1,6 +1,6 @@
 use Rattle.std.proofs.Common.{◌∙◌, arith, subst}
 use Rattle.std.proofs.lemmas.Result.{err_from_is_err_and}
-use Rattle.nx_receiver.specs.Events.{Refuses}
+use Rattle.nx_receiver.specs.Moments.{Refuses}
 use Rattle.nx_locks.specs.private.Showing.{Showing}
 use Rattle.nx_locks.proofs.lemmas.Taking.{moment_line}
 use Rattle.nx_locks.proofs.report_writer.ReportWriter.take_moment.Goals as goal

@@ -6,7 +6,7 @@ use Rattle.std.proofs.lemmas.Bool.Decides.{Decides-eqb}
 use Rattle.std.proofs.lemmas.Slice.Eq.{slice_eq-Decides}
 use Rattle.nx_envelope.specs.Copies.{errors_of}
 use Rattle.nx_code.specs.Reading.{newline}
-use Rattle.nx_receiver.specs.copies.Log.{missing_newline}
+use Rattle.nx_copies.specs.copies.Log.{missing_newline}
 use Rattle.nx_log.specs.Logged.{is_text_byte}
 use Rattle.nx_log.specs.declared.entries.head.LoggedHead.{LoggedHead}
 use Rattle.nx_log.proofs.lemmas.reading.Entries.{begins_with_head, body_and, head_is, head_of, one_head}

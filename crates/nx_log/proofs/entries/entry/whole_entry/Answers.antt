@@ -2,7 +2,7 @@ use Rattle.std.proofs.Common.{◌≡◌, ◌≤◌, [], ◌∷◌, ◌++◌, ap,
 use Rattle.std.proofs.lemmas.List.{length-take-le, take-append-le, take_all}
 use Rattle.nx_envelope.specs.Copies.{errors_of}
 use Rattle.nx_code.specs.Reading.{newline}
-use Rattle.nx_receiver.specs.copies.Log.{missing_newline}
+use Rattle.nx_copies.specs.copies.Log.{missing_newline}
 use Rattle.nx_log.specs.Logged.{IsLoggedAs}
 use Rattle.nx_log.specs.View.{copy_said}
 use Rattle.nx_log.specs.declared.entries.head.LoggedHead.{LoggedHead}

@@ -1,7 +1,7 @@
 use Rattle.std.proofs.Common.{◌≡◌, ◌++◌, ◌∷◌, [], ℕ, List, codes, append_assoc, ◌∙◌, ap}
 use Rattle.std.specs.Fmt.{decimal}
 use Rattle.nx_fec.specs.air_files.Channels.{channel_number}
-use Rattle.nx_receiver.specs.copies.Log.{how_name}
+use Rattle.nx_copies.specs.copies.Log.{how_name}
 use Rattle.nx_log.proofs.writing.json_text.json_head.Goals as goal
 
 -- the pieces, in order

@@ -2,12 +2,12 @@ use Rattle.std.proofs.Common.{◌++◌, ◌∷◌, ◌∙◌, [], ap, append-nil
 use Rattle.std.proofs.lemmas.Result.{err_from_is_err_and}
 use Rattle.nx_receiver.specs.Listener.{HearsGiven, text_on, then_elements}
 use Rattle.nx_receiver.specs.Receiver.{headed_list}
-use Rattle.nx_receiver.specs.copies.FoundCopies.{headed_copy}
-use Rattle.nx_receiver.specs.copies.Log.{IsEntry}
-use Rattle.nx_receiver.specs.copies.Shares.{marked}
+use Rattle.nx_copies.specs.copies.FoundCopies.{headed_copy}
+use Rattle.nx_copies.specs.copies.Log.{IsEntry}
+use Rattle.nx_copies.specs.copies.Shares.{marked}
 use Rattle.nx_receiver.specs.private.Listener.{BeginsLog}
 use Rattle.nx_receiver.proofs.lemmas.listening.Listener.{begins-more, logs-more, whole-part}
-use Rattle.nx_receiver.proofs.lemmas.receiver.Log.{one-log}
+use Rattle.nx_copies.proofs.lemmas.printing.Log.{one-log}
 use Rattle.nx_receiver.proofs.air_file_runs.listening.hear_next.Goals as goal
 
 -- nothing is printed

@@ -2,7 +2,7 @@ use Rattle.std.proofs.Common.{◌≡◌, ◌≤◌, false, [], Result, Ok, Err, 
 use Rattle.std.specs.declared.alloc.AllocError.{AllocError}
 use Rattle.nx_envelope.specs.Moment.{last_moment}
 use Rattle.nx_receiver.specs.Listener.{HearsGiven, Listening}
-use Rattle.nx_receiver.specs.copies.Shares.{Starts}
+use Rattle.nx_copies.specs.copies.Shares.{Starts}
 use Rattle.nx_receiver.specs.private.Listener.{IsListening}
 use Rattle.nx_receiver.proofs.lemmas.listening.Listener.{took-nothing}
 use Rattle.nx_receiver.proofs.air_file_runs.listening.line_listener.Goals as goal

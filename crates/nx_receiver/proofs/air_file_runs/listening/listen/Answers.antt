@@ -1,11 +1,11 @@
 use Rattle.std.proofs.Common.{rules}
 use Rattle.std.proofs.Common.{◌≡◌, Result, Ok, Err, IsErr, IsErrAnd, ap, subst, sym, ◌∙◌}
 use Rattle.nx_fec.specs.Transfers.{devices}
-use Rattle.nx_receiver.specs.laws.ListenOnce.{ListensOnce}
-use Rattle.nx_receiver.specs.copies.Shares.{Starts, all_at_zero, starts_from}
+use Rattle.nx_receiver.specs.air_file_runs.ListenOnce.{ListensOnce}
+use Rattle.nx_copies.specs.copies.Shares.{Starts, all_at_zero, starts_from}
 use Rattle.nx_receiver.specs.declared.air_file_runs.listen_fault.ListenFault.{ListenFault}
 use Rattle.nx_receiver.specs.declared.air_file_runs.listening.Report.{Report}
-use Rattle.nx_receiver.proofs.lemmas.channels.Shares.{from-nothing}
+use Rattle.nx_copies.proofs.lemmas.channels.Shares.{from-nothing}
 use Rattle.nx_receiver.proofs.air_file_runs.listening.listen.Goals as goal
 
 -- an outcome that is this fault

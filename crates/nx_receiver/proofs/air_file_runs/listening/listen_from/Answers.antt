@@ -3,7 +3,7 @@ use Rattle.std.proofs.lemmas.Result.{err_from_is_err_and}
 use Rattle.nx_fec.specs.Transfers.{devices}
 use Rattle.nx_fec.proofs.lemmas.devices.TransferLaws.{Ok-not_err, Writes-sound}
 use Rattle.nx_receiver.specs.air_file_runs.Listen.{Listens, given_by}
-use Rattle.nx_receiver.specs.copies.Shares.{Starts, starts_from}
+use Rattle.nx_copies.specs.copies.Shares.{Starts, starts_from}
 use Rattle.nx_receiver.specs.Listener.{starts_of}
 use Rattle.nx_receiver.specs.private.Listener.{StandsFrom, IsListening}
 use Rattle.nx_receiver.specs.declared.air_file_runs.listen_fault.ListenFault.TheVariants.{Write}

@@ -1,6 +1,6 @@
 use Rattle.std.proofs.Common.{◌≡◌, ◌-◌, ◌≤◌, ℕ, Option, List, [], length, take}
 use Rattle.nx_fec.specs.air_files.LineRuns.{HasGiven}
-use Rattle.nx_receiver.specs.copies.Shares.{Given, Starts}
+use Rattle.nx_copies.specs.copies.Shares.{Given, Starts}
 use Rattle.nx_receiver.specs.Listener.{then_elements}
 use Rattle.nx_receiver.specs.private.Listener.{IsHearing}
 use Rattle.nx_receiver.proofs.air_file_runs.listening.take_elements.Given as goal

@@ -1,5 +1,5 @@
 use Rattle.std.proofs.Common.{sym, subst, ap, ◌≡◌, ◌∙◌, false}
-use Rattle.nx_receiver.specs.private.LockReader.{is_open}
+use Rattle.nx_copies.specs.ReaderWords.{is_open}
 use Rattle.nx_receiver.specs.private.CopyHearer.{LockIsOver}
 use Rattle.nx_receiver.proofs.lemmas.copy_hearer.Takes.{lock_ended_none}
 use Rattle.nx_receiver.proofs.copy_hearer.CopyHearer.restart.Goals as goal

@@ -1,9 +1,9 @@
 use Rattle.std.proofs.Common.{ap, subst, true}
 use Rattle.nx_receiver.specs.Listener.{text_on}
 use Rattle.nx_receiver.specs.Receiver.{headed_list}
-use Rattle.nx_receiver.specs.copies.FoundCopies.{headed_copy}
-use Rattle.nx_receiver.specs.copies.Log.{IsEntry}
-use Rattle.nx_receiver.specs.copies.Shares.{marked}
+use Rattle.nx_copies.specs.copies.FoundCopies.{headed_copy}
+use Rattle.nx_copies.specs.copies.Log.{IsEntry}
+use Rattle.nx_copies.specs.copies.Shares.{marked}
 use Rattle.nx_receiver.proofs.listener.Listener.hear_spelled.Goals as goal
 
 pub returns-in_default-clause-heard : goal.returns-in_default-clause-heard

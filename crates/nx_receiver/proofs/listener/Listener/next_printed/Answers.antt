@@ -4,7 +4,7 @@ use Rattle.std.specs.Prelude.{IfSome}
 use Rattle.nx_fec.specs.Transfers.{count_of}
 use Rattle.nx_receiver.specs.Listener.{HearsOver, ListeningOver, text_on, then_elements}
 use Rattle.nx_receiver.specs.Receiver.{HeadsText, headed_list}
-use Rattle.nx_receiver.specs.copies.Shares.{marked}
+use Rattle.nx_copies.specs.copies.Shares.{marked}
 use Rattle.nx_receiver.proofs.lemmas.listening.Listener.{differs-on, heard-to, hears-quiet, hears-then}
 use Rattle.nx_receiver.proofs.lemmas.listening.Listener.{none-before, only-then, text-counted}
 use Rattle.nx_receiver.proofs.lemmas.receiver.Given.{heads_counted, heads_few}

@@ -1,7 +1,7 @@
 use Rattle.std.proofs.Common.{subst, sym}
 use Rattle.nx_fec.specs.declared.air_files.channel.Channel.TheVariants.{Zero, One, Two}
 use Rattle.nx_receiver.specs.air_file_runs.Chain.{Leaves}
-use Rattle.nx_receiver.specs.copies.Shares.{share, start_on}
+use Rattle.nx_copies.specs.copies.Shares.{share, start_on}
 use Rattle.nx_receiver.proofs.lemmas.listening.Listener.{on-all}
 use Rattle.nx_receiver.proofs.listener.Listener.saved.Goals as goal
 

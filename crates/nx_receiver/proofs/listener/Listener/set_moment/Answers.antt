@@ -1,7 +1,8 @@
 use Rattle.std.proofs.Common.{◌≤◌, ◌∙◌, true, ap, subst, sym}
 use Rattle.std.proofs.lemmas.Result.{err_from_is_err_and}
 use Rattle.nx_fec.specs.declared.air_files.channel.Channel.TheVariants.{Zero, One, Two}
-use Rattle.nx_receiver.specs.Events.{Refuses, at_moment}
+use Rattle.nx_copies.specs.Events.{at_moment}
+use Rattle.nx_receiver.specs.Moments.{Refuses}
 use Rattle.nx_receiver.specs.Listener.{ListeningOver, receiver_on}
 use Rattle.nx_receiver.specs.Receiver.{TakesEvent}
 use Rattle.nx_receiver.proofs.lemmas.listening.Listener.{same-receivers, set-all}

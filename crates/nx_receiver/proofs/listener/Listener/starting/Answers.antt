@@ -5,7 +5,7 @@ use Rattle.nx_envelope.specs.Moment.{last_moment}
 use Rattle.nx_fec.specs.declared.air_files.channel.Channel.TheVariants.{Zero, One, Two}
 use Rattle.nx_memory.specs.Memory.{newest_of}
 use Rattle.nx_memory.specs.Saved.{SavedState, later_of}
-use Rattle.nx_receiver.specs.copies.Shares.{start_on, starts_from}
+use Rattle.nx_copies.specs.copies.Shares.{start_on, starts_from}
 use Rattle.nx_receiver.proofs.lemmas.listening.Listener.{heard-first, starts-first}
 use Rattle.nx_receiver.proofs.listener.Listener.starting.Goals as goal
 

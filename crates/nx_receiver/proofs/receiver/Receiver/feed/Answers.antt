@@ -1,7 +1,7 @@
 use Rattle.std.proofs.Common.{◌+◌, ◌∷◌, ◌∙◌, ◌++◌, [], ap, subst, sym, take, true}
-use Rattle.nx_receiver.specs.Events.{elements}
+use Rattle.nx_copies.specs.Events.{elements}
 use Rattle.nx_receiver.specs.Receiver.{Stands, headed_list, text_of}
-use Rattle.nx_receiver.specs.copies.FoundCopies.{headed_copy}
+use Rattle.nx_copies.specs.copies.FoundCopies.{headed_copy}
 use Rattle.nx_receiver.proofs.lemmas.receiver.Feeds.{fed_before, fed_finished, fed_no_copy, fed_over}
 use Rattle.nx_receiver.proofs.lemmas.receiver.Feeds.{fed_bits, fed_quiet}
 use Rattle.nx_receiver.proofs.receiver.Receiver.feed.Goals as goal

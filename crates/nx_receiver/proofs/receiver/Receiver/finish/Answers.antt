@@ -2,7 +2,7 @@ use Rattle.std.proofs.Common.{◌++◌, ◌∙◌, ap, false, refl, subst, sym}
 use Rattle.std.specs.Prelude.{IfSome}
 use Rattle.nx_envelope.specs.Finder.{is_ready}
 use Rattle.nx_receiver.specs.CopyHearing.{CopyHearing, in_force}
-use Rattle.nx_receiver.specs.Events.{elements_among, first_setting, setting_after_all, settings}
+use Rattle.nx_copies.specs.Events.{elements_among, first_setting, setting_after_all, settings}
 use Rattle.nx_receiver.specs.Receiver.{HeadsText, Stands, headed_list, text_of}
 use Rattle.nx_receiver.specs.private.CopyHearer.{IsOver, over_with, ready_copies}
 use Rattle.nx_receiver.proofs.lemmas.copy_hearer.Takes.{over_ready}

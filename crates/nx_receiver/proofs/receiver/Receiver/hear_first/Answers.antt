@@ -1,7 +1,7 @@
 use Rattle.std.proofs.Common.{◌≤◌, ◌∙◌, ◌++◌, ap, arith, length, length-take, subst, take}
 use Rattle.std.proofs.Common.{take-take}
-use Rattle.nx_receiver.specs.Events.{elements}
-use Rattle.nx_receiver.specs.copies.Log.{HasPrinted}
+use Rattle.nx_copies.specs.Events.{elements}
+use Rattle.nx_copies.specs.copies.Log.{HasPrinted}
 use Rattle.nx_receiver.specs.private.Awaiting.{Awaits}
 use Rattle.nx_receiver.proofs.receiver.Receiver.hear_first.Goals as goal
 

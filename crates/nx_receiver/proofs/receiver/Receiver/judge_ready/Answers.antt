@@ -6,7 +6,7 @@ use Rattle.nx_envelope.specs.Finder.{is_ready}
 use Rattle.nx_envelope.specs.declared.finder.Finder.{Finder}
 use Rattle.nx_memory.specs.Memory.{most_entries}
 use Rattle.nx_receiver.specs.Receiver.{Receiving, headed_list, text_of}
-use Rattle.nx_receiver.specs.copies.FoundCopies.{headed_copy}
+use Rattle.nx_copies.specs.copies.FoundCopies.{headed_copy}
 use Rattle.nx_receiver.specs.declared.copy_taker.CopyTag.{CopyTag}
 use Rattle.nx_receiver.specs.private.CopyHearer.{ready_copies, ready_in}
 use Rattle.nx_receiver.proofs.lemmas.copy_hearer.Takes.{none_ready}

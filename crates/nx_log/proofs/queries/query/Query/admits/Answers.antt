@@ -4,7 +4,7 @@ use Rattle.nx_log.proofs.queries.query.Query.admits.Goals as goal
 use Rattle.nx_log.specs.Query as spec
 use Rattle.nx_log.specs.Query.{admits}
 use Rattle.nx_log.specs.View.{copy_said}
-use Rattle.nx_receiver.specs.copies.Printing.{is_good}
+use Rattle.nx_copies.specs.copies.Printing.{is_good}
 
 pub returns-then-not-self : goal.returns-then-not-self
 unfolding admits

@@ -1,10 +1,10 @@
 use Rattle.std.proofs.Common.{map, subst, sym}
 use Rattle.std.proofs.lemmas.Result.{err_from_is_err_and}
-use Rattle.nx_receiver.specs.copies.FoundCopies.{copy_of}
-use Rattle.nx_receiver.specs.copies.Log.{IsEntry, IsLog}
+use Rattle.nx_copies.specs.copies.FoundCopies.{copy_of}
+use Rattle.nx_copies.specs.copies.Log.{IsEntry, IsLog}
 use Rattle.nx_receiver.specs.Receiver.{entry_list}
-use Rattle.nx_receiver.specs.copies.Shares.{marked}
-use Rattle.nx_receiver.proofs.lemmas.receiver.Log.{one-log}
+use Rattle.nx_copies.specs.copies.Shares.{marked}
+use Rattle.nx_copies.proofs.lemmas.printing.Log.{one-log}
 use Rattle.nx_receiver.proofs.air_file_runs.listening.Ending.with.Goals as goal
 
 pub returns-in_err-written-clause-bytes : goal.returns-in_err-written-clause-bytes

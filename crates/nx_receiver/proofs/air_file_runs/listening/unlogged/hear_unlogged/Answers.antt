@@ -2,7 +2,7 @@ use Rattle.std.proofs.Common.{◌≡◌, ◌∙◌, ◌++◌, drop, map, take, s
 use Rattle.std.proofs.lemmas.List.{take_all}
 use Rattle.nx_receiver.specs.Listener.{text_on, then_elements}
 use Rattle.nx_receiver.specs.Receiver.{headed_list}
-use Rattle.nx_receiver.specs.copies.Shares.{marked}
+use Rattle.nx_copies.specs.copies.Shares.{marked}
 use Rattle.nx_receiver.specs.private.Unlogged.{HasHeardGiven}
 use Rattle.nx_receiver.proofs.lemmas.listening.Listener.{elements-next, head-log, logs-more}
 use Rattle.nx_receiver.proofs.air_file_runs.listening.unlogged.hear_unlogged.Goals as goal

@@ -1,5 +1,5 @@
 use Rattle.std.proofs.Common.{◌≡◌, ◌-◌, ◌≤◌, List, [], length, take}
-use Rattle.nx_receiver.specs.copies.Shares.{Given, Starts}
+use Rattle.nx_copies.specs.copies.Shares.{Given, Starts}
 use Rattle.nx_receiver.specs.Listener.{then_elements}
 use Rattle.nx_receiver.specs.private.Unlogged.{HasHeardGiven}
 use Rattle.nx_receiver.proofs.air_file_runs.listening.unlogged.hear_unlogged.Given as goal

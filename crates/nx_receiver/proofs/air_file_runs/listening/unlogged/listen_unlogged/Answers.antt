@@ -3,7 +3,7 @@ use Rattle.nx_receiver.specs.air_file_runs.Listen.{given_by}
 use Rattle.nx_receiver.specs.Listener.{starts_of}
 use Rattle.nx_receiver.specs.private.Listener.{IsListening}
 use Rattle.nx_receiver.specs.private.Unlogged.{ListensUnlogged, StandsUnlogged, as_run_fault}
-use Rattle.nx_receiver.specs.copies.Shares.{Starts}
+use Rattle.nx_copies.specs.copies.Shares.{Starts}
 use Rattle.std.proofs.lemmas.Result.{err_from_is_err_and}
 use Rattle.nx_receiver.proofs.lemmas.listening.Faults.{not-memory}
 use Rattle.nx_receiver.proofs.lemmas.listening.Runs.{err-of}

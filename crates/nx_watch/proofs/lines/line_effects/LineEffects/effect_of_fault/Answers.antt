@@ -3,7 +3,7 @@ use Rattle.std.proofs.lemmas.Bool.{le-leb}
 use Rattle.nx_envelope.specs.Moment.{last_moment}
 use Rattle.nx_fec.specs.air_files.AirFile.{moment}
 use Rattle.nx_memory.specs.Memory.{seconds_known}
-use Rattle.nx_receiver.specs.Events.{Refuses}
+use Rattle.nx_receiver.specs.Moments.{Refuses}
 use Rattle.nx_watch.specs.Acting.{in_force, is_far_back}
 use Rattle.nx_watch.specs.private.Effects.{KeepsMoments}
 use Rattle.nx_watch.proofs.lemmas.lines.Acting.{back-idle, both, far-same, not_first, not_second}

@@ -1,0 +1,6 @@
+-- Lemmas that several proofs cite.
+pub mod channels
+pub mod emissions
+pub mod locks
+pub mod once
+pub mod printing

@@ -1,0 +1,6 @@
+-- The texts of locks, and the copies in them.
+pub mod Found
+pub mod Growing
+pub mod PlainPairs
+pub mod ReaderWords
+pub mod Texts

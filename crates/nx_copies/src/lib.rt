@@ -1,0 +1,16 @@
+//! Copies of messages: found in the text of a lock, judged, and written as entries of the log. What
+//! is printed is defined here.
+#![tactic(auto)]
+
+mod entry;
+mod judging;
+mod lock_printer;
+mod lock_reader;
+mod writing;
+
+pub use entry::{Entry, EntryHead};
+pub use judging::judge;
+pub use lock_reader::LockReader;
+pub use writing::{
+    MAX_ENTRY, entry_bytes, entry_end, entry_text, entry_text_on, give_entry, spell_entry,
+};

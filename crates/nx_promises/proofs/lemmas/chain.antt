@@ -1,0 +1,3 @@
+-- Chains of runs.
+pub mod Alone
+pub mod Once

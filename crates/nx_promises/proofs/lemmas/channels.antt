@@ -1,0 +1,2 @@
+-- Three channels, each with its share, and what is printed in turn.
+pub mod Unnamed

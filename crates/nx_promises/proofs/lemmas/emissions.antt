@@ -1,0 +1,2 @@
+-- A received emission: its lock, its text and its copies.
+pub mod Headers

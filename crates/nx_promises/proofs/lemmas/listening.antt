@@ -1,0 +1,3 @@
+-- Air files, from their lines to the log.
+pub mod ElementLines
+pub mod Outcomes

@@ -1,0 +1,3 @@
+-- The texts of locks, and the copies in them.
+pub mod Apart
+pub mod Words

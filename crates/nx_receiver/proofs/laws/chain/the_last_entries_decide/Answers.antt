@@ -1,5 +1,0 @@
-use Rattle.nx_receiver.proofs.lemmas.chain.Printing.{same_end, same_entries, same_log}
-use Rattle.nx_receiver.proofs.laws.chain.the_last_entries_decide.Goals as goal
-
-pub returns : goal.returns
-returns c = record { printed = same_log; entered = same_entries; agree = same_end }

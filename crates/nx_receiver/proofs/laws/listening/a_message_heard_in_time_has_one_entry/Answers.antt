@@ -1,5 +1,0 @@
-use Rattle.nx_receiver.proofs.lemmas.once.Listen.{one-entry}
-use Rattle.nx_receiver.proofs.laws.listening.a_message_heard_in_time_has_one_entry.Goals as goal
-
-pub returns : goal.returns
-returns c = one-entry

@@ -1,5 +1,0 @@
-use Rattle.nx_receiver.proofs.lemmas.listening.Listener.{in_force-lines}
-use Rattle.nx_receiver.proofs.laws.listening.lines_tell_the_moment_in_force.Goals as goal
-
-pub returns : goal.returns
-returns c = in_force-lines

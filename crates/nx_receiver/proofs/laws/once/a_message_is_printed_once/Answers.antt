@@ -1,6 +1,0 @@
-use Rattle.nx_receiver.proofs.lemmas.once.Found.{printed_once}
-use Rattle.nx_receiver.proofs.laws.once.a_message_is_printed_once.Goals as goal
-
-pub returns : goal.returns
-returns c start events parts message log prints h =
-    printed_once start events parts message h log prints

@@ -1,5 +1,0 @@
-use Rattle.nx_receiver.proofs.lemmas.emissions.Found.{lock_holds}
-use Rattle.nx_receiver.proofs.laws.once.a_received_emission_keeps_its_lock.Goals as goal
-
-pub returns : goal.returns
-returns c = lock_holds

@@ -1,5 +1,0 @@
-use Rattle.nx_receiver.proofs.lemmas.examples.Emission.{heard_in_time}
-use Rattle.nx_receiver.proofs.laws.once.there_is_a_message_heard_in_time.Goals as goal
-
-pub returns : goal.returns
-returns c = heard_in_time

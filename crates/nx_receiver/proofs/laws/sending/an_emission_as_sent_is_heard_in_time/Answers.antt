@@ -1,5 +1,0 @@
-use Rattle.nx_receiver.proofs.lemmas.from_send.Heard.{heard_in_time}
-use Rattle.nx_receiver.proofs.laws.sending.an_emission_as_sent_is_heard_in_time.Goals as goal
-
-pub returns : goal.returns
-returns c = heard_in_time

@@ -1,5 +1,0 @@
--- A message is printed once.
-pub mod Found
-pub mod Listen
-pub mod Repeats
-pub mod Rising

@@ -1,5 +1,0 @@
-use Rattle.nx_receiver.proofs.lemmas.locks.ReaderWords.{fresh_reads}
-use Rattle.nx_receiver.proofs.lock_reader.LockReader.new.Goals as goal
-
-pub returns : goal.returns
-returns c = fresh_reads c.new.ensures c.new-2.ensures
