@@ -77,11 +77,13 @@ HasFailedWithin start [] = ⊥
 HasFailedWithin start (event ∷ earlier) =
     (event.1 ≤ length (seen_of start earlier)) × (event.3 ≡ false)
 
-abbrev pub IsRead : ℕ → Type 0
-IsRead call = call ≡ 0
+-- the call of this number reads
+abbrev pub ReadsDisk : ℕ → Type 0
+ReadsDisk call = call ≡ 0
 
-abbrev pub IsWrite : ℕ → Type 0
-IsWrite call = 1 ≤ call
+-- the call of this number writes, cuts, or brings to the disk
+abbrev pub ChangesDisk : ℕ → Type 0
+ChangesDisk call = 1 ≤ call
 
 -- this moment is one of those since an earlier one
 pub counts_now : (start : List ℕ) (first : List (List ℕ)) (events : List DiskEvent) (t : ℕ)

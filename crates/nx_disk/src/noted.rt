@@ -2,7 +2,7 @@
 //! the notes is what the clauses say.
 
 ghost use Rattle.std.specs.Prelude.{◌+◌, ◌<◌, ◌^◌, ℕ, length, OnOk};
-ghost use Rattle.nx_disk.specs.Events.{Explains, HasFailed, HasFailedWithin, LeftSince, MayLeave, IsRead, IsWrite, faults_of, seen_of};
+ghost use Rattle.nx_disk.specs.Events.{Explains, HasFailed, HasFailedWithin, LeftSince, MayLeave, ReadsDisk, ChangesDisk, faults_of, seen_of};
 ghost use Rattle.nx_disk.specs.Events as events;
 ghost use Rattle.nx_disk.specs.Fresh.{IsFresh};
 
@@ -96,9 +96,9 @@ impl<F: RawFile> DiskFile for Noted<F> {
 
     ghost faults = { λ f. faults_of f.history.events };
 
-    ghost has_failed_to_read = { λ f. HasFailed IsRead f.history.events };
+    ghost has_failed_to_read = { λ f. HasFailed ReadsDisk f.history.events };
 
-    ghost has_failed_to_write = { λ f. HasFailed IsWrite f.history.events };
+    ghost has_failed_to_write = { λ f. HasFailed ChangesDisk f.history.events };
 
     ghost has_failed_within = { λ start f. HasFailedWithin start f.history.events };
 
