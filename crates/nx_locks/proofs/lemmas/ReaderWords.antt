@@ -172,7 +172,7 @@ heard_some mid new lock printed byte first words n c few read some takes kept =
 
 -- a byte that completes no header leaves the headers
 pub headers_kept : (text : List ℕ) (byte : ℕ) (finder : Finder) (event : TextEvent)
-    → finders.Hears text byte finder event → ((i : Identity) → event ≡ events.Header i → ⊥)
+    → finders.HappensAt text byte finder event → ((i : Identity) → event ≡ events.Header i → ⊥)
     → headers (text ++ byte ∷ []) ≡ headers text
 headers_kept text byte finder events.Nothing h none = h.headers
 headers_kept text byte finder (events.Header i) h none = absurd (none i refl)
