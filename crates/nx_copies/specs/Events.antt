@@ -1,9 +1,7 @@
 -- What a receiver is given, in order: moments, elements one by one, and commands of selection (this
 -- profile). And what is in force when an element is heard.
-use Rattle.std.specs.Prelude.{ℕ, Bool, if◌then◌else◌, List, [], ◌∷◌, slice_index_or, map, ◌<◌, ◌≡◌}
-use Rattle.std.specs.Prelude.{◌≤◌}
+use Rattle.std.specs.Prelude.{ℕ, Bool, if◌then◌else◌, List, [], ◌∷◌, slice_index_or, map}
 use Rattle.std.specs.FinSet as set
-use Rattle.nx_envelope.specs.Moment.{last_moment}
 use Rattle.nx_memory.specs.declared.memories.entry.MemoryEntry.{MemoryEntry}
 use Rattle.nx_memory.specs.Selection.{Refused, is_vital}
 

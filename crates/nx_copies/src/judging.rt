@@ -36,11 +36,11 @@ pub fn judge<M: Recall>(head: &EntryHead, text: &[u8], selected: bool, memory: &
     ensures not_before { newest_moment (M.content memory.new) ≤ head.now.moment }
 {
     let (identity, moment) = (&head.identity, head.moment);
-    let printed = selected && (identity.number() == 0 || !memory.knows(identity, moment));
+    let printed = selected && (identity.number == 0 || !memory.knows(identity, moment));
     let is_good = head.how == How::Full
         && GOOD_SHARE * usize::from(head.errors) < text.len().max(1);
-    if printed && is_good && head.identity.number() != 0 {
-        memory.enter(head.identity, moment);
+    if printed && is_good && identity.number != 0 {
+        memory.enter(*identity, moment);
     }
     printed
 }

@@ -69,7 +69,7 @@ impl LockReader {
     }
 
     /// Reads the next word of the lock, which has that role. Answers the byte that it prints, if it
-    /// prints one, and what that brings. A copy that it ends can be taken before the next word.
+    /// prints one, and what that brings. A copy that it ends is ready until the next word.
     #[inline(always)]
     pub fn read_word(&mut self, word: Word, role: Role) -> Option<(u8, TextEvent)>
         ensures reads { (first : Role) (words : ℕ → ℕ) (n : ℕ) → ReadsLock self.old first words n
@@ -113,7 +113,7 @@ impl LockReader {
     }
 
     /// Takes the next word of the lock, which has that role, and answers what it brings. A copy
-    /// that it ends can be taken before the next word.
+    /// that it ends is ready until the next word.
     #[inline(always)]
     pub fn take_word(&mut self, word: Word, role: Role) -> TextEvent
         ensures stands { (first : Role) (words : ℕ → ℕ) (n : ℕ) → ReadsLock self.old first words n
@@ -133,7 +133,7 @@ impl LockReader {
 
     /// Hears the first of the next words of the lock, DX and RX by turns: those up to and with the
     /// first one that begins or ends a copy, all of them where none does. Says how many these are,
-    /// in whole pairs, and what the last one brings. A copy that it ends can be taken before the
+    /// in whole pairs, and what the last one brings. A copy that it ends is ready until the
     /// next word.
     #[inline(always)]
     pub fn hear_pairs(&mut self, words: &[Word]) -> (usize, TextEvent)
@@ -180,7 +180,7 @@ impl LockReader {
     }
 
     /// Ends the text; the reader is then as new, for the next lock, but for the copy that stood
-    /// open, which can be taken then.
+    /// open, which is ready then.
     pub fn close(&mut self)
         ensures closes { (first : Role) (words : ℕ → ℕ) (n : ℕ) → ReadsLock self.old first words n
             → ClosesHeld (text_after first words n) self.new.finder }

@@ -92,9 +92,10 @@ pub fn give_entry<W: Write>(
     ensures counts { FailsOnce writer.new result }
 {
     let line = head_line(head, text, channel);
+    let end = entry_end(text);
     batch.give(writer, line.as_slice())?;
     batch.give(writer, text)?;
-    batch.give(writer, entry_end(text))
+    batch.give(writer, end)
 }
 
 /// The bytes of an entry as it stands in the log of its channel. The moment is at most the last

@@ -23,11 +23,11 @@ use nx_sync::{Step, Synchroniser};
 /// so it is small; a copy that is over is left with the finder.
 #[derive(Clone, Copy, Debug, PartialEq, Eq)]
 pub(crate) enum Over {
-    /// A copy, which can be taken.
+    /// A copy, which is ready.
     Copy,
     /// The lock: its text ends.
     Lock,
-    /// A copy, which can be taken, and the lock.
+    /// A copy, which is ready, and the lock.
     CopyAndLock,
 }
 

@@ -330,7 +330,7 @@ impl<M: Recall> Receiver<M> {
     }
 
     /// Finishes what is over, and says the head of the entry that it brings, if it brings one. Its
-    /// text is `text`, until more is heard.
+    /// text is `text`, until more is heard: to leave the lock keeps it.
     #[inline(always)]
     fn finish(&mut self, over: Over) -> Option<EntryHead>
         ensures stands { (start : Start) (history : List Event) (log : List TaggedCopy) →

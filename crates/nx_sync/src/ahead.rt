@@ -123,10 +123,10 @@ impl Synchroniser {
         ensures brings { BringsStep self.old self.new (packed_part numbers.now from result.0)
             result.1 }
     {
-        if self.is_locked() {
-            return self.push_part(numbers, from, count);
+        match self.track {
+            Some(_) => self.push_part(numbers, from, count),
+            None => self.seek(numbers, from, count),
         }
-        self.seek(numbers, from, count)
     }
 
     /// Hunts through packed elements, so many from a place on: hears those up to and with the one

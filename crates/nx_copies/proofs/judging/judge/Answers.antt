@@ -6,8 +6,8 @@ use Rattle.nx_copies.proofs.lemmas.printing.Judging.{content_grows, content_stay
 use Rattle.nx_copies.proofs.lemmas.printing.Judging.{newest_is_last, printed_as}
 use Rattle.nx_copies.proofs.judging.judge.Goals as goal
 
-pub returns-then-number-ne0-clause-printed : goal.returns-then-number-ne0-clause-printed
-returns-then-number-ne0-clause-printed g c entries h =
+pub returns-then-identity-ne0-clause-printed : goal.returns-then-identity-ne0-clause-printed
+returns-then-identity-ne0-clause-printed g c entries h =
     let head = c.args.head.now in
     let known = is_known head.identity c.args.head.now.moment (g.M.Recall.content c.args.memory.now) in
     let printed : c.if-selected.printed
@@ -15,8 +15,8 @@ returns-then-number-ne0-clause-printed g c entries h =
     printed_as entries _ (headed_copy head c.args.text.now c.args.selected) _ h
     printed
 
-pub returns-then-number-ne0-clause-entered : goal.returns-then-number-ne0-clause-entered
-returns-then-number-ne0-clause-entered g c entries h =
+pub returns-then-identity-ne0-clause-entered : goal.returns-then-identity-ne0-clause-entered
+returns-then-identity-ne0-clause-entered g c entries h =
     let head = c.args.head.now in
     let copy = headed_copy head c.args.text.now c.args.selected in
     let known = is_known head.identity c.args.head.now.moment (g.M.Recall.content c.args.memory.now) in
@@ -29,8 +29,8 @@ returns-then-number-ne0-clause-entered g c entries h =
     (sym (printed_as entries _ copy _ h printed) ∙ c.if-printed.true)
     (sym good ∙ c.if-is_good.true) numbered)
 
-pub returns-then-number-ne0-clause-not_before : goal.returns-then-number-ne0-clause-not_before
-returns-then-number-ne0-clause-not_before g c =
+pub returns-then-identity-ne0-clause-not_before : goal.returns-then-identity-ne0-clause-not_before
+returns-then-identity-ne0-clause-not_before g c =
     newest_is_last (g.M.Recall.content c.args.memory.now) _ c.args.head.now.identity
     c.args.head.now.moment
     c.enter.ensures

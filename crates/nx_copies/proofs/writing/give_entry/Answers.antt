@@ -59,10 +59,10 @@ pub returns-clause-given : goal.returns-clause-given
 returns-clause-given g c =
     let text = c.args.text.now in
     let line = c.as_slice.result.now in
-    let end = c.entry_end.result.now in
+    let end = c.entry_end-end.result.now in
     let is = entry_of_parts c.args.head.now text c.args.channel
     c.head_line-line.ensures.0 line end c.head_line-line.ensures.1
-    (c.as_slice.ensures.value ∙ c.head_line-line.ensures.2) c.entry_end.ensures.end in (
+    (c.as_slice.ensures.value ∙ c.head_line-line.ensures.2) c.entry_end-end.ensures.end in (
       line ++ text ++ end,
       is,
       λ old before w. subst (λ bs. MatchResult c.give-3.result
