@@ -2,7 +2,7 @@
 
 use super::grammar::{Count, Trial};
 use crate::{LeftBefore, Noted, Tear, TornFile};
-use nx_kept::{FileOpenFault, KeptLog};
+use nx_kept::{KeptLog, OpenFault};
 use std::alloc::Global;
 use std::process::Abort;
 use std::test::Fail;
@@ -16,7 +16,7 @@ const REST: &[u8; 44] = b"\n[EA01 2025-01-01 00:40:00 full 0/5]\nTEST\n\n ";
 
 type Log = KeptLog<Noted<TornFile>, Trial>;
 
-fn open(alloc: Global, file: TornFile) -> (Result<Log, (FileOpenFault, Noted<TornFile>)>, Count) {
+fn open(alloc: Global, file: TornFile) -> (Result<Log, (OpenFault, Noted<TornFile>)>, Count) {
     let mut count = Count::default();
     let opened = KeptLog::open(
         alloc,
@@ -82,7 +82,7 @@ fn a_torn_gate_is_cut(rt: HostRuntime) -> Result<(), Fail> {
     Ok(())
 }
 
-fn refused(rt: &impl Abort, alloc: Global, bytes: &[u8], fault: FileOpenFault) -> Result<(), Fail> {
+fn refused(rt: &impl Abort, alloc: Global, bytes: &[u8], fault: OpenFault) -> Result<(), Fail> {
     let (opened, count) = open(alloc, TornFile::new(alloc, bytes)?);
     assert_eq!(rt; count.cut, 0);
     match opened {
@@ -102,13 +102,13 @@ fn a_damaged_log_is_refused(rt: HostRuntime) -> Result<(), Fail> {
     let mut damaged = REST.to_vec(alloc)?;
     assert_eq!(rt; damaged.len(), 44);
     damaged[37] = 0;
-    refused(&rt, alloc, &damaged, FileOpenFault::Damaged { line: 3 })
+    refused(&rt, alloc, &damaged, OpenFault::Damaged { line: 3 })
 }
 
 // The log of `listen` has no gate before its first entry.
 #[test]
 fn a_foreign_log_is_refused(rt: HostRuntime) -> Result<(), Fail> {
-    refused(&rt, rt.alloc(), ENTRY, FileOpenFault::Damaged { line: 1 })
+    refused(&rt, rt.alloc(), ENTRY, OpenFault::Damaged { line: 1 })
 }
 
 // What the file stands for is counted, and then it is opened with a crash in each call.
