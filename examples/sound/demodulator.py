@@ -1,4 +1,4 @@
-"""The demodulator: samples in, elements out, some 3.7 s behind; and what it tells of itself."""
+"""The demodulator: samples in, elements out, some 3.6 s behind; and what it tells of itself."""
 import numpy as np
 
 import receive
@@ -58,6 +58,8 @@ class Demodulator:
         self.spectrum.hear(samples)
         self.follow()
         begins, upper, lower = self.clock.hear(self.mixer.hear(samples, self.middle))
+        if self.clock.is_moved:
+            self.sendings.moved = self.begins.end
         self.begins.add(begins.real)
         told = self.sendings.hear(upper, lower, np.full(len(upper), self.middle))
         self.locks += self.locked and not self.was

@@ -1,4 +1,4 @@
-"""From samples to the two tones of each element: blanking, middle, clock.
+"""From samples to the two tones of each element: middle, limiter, filter, clock.
 
 All works on pieces of 0.2 s. A piece is mixed down so that the middle of the two tones lies at 0
 Hz, and brought to 16 samples an element; then the clock finds where elements begin.
@@ -13,7 +13,9 @@ PIECE = 20            # elements a piece
 AHEAD = 5             # pieces that the clock looks ahead
 MEMORY = 15.0         # pieces that the clock remembers
 STEP = 100.0          # what a step of the clock has to explain: noise gives 80, half an element 450
+MOVED = 3             # a change of place by so many samples shows a jump
 BAND = 320.0          # Hz on each side of the middle that pass the filter
+LOUDEST = 3.5         # what is so many times as loud as the median of its piece is made softer
 
 
 class Middle:
@@ -67,41 +69,19 @@ class Mixer:
         self.turn = 0.0                            # where the mixing oscillator stands, in turns
         self.whole = rate
         self.rest = np.zeros(0, complex)           # samples that don't fill a fold yet
-        self.folded = [np.zeros(0, complex)] * 3   # the last pieces: before, now, next
-        self.medians = [0.0] * 3                   # of the size of their samples
         self.half = int(1.5 * self.rate / BAND)    # half the length of the filter
-        self.held = np.zeros(self.half, complex)   # blanked samples that the filter still needs
+        self.held = np.zeros(self.half, complex)   # samples that the filter still needs
         self.begin = -float(self.half)             # number of the first of them
         self.made = 0                              # samples made so far
 
     def hear(self, samples, middle):
-        """The new samples at RATE, one piece behind."""
+        """The new samples at RATE."""
         steps = self.turn + middle / self.whole * np.arange(1, len(samples) + 1)
         self.turn = steps[-1] % 1 if len(steps) else self.turn
         mixed = np.concatenate((self.rest, samples * np.exp(-2j * np.pi * steps)))
         count = len(mixed) // self.fold
         self.rest = mixed[count * self.fold:]
-        self.folded = self.folded[1:] + [mixed[:count * self.fold].reshape(count, self.fold).mean(1)]
-        self.medians = self.medians[1:] + [np.median(np.abs(self.folded[-1])) if count else 0.0]
-        return self.filtered(self.blanked())
-
-    def blanked(self):
-        """The piece before the newest, without clicks.
-
-        A click is louder than 5 times the largest median of the piece and its neighbours; 0.7 ms
-        around it is silenced too, unless that is more than 15 per cent of the piece.
-        """
-        piece = self.folded[1]
-        if not len(piece):
-            return piece
-        limit = 5 * max(self.medians)
-        loud = np.abs(piece) > limit
-        if loud.any() and limit > 0:
-            around = int(0.0007 * self.rate) + 1
-            loud = np.convolve(loud, np.ones(2 * around + 1), "same") > 0
-            if loud.mean() < 0.15:
-                piece = np.where(loud, 0, piece)
-        return piece
+        return self.filtered(limited(mixed[:count * self.fold].reshape(count, self.fold).mean(1)))
 
     def filtered(self, piece):
         """Low pass by a sinc of BAND Hz in a Hann window, at each moment of RATE that it reaches."""
@@ -124,6 +104,14 @@ class Mixer:
         return made
 
 
+def limited(piece):
+    """The piece without its clicks: a sample that is louder than LOUDEST times the median comes out
+    as many times softer than that. What lasts, as a voice, is left for the filter."""
+    sizes = np.abs(piece)
+    limit = LOUDEST * np.median(sizes)
+    return piece * (limit / np.maximum(sizes, limit)) ** 2 if limit > 0 else piece
+
+
 class Clock:
     """Where elements begin, and what each of the tones is in them.
 
@@ -143,12 +131,13 @@ class Clock:
         self.past = 0j                      # the sum before them, as it is remembered
         self.loud = 0.0
         self.next = 0.0                     # where the next element begins
+        self.is_moved = False               # whether the place changed at once in the latest elements
 
     def hear(self, samples):
         """(begins, upper, lower): where the new elements begin, in samples, and r of both tones."""
         self.heard = np.concatenate((self.heard, samples))
         size = PER * PIECE
-        told = []
+        told, self.is_moved = [], False
         while (self.seen + 1) * size + PER <= self.begin + len(self.heard):
             self.swings.append(self.swing(self.seen * size))
             self.seen += 1
@@ -182,7 +171,9 @@ class Clock:
             self.past *= first > 0
         place = float(-np.angle(shown) / (2 * np.pi) * PER)
         if gains[first] > STEP and first == 0:
-            self.next += (place - self.next + PER / 2) % PER - PER / 2
+            step = (place - self.next + PER / 2) % PER - PER / 2
+            self.next += step
+            self.is_moved |= abs(step) >= MOVED
         self.past = (self.past + self.swings.pop(0)) * np.exp(-1 / MEMORY)
         limit = (self.seen - AHEAD) * PER * PIECE
         begins = []

@@ -17,7 +17,9 @@ BEFORE, BEHIND = 50, 20                     # elements on each side that tell lo
 BACK, ON = 14, 10                           # positions before and behind that tell a lock
 LOCK, LOSE, BETTER = 14.0, 5.0, 8.0         # evidence for a lock, against it, and for another one
 SURE = 0.98                                 # a word is written where it is so probable
-FARTHEST, JUMP = 30, 14.0                   # elements that words jump at most, and evidence for it
+FARTHEST = 30                               # elements that words jump at most
+JUMP, MOVED = 14.0, 7.0                     # evidence for it; and where the clock jumped too
+WANDER = 0.2                                # how fast the phase is forgotten, for each word in between
 EVER = 1 << 60                              # the last element of a stretch without an end
 PAIR = 0.06                                 # for a lock one tone has this part of the other's A^2
 SPOILT = 0.002                              # how often one sending of a word is spoilt in any way
@@ -40,6 +42,7 @@ PATTERNS = (np.arange(128)[:, None] >> np.arange(WORD)) & 1          # the eleme
 PICK = np.concatenate((PATTERNS, 1 - PATTERNS), 1).T.astype(float)   # the same, by tone
 STEPS = 0.85 * (2 * PATTERNS - 1)           # turns that an element adds: 85 Hz for 10 ms
 TURNED = np.exp(-2j * np.pi * (np.cumsum(STEPS, 1) - STEPS))
+ADDED = 0.85                                # turns that a word adds, which has one B more than Y
 DX = np.array(TRAFFIC + [P2, P1])           # what may be sent: a combination twice, phasing, P1 twice
 RX = np.array(TRAFFIC + [P1, P1])
 PRIOR = np.log([0.75 / 32] * 32 + [0.20, 0.02])
@@ -109,6 +112,12 @@ def pairs(dx, rx, exchanged):
     return np.concatenate((both, end[..., None]), -1) - (dx[..., 128:] + rx[..., 128:])
 
 
+def slope(turned):
+    """The sum of c(i + m) c(i)*, m from 1 to 3, of which the angle is 4 pi T times the frequency
+    that is left in c, the tones of a word turned back (Luise and Reggiannini 1995)."""
+    return sum(np.sum(turned[..., m:] * turned[..., :WORD - m].conj(), -1) for m in (1, 2, 3))
+
+
 class Store:
     """Rows by number, of which at least the last 1,200 are kept."""
 
@@ -147,6 +156,7 @@ class Sendings:
         self.sure = self.unsure = 0              # words that were sure, and those not between them
         self.doubts = -np.inf                    # words not sure since the latest sure one of a lock
         self.jumps = 0                           # jumps met
+        self.moved = -EVER                       # the latest element before which the clock jumped
         self.is_tuned = True                     # whether words that are found now count
         self.single = 0                          # how often a lock was refused for one tone alone
         self.middle = None                       # the middle by the phase of words, in a lock
@@ -157,9 +167,10 @@ class Sendings:
         self.words = Store(129)                  # the likelihood of each word that begins here: `spoilt`
         self.proof = Store(2)                    # that of a position that begins here; exchanged
         self.slopes = Store(2, dtype=complex)    # how the phase of its words grows; exchanged
+        self.phasors = Store(2, 2, dtype=complex)  # the phase of DX, and of RX; exchanged
         self.out = Store(dtype=int)
         self.told = 0
-        self.phase = 0.0                         # what speaks for tones without a jump of phase
+        self.ways = np.zeros(3)                  # what spoke of late for each way to see the phase
 
     def hear(self, upper, lower, middle):
         self.tones.add(np.array([upper, lower]).T)
@@ -215,29 +226,29 @@ class Sendings:
             self.words.add(spoilt(rows.reshape(len(rows), 2 * WORD) @ PICK))
 
     def hear_positions(self):
-        """What speaks for a position at each place, and how the phase grows in its likeliest words."""
+        """What speaks for a position at each place, and the phase of its likeliest words, and how
+        it grows in them."""
         first, end = self.proof.end, self.words.end - GAP
         if end <= first:
             return
-        proofs, slopes = [], []
+        proofs, slopes, phasors = [], [], []
         for turn in (0, 127):
             models = pairs(self.words[first:end], self.words[first + GAP:end + GAP], turn)
             proof, best = log_sum(models), models[:, :-1].argmax(1)
+            share = np.exp(models.max(1) - proof)
+            turned = self.turned(np.arange(first, end) + [[0], [GAP]], np.array([DX[best], RX[best]]) ^ turn)
             proofs.append(np.clip(proof, -4, 6))
-            slopes.append(np.exp(models.max(1) - proof) * self.slope(
-                np.arange(first, end) + [[0], [GAP]], np.array([DX[best], RX[best]]) ^ turn).sum(0))
+            slopes.append(share * slope(turned).sum(0))
+            phasors.append(share * 2 * turned.sum(-1))
         self.proof.add(np.array(proofs).T)
         self.slopes.add(np.array(slopes).T)
+        self.phasors.add(np.array(phasors).transpose(2, 0, 1))
 
-    def slope(self, places, words):
-        """The sum of c(i + m) c(i)*, m from 1 to 3, of which the angle is 4 pi T times the
-        frequency that is left in c, the tones of a word turned back (Luise and Reggiannini
-        1995)."""
+    def turned(self, places, words):
+        """A / N times the tones of these words, turned back to the phase of their beginning."""
         places, tone = places[..., None] + np.arange(WORD), 1 - PATTERNS[words]
-        state = self.state.rows[places - self.state.first, tone]
-        turned = self.tones.rows[places - self.tones.first, tone] * TURNED[words]
-        turned *= state[..., 1]
-        return sum(np.sum(turned[..., m:] * turned[..., :WORD - m].conj(), -1) for m in (1, 2, 3))
+        sizes = self.state.rows[places - self.state.first, tone, 1]
+        return sizes * self.tones.rows[places - self.tones.first, tone] * TURNED[words]
 
     def decide(self):
         """The element that is told next, and the words of a position that begins there."""
@@ -268,7 +279,7 @@ class Sendings:
                 self.single += self.is_tuned
                 return
             self.slot = int(best[0]) if self.slot is None else self.slot
-            self.lock, self.exchanged, self.phase = self.slot, bool(best[1]), 0.0
+            self.lock, self.exchanged, self.ways = self.slot, bool(best[1]), np.zeros(3)
             self.doubts = -np.inf
             step = (int(best[0]) - self.slot + TURN // 2) % TURN - TURN // 2
             if step:
@@ -287,7 +298,8 @@ class Sendings:
         more is heard of it."""
         near = self.proof[place:place + TURN * ON][:, int(self.exchanged)].reshape(ON, TURN)
         gains = np.cumsum((near - near[:, :1])[::-1], 0)
-        if gains.max() < JUMP:
+        is_near = place - TURN <= self.moved <= place + TURN * ON
+        if gains.max() < (MOVED if is_near else JUMP) or place < FARTHEST:
             return
         turn = np.unravel_index(gains.argmax(), gains.shape)[1]
         steps = range((turn + FARTHEST) % TURN - FARTHEST, FARTHEST + 1, TURN)
@@ -300,7 +312,8 @@ class Sendings:
     def jump(self, place, step):
         """The likeliest jump by so many elements behind `place`: (likelihood, end, begin, step).
         Words are heard whole before `end`, and from `begin` on `step` elements later; a word
-        between says nothing. Both are tried each 4 elements."""
+        between says nothing. Both are tried each 4 elements. Sound that is given twice has to be
+        the same."""
         dx = np.arange(place, place + TURN * ON - step, TURN)
         words = [[np.zeros((len(dx), 129))] + [self.words[at[0]:at[-1] + 1:TURN] for at in (first, first + step)]
                  for first in (dx, dx + GAP)]
@@ -309,9 +322,19 @@ class Sendings:
         begins = ends + 4 * np.arange(12)[:, None]
         heard = lambda at: np.where(at + WORD <= ends, 1, np.where(at + step >= begins, 2, 0))
         total = np.clip(proof, -8, 6)[heard(dx), heard(dx + GAP), np.arange(len(dx))].sum(-1)
-        total -= step > 0                             # sound is lost more often than doubled
+        if step > 0:
+            sums = np.cumsum(np.append(0, self.doubled(place, step)))
+            upto, since = (at[..., 0] - place + FARTHEST for at in (ends, begins - step))
+            total += sums[upto] - sums[np.minimum(since, upto)]
         end, wide = np.unravel_index(total.argmax(), total.shape)
         return total.max(), place + 4 * int(end), place + 4 * int(end + wide), step
+
+    def doubled(self, place, step):
+        """What speaks for each element, from FARTHEST before `place` on, being the same as `step`
+        elements later, as where sound is given twice; one of five may be spoilt."""
+        places = np.maximum(np.arange(place - FARTHEST, place + TURN * ON), 0) - self.state.first
+        one, other = (part(np.subtract(*self.state.rows[at, :, 3].T)) for at in (places, places + step))
+        return np.log(0.2 + 1.6 * (one * other + (1 - one) * (1 - other)))
 
     def heard(self, place):
         """Where the word that is told at `place` was heard in one piece, if it was."""
@@ -321,16 +344,20 @@ class Sendings:
         return None
 
     def write(self, place):
-        """The words of the position that begins here, in both places; where none is sure, 0. Two
-        models are mixed, with and without phase, by what spoke for each of late."""
+        """The words of the position that begins here, in both places; where none is sure, 0. Three
+        models are mixed by what spoke for each of late: without phase, with a phase that goes on
+        through a word, and with one that goes on from the words beside it too."""
         off = self.off(place)
         places = self.heard(self.told), self.heard(self.told + GAP)
-        none = np.zeros(129)
-        still = pairs(*(none if p is None else self.words[p] for p in places), self.exchanged)
-        turning = pairs(*(none if p is None else spoilt(self.with_phase(p, off)) for p in places), self.exchanged)
-        self.phase = np.clip(0.95 * self.phase + log_sum(turning) - log_sum(still), -6, 6)
-        share = part(self.phase)
-        models = np.logaddexp(still + np.log(1 - share), turning + np.log(share))
+        rows = np.zeros((3, 2, 129))
+        for is_rx, begin in enumerate(places):
+            if begin is not None:
+                rows[0, is_rx] = self.words[begin]
+                rows[1:, is_rx] = spoilt(self.with_phase(begin, off, np.array([0, self.carried(begin, is_rx, off)])))
+        ways = pairs(rows[:, 0], rows[:, 1], self.exchanged)
+        shown = 0.95 * self.ways + log_sum(ways)
+        self.ways = np.maximum(shown - shown.max(), -6)
+        models = log_sum((ways + self.ways[:, None]).T) - log_sum(self.ways)
         best = models.argmax()
         dx, rx = (P1, 0) if best == len(DX) else (DX[best], RX[best])
         if models[best] - log_sum(models) < np.log(SURE):
@@ -360,12 +387,27 @@ class Sendings:
         self.middle = self.mixed[begin:end:TURN].mean() + np.angle(total) / (4 * np.pi * T)
         return self.middle - self.mixed[place]
 
-    def with_phase(self, place, off):
+    def carried(self, place, is_rx, off):
+        """The phase in which a word begins at `place`, as the two words on each side tell it: by
+        their likeliest words, and the less, the more words are in between."""
+        first, last, _ = self.stretches[0]
+        total = 0
+        for words in (-2, -1, 1, 2):
+            begin, of = place + words * WORD, (is_rx + words) % 2
+            if first <= begin - of * GAP and begin + WORD <= last:
+                phasor = self.phasors[begin - of * GAP][int(self.exchanged), of]
+                turns = off * T * (WORD * words + 3) + (-ADDED if self.exchanged else ADDED) * words
+                total += phasor * np.exp(-2j * np.pi * turns) / (1 + WANDER * abs(words) * np.abs(phasor))
+        return total
+
+    def with_phase(self, place, off, begun):
         """The likelihood of each word whose tones follow each other without a jump of phase:
-        ln I0(|sum of 2 A r e^(-i phi) / N|) - sum of A^2 / N; phi grows by 0.85 turns an
-        element."""
+        ln I0(|b + sum of 2 A r e^(-i phi) / N|) - ln I0(|b|) - sum of A^2 / N; phi grows by 0.85
+        turns an element, and b is what is known of the phase in which the word begins: a row for
+        each."""
         state = self.state[place:place + WORD]
         rows = 2 * state[:, :, 1] * self.tones[place:place + WORD]
         rows = rows * np.exp(-2j * np.pi * off * T * np.arange(WORD))[:, None]
         total = np.sum(np.where(PATTERNS, rows[:, 0], rows[:, 1]) * TURNED, 1)
-        return log_i0(np.abs(total)) - state[:, :, 2].T.reshape(-1) @ PICK
+        shown = log_i0(np.abs(total + begun[:, None])) - log_i0(np.abs(begun))[:, None]
+        return shown - state[:, :, 2].T.reshape(-1) @ PICK
