@@ -112,8 +112,8 @@ impl Synchroniser {
     }
 
     /// Hears packed elements, so many from a place on, up to and with the first one that may bring
-    /// something, all where none may: in a lock those of one word, else those of a hunt. Says how
-    /// many, and what the last one brings; those before it bring nothing.
+    /// something, all where none may. In a lock these are of one word, else they are of a hunt.
+    /// Says how many, and what the last one brings; those before it bring nothing.
     #[inline(always)]
     pub fn push_some(&mut self, numbers: &[u64], from: usize, count: usize) -> (usize, Step)
         requires some { 0 < count }

@@ -36,7 +36,7 @@ elements_kept None = []
 elements_kept (Some line) = elements_of line
 
 -- A scanner takes so many bytes of a piece, up to and with its first line feed, or all where it has
--- none; or a byte of the piece is the first fault of the file, and those before it were taken.
+-- none. Or a byte of the piece is the first fault of the file, and those before it were taken.
 pub record ScansPiece (old new : Scanning) (piece : List ℕ) (outcome : Result ℕ LineFault) : Type 0
   where
     -- behind whatever bytes and lines: the line that was ended, if one was, is the latest
