@@ -19,6 +19,8 @@ LOCK, LOSE, BETTER = 14.0, 5.0, 8.0         # evidence for a lock, against it, a
 SURE = 0.98                                 # a word is written where it is so probable
 FARTHEST = 30                               # elements that words jump at most
 JUMP, MOVED = 14.0, 7.0                     # evidence for it; and where the clock jumped too
+RARE = 0.001                                # places of a jump that are less likely cut no words
+BLIND = 20                                  # elements that tell nothing at most, where the clock jumped
 WANDER = 0.2                                # how fast the phase is forgotten, for each word in between
 EVER = 1 << 60                              # the last element of a stretch without an end
 PAIR = 0.06                                 # for a lock one tone has this part of the other's A^2
@@ -156,6 +158,7 @@ class Sendings:
         self.sure = self.unsure = 0              # words that were sure, and those not between them
         self.doubts = -np.inf                    # words not sure since the latest sure one of a lock
         self.jumps = 0                           # jumps met
+        self.joined = {}                         # what speaks for each pair, where a jump may cut a word
         self.moved = -EVER                       # the latest element before which the clock jumped
         self.is_tuned = True                     # whether words that are found now count
         self.single = 0                          # how often a lock was refused for one tone alone
@@ -294,47 +297,52 @@ class Sendings:
 
     def find_jump(self, place):
         """Looks for a jump ahead: the last of the next positions speak for another place in a turn.
-        It is taken when a word of the position at `place` may be behind it, and no sooner, so that
-        more is heard of it."""
+        It is taken shortly before a word of the position at `place` may be behind it: no sooner, so
+        that more is heard of it, and no later, since `seek` would move the lock."""
         near = self.proof[place:place + TURN * ON][:, int(self.exchanged)].reshape(ON, TURN)
-        gains = np.cumsum((near - near[:, :1])[::-1], 0)
+        gains = np.cumsum((near - near[:, :1])[::-1], 0).max(0)
         is_near = place - TURN <= self.moved <= place + TURN * ON
-        if gains.max() < (MOVED if is_near else JUMP) or place < FARTHEST:
+        if gains.max() < (MOVED if is_near else JUMP) or place < 2 * TURN + FARTHEST:
             return
-        turn = np.unravel_index(gains.argmax(), gains.shape)[1]
-        steps = range((turn + FARTHEST) % TURN - FARTHEST, FARTHEST + 1, TURN)
-        _, end, begin, step = max(self.jump(place, step) for step in steps)
-        if end <= place + GAP + WORD + TURN:
-            first, _, shift = self.stretches[0]
-            self.stretches = [(first, end, shift), (begin, EVER, shift + step)]
+        jumps = np.arange(place, place + TURN * ON)
+        moved = np.where(np.abs(jumps - self.moved) <= BLIND, self.moved, jumps)
+        ends, begins = np.minimum(jumps, moved), np.maximum(jumps + 1, moved)
+        clear = gains > max(0, gains.max() - BETTER)
+        tried = [self.jump(place, ends, begins, step)
+                 for step in range(-FARTHEST, FARTHEST + 1) if clear[step % TURN]]
+        total, models, step = max(tried, key=lambda one: log_sum(one[0]))
+        if total.argmax() <= GAP + WORD + 2 * TURN:
             self.jumps += 1
+            self.take(ends, begins, step, total - log_sum(total), models)
 
-    def jump(self, place, step):
-        """The likeliest jump by so many elements behind `place`: (likelihood, end, begin, step).
-        Words are heard whole before `end`, and from `begin` on `step` elements later; a word
-        between says nothing. Both are tried each 4 elements. Sound that is given twice has to be
-        the same."""
-        dx = np.arange(place, place + TURN * ON - step, TURN)
-        words = [[np.zeros((len(dx), 129))] + [self.words[at[0]:at[-1] + 1:TURN] for at in (first, first + step)]
-                 for first in (dx, dx + GAP)]
-        proof = [[log_sum(pairs(one, other, self.exchanged)) for other in words[1]] for one in words[0]]
-        ends = place + 4 * np.arange(TURN * ON // 4)[:, None, None]
-        begins = ends + 4 * np.arange(12)[:, None]
-        heard = lambda at: np.where(at + WORD <= ends, 1, np.where(at + step >= begins, 2, 0))
-        total = np.clip(proof, -8, 6)[heard(dx), heard(dx + GAP), np.arange(len(dx))].sum(-1)
-        if step > 0:
-            sums = np.cumsum(np.append(0, self.doubled(place, step)))
-            upto, since = (at[..., 0] - place + FARTHEST for at in (ends, begins - step))
-            total += sums[upto] - sums[np.minimum(since, upto)]
-        end, wide = np.unravel_index(total.argmax(), total.shape)
-        return total.max(), place + 4 * int(end), place + 4 * int(end + wide), step
+    def jump(self, place, ends, begins, step):
+        """What speaks for each jump by `step` elements, and what speaks then for each pair of words
+        of the positions from two before `place` on. Elements before its end are told as they are
+        heard, those from its begin on `step` elements sooner. So each of them counts, and sound
+        that is given twice counts twice. What is heard between counts for nothing."""
+        first, slots = place - 2 * TURN, np.arange(2 * ON + 20)
+        likes = self.state[first - FARTHEST:place + TURN * (ON + 1) + GAP][:, :, 3]
+        likes = np.pad(likes - log_sum(likes)[:, None] + np.log(2), ((0, WORD * len(slots)), (0, 0)))
+        rows = np.lib.stride_tricks.sliding_window_view(likes, WORD, 0)[FARTHEST + WORD * slots + [[0], [step]]]
+        # The elements of a word before `upto` are heard before the jump, from `since` on behind it.
+        upto, since = (np.clip(at[:, None] - first - WORD * slots, 0, WORD) for at in (ends, begins - step))
+        cuts, which = np.unique(slots * 64 + upto * 8 + since, return_inverse=True)   # each is reckoned once
+        slot, upto, since = cuts // 64, cuts // 8 % 8, cuts % 8
+        is_told = np.array([np.arange(WORD) < upto[:, None], np.arange(WORD) >= since[:, None]])
+        told = (rows[:, slot] * is_told[:, :, None]).sum(0)
+        words = spoilt(told.reshape(-1, 2 * WORD) @ PICK)[which.reshape(len(ends), -1)]
+        models = pairs(words[:, :-5:2], words[:, 5::2], self.exchanged)
+        return log_sum(models).sum(1) + words[:, :, 128].sum(1), models, step
 
-    def doubled(self, place, step):
-        """What speaks for each element, from FARTHEST before `place` on, being the same as `step`
-        elements later, as where sound is given twice; one of five may be spoilt."""
-        places = np.maximum(np.arange(place - FARTHEST, place + TURN * ON), 0) - self.state.first
-        one, other = (part(np.subtract(*self.state.rows[at, :, 3].T)) for at in (places, places + step))
-        return np.log(0.2 + 1.6 * (one * other + (1 - one) * (1 - other)))
+    def take(self, ends, begins, step, shares, models):
+        """Goes on behind a jump, of which `shares` tells the probability of each place. Of positions
+        of which a likely place cuts a word, `joined` has what all places together tell."""
+        likely = np.flatnonzero(shares > np.log(RARE))
+        first, _, shift = self.stretches[0]
+        self.stretches = [(first, ends[likely[0]], shift), (begins[likely[-1]], EVER, shift + step)]
+        models = log_sum((models - log_sum(models)[..., None] + shares[:, None, None]).T).T
+        self.joined = {told: model for told, model in zip(range(self.told - 2 * TURN, EVER, TURN), models)
+                       if None in (self.heard(told), self.heard(told + GAP))}
 
     def heard(self, place):
         """Where the word that is told at `place` was heard in one piece, if it was."""
@@ -346,7 +354,8 @@ class Sendings:
     def write(self, place):
         """The words of the position that begins here, in both places; where none is sure, 0. Three
         models are mixed by what spoke for each of late: without phase, with a phase that goes on
-        through a word, and with one that goes on from the words beside it too."""
+        through a word, and with one that goes on from the words beside it too. What a word tells
+        that a jump may cut is added, as `joined` has it without phase."""
         off = self.off(place)
         places = self.heard(self.told), self.heard(self.told + GAP)
         rows = np.zeros((3, 2, 129))
@@ -358,6 +367,8 @@ class Sendings:
         shown = 0.95 * self.ways + log_sum(ways)
         self.ways = np.maximum(shown - shown.max(), -6)
         models = log_sum((ways + self.ways[:, None]).T) - log_sum(self.ways)
+        if self.told in self.joined:
+            models += self.joined[self.told] - ways[0]
         best = models.argmax()
         dx, rx = (P1, 0) if best == len(DX) else (DX[best], RX[best])
         if models[best] - log_sum(models) < np.log(SURE):
