@@ -6,9 +6,7 @@ import { Signal } from './signal.js';
 
 const LEAST_RATE = 6000;        // samples a second that are left where samples are averaged first
 const FILTER_BAND = 320;        // Hz on each side of the middle that pass the filter
-const CLICK = 5;                // a click is so many times louder than the median
-const CLICK_AROUND = 0.0007;    // seconds on each side of a click that are silenced too
-const CLICK_MOST = 0.15;        // the part of a piece that may be silenced
+const LOUDEST = 3.5;            // what is so many times as loud as the median of its piece is made softer
 const KEPT_WEIGHTS = 4096;      // filters that are kept, one for each place between two samples
 
 export class Mixer {
@@ -18,8 +16,6 @@ export class Mixer {
         this.rate = rate / this.fold;
         this.turn = 0;                                            // where the oscillator stands, in turns
         this.rest = Signal.still(0);                              // samples that don't fill a fold yet
-        this.folded = [Signal.still(0), Signal.still(0), Signal.still(0)];   // pieces: before, now, next
-        this.medians = [0, 0, 0];                                 // how loud each of them is
         this.half = Math.trunc(1.5 * this.rate / FILTER_BAND);    // half the length of the filter
         this.held = Signal.still(this.half);                      // samples that the filter still needs
         this.begin = -this.half;                                  // number of the first of them
@@ -27,15 +23,12 @@ export class Mixer {
         this.weights = new Map();                                 // the filters, by their place
     }
 
-    /** The new samples at INNER_RATE, one piece behind. */
+    /** The new samples at INNER_RATE. */
     hear(samples, middle) {
         const mixed = this.rest.and(this.mixed(samples, middle));
         const count = Math.floor(mixed.length / this.fold);
         this.rest = mixed.part(count * this.fold);
-        const piece = folded(mixed, count, this.fold);
-        this.folded = [...this.folded.slice(1), piece];
-        this.medians = [...this.medians.slice(1), piece.length ? median(piece.sizes()) : 0];
-        return this.filtered(this.blanked());
+        return this.filtered(limited(folded(mixed, count, this.fold)));
     }
 
     /** The samples turned back by the middle. */
@@ -49,27 +42,6 @@ export class Mixer {
         }
         this.turn = (this.turn + step * samples.length) % 1;
         return mixed;
-    }
-
-    /**
-     * The piece before the newest, without clicks. A click is louder than 5 times the largest
-     * median of the piece and its neighbours. 0.7 ms around it is silenced too, unless that is more
-     * than 15 per cent of the piece.
-     */
-    blanked() {
-        const piece = this.folded[1];
-        const limit = CLICK * Math.max(...this.medians);
-        if (limit === 0) {
-            return piece;
-        }
-        const around = Math.trunc(CLICK_AROUND * this.rate) + 1;
-        const isClick = spread(piece.sizes().map((size) => size > limit ? 1 : 0), around);
-        const clicks = isClick.reduce((one, other) => one + other, 0);
-        if (clicks === 0 || clicks / piece.length >= CLICK_MOST) {
-            return piece;
-        }
-        const still = (sample, place) => isClick[place] ? 0 : sample;
-        return new Signal(piece.real.map(still), piece.imaginary.map(still));
     }
 
     /** Low pass by a sinc of FILTER_BAND Hz in a Hann window, at each moment that it reaches. */
@@ -133,15 +105,20 @@ function folded(mixed, count, fold) {
     return piece;
 }
 
-/** The marks, and so many places on each side of each. */
-function spread(marks, around) {
-    const wide = new Float64Array(marks.length);
-    for (let place = 0; place < marks.length; place++) {
-        if (marks[place]) {
-            wide.fill(1, Math.max(0, place - around), place + around + 1);
-        }
+/**
+ * The piece without its clicks: a sample that is louder than LOUDEST times the median comes out as
+ * many times softer than that. What lasts, as a voice, is left for the filter.
+ */
+function limited(piece) {
+    const sizes = piece.sizes();
+    const limit = LOUDEST * median(sizes);
+    if (!(limit > 0)) {
+        return piece;
     }
-    return wide;
+    return piece.times(listOf(piece.length, (place) => {
+        const part = limit / Math.max(sizes[place], limit);
+        return part * part;
+    }));
 }
 
 function filterWeights(late, half, band) {

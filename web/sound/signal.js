@@ -1,6 +1,6 @@
 // A list of complex numbers: samples that have a phase.
 
-import { joined } from './numbers.js';
+import { joined, listOf } from './numbers.js';
 
 export class Signal {
     constructor(real, imaginary) {
@@ -29,6 +29,14 @@ export class Signal {
 
     /** How loud each sample is. */
     sizes() {
-        return this.real.map((real, place) => Math.hypot(real, this.imaginary[place]));
+        return listOf(this.length, (place) => Math.hypot(this.real[place], this.imaginary[place]));
+    }
+
+    /** Each sample times a number of its own. */
+    times(numbers) {
+        return new Signal(
+            listOf(this.length, (place) => this.real[place] * numbers[place]),
+            listOf(this.length, (place) => this.imaginary[place] * numbers[place]),
+        );
     }
 }

@@ -1,4 +1,4 @@
-// The whole demodulator: samples in, elements out, some 3.7 s behind; and what it tells of itself.
+// The whole demodulator: samples in, elements out, some 3.6 s behind; and what it tells of itself.
 
 import { Clock } from './clock.js';
 import { Middle } from './middle.js';
