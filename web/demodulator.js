@@ -11,7 +11,8 @@
 // - demodulator.py: sound/whole.js, sound/find.js
 // - receive.py: sound/rates.js, sound/middle.js, sound/mixer.js, sound/clock.js
 // - sendings.py: sound/sendings.js, and what it needs: sound/loudness.js, sound/cases.js,
-//   sound/likelihood.js, sound/words.js, sound/phase.js, sound/jumps.js, sound/store.js
+//   sound/likelihood.js, sound/words.js, sound/phase.js, sound/carried.js, sound/ways.js,
+//   sound/jumps.js, sound/store.js
 // - plain.py: sound/plain.js
 
 import { otherRate } from './sound/find.js';

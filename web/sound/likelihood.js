@@ -41,11 +41,6 @@ export function logSum(numbers, first = 0, last = numbers.length) {
     return top + Math.log(sum);
 }
 
-/** ln(e^one + e^other). */
-export function logAdd(one, other) {
-    return Math.max(one, other) + Math.log1p(Math.exp(-Math.abs(one - other)));
-}
-
 /** The probability of which the logarithm of the odds is given. */
 export function probability(odds) {
     return 1 / (1 + Math.exp(-Math.min(Math.max(odds, -30), 30)));

@@ -2,12 +2,14 @@
 
 import { logBessel } from './likelihood.js';
 import { inState, RATIO, SIZE } from './loudness.js';
+import { listOf } from './numbers.js';
 import { BAUD, SHIFT } from './rates.js';
-import { PATTERNS, WORD, wordsOf } from './words.js';
+import { Signal } from './signal.js';
+import { PATTERNS, WORD, WORDS, wordsOf } from './words.js';
 
 export const ELEMENT_SECONDS = 1 / BAUD;
-const ELEMENT_TURNS = SHIFT / 2 / BAUD;   // turns that an element adds or takes: 0.85
-const LAGS = [1, 2, 3];                   // elements between those whose phases are compared
+export const ELEMENT_TURNS = SHIFT / 2 / BAUD;   // turns that an element adds or takes: 0.85
+const LAGS = [1, 2, 3];                          // elements between those whose phases are compared
 
 // Where the phase of each word stands at the beginning of each of its elements, turned back.
 const TURNED = PATTERNS.map((pattern) => {
@@ -24,23 +26,37 @@ function toneOf(bit) {
     return bit ? 0 : 1;
 }
 
-/**
- * The sum of c(i + m) c(i)*, m from 1 to 3, where c is the tones of a word turned back. Its angle
- * is 4 pi times the seconds of an element times the frequency that is left in c (Luise and
- * Reggiannini 1995).
- */
-export function slopeOf(tones, state, place, word) {
-    const real = new Float64Array(WORD);
-    const imaginary = new Float64Array(WORD);
+/** A / N times the tones of a word, turned back to the phase of its beginning. */
+export function turnedBack(tones, state, place, word) {
+    const turned = Signal.still(WORD);
     for (let element = 0; element < WORD; element++) {
         const tone = toneOf(PATTERNS[word][element]);
         const { cosine, sine } = TURNED[word][element];
         const size = state.get(place + element, inState(tone, SIZE));
         const heardReal = tones.get(place + element, 2 * tone);
         const heardImaginary = tones.get(place + element, 2 * tone + 1);
-        real[element] = (heardReal * cosine - heardImaginary * sine) * size;
-        imaginary[element] = (heardReal * sine + heardImaginary * cosine) * size;
+        turned.real[element] = (heardReal * cosine - heardImaginary * sine) * size;
+        turned.imaginary[element] = (heardReal * sine + heardImaginary * cosine) * size;
     }
+    return turned;
+}
+
+/** The phase in which the tones of a word begin, as the sum of 2 A / N times them, turned back. */
+export function phasorOf({ real, imaginary }) {
+    const phasor = { real: 0, imaginary: 0 };
+    for (let element = 0; element < WORD; element++) {
+        phasor.real += 2 * real[element];
+        phasor.imaginary += 2 * imaginary[element];
+    }
+    return phasor;
+}
+
+/**
+ * The sum of c(i + m) c(i)*, m from 1 to 3, where c is the tones of a word turned back. Its angle
+ * is 4 pi times the seconds of an element times the frequency that is left in c (Luise and
+ * Reggiannini 1995).
+ */
+export function slopeOf({ real, imaginary }) {
     const slope = { real: 0, imaginary: 0 };
     for (const lag of LAGS) {
         for (let one = 0; one + lag < WORD; one++) {
@@ -58,23 +74,34 @@ export function offBySlope({ real, imaginary }) {
 
 /**
  * The likelihood of each word whose tones follow each other without a jump of phase:
- * ln I0(|sum of 2 A r e^(-i phi) / N|) - sum of A² / N. `off` is how far the middle is off, in Hz.
+ * ln I0(|b + sum of 2 A r e^(-i phi) / N|) - ln I0(|b|) - sum of A² / N. b is what is known of the
+ * phase in which the word begins; there is an answer for each of `begun`. `off` is how far the
+ * middle is off, in Hz.
  */
-export function wordsWithPhase(tones, state, place, off) {
+export function wordsWithPhase(tones, state, place, off, begun) {
+    const sums = sumsOfWords(tones, state, place, off);
+    const ratios = wordsOf((element, tone) => state.get(place + element, inState(tone, RATIO)));
+    return begun.map(({ real, imaginary }) => {
+        const known = logBessel(Math.hypot(real, imaginary));
+        return listOf(WORDS, (word) =>
+            logBessel(Math.hypot(sums.real[word] + real, sums.imaginary[word] + imaginary)) - known - ratios[word]);
+    });
+}
+
+/** The sum of 2 A r e^(-i phi) / N for each word. */
+function sumsOfWords(tones, state, place, off) {
     const heard = Array.from({ length: WORD }, (_, element) =>
         [0, 1].map((bit) => turnedTone(tones, state, place, element, toneOf(bit), off)));
-    const ratios = wordsOf((element, tone) => state.get(place + element, inState(tone, RATIO)));
-    return ratios.map((ratio, word) => {
-        let real = 0;
-        let imaginary = 0;
+    const sums = Signal.still(WORDS);
+    for (let word = 0; word < WORDS; word++) {
         for (let element = 0; element < WORD; element++) {
-            const one = heard[element][PATTERNS[word][element]];
+            const { real, imaginary } = heard[element][PATTERNS[word][element]];
             const { cosine, sine } = TURNED[word][element];
-            real += one.real * cosine - one.imaginary * sine;
-            imaginary += one.real * sine + one.imaginary * cosine;
+            sums.real[word] += real * cosine - imaginary * sine;
+            sums.imaginary[word] += real * sine + imaginary * cosine;
         }
-        return logBessel(Math.hypot(real, imaginary)) - ratio;
-    });
+    }
+    return sums;
 }
 
 /** 2 A r / N of a tone in an element of a word, turned back by what the middle is off. */

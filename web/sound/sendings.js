@@ -1,11 +1,13 @@
 // From the tones of elements to elements: words are decided from both sendings of a position.
 
+import { carriedPhase, NO_PHASE, PHASORS } from './carried.js';
 import { findJump, ON, TURN } from './jumps.js';
-import { logAdd, logSum, probability } from './likelihood.js';
+import { logSum } from './likelihood.js';
 import { BEFORE, BEHIND, inState, LIKELIHOOD, LOUD, STATE, statesOf } from './loudness.js';
 import { clip, modulo, placeOfGreatest } from './numbers.js';
-import { offBySlope, slopeOf, wordsWithPhase } from './phase.js';
+import { offBySlope, phasorOf, slopeOf, turnedBack, wordsWithPhase } from './phase.js';
 import { Store } from './store.js';
+import { Ways } from './ways.js';
 import {
     asHeard, DX, GAP, pairs, PAIRS, PATTERNS, PHASING_ONE, PHASING_TWO, RX, spoilt, SPOILT_ROW, UNHEARD, WORD, wordsOf,
 } from './words.js';
@@ -41,13 +43,14 @@ export class Sendings {
         this.middle = null;                // the middle by the phase of words, in a lock
         this.phasing = 0;                  // pairs of phasing positions met
         this.phases = 0;                   // phasing positions in a row now
-        this.phase = 0;                    // what speaks for tones without a jump of phase
+        this.ways = new Ways();            // what spoke of late for each way to see the phase
         this.tones = new Store(4);         // of the upper and of the lower tone, real and imaginary
         this.mixed = new Store(1);         // the frequency that they were mixed down by
         this.state = new Store(STATE);     // loudness and likelihood of both tones
         this.words = new Store(SPOILT_ROW);   // the likelihood of each word that begins here
         this.proof = new Store(2);         // that of a position that begins here; exchanged
         this.slopes = new Store(4);        // how the phase of its words grows; exchanged
+        this.phasors = new Store(PHASORS);   // the phase of DX, and of RX; exchanged
         this.out = new Store(1);
         this.told = 0;
     }
@@ -99,12 +102,13 @@ export class Sendings {
         }
     }
 
-    /** What speaks for a position at each place, and how the phase grows in its likeliest words. */
+    /** What speaks for a position at each place; the phase of its likeliest words, and how it grows. */
     hearPositions() {
         for (let place = this.proof.end; place + GAP < this.words.end; place++) {
             const heard = [false, true].map((isExchanged) => this.position(place, isExchanged));
             this.proof.add(heard.map((one) => one.proof));
-            this.slopes.add(heard.flatMap((one) => [one.slope.real, one.slope.imaginary]));
+            this.slopes.add(heard.flatMap((one) => one.slope));
+            this.phasors.add(heard.flatMap((one) => one.phasors));
         }
     }
 
@@ -113,10 +117,16 @@ export class Sendings {
         const all = logSum(models);
         const best = placeOfGreatest(models, DX.length);
         const share = Math.exp(models[placeOfGreatest(models)] - all);
-        const dx = slopeOf(this.tones, this.state, place, asHeard(DX[best], isExchanged));
-        const rx = slopeOf(this.tones, this.state, place + GAP, asHeard(RX[best], isExchanged));
-        const slope = { real: share * (dx.real + rx.real), imaginary: share * (dx.imaginary + rx.imaginary) };
-        return { proof: clip(all, -4, 6), slope };
+        const turned = [
+            turnedBack(this.tones, this.state, place, asHeard(DX[best], isExchanged)),
+            turnedBack(this.tones, this.state, place + GAP, asHeard(RX[best], isExchanged)),
+        ];
+        const [dx, rx] = turned.map(slopeOf);
+        return {
+            proof: clip(all, -4, 6),
+            slope: [share * (dx.real + rx.real), share * (dx.imaginary + rx.imaginary)],
+            phasors: turned.map(phasorOf).flatMap(({ real, imaginary }) => [share * real, share * imaginary]),
+        };
     }
 
     /** The likelihoods of the words that begin at an element. */
@@ -188,7 +198,7 @@ export class Sendings {
         this.slot ??= turn;
         this.lock = this.slot;
         this.exchanged = isExchanged;
-        this.phase = 0;
+        this.ways = new Ways();
         this.doubts = -Infinity;
         const step = modulo(turn - this.slot + TURN / 2, TURN) - TURN / 2;
         if (step) {
@@ -251,18 +261,26 @@ export class Sendings {
         this.put(this.told + GAP, rx);
     }
 
-    /** Two models of each pair, with and without phase, mixed by what spoke for each of late. */
+    /**
+     * What speaks for each pair of words of the position that begins here. Three models are mixed
+     * by what spoke for each of late: without phase, with a phase that goes on through a word, and
+     * with one that goes on from the words beside it too.
+     */
     models(place) {
         const off = this.off(place);
-        const places = [this.told, this.told + GAP].map((told) => this.heardAt(told));
-        const rows = places.map((at) => at === null ? UNHEARD : this.row(at));
-        const turned = places.map((at) =>
-            at === null ? UNHEARD : spoilt(wordsWithPhase(this.tones, this.state, at, off)));
-        const still = pairs(...rows, this.exchanged);
-        const turning = pairs(...turned, this.exchanged);
-        this.phase = clip(0.95 * this.phase + logSum(turning) - logSum(still), -6, 6);
-        const share = probability(this.phase);
-        return still.map((one, pair) => logAdd(one + Math.log(1 - share), turning[pair] + Math.log(share)));
+        const [dx, rx] = [this.told, this.told + GAP].map((told, isRx) => this.rows(this.heardAt(told), isRx, off));
+        return this.ways.mixed(dx.map((row, way) => pairs(row, rx[way], this.exchanged)));
+    }
+
+    /** The likelihoods of a word that begins at an element, in each way to see its phase. */
+    rows(place, isRx, off) {
+        if (place === null) {
+            return [UNHEARD, UNHEARD, UNHEARD];
+        }
+        const word = { place, isRx, isExchanged: this.exchanged, off };
+        const carried = carriedPhase(this.phasors, this.stretches[0], word);
+        const withPhase = wordsWithPhase(this.tones, this.state, place, off, [NO_PHASE, carried]);
+        return [this.row(place), ...withPhase.map(spoilt)];
     }
 
     /** Writes a word; elements up to its end that nobody wrote are 0. */

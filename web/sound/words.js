@@ -4,7 +4,7 @@
 // word is named by its number, element 1 in the least place, B as 1. With the tones exchanged it is
 // 127 less its number. Likelihoods are natural logarithms, over that of noise alone.
 
-import { logAdd, logSum } from './likelihood.js';
+import { placeOfGreatest } from './numbers.js';
 
 export const WORD = 7;          // elements of a word
 export const GAP = 35;          // elements between both sendings
@@ -33,12 +33,17 @@ export function asHeard(word, isExchanged) {
 
 /** The likelihoods of all words where a sending may be spoilt to any; behind them their mean. */
 export function spoilt(models) {
-    const mean = logSum(models, 0, WORDS) - Math.log(WORDS);
+    const top = models[placeOfGreatest(models)];
     const row = new Float64Array(SPOILT_ROW);
+    let mean = 0;
     for (let word = 0; word < WORDS; word++) {
-        row[word] = logAdd(models[word] + Math.log(1 - SPOILT), mean + Math.log(SPOILT));
+        row[word] = Math.exp(models[word] - top);
+        mean += row[word] / WORDS;
     }
-    row[WORDS] = mean;
+    for (let word = 0; word < WORDS; word++) {
+        row[word] = Math.log((1 - SPOILT) * row[word] + SPOILT * mean) + top;
+    }
+    row[WORDS] = Math.log(mean) + top;
     return row;
 }
 
