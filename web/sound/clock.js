@@ -6,6 +6,7 @@ import { Signal } from './signal.js';
 
 const CLOCK_MEMORY = 15;   // pieces that the clock remembers
 const CLOCK_STEP = 100;    // what a step of the clock has to explain: noise gives 80, half an element 450
+const MOVED = 3;           // a change of place by so many samples shows a jump
 const ROUND = 320;         // samples in which both tones, half a SHIFT off, make whole turns (17 of them)
 const TONE_ANGLE = -Math.PI * SHIFT / INNER_RATE;
 const TONE_COSINES = listOf(ROUND, (place) => Math.cos(TONE_ANGLE * place));
@@ -30,6 +31,7 @@ export class Clock {
         this.past = point(0, 0);        // the sum before them, as it is remembered
         this.loud = 0;
         this.next = 0;                  // where the next element begins
+        this.isMoved = false;           // whether the place changed at once in the latest elements
     }
 
     /** The new elements of each piece: where they begin, in samples, and both tones in them. */
@@ -37,6 +39,7 @@ export class Clock {
         this.heard = this.heard.and(samples);
         const size = PER * PIECE;
         const told = [];
+        this.isMoved = false;
         while ((this.seen + 1) * size + PER <= this.begin + this.heard.length) {
             this.swings.push(this.swing(this.seen * size));
             this.seen += 1;
@@ -103,8 +106,10 @@ export class Clock {
             return shownBy(sums[first]);
         }
         const place = shownBy(minus(all, this.past));
+        const step = late(place, this.next);
         this.past = point(0, 0);
-        this.next += late(place, this.next);
+        this.next += step;
+        this.isMoved ||= Math.abs(step) >= MOVED;
         return place;
     }
 
@@ -113,7 +118,8 @@ export class Clock {
      * its beginning, between samples by straight lines.
      */
     tones(begins, sign) {
-        const sums = turnedSums(this.heard, this.begin, sign);
+        const heard = this.heard.part(0, Math.trunc(this.next) + PER + 2 - this.begin);
+        const sums = turnedSums(heard, this.begin, sign);
         return begins.map((begin) => {
             const first = begin - this.begin;
             const real = (between(sums.real, first + PER) - between(sums.real, first)) / PER;

@@ -1,6 +1,7 @@
 // Where sound was lost or doubled on its way: words go on some elements earlier or later.
 
-import { logSum } from './likelihood.js';
+import { logSum, probability } from './likelihood.js';
+import { inState, LIKELIHOOD } from './loudness.js';
 import { clip, modulo } from './numbers.js';
 import { GAP, pairs, UNHEARD, WORD } from './words.js';
 
@@ -8,24 +9,26 @@ export const TURN = 14;     // elements of two slots
 export const ON = 10;       // positions behind one that are looked at
 const FARTHEST = 30;        // elements that words jump at most
 const JUMP = 14;            // evidence for a jump
+const MOVED = 7;            // evidence where the clock jumped too
 const EACH = 4;             // ends and begins are tried each so many elements
 const ENDS = Math.trunc(TURN * ON / EACH);
 const WIDTHS = 12;          // so many lengths of what is heard between are tried
-const DOUBLED = 1;          // sound is lost more often than doubled: so much speaks against it
 
 /**
  * The likeliest jump behind `place`, where the last of the next positions speak for another place
  * in a turn: where words end, where they begin again, how many elements later. `proof(place)` is
- * what speaks for a position at a place.
+ * what speaks for a position at a place. `moved` is the latest element before which the clock
+ * jumped.
  */
-export function findJump(words, proof, isExchanged, place) {
+export function findJump(words, state, proof, isExchanged, place, moved) {
     const { gain, turn } = otherTurn(proof, place);
-    if (gain < JUMP) {
+    const isNear = place - TURN <= moved && moved <= place + TURN * ON;
+    if (gain < (isNear ? MOVED : JUMP) || place < FARTHEST) {
         return null;
     }
     let best = { likelihood: -Infinity };
     for (let step = modulo(turn + FARTHEST, TURN) - FARTHEST; step <= FARTHEST; step += TURN) {
-        const one = new Jump(words, isExchanged, place, step).likeliest();
+        const one = new Jump(words, state, isExchanged, place, step).likeliest();
         best = one.likelihood > best.likelihood ? one : best;
     }
     return best;
@@ -49,14 +52,16 @@ function otherTurn(proof, place) {
 
 /**
  * A jump by `step` elements behind `place`. Words are heard whole before an end, and from a begin
- * on `step` elements later; a word between says nothing.
+ * on `step` elements later; a word between says nothing. Sound that is given twice has to be the
+ * same.
  */
 class Jump {
-    constructor(words, isExchanged, place, step) {
+    constructor(words, state, isExchanged, place, step) {
         this.words = words;
         this.isExchanged = isExchanged;
         this.place = place;
         this.step = step;
+        this.sums = step > 0 ? this.doubled(state, place, step) : null;
         this.count = Math.ceil((TURN * ON - step) / TURN);   // positions
         this.proofs = Array.from({ length: this.count }, (_, position) =>
             this.proofsOf(place + position * TURN));
@@ -88,12 +93,32 @@ class Jump {
     }
 
     likelihood(end, begin) {
-        let total = this.step > 0 ? -DOUBLED : 0;
+        let total = 0;
+        if (this.step > 0) {
+            const upto = end - this.place + FARTHEST;
+            const since = begin - this.step - this.place + FARTHEST;
+            total = this.sums[upto] - this.sums[Math.min(since, upto)];
+        }
         for (let position = 0; position < this.count; position++) {
             const at = this.place + position * TURN;
             total += this.proofs[position][this.heard(at, end, begin)][this.heard(at + GAP, end, begin)];
         }
         return total;
+    }
+
+    /**
+     * What speaks for elements being the same as `step` elements later, as where sound is given
+     * twice, as sums from FARTHEST before `place` on; one of five may be spoilt.
+     */
+    doubled(state, place, step) {
+        const sums = [0];
+        const like = (at, tone) => state.get(at, inState(tone, LIKELIHOOD));
+        const sent = (at) => probability(like(at, 0) - like(at, 1));
+        for (let at = place - FARTHEST; at < place + TURN * ON; at++) {
+            const [one, other] = [sent(Math.max(at, 0)), sent(Math.max(at, 0) + step)];
+            sums.push(sums[sums.length - 1] + Math.log(0.2 + 1.6 * (one * other + (1 - one) * (1 - other))));
+        }
+        return sums;
     }
 
     /** How a word is heard: 1 before the jump, 2 behind it, 0 not at all. */

@@ -38,6 +38,7 @@ export class Sendings {
         this.unsure = 0;                   // those between them that weren't
         this.doubts = -Infinity;           // words not sure since the latest sure one of a lock
         this.jumps = 0;                    // jumps met
+        this.moved = -Infinity;            // the latest element before which the clock jumped
         this.isTuned = true;               // whether words that are found now count
         this.single = 0;                   // how often a lock was refused for one tone alone
         this.middle = null;                // the middle by the phase of words, in a lock
@@ -232,7 +233,7 @@ export class Sendings {
      */
     meetJump(place) {
         const proof = (at) => this.proof.get(at, Number(this.exchanged));
-        const jump = findJump(this.words, proof, this.exchanged, place);
+        const jump = findJump(this.words, this.state, proof, this.exchanged, place, this.moved);
         if (jump && jump.end <= place + GAP + WORD + TURN) {
             const { first, shift } = this.stretches[0];
             this.stretches = [

@@ -93,6 +93,9 @@ export class Whole {
         this.spectrum.hear(samples);
         this.follow();
         const elements = this.clock.hear(this.mixer.hear(samples, this.middle));
+        if (this.clock.isMoved) {
+            this.sendings.moved = this.begins.end;
+        }
         this.begins.add(elements.map(({ begin }) => begin));
         const bits = this.sendings.hear(elements, this.middle);
         this.locks += this.locked && !this.wasLocked ? 1 : 0;
