@@ -38,6 +38,7 @@ export class Sendings {
         this.unsure = 0;                   // those between them that weren't
         this.doubts = -Infinity;           // words not sure since the latest sure one of a lock
         this.jumps = 0;                    // jumps met
+        this.joined = new Map();           // what speaks for each pair of words that a jump cuts
         this.moved = -Infinity;            // the latest element before which the clock jumped
         this.isTuned = true;               // whether words that are found now count
         this.single = 0;                   // how often a lock was refused for one tone alone
@@ -228,20 +229,27 @@ export class Sendings {
     }
 
     /**
-     * Looks for a jump ahead. It is taken when a word of the position at `place` may be behind it,
-     * and no sooner, so that more is heard of it.
+     * Looks for a jump ahead, and goes on behind it. Of positions of which a likely place of it cuts
+     * a word, `joined` has what all its places together tell.
      */
     meetJump(place) {
         const proof = (at) => this.proof.get(at, Number(this.exchanged));
-        const jump = findJump(this.words, this.state, proof, this.exchanged, place, this.moved);
-        if (jump && jump.end <= place + GAP + WORD + TURN) {
+        const jump = findJump(this.state, proof, { place, moved: this.moved, isExchanged: this.exchanged });
+        if (jump) {
             const { first, shift } = this.stretches[0];
             this.stretches = [
                 { first, last: jump.end, shift },
                 { first: jump.begin, last: Infinity, shift: shift + jump.step },
             ];
             this.jumps += 1;
+            const told = jump.models.map((models, position) => [this.told + position * TURN, models]);
+            this.joined = new Map(told.filter(([at]) => this.heardWords(at).includes(null)));
         }
+    }
+
+    /** Where both words of a position that is told here were heard, each if it was in one piece. */
+    heardWords(told) {
+        return [this.heardAt(told), this.heardAt(told + GAP)];
     }
 
     /** Where the word that is told at `place` was heard in one piece, if it was. */
@@ -265,12 +273,16 @@ export class Sendings {
     /**
      * What speaks for each pair of words of the position that begins here. Three models are mixed
      * by what spoke for each of late: without phase, with a phase that goes on through a word, and
-     * with one that goes on from the words beside it too.
+     * with one that goes on from the words beside it too. What a word tells that a jump may cut is
+     * added, as `joined` has it without phase.
      */
     models(place) {
         const off = this.off(place);
-        const [dx, rx] = [this.told, this.told + GAP].map((told, isRx) => this.rows(this.heardAt(told), isRx, off));
-        return this.ways.mixed(dx.map((row, way) => pairs(row, rx[way], this.exchanged)));
+        const [dx, rx] = this.heardWords(this.told).map((at, isRx) => this.rows(at, isRx, off));
+        const ways = dx.map((row, way) => pairs(row, rx[way], this.exchanged));
+        const models = this.ways.mixed(ways);
+        const joined = this.joined.get(this.told);
+        return joined ? models.map((one, pair) => one + joined[pair] - ways[0][pair]) : models;
     }
 
     /** The likelihoods of a word that begins at an element, in each way to see its phase. */
