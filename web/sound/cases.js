@@ -105,14 +105,14 @@ export class Cases {
         }
     }
 
-    /** The likelihood of a tone at an element, where its case is told by the others. */
+    /** The likelihood of a tone at an element, up to a factor. Its case is told by the others. */
     likelihood(element, tone) {
         const first = element * CASES.length;
         let sum = 0;
         for (let one = first; one < first + CASES.length; one++) {
             sum += this.likes[tone][one] * this.shares[one];
         }
-        return Math.log(sum + 1e-300);
+        return sum + 1e-300;
     }
 
     /** The mean parts of A / N and A² / N at an element, by the cases, of which it tells too. */

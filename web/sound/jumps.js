@@ -1,9 +1,9 @@
 // Where sound was lost or doubled on its way: words go on some elements earlier or later.
 
 import { logSum } from './likelihood.js';
-import { inState, LIKELIHOOD } from './loudness.js';
-import { clip, listOf, modulo, placeOfGreatest } from './numbers.js';
-import { GAP, pairs, PAIRS, spoilt, WORD, WORDS, wordsOf } from './words.js';
+import { inState, SENT } from './loudness.js';
+import { clip, listOf, modulo, placeOfGreatest, sum } from './numbers.js';
+import { GAP, pairs, PAIRS, WORD, wordsByElements } from './words.js';
 
 export const TURN = 14;                      // elements of two slots
 export const ON = 10;                        // positions behind one that are looked at
@@ -17,7 +17,6 @@ const BEFORE = 2;                            // positions before one that are we
 const APART = GAP / WORD;                    // slots from a word to its second sending
 const SLOTS = 2 * ON + 20;                   // slots that are weighed
 const POSITIONS = (SLOTS - APART + 1) / 2;   // positions in them
-const CUTS = (WORD + 1) ** 2;                // ways to cut a word
 
 /**
  * The jump behind `place`, where the last of the next positions speak for another place in a turn;
@@ -29,8 +28,8 @@ const CUTS = (WORD + 1) ** 2;                // ways to cut a word
  * - `moved`: the latest element before which the clock jumped.
  *
  * Told are `step`, how many elements later words go on; `end`, before which they are heard whole;
- * `begin`, from which on they are again; and `models`: what speaks for each pair of words of the
- * positions from `place` on.
+ * `begin`, from which on they are again; and `models`: how likely each pair of words of the
+ * positions from `place` on is.
  */
 export function findJump(state, proof, { place, moved, isExchanged }) {
     const gains = gainsOfTurns(proof, place);
@@ -77,40 +76,27 @@ function cutsBehind(place, moved) {
     });
 }
 
-/** What is heard near a place. What speaks for a tone is over what speaks for any of both. */
+/** What is heard near a place. */
 class Heard {
     constructor(state, place) {
-        this.first = place - BEFORE * TURN;             // where the first slot begins
-        this.since = this.first - FARTHEST;             // the first element that may stand in it
-        this.end = place + TURN * (ON + 1) + GAP;       // behind it nothing was heard yet
-        this.likes = new Float64Array(2 * (this.end - this.since));
-        this.parts = new Map();                         // parts of words that were weighed
-        for (let element = this.since; element < this.end; element++) {
-            const likes = [0, 1].map((tone) => state.get(element, inState(tone, LIKELIHOOD)));
-            const any = logSum(likes) - Math.log(likes.length);
-            this.likes.set(likes.map((one) => one - any), 2 * (element - this.since));
-        }
+        this.state = state;
+        this.first = place - BEFORE * TURN;         // where the first slot begins
+        this.end = place + TURN * (ON + 1) + GAP;   // behind it nothing was heard yet
     }
 
-    like(element, tone) {
-        return element < this.end ? this.likes[2 * (element - this.since) + tone] : 0;
+    /** How probable a tone is in an element. */
+    sent(element, tone) {
+        return element < this.end ? this.state.get(element, inState(tone, SENT)) : 0.5;
     }
 
-    /** The likelihoods of words that begin at a place, by their elements from one on and before another. */
-    part(place, from, upto) {
-        const key = (place - this.since) * CUTS + from * (WORD + 1) + upto;
-        if (!this.parts.has(key)) {
-            this.parts.set(key, spoilt(wordsOf((element, tone) =>
-                element >= from && element < upto ? this.like(place + element, tone) : 0)));
-        }
-        return this.parts.get(key);
+    /** How probable a tone is in both of two elements. */
+    sentTwice(one, other, tone) {
+        return this.sent(one, tone) * this.sent(other, tone);
     }
 
-    /** Those of words of which elements are heard twice: before one at a place, from one on at another. */
-    twice(place, upto, again, from) {
-        return spoilt(wordsOf((element, tone) =>
-            (element < upto ? this.like(place + element, tone) : 0)
-            + (element >= from ? this.like(again + element, tone) : 0)));
+    /** How probable it is that two elements are the same. */
+    areSame(one, other) {
+        return this.sentTwice(one, other, 0) + this.sentTwice(one, other, 1);
     }
 }
 
@@ -127,63 +113,74 @@ class Jump {
         this.cuts = cuts;
         this.step = step;
         this.isExchanged = isExchanged;
-        this.words = Array.from({ length: SLOTS }, (_, slot) => this.wordsOf(slot));
-        this.positions = Array.from({ length: POSITIONS }, (_, position) => this.position(position));
+        const words = Array.from({ length: SLOTS }, (_, slot) => this.words(heard.first + WORD * slot));
+        this.positions = Array.from({ length: POSITIONS }, (_, position) =>
+            this.position(words[2 * position], words[2 * position + APART]));
+        this.same = this.sameElements();
         this.totals = listOf(cuts.length, (place) => this.total(place));
         this.likelihood = logSum(this.totals);
     }
 
-    /** The likelihoods of the word in a slot, for each place: of those with the same cut, the same. */
-    wordsOf(slot) {
+    /** How likely each word is in the slot from `first` on, for each place of the jump. */
+    words(first) {
         const words = [];
-        let [lastUpto, lastFrom, last] = [];
-        for (const { end, begin } of this.cuts) {
-            const first = this.heard.first + WORD * slot;
-            const upto = clip(end - first, 0, WORD);
-            const from = clip(begin - this.step - first, 0, WORD);
-            if (upto !== lastUpto || from !== lastFrom) {
-                [lastUpto, lastFrom, last] = [upto, from, this.word(first, upto, from)];
-            }
-            words.push(last);
+        let [lastUpto, lastSince] = [];
+        for (let place = 0; place < this.cuts.length; place++) {
+            const upto = clip(this.cuts[place].end - first, 0, WORD);
+            const since = clip(this.cuts[place].begin - this.step - first, 0, WORD);
+            const isAsBefore = upto === lastUpto && since === lastSince;
+            words.push(isAsBefore ? words[place - 1] : this.cutWords(first, upto, since));
+            [lastUpto, lastSince] = [upto, since];
         }
         return words;
     }
 
-    /** Those of a word of which elements before one are heard before the jump, from another on behind it. */
-    word(first, upto, from) {
-        if (from === WORD) {
-            return this.heard.part(first, 0, upto);
-        }
-        return upto === 0
-            ? this.heard.part(first + this.step, from, WORD)
-            : this.heard.twice(first, upto, first + this.step, from);
+    /** The same, where elements are heard before the jump up to one, behind it since another. */
+    cutWords(first, upto, since) {
+        const { heard, step } = this;
+        return wordsByElements((element, tone) => {
+            const told = first + element;
+            if (element >= upto) {
+                return element >= since ? heard.sent(told + step, tone) : 0.5;
+            }
+            return element >= since
+                ? heard.sentTwice(told, told + step, tone) / heard.areSame(told, told + step)
+                : heard.sent(told, tone);
+        });
     }
 
-    /** What speaks for each pair of words of a position, and for all of them, for each place. */
-    position(position) {
-        const [sent, again] = [this.words[2 * position], this.words[2 * position + APART]];
-        const pairings = [];
+    /** How likely each pair of words of a position is, and what speaks for all, for each place. */
+    position(sent, again) {
+        const position = [];
         for (let place = 0; place < this.cuts.length; place++) {
             if (place > 0 && sent[place] === sent[place - 1] && again[place] === again[place - 1]) {
-                pairings.push(pairings[place - 1]);
+                position.push(position[place - 1]);
             } else {
                 const models = pairs(sent[place], again[place], this.isExchanged);
-                pairings.push({ models, all: logSum(models) });
+                const all = sum(models);
+                position.push({ models, all, proof: Math.log(all) });
             }
         }
-        return pairings;
+        return position;
+    }
+
+    /** What speaks for the first 0, 1, 2, .. elements being the same as `step` elements later. */
+    sameElements() {
+        const same = [0];
+        for (let place = 0; place < TURN * (BEFORE + ON); place++) {
+            const told = this.heard.first + place;
+            same.push(same[place] + Math.log(2 * this.heard.areSame(told, told + this.step)));
+        }
+        return same;
     }
 
     /** What speaks for the jump at a place. */
     total(place) {
-        let total = 0;
-        for (const words of this.words) {
-            total += words[place][WORDS];
-        }
-        for (const position of this.positions) {
-            total += position[place].all;
-        }
-        return total;
+        const { end, begin } = this.cuts[place];
+        const upto = end - this.heard.first;
+        const since = clip(begin - this.step - this.heard.first, 0, upto);
+        return this.positions.reduce((total, position) => total + position[place].proof,
+            this.same[upto] - this.same[since]);
     }
 
     /** Whether a word of the position at the place, or of the next two, may be behind it. */
@@ -192,8 +189,8 @@ class Jump {
     }
 
     found() {
-        const shares = this.totals.map((total) => total - this.likelihood);
-        const likely = this.cuts.filter((_, place) => shares[place] > Math.log(RARE));
+        const shares = this.totals.map((total) => Math.exp(total - this.likelihood));
+        const likely = this.cuts.filter((_, place) => shares[place] > RARE);
         return {
             step: this.step,
             end: likely[0].end,
@@ -203,8 +200,8 @@ class Jump {
     }
 }
 
-/** What all places together tell of a position, each as far as it is probable. */
+/** What all places of a jump together tell of a position, each as far as it is probable. */
 function joined(position, shares) {
     return listOf(PAIRS, (pair) =>
-        logSum(position.map(({ models, all }, place) => models[pair] - all + shares[place])));
+        position.reduce((total, { models, all }, place) => total + models[pair] / all * shares[place], 0));
 }

@@ -1,6 +1,6 @@
 // Likelihoods, as natural logarithms.
 
-import { listOf } from './numbers.js';
+import { listOf, placeOfGreatest, sum } from './numbers.js';
 
 const BESSEL_END = 40;     // up to here ln I0 is looked up in a table
 const BESSEL_STEPS = 1600;
@@ -10,12 +10,12 @@ const BESSEL_TABLE = listOf(BESSEL_STEPS + 1, (place) =>
 /** I0, the modified Bessel function of order 0, by its series. */
 function besselI0(x) {
     let term = 1;
-    let sum = 1;
-    for (let place = 1; term > sum * 1e-17; place++) {
+    let all = 1;
+    for (let place = 1; term > all * 1e-17; place++) {
         term *= (x / (2 * place)) ** 2;
-        sum += term;
+        all += term;
     }
-    return sum;
+    return all;
 }
 
 /** ln I0(x): a table to 40, then x - ln(2 pi x) / 2. */
@@ -28,17 +28,10 @@ export function logBessel(x) {
     return BESSEL_TABLE[below] + (BESSEL_TABLE[below + 1] - BESSEL_TABLE[below]) * (place - below);
 }
 
-/** ln(sum of e^x) of the numbers from `first` on and before `last`. */
-export function logSum(numbers, first = 0, last = numbers.length) {
-    let top = -Infinity;
-    for (let place = first; place < last; place++) {
-        top = Math.max(top, numbers[place]);
-    }
-    let sum = 0;
-    for (let place = first; place < last; place++) {
-        sum += Math.exp(numbers[place] - top);
-    }
-    return top + Math.log(sum);
+/** ln(sum of e^x). */
+export function logSum(numbers) {
+    const top = numbers[placeOfGreatest(numbers)];
+    return top + Math.log(sum(numbers.map((number) => Math.exp(number - top))));
 }
 
 /** The probability of which the logarithm of the odds is given. */

@@ -10,7 +10,7 @@ export const STATE = 8;        // numbers that an element has: of each tone thos
 export const LOUD = 0;         // A²
 export const SIZE = 1;         // A / N
 export const RATIO = 2;        // A² / N
-export const LIKELIHOOD = 3;   // its likelihood
+export const SENT = 3;         // how probable it is by this element alone, before which both are alike
 const ROUNDS = 2;              // rounds of expectation and maximisation
 const LEAST_NOISE = 1e-16;     // behind sound that is far too loud, sums lose what silence adds to them
 
@@ -37,11 +37,12 @@ export function statesOf(power, first) {
     const cases = new Cases(power, near.wide(loud), near.wide(noise));
     const states = new Float64Array(near.count * STATE);
     for (let element = 0; element < near.count; element++) {
+        const likelihoods = [0, 1].map((tone) => cases.likelihood(first + element, tone));
         for (const tone of [0, 1]) {
             const place = 2 * element + tone;
             const parts = cases.parts(first + element, tone);
             states.set([loud[place], Math.sqrt(loud[place]) / noise[place] * parts.size,
-                loud[place] / noise[place] * parts.ratio, cases.likelihood(first + element, tone)],
+                loud[place] / noise[place] * parts.ratio, likelihoods[tone] / (likelihoods[0] + likelihoods[1])],
             STATE * element + inState(tone, 0));
         }
     }

@@ -32,12 +32,16 @@ export function placeOfGreatest(values, count = values.length) {
     return best;
 }
 
-export function mean(values, first = 0, last = values.length) {
-    let sum = 0;
+export function sum(values, first = 0, last = values.length) {
+    let all = 0;
     for (let place = first; place < last; place++) {
-        sum += values[place];
+        all += values[place];
     }
-    return sum / (last - first);
+    return all;
+}
+
+export function mean(values, first = 0, last = values.length) {
+    return sum(values, first, last) / (last - first);
 }
 
 export function median(values) {

@@ -2,10 +2,10 @@
 
 import { logBessel } from './likelihood.js';
 import { inState, RATIO, SIZE } from './loudness.js';
-import { listOf } from './numbers.js';
+import { listOf, sum } from './numbers.js';
 import { BAUD, SHIFT } from './rates.js';
 import { Signal } from './signal.js';
-import { PATTERNS, WORD, WORDS, wordsOf } from './words.js';
+import { PATTERNS, sumsOfWords, WORD, WORDS } from './words.js';
 
 export const ELEMENT_SECONDS = 1 / BAUD;
 export const ELEMENT_TURNS = SHIFT / 2 / BAUD;   // turns that an element adds or takes: 0.85
@@ -43,12 +43,7 @@ export function turnedBack(tones, state, place, word) {
 
 /** The phase in which the tones of a word begin, as the sum of 2 A / N times them, turned back. */
 export function phasorOf({ real, imaginary }) {
-    const phasor = { real: 0, imaginary: 0 };
-    for (let element = 0; element < WORD; element++) {
-        phasor.real += 2 * real[element];
-        phasor.imaginary += 2 * imaginary[element];
-    }
-    return phasor;
+    return { real: 2 * sum(real), imaginary: 2 * sum(imaginary) };
 }
 
 /**
@@ -79,8 +74,8 @@ export function offBySlope({ real, imaginary }) {
  * middle is off, in Hz.
  */
 export function wordsWithPhase(tones, state, place, off, begun) {
-    const sums = sumsOfWords(tones, state, place, off);
-    const ratios = wordsOf((element, tone) => state.get(place + element, inState(tone, RATIO)));
+    const sums = turnedWords(tones, state, place, off);
+    const ratios = sumsOfWords((element, tone) => state.get(place + element, inState(tone, RATIO)));
     return begun.map(({ real, imaginary }) => {
         const known = logBessel(Math.hypot(real, imaginary));
         return listOf(WORDS, (word) =>
@@ -89,7 +84,7 @@ export function wordsWithPhase(tones, state, place, off, begun) {
 }
 
 /** The sum of 2 A r e^(-i phi) / N for each word. */
-function sumsOfWords(tones, state, place, off) {
+function turnedWords(tones, state, place, off) {
     const heard = Array.from({ length: WORD }, (_, element) =>
         [0, 1].map((bit) => turnedTone(tones, state, place, element, toneOf(bit), off)));
     const sums = Signal.still(WORDS);

@@ -2,14 +2,14 @@
 
 import { carriedPhase, NO_PHASE, PHASORS } from './carried.js';
 import { findJump, ON, TURN } from './jumps.js';
-import { logSum } from './likelihood.js';
-import { BEFORE, BEHIND, inState, LIKELIHOOD, LOUD, STATE, statesOf } from './loudness.js';
-import { clip, modulo, placeOfGreatest } from './numbers.js';
+import { BEFORE, BEHIND, inState, LOUD, SENT, STATE, statesOf } from './loudness.js';
+import { clip, modulo, placeOfGreatest, sum } from './numbers.js';
 import { offBySlope, phasorOf, slopeOf, turnedBack, wordsWithPhase } from './phase.js';
 import { Store } from './store.js';
 import { Ways } from './ways.js';
 import {
-    asHeard, DX, GAP, pairs, PAIRS, PATTERNS, PHASING_ONE, PHASING_TWO, RX, spoilt, SPOILT_ROW, UNHEARD, WORD, wordsOf,
+    asHeard, DX, GAP, pairs, PAIRS, PATTERNS, PHASING_ONE, PHASING_TWO, RX, UNHEARD, WORD, WORDS, wordsByElements,
+    wordsByLikelihoods,
 } from './words.js';
 
 const BACK = 14;       // positions before one that tell a lock
@@ -38,7 +38,7 @@ export class Sendings {
         this.unsure = 0;                   // those between them that weren't
         this.doubts = -Infinity;           // words not sure since the latest sure one of a lock
         this.jumps = 0;                    // jumps met
-        this.joined = new Map();           // what speaks for each pair of words that a jump cuts
+        this.joined = new Map();           // how likely each pair of words is that a jump cuts
         this.moved = -Infinity;            // the latest element before which the clock jumped
         this.isTuned = true;               // whether words that are found now count
         this.single = 0;                   // how often a lock was refused for one tone alone
@@ -48,9 +48,9 @@ export class Sendings {
         this.ways = new Ways();            // what spoke of late for each way to see the phase
         this.tones = new Store(4);         // of the upper and of the lower tone, real and imaginary
         this.mixed = new Store(1);         // the frequency that they were mixed down by
-        this.state = new Store(STATE);     // loudness and likelihood of both tones
-        this.words = new Store(SPOILT_ROW);   // the likelihood of each word that begins here
-        this.proof = new Store(2);         // that of a position that begins here; exchanged
+        this.state = new Store(STATE);     // loudness of both tones, and how probable they are
+        this.words = new Store(WORDS);     // how likely each word is that begins here
+        this.proof = new Store(2);         // what speaks for a position that begins here; exchanged
         this.slopes = new Store(4);        // how the phase of its words grows; exchanged
         this.phasors = new Store(PHASORS);   // the phase of DX, and of RX; exchanged
         this.out = new Store(1);
@@ -96,15 +96,14 @@ export class Sendings {
         }
     }
 
-    /** The likelihood of each word: the sum of those of its elements, without their phase. */
+    /** How likely each word is: by each of its elements, without their phase. */
     hearWords() {
         for (let place = this.words.end; place + WORD <= this.state.end; place++) {
-            const likes = (element, tone) => this.state.get(place + element, inState(tone, LIKELIHOOD));
-            this.words.add(spoilt(wordsOf(likes)));
+            this.words.add(wordsByElements((element, tone) => this.state.get(place + element, inState(tone, SENT))));
         }
     }
 
-    /** What speaks for a position at each place; the phase of its likeliest words, and how it grows. */
+    /** What speaks for a position at each place; its likeliest words' phase, and how it grows. */
     hearPositions() {
         for (let place = this.proof.end; place + GAP < this.words.end; place++) {
             const heard = [false, true].map((isExchanged) => this.position(place, isExchanged));
@@ -116,22 +115,22 @@ export class Sendings {
 
     position(place, isExchanged) {
         const models = pairs(this.row(place), this.row(place + GAP), isExchanged);
-        const all = logSum(models);
+        const all = sum(models);
         const best = placeOfGreatest(models, DX.length);
-        const share = Math.exp(models[placeOfGreatest(models)] - all);
+        const share = models[placeOfGreatest(models)] / all;
         const turned = [
             turnedBack(this.tones, this.state, place, asHeard(DX[best], isExchanged)),
             turnedBack(this.tones, this.state, place + GAP, asHeard(RX[best], isExchanged)),
         ];
         const [dx, rx] = turned.map(slopeOf);
         return {
-            proof: clip(all, -4, 6),
+            proof: clip(Math.log(all), -4, 6),
             slope: [share * (dx.real + rx.real), share * (dx.imaginary + rx.imaginary)],
             phasors: turned.map(phasorOf).flatMap(({ real, imaginary }) => [share * real, share * imaginary]),
         };
     }
 
-    /** The likelihoods of the words that begin at an element. */
+    /** How likely each word is that begins at an element. */
     row(place) {
         return this.words.rows(place, place + 1);
     }
@@ -229,8 +228,8 @@ export class Sendings {
     }
 
     /**
-     * Looks for a jump ahead, and goes on behind it. Of positions of which a likely place of it cuts
-     * a word, `joined` has what all its places together tell.
+     * Looks for a jump ahead, and goes on behind it. Of positions of which a likely place of it
+     * cuts a word, `joined` has what all its places together tell.
      */
     meetJump(place) {
         const proof = (at) => this.proof.get(at, Number(this.exchanged));
@@ -263,7 +262,7 @@ export class Sendings {
     write(place) {
         const models = this.models(place);
         const best = placeOfGreatest(models);
-        const isSure = models[best] - logSum(models) >= Math.log(SURE);
+        const isSure = models[best] >= SURE * sum(models);
         const [dx, rx] = isSure ? pairOf(best) : [0, 0];
         this.count(dx);
         this.put(this.told, dx);
@@ -271,10 +270,10 @@ export class Sendings {
     }
 
     /**
-     * What speaks for each pair of words of the position that begins here. Three models are mixed
-     * by what spoke for each of late: without phase, with a phase that goes on through a word, and
-     * with one that goes on from the words beside it too. What a word tells that a jump may cut is
-     * added, as `joined` has it without phase.
+     * How likely each pair of words of the position that begins here is. Three models are mixed by
+     * what spoke for each of late: without phase, with a phase that goes on through a word, and
+     * with one that goes on from the words beside it too. What a word tells that a jump may cut
+     * counts too, as `joined` has it without phase.
      */
     models(place) {
         const off = this.off(place);
@@ -282,10 +281,10 @@ export class Sendings {
         const ways = dx.map((row, way) => pairs(row, rx[way], this.exchanged));
         const models = this.ways.mixed(ways);
         const joined = this.joined.get(this.told);
-        return joined ? models.map((one, pair) => one + joined[pair] - ways[0][pair]) : models;
+        return joined ? models.map((one, pair) => one * joined[pair] / ways[0][pair]) : models;
     }
 
-    /** The likelihoods of a word that begins at an element, in each way to see its phase. */
+    /** How likely each word is that begins at an element, in each way to see its phase. */
     rows(place, isRx, off) {
         if (place === null) {
             return [UNHEARD, UNHEARD, UNHEARD];
@@ -293,7 +292,7 @@ export class Sendings {
         const word = { place, isRx, isExchanged: this.exchanged, off };
         const carried = carriedPhase(this.phasors, this.stretches[0], word);
         const withPhase = wordsWithPhase(this.tones, this.state, place, off, [NO_PHASE, carried]);
-        return [this.row(place), ...withPhase.map(spoilt)];
+        return [this.row(place), ...withPhase.map(wordsByLikelihoods)];
     }
 
     /** Writes a word; elements up to its end that nobody wrote are 0. */

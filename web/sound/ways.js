@@ -1,7 +1,6 @@
 // The ways to see the phase of a word, of which each may be the better one for a time.
 
-import { logSum } from './likelihood.js';
-import { listOf } from './numbers.js';
+import { listOf, sum } from './numbers.js';
 
 const WAYS = 3;          // without phase, with one that goes on through a word, and from word to word
 const REMEMBERED = 0.95; // how much of what spoke for a way before counts at the next position
@@ -13,13 +12,13 @@ export class Ways {
         this.shown = new Float64Array(WAYS);
     }
 
-    /** The likelihood of each pair, where `models` tells it for each way. */
+    /** How likely each pair is, up to a factor, where `models` tells it for each way. */
     mixed(models) {
-        const shown = listOf(WAYS, (way) => REMEMBERED * this.shown[way] + logSum(models[way]));
+        const shown = listOf(WAYS, (way) => REMEMBERED * this.shown[way] + Math.log(sum(models[way])));
         const most = Math.max(...shown);
         this.shown = listOf(WAYS, (way) => Math.max(shown[way] - most, LEAST));
-        const all = logSum(this.shown);
+        const shares = this.shown.map(Math.exp);
         return listOf(models[0].length, (pair) =>
-            logSum(listOf(WAYS, (way) => models[way][pair] + this.shown[way])) - all);
+            sum(listOf(WAYS, (way) => models[way][pair] * shares[way])));
     }
 }

@@ -1,10 +1,10 @@
-// The words that may be sent, and the likelihood of each pair of both sendings.
+// The words that may be sent, and how likely each pair of both sendings is.
 //
 // A position is sent twice: as DX in one slot, and as RX five slots later, 35 elements behind. A
 // word is named by its number, element 1 in the least place, B as 1. With the tones exchanged it is
-// 127 less its number. Likelihoods are natural logarithms, over that of noise alone.
+// 127 less its number. How likely a word is stands as a multiple of the mean of all words.
 
-import { placeOfGreatest } from './numbers.js';
+import { mean, placeOfGreatest } from './numbers.js';
 
 export const WORD = 7;          // elements of a word
 export const GAP = 35;          // elements between both sendings
@@ -17,10 +17,9 @@ const TRAFFIC = [               // the 32 traffic combinations (ITU-R M.476, M.6
 export const DX = [...TRAFFIC, PHASING_TWO, PHASING_ONE];   // a combination twice, phasing, P1 twice
 export const RX = [...TRAFFIC, PHASING_ONE, PHASING_ONE];
 export const PAIRS = DX.length + 1;                         // these, and an end
-const PRIOR = [...TRAFFIC.map(() => 0.75 / 32), 0.20, 0.02].map(Math.log);
-const LAST = Math.log(0.001);   // an end position: P1, and no second sending
+const PRIOR = [...TRAFFIC.map(() => 0.75 / 32), 0.20, 0.02];
+const LAST = 0.001;             // an end position: P1, and no second sending
 const SPOILT = 0.002;           // how often one sending of a word is spoilt in any way
-export const SPOILT_ROW = WORDS + 1;   // the likelihoods of all words, and their mean
 
 /** The elements of a word, 0 or 1. */
 export const PATTERNS = Array.from({ length: WORDS }, (_, word) =>
@@ -31,45 +30,56 @@ export function asHeard(word, isExchanged) {
     return isExchanged ? word ^ 127 : word;
 }
 
-/** The likelihoods of all words where a sending may be spoilt to any; behind them their mean. */
-export function spoilt(models) {
+/** How likely each word is where nothing of it was heard. */
+export const UNHEARD = new Float64Array(WORDS).fill(1);
+
+/** How likely each word is. `sent(element, tone)` tells how probable a tone is in an element. */
+export function wordsByElements(sent) {
+    const row = new Float64Array(WORDS);
+    row[0] = WORDS;
+    for (let element = 0, count = 1; element < WORD; element++, count *= 2) {
+        const upper = sent(element, 0);
+        const lower = sent(element, 1);
+        for (let word = 0; word < count; word++) {
+            row[word + count] = row[word] * upper;
+            row[word] *= lower;
+        }
+    }
+    return spoilt(row);
+}
+
+/** The same, by the logarithms of likelihoods. */
+export function wordsByLikelihoods(models) {
     const top = models[placeOfGreatest(models)];
-    const row = new Float64Array(SPOILT_ROW);
-    let mean = 0;
+    const row = models.map((one) => Math.exp(one - top));
+    const scale = 1 / mean(row);
+    return spoilt(row.map((one) => one * scale));
+}
+
+/** The same, where a sending may be spoilt to any word. */
+function spoilt(row) {
     for (let word = 0; word < WORDS; word++) {
-        row[word] = Math.exp(models[word] - top);
-        mean += row[word] / WORDS;
+        row[word] = (1 - SPOILT) * row[word] + SPOILT;
     }
-    for (let word = 0; word < WORDS; word++) {
-        row[word] = Math.log((1 - SPOILT) * row[word] + SPOILT * mean) + top;
-    }
-    row[WORDS] = Math.log(mean) + top;
     return row;
 }
 
-/** The row of a sending of which nothing was heard. */
-export const UNHEARD = spoilt(new Float64Array(WORDS));
-
-/**
- * The likelihood of each pair of DX and RX and, last, of an end, over that of any two words. Given
- * are two rows of `spoilt`.
- */
+/** How likely each pair of DX and RX is and, last, an end, over any two words. */
 export function pairs(dx, rx, isExchanged) {
     const turn = isExchanged ? 127 : 0;
-    const any = dx[WORDS] + rx[WORDS];
     const models = new Float64Array(PAIRS);
     for (let pair = 0; pair < DX.length; pair++) {
-        models[pair] = dx[DX[pair] ^ turn] + rx[RX[pair] ^ turn] + PRIOR[pair] - any;
+        models[pair] = dx[DX[pair] ^ turn] * rx[RX[pair] ^ turn] * PRIOR[pair];
     }
-    models[DX.length] = dx[PHASING_ONE ^ turn] + rx[WORDS] + LAST - any;
+    models[DX.length] = dx[PHASING_ONE ^ turn] * LAST;
     return models;
 }
 
-/** The likelihood of each word: the sum of those of its elements, by `likes(element, tone)`. */
-export function wordsOf(likes) {
+/** A sum for each word, over its elements: of `values(element, tone)`. */
+export function sumsOfWords(values) {
     const sums = new Float64Array(WORDS);
     for (let element = 0; element < WORD; element++) {
-        const ifSent = [likes(element, 1), likes(element, 0)];
+        const ifSent = [values(element, 1), values(element, 0)];
         for (let word = 0; word < WORDS; word++) {
             sums[word] += ifSent[(word >> element) & 1];
         }
