@@ -13,8 +13,9 @@ use crate::packed_hunt::{element, words_in};
 use crate::phasing::PHASING_1;
 use crate::step::Step;
 use crate::synchroniser::Synchroniser;
-use crate::windows_after::window_after_words;
-use nx_code::{ELEMENTS, WORDS_AT_ONCE, Word, words_of};
+use crate::track::Track;
+use crate::windows_after::{window_after_few, window_after_words};
+use nx_code::{ELEMENTS, WORDS_AT_ONCE, Word, elements_at, words_of};
 
 /// How many words are proposed where eight aren't left. Such a number is even, so that the roles
 /// stay in step (this project's own).
@@ -123,10 +124,15 @@ impl Synchroniser {
         ensures brings { BringsStep self.old self.new (packed_part numbers.now from result.0)
             result.1 }
     {
-        match self.track {
-            Some(_) => self.push_part(numbers, from, count),
-            None => self.seek(numbers, from, count),
-        }
+        let Some(track) = self.track else {
+            return self.seek(numbers, from, count);
+        };
+        // The elements up to the end of the word in which they stand, all where they are fewer.
+        let heard = count.min(ELEMENTS - usize::from(track.filled));
+        let number = elements_at(numbers, from, heard);
+        self.recent = window_after_few(self.recent, number, heard);
+        let filled = track.filled + (heard - 1) as u8;
+        (heard, self.follow(Track { filled, ..track }))
     }
 
     /// Hunts through packed elements, so many from a place on: hears those up to and with the one

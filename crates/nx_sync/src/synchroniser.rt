@@ -10,7 +10,7 @@ ghost use Rattle.nx_sync.specs.Locks.{pattern_elements};
 ghost use Rattle.nx_sync.specs.Steps.{step, LockStands, LimitStands, IsStep, HuntsThrough, IsWordStep};
 ghost use Rattle.nx_sync.specs.private.Windows as spec;
 ghost use Rattle.nx_sync.specs.private.Calls.{heard_one, track_from, BeginsLock, Fills, Completes, Passes, Skips, SkipsSome, SkipsEarly};
-ghost use Rattle.nx_sync.specs.Ahead.{BringsStep, HasPart};
+ghost use Rattle.nx_sync.specs.Ahead.{HasPart};
 ghost use Rattle.nx_sync.specs.Synchroniser.{StandsAfter, is_hunting, is_between_words};
 
 use crate::mark_bits::Marks;
@@ -20,10 +20,10 @@ use crate::step::{Role, Step};
 use crate::track::Track;
 use crate::windows::count_before_lock;
 use crate::windows_after::{
-    STRIDE, last_word, next_window, next_word_window, window_after_few, window_after_number,
-    window_after_stride, window_after_whole, windows_after,
+    STRIDE, last_word, next_window, next_word_window, window_after_number, window_after_stride,
+    window_after_whole, windows_after,
 };
-use nx_code::{ELEMENTS, PACKED, Word, elements_at};
+use nx_code::{ELEMENTS, PACKED, Word};
 use std::alloc::{AllocError, Global};
 use std::marker::Model;
 
@@ -246,7 +246,7 @@ impl Synchroniser {
     /// Adds the element that was heard last to the word that the track fills, and gives the lock up
     /// where that completes a word which brings a change.
     #[inline(always)]
-    fn follow(&mut self, track: Track) -> Step
+    pub(crate) fn follow(&mut self, track: Track) -> Step
         requires filled { track.filled < 7 }
         requires seen { self.old.seen ≡ pattern_elements }
         ensures inside { track.filled + 1 < 7 → Fills self.old track self.new result }
@@ -260,29 +260,6 @@ impl Synchroniser {
         let (next, step) = track.complete(last_word(self.recent), &mut self.marks);
         self.track = next;
         step
-    }
-
-    /// Hears packed elements of a lock, so many from a place on, up to the end of the word in which
-    /// they stand, all where they are fewer: what as many pushes do. Says how many those are, and
-    /// what the last one brings; those before it bring nothing.
-    #[inline(always)]
-    pub(crate) fn push_part(&mut self, numbers: &[u64], from: usize, count: usize) -> (usize, Step)
-        requires locked { is_hunting self.old ≡ false }
-        requires some { 0 < count }
-        requires room { from + count ≤ packed_elements * length numbers.now }
-        ensures within { result.0 ≤ count }
-        ensures some { 0 < result.0 }
-        ensures brings { BringsStep self.old self.new (packed_part numbers.now from result.0)
-            result.1 }
-    {
-        let Some(track) = self.track else {
-            unreachable!();
-        };
-        let heard = count.min(ELEMENTS - usize::from(track.filled));
-        let number = elements_at(numbers, from, heard);
-        self.recent = window_after_few(self.recent, number, heard);
-        let filled = track.filled + (heard - 1) as u8;
-        (heard, self.follow(Track { filled, ..track }))
     }
 
     /// Hears the packed elements that come too early to be the last of 28, and says how many.

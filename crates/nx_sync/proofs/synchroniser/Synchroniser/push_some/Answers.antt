@@ -8,7 +8,7 @@ use Rattle.nx_sync.specs.private.Windows.{window_after}
 use Rattle.nx_sync.proofs.lemmas.hunting.PackedParts.{length-part}
 use Rattle.nx_sync.proofs.lemmas.states.Pushes.{Followed}
 use Rattle.nx_sync.proofs.lemmas.words.PartWords.{filled_by, part_brings}
-use Rattle.nx_sync.proofs.synchroniser.Synchroniser.push_part.Goals as goal
+use Rattle.nx_sync.proofs.synchroniser.Synchroniser.push_some.Goals as goal
 
 pub returns-clause-brings : goal.returns-clause-brings
 returns-clause-brings c =
@@ -18,7 +18,7 @@ returns-clause-brings c =
     let part : List Bool = packed_part c.args.numbers.now c.args.from n in
     let size : length part ≡ n =
     length-part c.args.numbers.now c.args.from n
-    (omega (arith, c.requires.room, c.min-heard.ensures)) in
+    (omega (arith, c.requires.part.room, c.min-heard.ensures)) in
     let some : 0 < n = omega (arith, c.requires.some, c.min-heard.ensures) in
     let front : List Bool = take (n - 1) part in
     let last : Bool = get_or part (n - 1) false in
