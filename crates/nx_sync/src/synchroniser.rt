@@ -20,7 +20,7 @@ use crate::step::{Role, Step};
 use crate::track::Track;
 use crate::windows::count_before_lock;
 use crate::windows_after::{
-    STRIDE, last_word, next_window, next_word_window, window_after_number, window_after_stride,
+    STRIDE, next_window, next_word_window, window_after_number, window_after_stride,
     window_after_whole, windows_after,
 };
 use nx_code::{ELEMENTS, PACKED, Word};
@@ -257,7 +257,9 @@ impl Synchroniser {
             self.track = Some(Track { filled, ..track });
             return Step::NOTHING;
         }
-        let (next, step) = track.complete(last_word(self.recent), &mut self.marks);
+        // The word is the last seven elements of the 28.
+        let last_word = Word::new((self.recent >> 21) as u8).unwrap();
+        let (next, step) = track.complete(last_word, &mut self.marks);
         self.track = next;
         step
     }

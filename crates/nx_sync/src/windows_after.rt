@@ -164,12 +164,3 @@ pub(crate) fn window_after_whole(number: u64) -> u32
 {
     (number >> 36) as u32
 }
-
-/// The word of the last seven elements of a window.
-#[inline(always)]
-pub(crate) fn last_word(window: u32) -> Word
-    requires { window < 2 ^ pattern_elements }
-    ensures { result ≡ spec.last_word window }
-{
-    Word::new((window >> 21) as u8).unwrap()
-}
