@@ -39,19 +39,6 @@ impl Track {
         }
     }
 
-    /// The track after the word that it filled.
-    #[inline(always)]
-    fn after(self, word: Word) -> Track
-        ensures { result ≡ track_after self word }
-    {
-        let is_p1 = self.role == Role::Dx && word.number() == PHASING_1;
-        Track {
-            role: self.role.other(),
-            filled: 0,
-            was_p1: (self.was_p1 >> 1) + (u8::from(is_p1) << 4),
-        }
-    }
-
     /// Whether the next element is the first of a DX word, and neither of the two DX words before
     /// it was phasing signal 1.
     #[inline(always)]
@@ -84,8 +71,13 @@ impl Track {
         } else {
             Some(Change::LostLock)
         };
+        let is_p1 = self.role == Role::Dx && word.number() == PHASING_1;
         let next = match change {
-            None => Some(self.after(word)),
+            None => Some(Track {
+                role: self.role.other(),
+                filled: 0,
+                was_p1: (self.was_p1 >> 1) + (u8::from(is_p1) << 4),
+            }),
             Some(_) => None,
         };
         let step = Step {
