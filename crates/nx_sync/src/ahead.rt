@@ -9,7 +9,7 @@ ghost use Rattle.nx_sync.specs.Ahead.{ArePairs, BringsStep, BringsWords, HasPart
 ghost use Rattle.nx_sync.specs.Synchroniser as spec;
 ghost use Rattle.nx_sync.specs.Synchroniser.{is_between_words, is_hunting, keeps_lock};
 
-use crate::packed_hunt::{element, words_in};
+use crate::packed_hunt::element;
 use crate::phasing::PHASING_1;
 use crate::step::Step;
 use crate::synchroniser::Synchroniser;
@@ -69,7 +69,7 @@ impl Synchroniser {
         requires room { from + word_elements * count ≤ packed_elements * length numbers.now }
         ensures { LieAhead self.now numbers.now from (word_elements * count) result }
     {
-        let words = words_in(numbers, from, count);
+        let words = words_of(elements_at(numbers, from, ELEMENTS * count));
         if !self.keeps_lock(&words[..count]) {
             return (0, words);
         }

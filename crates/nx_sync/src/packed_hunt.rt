@@ -1,9 +1,7 @@
 //! Hunting in packed elements, 64 of them in a number. What runs for each number is inlined always,
 //! since a call would cost more than its few instructions.
 
-ghost use Rattle.std.specs.Prelude.{◌≡◌, ℕ, ◌+◌, ◌*◌, ◌^◌, ◌<◌, ◌≤◌, length, take, [], ◌∷◌, IsTrue};
-ghost use Rattle.std.specs.List.{flat_map};
-ghost use Rattle.nx_code.specs.Word.{elements, word_elements};
+ghost use Rattle.std.specs.Prelude.{◌≡◌, ℕ, ◌*◌, ◌^◌, ◌<◌, ◌≤◌, length, [], ◌∷◌, IsTrue};
 ghost use Rattle.nx_code.specs.Packed.{packed_elements, packed_part};
 ghost use Rattle.nx_sync.specs.Locks.{pattern_elements};
 ghost use Rattle.nx_sync.specs.private.Windows as spec;
@@ -11,7 +9,7 @@ ghost use Rattle.nx_sync.specs.private.Windows.{IsBeforeLockIn};
 
 use crate::phasing::{PATTERN, is_block, is_lock_window};
 use crate::windows_after::joined;
-use nx_code::{ELEMENTS, WORDS_AT_ONCE, Word, elements_at, words_of};
+use nx_code::elements_at;
 
 /// So few elements are looked at window by window at once, which costs less than the tests of
 /// blocks (this project's own).
@@ -24,19 +22,6 @@ pub(crate) fn element(numbers: &[u64], place: usize) -> bool
     ensures { result ∷ [] ≡ packed_part numbers.now place 1 }
 {
     elements_at(numbers, place, 1) % 2 == 1
-}
-
-/// The words of the elements from a place on, at most eight: the first `count` of these. Those
-/// behind them mean nothing.
-#[inline(always)]
-pub(crate) fn words_in(numbers: &[u64], place: usize, count: usize) -> [Word; WORDS_AT_ONCE]
-    requires some { 0 < count }
-    requires few { count ≤ 8 }
-    requires room { place + word_elements * count ≤ packed_elements * length numbers.now }
-    ensures { flat_map elements (take count result)
-        ≡ packed_part numbers.now place (word_elements * count) }
-{
-    words_of(elements_at(numbers, place, ELEMENTS * count))
 }
 
 /// Whether one of the windows after each of the 64 elements of a number may be a pattern. The first
