@@ -71,22 +71,14 @@ impl Marks {
         ensures { self.new ≡ marks_after_words self.old words.now }
     {
         if words.len() == WORDS_AT_ONCE {
-            self.push_eight(words);
+            // Eight marks at once.
+            self.bits = (self.bits >> 8) + (wrong_bits(words) << 56);
+            self.count = (self.count + 8).min(MARKS);
         } else {
             for place in 0..words.len() {
                 self.push(!check_bits(words[place]));
             }
         }
-    }
-
-    /// Adds the marks of eight words at once.
-    #[inline(always)]
-    fn push_eight(&mut self, words: &[Word])
-        requires { length words.now ≡ 8 }
-        ensures { self.new ≡ marks_after_words self.old words.now }
-    {
-        self.bits = (self.bits >> 8) + (wrong_bits(words) << 56);
-        self.count = (self.count + 8).min(MARKS);
     }
 
     /// How many of the marks are set.
