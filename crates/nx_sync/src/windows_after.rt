@@ -7,7 +7,7 @@ ghost use Rattle.std.specs.Prelude.{◌≡◌, ℕ, ◌+◌, ◌^◌, ◌<◌, �
 ghost use Rattle.nx_code.specs.Packed.{packed_elements};
 ghost use Rattle.nx_code.specs.Word.{elements_from};
 ghost use Rattle.nx_sync.specs.Locks.{pattern_elements};
-ghost use Rattle.nx_sync.specs.private.Eight.{last_four, window_after_words};
+ghost use Rattle.nx_sync.specs.private.Eight.{window_after_words};
 ghost use Rattle.nx_sync.specs.private.Windows as spec;
 
 use crate::phasing::PATTERN;
@@ -79,28 +79,18 @@ pub(crate) fn window_after_words(window: u32, words: &[Word]) -> u32
     ensures small { (k : ℕ) → k < length words.now → slice_index words.now k < 128 }
 {
     if words.len() == WORDS_AT_ONCE {
-        return window_after_eight(words);
+        // Each word is one of 128. That is all that this says, and nothing runs for it.
+        let _words = numbers(words);
+        // The window has the last four words, whichever window was before.
+        let older = u32::from(words[4].number()) + (u32::from(words[5].number()) << 7);
+        let newer = (u32::from(words[6].number()) << 14) + (u32::from(words[7].number()) << 21);
+        return older + newer;
     }
     let mut last = window;
     for place in 0..words.len() {
         last = next_word_window(last, words[place]);
     }
     last
-}
-
-/// The window after eight words, whichever window was before: it has the last four words.
-#[inline(always)]
-fn window_after_eight(words: &[Word]) -> u32
-    requires eight { length words.now ≡ 8 }
-    ensures value { result ≡ last_four words.now }
-    ensures within { result < 2 ^ pattern_elements }
-    ensures small { (k : ℕ) → k < 8 → slice_index words.now k < 128 }
-{
-    // Each word is one of 128. That is all that this says, and nothing runs for it.
-    let _words = numbers(words);
-    let older = u32::from(words[4].number()) + (u32::from(words[5].number()) << 7);
-    let newer = (u32::from(words[6].number()) << 14) + (u32::from(words[7].number()) << 21);
-    older + newer
 }
 
 /// The numbers of eight words.

@@ -1,6 +1,6 @@
 -- What is held after several words, for the contracts of the private functions that hear two or
 -- eight of them at once.
-use Rattle.std.specs.Prelude.{ℕ, ◌+◌, ◌*◌, ◌^◌, Bool, List, [], ◌∷◌, ◌++◌, map, slice_index}
+use Rattle.std.specs.Prelude.{ℕ, Bool, List, [], ◌∷◌, ◌++◌, map}
 use Rattle.circular_buffer.specs.Buffer.{keep_last}
 use Rattle.nx_code.specs.Word.{is_wrong}
 use Rattle.nx_sync.specs.Words.{marked_words}
@@ -10,12 +10,6 @@ use Rattle.nx_sync.specs.private.Windows.{next_word_window}
 -- whether each of these words has the wrong weight
 abbrev pub wrong_ones : List ℕ → List Bool
 wrong_ones = map is_wrong
-
--- the window that has the words 4 to 7
-abbrev pub last_four : List ℕ → ℕ
-last_four words =
-    slice_index words 4 + 2 ^ 7 * slice_index words 5 + 2 ^ 14 * slice_index words 6
-    + 2 ^ 21 * slice_index words 7
 
 -- the marks after those of these words, whether each is wrong
 unfoldable pub marks_after_words : List Bool → List ℕ → List Bool

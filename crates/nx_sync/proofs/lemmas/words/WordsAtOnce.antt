@@ -23,7 +23,7 @@ use Rattle.nx_sync.specs.Words.{marked_words, losing_count, other_role, is_dx}
 use Rattle.nx_sync.specs.Words.{role_of}
 use Rattle.nx_sync.specs.private.Windows.{next_word_window}
 use Rattle.nx_sync.specs.private.Calls.{track_from, track_after, fills_releasing_word, Completes}
-use Rattle.nx_sync.specs.private.Eight.{wrong_ones, last_four, marks_after_words}
+use Rattle.nx_sync.specs.private.Eight.{wrong_ones, marks_after_words}
 use Rattle.nx_sync.specs.private.Eight.{window_after_words, after_words}
 use Rattle.nx_sync.specs.Steps.{step, IsWordStep, AreQuietWords}
 use Rattle.nx_sync.specs.Synchroniser.{Held, StandsAfter, awaits_free_dx}
@@ -149,6 +149,12 @@ marks_after_words-more (suc k) (x ∷ xs) marks h =
     let e : suc k + 1 ≡ suc (k + 1) = omega arith in
     ap (λ n. marks_after_words marks (take n (x ∷ xs))) e
     ∙ marks_after_words-more k xs (keep_last marked_words (marks ++ is_wrong x ∷ [])) (omega arith)
+
+-- the window that has the words 4 to 7 of eight
+abbrev last_four : List ℕ → ℕ
+last_four words =
+    slice_index words 4 + 2 ^ 7 * slice_index words 5 + 2 ^ 14 * slice_index words 6
+    + 2 ^ 21 * slice_index words 7
 
 pub window_after_eight : (xs : List ℕ) (r : ℕ) → length xs ≡ 8 → r < 2 ^ 28
     → ((k : ℕ) → k < 8 → slice_index xs k < 128) → window_after_words r xs ≡ last_four xs

@@ -1,6 +1,6 @@
-use Rattle.std.proofs.Common.{◌≡◌, ◌<◌, ◌∙◌, ℕ, List, refl, sym, ap₂, subst, inl, inr, slice_index, arith}
+use Rattle.std.proofs.Common.{◌≡◌, ◌<◌, ◌∙◌, ℕ, List, refl, sym, ap₂, subst, inl, inr, length, slice_index, arith}
 use Rattle.std.proofs.lemmas.Bool.{cases_lt}
-use Rattle.std.proofs.lemmas.Grind.{get_or_default_zero}
+use Rattle.std.proofs.lemmas.Grind.{common_steps, get_or_default_zero}
 use Rattle.nx_sync.specs.private.Eight.{window_after_words}
 use Rattle.nx_sync.specs.private.Windows.{next_word_window}
 use Rattle.nx_sync.proofs.lemmas.words.WordsAtOnce.{window_after_eight, window_after_words-more}
@@ -9,9 +9,13 @@ use Rattle.nx_sync.proofs.windows_after.window_after_words.Goals as goal
 pub returns-then-words-eq-WORDS_AT_ONCE-clause-value :
     goal.returns-then-words-eq-WORDS_AT_ONCE-clause-value
 returns-then-words-eq-WORDS_AT_ONCE-clause-value c =
-    c.window_after_eight.ensures.value
-    ∙ sym (window_after_eight c.args.words.now c.args.window (omega arith) c.requires.window
-    c.window_after_eight.ensures.small)
+    let words : List ℕ = c.args.words.now in
+    let eight : length words ≡ 8 = omega arith in
+    let small : (k : ℕ) → k < 8 → slice_index words k < 128 =
+    λ k within. subst (λ xs. slice_index xs k < 128) c.numbers-words.ensures.value
+    (c.numbers-words.ensures.small k within) in
+    grind (arith, common_steps)
+    ∙ sym (window_after_eight words c.args.window eight c.requires.window small)
 
 pub loop-place-init : goal.loop-place-init
 unfolding window_after_words
