@@ -3,7 +3,6 @@
 
 ghost use Rattle.std.specs.Prelude.{◌≡◌, ◌<◌};
 ghost use Rattle.nx_code.specs.Classes.{class_of, paired};
-ghost use Rattle.nx_code.specs.private.Rows.{byte_given};
 
 use crate::words::Word;
 
@@ -119,11 +118,4 @@ pub fn pair_classes(dx: u8, rx: u8) -> u8
     ensures range { result < 34 }
 {
     PAIRED[usize::from(dx)][usize::from(rx)]
-}
-
-/// The byte that a table of bytes gives.
-pub(crate) fn byte_given(byte: u8) -> Option<u8>
-    ensures { result ≡ byte_given byte }
-{
-    if byte == 0 { None } else { Some(byte) }
 }

@@ -20,7 +20,7 @@ mod words;
 pub use characters::{NEWLINE, char_to_code, code_to_char};
 pub use classes::{CLASSES, NO_CLASS, class_of, pair_classes};
 pub use decimals::decimal_number;
-pub use packed::{PACKED, WORDS_AT_ONCE, elements_at, packed_word, words_of};
+pub use packed::{PACKED, WORDS_AT_ONCE, elements_at, words_of};
 pub use printer_steps::FourPrinted;
 pub use printing::{ASTERISK, Printer, Taken};
 pub use shifts::{Case, Shift};

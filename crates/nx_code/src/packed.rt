@@ -35,15 +35,6 @@ pub fn elements_at(numbers: &[u64], place: usize, count: usize) -> u64
     (low + (numbers[place / PACKED + 1] << here)) % (1 << count)
 }
 
-/// The word of seven elements, given as a number with the first one in the least place.
-#[inline(always)]
-pub fn packed_word(elements: u64) -> Word
-    requires { elements < 128 }
-    ensures { result ≡ elements }
-{
-    Word::at(elements as u8)
-}
-
 /// The eight words of 56 elements, given as a number with the first one in the least place, in the
 /// order of sending.
 #[inline(always)]
@@ -69,5 +60,5 @@ fn nth_word(elements: u64, index: usize) -> Word
     requires { index < 8 }
     ensures { result ≡ elements / 2 ^ (7 * index) % 128 }
 {
-    packed_word((elements >> (ELEMENTS * index)) % 128)
+    Word::at(((elements >> (ELEMENTS * index)) % 128) as u8)
 }

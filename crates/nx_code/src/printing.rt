@@ -9,8 +9,7 @@ ghost use Rattle.nx_code.specs.private.Rows.{byte_given};
 ghost use Rattle.nx_code.specs.declared.shifts.Shift.TheVariants.{Letters};
 
 use crate::characters::code_to_char;
-use crate::classes::byte_given;
-use crate::printer_steps::{FourPrinted, after, printed};
+use crate::printer_steps::{AFTER, FourPrinted, PRINTED};
 use crate::shifts::Shift;
 use crate::signals::{Comb, FIGURE_SHIFT, LETTER_SHIFT};
 use std::marker::Model;
@@ -83,7 +82,8 @@ impl Printer {
         ensures printed { result ≡ byte_of (reception_of_class class) self.old }
         ensures shift { self.new ≡ shift_after (reception_of_class class) self.old }
     {
-        byte_given(self.print_byte(class))
+        let byte = self.print_byte(class);
+        if byte == 0 { None } else { Some(byte) }
     }
 
     /// Takes the next position by its class, as `step_by_class` does, and appends the byte that it
@@ -100,7 +100,9 @@ impl Printer {
         ensures count { printed.new.count ≤ printed.old.count + 1 }
         ensures shift { self.new ≡ shift_after (reception_of_class class) self.old }
     {
-        printed.push(self.print_byte(class));
+        let byte = self.print_byte(class);
+        printed.bytes[printed.count] = byte;
+        printed.count += usize::from(byte != 0);
     }
 
     /// Takes the next position by its class, and answers the byte that it prints, or 0.
@@ -110,9 +112,9 @@ impl Printer {
         ensures printed { byte_given result ≡ byte_of (reception_of_class class) self.old }
         ensures shift { self.new ≡ shift_after (reception_of_class class) self.old }
     {
-        let byte = printed(class, self.shift);
-        self.shift = after(class, self.shift);
-        byte
+        let row = 2 * usize::from(class) + self.shift as usize;
+        self.shift = AFTER[row];
+        PRINTED[row]
     }
 
     /// Takes a combination.

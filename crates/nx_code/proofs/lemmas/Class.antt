@@ -11,9 +11,11 @@ use Rattle.nx_code.specs.declared.shifts.Shift.{Shift}
 use Rattle.nx_code.specs.declared.shifts.Shift.TheVariants.{Letters, Figures}
 use Rattle.nx_code.specs.Classes.{class_of, paired, reception_of_class}
 use Rattle.nx_code.specs.Reading.{byte_of, character_of, shift_after}
-use Rattle.nx_code.specs.private.Rows.{byte_given, column}
+use Rattle.nx_code.specs.contracts.shifts.Shift.{the_type}
+use Rattle.nx_code.specs.private.Rows.{byte_given}
 use Rattle.nx_code.specs.Table.{place_of, row_of, table, words}
 use Rattle.nx_code.specs.Word.{elements, elements_from, weight}
+use denote.Enum.Declared.{tag_of}
 
 all_classes : BY_WORD ≡ map class_of (range_with_len 0 128)
 unfolding class_of place_of words table
@@ -34,6 +36,10 @@ class_of-low word h = ltb-true (class_of word) 34
 abbrev shift_in : ℕ → Shift
 shift_in zero = Letters
 shift_in (suc n) = Figures
+
+-- the column of a shift in the tables: its number
+abbrev pub column : Shift → ℕ
+column shift = tag_of the_type shift
 
 -- a row of the tables, and the class and the shift that it is of
 row-low : (class : ℕ) (shift : Shift) → class < 34 → 2 * class + column shift < 68

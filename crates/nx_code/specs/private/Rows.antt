@@ -55,8 +55,3 @@ case_kept character =
 -- the byte that a table of bytes gives: 0 is none
 abbrev pub byte_given : ℕ → Option ℕ
 byte_given byte = if byte == 0 then None else Some byte
-
--- the column of a shift in the tables by class
-abbrev pub column : Shift → ℕ
-column Letters = 0
-column Figures = 1

@@ -5,8 +5,8 @@
 use super::{expect_text, expect_told};
 use nx_code::{
     Case, Comb, Extent, FourPrinted, Printer, Shift, Signal, SpellFault, Taken, Word, cell_of,
-    char_to_code, check_bits, class_of, code_to_char, elements_at, extent_of, laws, packed_word,
-    pair_classes, signal_at, signal_of, spell, word_of, words_of,
+    char_to_code, check_bits, class_of, code_to_char, elements_at, extent_of, laws, pair_classes,
+    signal_at, signal_of, spell, word_of, words_of,
 };
 use std::alloc::AllocError;
 use std::process::Abort;
@@ -199,7 +199,8 @@ fn packed_words(rt: HostRuntime) {
     assert_eq!(rt; words[0].number(), 0x47);
     assert_eq!(rt; words[1].number(), 0x72);
     assert_eq!(rt; words[7].number(), 0);
-    assert_eq!(rt; packed_word(0x0F), word_of(Signal::Alpha));
+    let alpha = words_of(0x0F)[0];
+    assert_eq!(rt; alpha, word_of(Signal::Alpha));
 }
 
 /// The figure shift, a dash, the letter shift and A, and then B.
