@@ -5,7 +5,6 @@ ghost use Rattle.std.specs.Prelude.{◌≡◌, ◌+◌, ◌≤◌, ◌∷◌, �
 ghost use Rattle.nx_envelope.specs.private.Backward.{last_four};
 ghost use Rattle.nx_envelope.specs.Copies.{errors_of};
 ghost use Rattle.nx_envelope.specs.Found.{IsFoundOf};
-ghost use Rattle.nx_envelope.specs.private.Finding.{begins_no_text};
 
 use crate::found::{FinderStep, Found, FoundHead, HeldCopy, How, MAX_FOUND, TextEvent};
 use crate::header_stage::HeaderStage;
@@ -141,7 +140,8 @@ impl Finder {
             return false;
         }
         if fresh {
-            if begins_no_text(bytes, count) {
+            // With no byte the copy stays fresh; a newline behind a header is no part of its text.
+            if (count == 0) | (bytes[0] == NEWLINE) {
                 return false;
             }
             self.copy = HeldCopy::Open(identity, false);
@@ -324,15 +324,6 @@ impl Finder {
         }
         TextEvent::Nothing
     }
-}
-
-/// Whether the text of a copy doesn't begin with the first `count` of these bytes, which come
-/// directly behind its header: there are none, or a newline comes first, which is no part of it.
-#[inline(always)]
-fn begins_no_text(bytes: [u8; MARKER_LEN], count: usize) -> bool
-    ensures { result ≡ begins_no_text (take count bytes) }
-{
-    (count == 0) | (bytes[0] == NEWLINE)
 }
 
 /// Appends the first `count` of these bytes.

@@ -3,7 +3,6 @@
 ghost use Rattle.std.specs.Prelude.{◌≡◌, ◌∷◌, ℕ, List};
 ghost use Rattle.nx_envelope.specs.private.Backward.{ends_in, header_back};
 ghost use Rattle.nx_envelope.specs.Header.{start_marker};
-ghost use Rattle.nx_code.specs.Reading.{space};
 ghost use Rattle.nx_envelope.specs.private.HeaderStage.{IsStageOf};
 
 use crate::digit::Digit;
@@ -35,7 +34,11 @@ impl HeaderStage {
             → IsStageOf result (byte ∷ back) }
     {
         if byte == SPACE {
-            return self.with_space(after_start);
+            return match self {
+                _ if after_start => HeaderStage::Spaces,
+                HeaderStage::Spaces => HeaderStage::Spaces,
+                _ => HeaderStage::Nowhere,
+            };
         }
         match self {
             HeaderStage::Spaces => match Letter::new(byte) {
@@ -51,20 +54,6 @@ impl HeaderStage {
                 None => HeaderStage::Nowhere,
             },
             HeaderStage::Nowhere | HeaderStage::Tens(_, _, _) => HeaderStage::Nowhere,
-        }
-    }
-
-    /// The stage one space later.
-    fn with_space(self, after_start: bool) -> HeaderStage
-        ensures { (back : List ℕ) → IsStageOf self back → after_start ≡ ends_in start_marker back
-            → IsStageOf result (space ∷ back) }
-    {
-        if after_start {
-            return HeaderStage::Spaces;
-        }
-        match self {
-            HeaderStage::Spaces => HeaderStage::Spaces,
-            _ => HeaderStage::Nowhere,
         }
     }
 

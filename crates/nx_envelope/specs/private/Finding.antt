@@ -1,6 +1,5 @@
 -- What the parts of a finder do, of which the layers above know nothing.
-use Rattle.std.specs.Prelude.{ℕ, ◌-◌, ◌==◌, Bool, true, List, [], ◌∷◌, ◌++◌, length, take}
-use Rattle.nx_code.specs.Reading.{newline}
+use Rattle.std.specs.Prelude.{ℕ, ◌-◌, List, [], ◌∷◌, ◌++◌, length, take}
 use Rattle.nx_envelope.specs.Finder.{HappensAt, HoldsCopy}
 use Rattle.nx_envelope.specs.declared.finder.Finder.{Finder}
 use Rattle.nx_envelope.specs.declared.found.How.{How}
@@ -17,9 +16,3 @@ found_text Long raw byte = raw ++ byte ∷ []
 pub record Hearing (text : List ℕ) (byte : ℕ) (answer : TextEvent) (now : Finder) : Type 0 where
   pub hears : HappensAt text byte now answer
   pub holds : HoldsCopy now.copy now.text (text ++ byte ∷ [])
-
--- no text of a copy begins with these bytes, directly behind its header: there are none, or a
--- newline comes first, which is no part of it
-abbrev pub begins_no_text : List ℕ → Bool
-begins_no_text [] = true
-begins_no_text (b ∷ bytes) = b == newline

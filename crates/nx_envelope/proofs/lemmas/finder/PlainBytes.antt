@@ -1,15 +1,15 @@
 -- Bytes that an open copy takes in one after the other, where none of them ends it, and bytes that
 -- complete no header where no copy is open.
-use Rattle.std.proofs.Common.{◌≡◌, ℕ, ◌+◌, ◌<◌, ◌≤◌, zero, suc, ◌&&◌, ◌||◌, nat_le, Bool, true, false, None}
+use Rattle.std.proofs.Common.{◌≡◌, ℕ, ◌+◌, ◌<◌, ◌≤◌, zero, suc, ◌==◌, ◌&&◌, ◌||◌, nat_le, Bool, true, false, None}
 use Rattle.std.proofs.Common.{List, [], ◌∷◌, ◌++◌, length, take, reverse, refl, sym, ap, ◌∙◌, subst}
 use Rattle.std.proofs.Common.{arith, below_more, length-append, append_assoc}
 use Rattle.std.specs.Prelude.{slice_index}
 use Rattle.std.proofs.lemmas.Bool.{leb-false, or_parts}
 use Rattle.std.proofs.lemmas.List.{append-nil, get_or-take, length-take, length-take-le, take-take, take_more}
+use Rattle.nx_code.specs.Reading.{newline}
 use Rattle.nx_envelope.specs.private.Backward.{header_back, marker_back}
 use Rattle.nx_envelope.specs.Copies.{open_headers}
 use Rattle.nx_envelope.specs.Finder.{BringNothing, HoldsOpen, Keeps}
-use Rattle.nx_envelope.specs.private.Finding.{begins_no_text}
 use Rattle.nx_envelope.specs.private.HeaderStage.{IsStageOf}
 use Rattle.nx_envelope.specs.private.FourBytes.{IsEight, IsUnmarked}
 use Rattle.nx_envelope.specs.declared.identity.Identity.{Identity}
@@ -26,6 +26,12 @@ abbrev pub NoMarkers : List ℕ → List ℕ → Type 0
 NoMarkers back [] = Unit {0}
 NoMarkers back (b ∷ bytes) = (marker_back (b ∷ back) ≡ None) × NoMarkers (b ∷ back) bytes
 
+-- no text of a copy begins with these bytes, directly behind its header: there are none, or a
+-- newline comes first, which is no part of it
+abbrev pub begins_no_text : List ℕ → Bool
+begins_no_text [] = true
+begins_no_text (b ∷ bytes) = b == newline
+
 -- they go to the open copy
 pub record PlainHeard (kept text bytes : List ℕ) (identity : Identity) : Type 0 where
   pub holds : HoldsOpen false (kept ++ bytes) (text ++ bytes) identity
@@ -37,6 +43,14 @@ first_more text bytes b now later zero lt = rw (append-nil text) now
 first_more text bytes b now later (suc k) lt =
     subst (λ (t : List ℕ). Keeps t (slice_index bytes k))
     (append_assoc text (b ∷ []) (take k bytes)) (later k (omega arith))
+
+-- the first byte begins the text of a copy
+pub text_begins : (count : ℕ) (bytes : List ℕ) → length bytes ≡ 4
+    → ((count == 0) || (slice_index bytes 0 == newline)) ≡ false
+    → begins_no_text (take count bytes) ≡ false
+text_begins zero bytes all e = absurd (cc)
+text_begins (suc count) [] all e = absurd (cc)
+text_begins (suc count) (b ∷ bytes) all e = (or_parts (suc count == 0) (b == newline) e).1
 
 pub plain_heard : (fresh : Bool) (kept text bytes : List ℕ) (identity : Identity)
     → HoldsOpen fresh kept text identity → (fresh && begins_no_text bytes) ≡ false

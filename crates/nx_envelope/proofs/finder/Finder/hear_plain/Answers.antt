@@ -1,16 +1,16 @@
-use Rattle.std.proofs.Common.{◌≡◌, ◌<◌, ◌&&◌, ℕ, List, false, length, take, reverse, refl, sym, ap, subst, ◌∙◌, arith}
+use Rattle.std.proofs.Common.{◌≡◌, ◌<◌, ◌&&◌, ℕ, List, false, length, take, reverse, refl, sym, ap, subst, ◌∙◌, arith, rules}
 use Rattle.std.specs.Int.{to_le_bytes, w32}
 use Rattle.nx_envelope.specs.Finder.{StandsAfter}
 use Rattle.nx_envelope.specs.FinderView.{FinderView}
-use Rattle.nx_envelope.specs.private.Finding.{begins_no_text}
 use Rattle.nx_envelope.specs.private.HeaderStage.{IsStageOf}
 use Rattle.nx_envelope.specs.declared.found.HeldCopy.{HeldCopy}
 use Rattle.nx_envelope.specs.declared.found.HeldCopy.TheVariants.{Open}
 use Rattle.nx_envelope.proofs.lemmas.finder.EightBytes.{four_on}
 use Rattle.nx_envelope.proofs.lemmas.finder.Hearing.{held}
-use Rattle.nx_envelope.proofs.lemmas.finder.PlainBytes.{PlainHeard, and_false, clear, plain_four, unmarked, stage_stays}
+use Rattle.nx_envelope.proofs.lemmas.finder.PlainBytes.{PlainHeard, and_false, begins_no_text, clear, plain_four}
+use Rattle.nx_envelope.proofs.lemmas.finder.PlainBytes.{unmarked, stage_stays, text_begins}
 use Rattle.nx_envelope.proofs.finder.Finder.hear_plain.Goals as goal
-use Rattle.nx_envelope.proofs.finder.Finder.hear_plain.Goals.{then-fresh+else-begins_no_text, else-fresh}
+use Rattle.nx_envelope.proofs.finder.Finder.hear_plain.Goals.{then-fresh+else-count-bytes, else-fresh}
 
 -- the bytes go to the open copy
 heard : (c : goal.After-self-2-1) (text : List ℕ) → StandsAfter c.args.self.now text
@@ -26,8 +26,8 @@ heard c text h =
     omega (arith, c.len.ensures.value, t.room, ap length kept) in
     let begun : (c.in-Open.fresh && begins_no_text (take c.args.count c.args.bytes)) ≡ false =
     elim c.if-fresh.branch [
-      | then-fresh+else-begins_no_text w ↦ and_false c.in-Open.fresh _
-          (sym w.begins_no_text.ensures ∙ w.if-begins_no_text.false)
+      | then-fresh+else-count-bytes w ↦ and_false c.in-Open.fresh _
+          (text_begins c.args.count c.args.bytes (search rules) w.if-count-bytes.false)
       | else-fresh w ↦ rw w.if-fresh.false refl
     ] in
     plain_four c.eight_of-eight.result c.args.count c.in-Open.fresh c.args.self.now.text text
@@ -38,7 +38,7 @@ heard c text h =
 grown : (c : goal.After-self-2-1) → c.if-fresh.self-inside
     ≡ record c.self.inside { copy = Open c.in-Open.identity false }
 grown c = elim c.if-fresh.branch [
-  | then-fresh+else-begins_no_text w ↦ w.self-inside-is
+  | then-fresh+else-count-bytes w ↦ w.self-inside-is
   | else-fresh w ↦ w.self-inside-is
       ∙ ap (λ (k : HeldCopy). record c.self.inside { copy = k })
       (c.in-Open.is ∙ ap (Open c.in-Open.identity) w.if-fresh.false)
