@@ -1,5 +1,5 @@
 //! Readers and writers whose failed calls are counted.
-ghost use Rattle.std.specs.Prelude.{◌≡◌, ◌↔◌, ◌+◌, ◌-◌, ◌^◌, ◌<◌, [], min, IfOk, IsTrue};
+ghost use Rattle.std.specs.Prelude.{◌≡◌, ◌+◌, ◌-◌, ◌^◌, ◌<◌, [], min, IfOk};
 ghost use Rattle.std.specs.Io.{ReadsAtMost, WritesAtMost};
 ghost use Rattle.std.specs.Io.KnownBytes.{ReadConsumes, WriteAppends, Keeps};
 ghost use Rattle.nx_fec.specs.Transfers.{Counts};
@@ -56,13 +56,6 @@ impl<T> Counting<T> {
         inner
     }
 
-    /// Whether a call failed, so that no further one is passed on.
-    fn is_stopped(&self) -> bool
-        ensures { IsTrue result ↔ (0 < self.now.failures) }
-    {
-        self.failures > 0
-    }
-
     /// Counts a call that isn't passed on, and gives its error.
     fn refuse(&mut self) -> Error
         ensures inner { self.new.inner ≡ self.old.inner }
@@ -82,7 +75,7 @@ impl<R: Read> Read for Counting<R> {
             (R.remaining self.new.inner) result buf.new }
         ensures counted { Counts self.old self.new result }
     {
-        if self.is_stopped() {
+        if self.failures > 0 {
             return Err(self.refuse());
         }
         let outcome = self.inner.read(buf);
@@ -91,19 +84,6 @@ impl<R: Read> Read for Counting<R> {
         }
         outcome
     }
-}
-
-/// A write, where taking no byte of a piece that isn't empty is an error.
-fn write_some<W: Write>(writer: &mut W, piece: &[u8]) -> io::Result<usize>
-    ensures bound { WritesAtMost result piece.now }
-    ensures bytes { WriteAppends (W.contents writer.old) (W.contents writer.new) result piece.now }
-    ensures some { IfOk result (λ count. count ≡ 0 → piece.now ≡ []) }
-{
-    let count = writer.write(piece)?;
-    if count == 0 && !piece.is_empty() {
-        return Err(Error::from(ErrorKind::WriteZero));
-    }
-    Ok(count)
 }
 
 impl<W: Write> Write for Counting<W> {
@@ -116,21 +96,27 @@ impl<W: Write> Write for Counting<W> {
         ensures counted { Counts self.old self.new result }
         ensures some { IfOk result (λ count. count ≡ 0 → buf.now ≡ []) }
     {
-        if self.is_stopped() {
+        if self.failures > 0 {
             return Err(self.refuse());
         }
-        let outcome = write_some(&mut self.inner, buf);
-        if outcome.is_err() {
-            self.failures = 1;
+        match self.inner.write(buf) {
+            Ok(count) if count > 0 || buf.is_empty() => Ok(count),
+            Ok(_) => {
+                self.failures = 1;
+                Err(Error::from(ErrorKind::WriteZero))
+            }
+            Err(error) => {
+                self.failures = 1;
+                Err(error)
+            }
         }
-        outcome
     }
 
     fn flush(&mut self) -> io::Result<()>
         ensures bytes { Keeps (W.contents self.old.inner) (W.contents self.new.inner) }
         ensures counted { Counts self.old self.new result }
     {
-        if self.is_stopped() {
+        if self.failures > 0 {
             return Err(self.refuse());
         }
         let outcome = self.inner.flush();
