@@ -84,18 +84,10 @@ impl<const CAPACITY: usize> BoundedBytes<CAPACITY> {
         }
     }
 
-    /// Keeps the first `count` bytes.
-    fn truncate(&mut self, count: usize)
-        requires { count ≤ length self.old }
-        ensures { self.new ≡ take count self.old }
-    {
-        self.length = count;
-    }
-
     /// Drops all bytes.
     pub fn clear(&mut self)
         ensures { self.new ≡ [] }
     {
-        self.truncate(0);
+        self.length = 0;
     }
 }

@@ -290,26 +290,10 @@ impl Scanner {
         ensures taken { 0 < result → TakesLine self.old self.new piece.now result }
         ensures none { result ≡ 0 → Waits self.old self.new }
     {
-        let count = self.scan_few(piece, mark, digits);
-        if count > 0 {
-            return count;
-        }
-        self.scan_many(piece, mark, digits)
-    }
-
-    /// Takes the line that a piece begins with as `scan_elements` does, where it has few elements.
-    #[inline(always)]
-    fn scan_few(&mut self, piece: &[u8], mark: Option<Channel>, digits: &[u8]) -> usize
-        requires front { piece.now ≡ with_mark (codes "B") mark digits.now }
-        requires empty { self.old.part ≡ [] }
-        requires long { NEAR_BYTES ≤ length piece.now }
-        requires room { NEAR_BYTES ≤ self.old.room }
-        ensures taken { 0 < result → TakesLine self.old self.new piece.now result }
-        ensures none { result ≡ 0 → self.new ≡ self.old }
-    {
         let (number, count) = pack_near(digits);
+        // The line has more elements, or is no line of elements.
         if count == 0 || count > NEAR_ELEMENTS || digits[count] != NEWLINE {
-            return 0;
+            return self.scan_many(piece, mark, digits);
         }
         let end = piece.len() - digits.len() + count;
         self.kept.clear();

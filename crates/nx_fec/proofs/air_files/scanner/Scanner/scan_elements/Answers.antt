@@ -3,7 +3,7 @@ use Rattle.nx_fec.specs.private.ScannerKept.{IsKept, SpellsLine, line_ended, par
 use Rattle.nx_fec.specs.private.WholeLines.{TakesLine}
 use Rattle.nx_fec.specs.declared.air_files.lines.LineKind.TheVariants.{Elements}
 use Rattle.nx_fec.proofs.lemmas.lines.WholeLine.{Digits, digits-behind-front, digits-spell, takes-digits}
-use Rattle.nx_fec.proofs.air_files.scanner.Scanner.scan_few.Goals as goal
+use Rattle.nx_fec.proofs.air_files.scanner.Scanner.scan_elements.Goals as goal
 
 pub pack_near-number-requires : goal.pack_near-number-requires
 pack_near-number-requires c =
