@@ -88,5 +88,5 @@ pub(crate) fn place_in_alphabet(letter: Letter) -> usize
     ensures place { result + 65 ≡ letter.byte }
     ensures within { result < 26 }
 {
-    usize::from(letter.byte() - b'A')
+    usize::from(letter.byte - b'A')
 }

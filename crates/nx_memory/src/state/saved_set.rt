@@ -39,7 +39,11 @@ impl SavedSet {
         ensures { result ≡ on_channel_0 nothing_saved }
     {
         prove!(size_of::<SavedSet>() == 9_792);
-        SavedSet::of(Saved::new(), Saved::new(), Saved::new())
+        SavedSet {
+            on_0: Saved::new(),
+            on_1: Saved::new(),
+            on_2: Saved::new(),
+        }
     }
 
     /// What is saved of the channels 0, 1 and 2.
