@@ -1,8 +1,7 @@
-//! What prints the words of a lock. What runs for each word or for some at once is inlined always,
-//! since its answers would go through memory otherwise.
+//! What prints the words of a lock. What runs for some words at once is inlined always, since its
+//! answers would go through memory otherwise.
 
 ghost use Rattle.std.specs.Prelude.{◌≡◌, ◌+◌, ◌*◌, ◌<◌, ◌≤◌, ℕ, length, take};
-ghost use Rattle.std.specs.Option.{option_to_list};
 ghost use Rattle.nx_copies.specs.private.LockPrinter.{HasPrintedWords, PrintsLock};
 ghost use Rattle.nx_copies.specs.copies.LockText.{AreNext};
 ghost use Rattle.nx_sync.specs.Words.{role_of};
@@ -12,7 +11,6 @@ ghost use Rattle.nx_sync.specs.declared.step.Role.TheVariants.{Dx as DxRole};
 
 use nx_code::{FourPrinted, Printer, Word};
 use nx_fec::Diversity;
-use nx_sync::Role;
 
 /// Prints the words of a lock, of which it is given one after the other, DX and RX by turns.
 ///
@@ -34,26 +32,6 @@ impl LockPrinter {
         LockPrinter {
             diversity: Diversity::new(),
             printer: Printer::new(),
-        }
-    }
-
-    /// Takes the next word of the lock, which has that role, and answers the byte that it prints,
-    /// if it prints one.
-    #[inline(always)]
-    pub(crate) fn print(&mut self, word: Word, role: Role) -> Option<u8>
-        ensures { (first : Role) (words : ℕ → ℕ) (n : ℕ) → PrintsLock self.old first words n
-            → words n ≡ word → role ≡ role_of first n
-            → HasPrintedWords self.new first words n 1 (option_to_list result) }
-    {
-        match role {
-            Role::Dx => {
-                self.diversity.dx_by_word(word);
-                None
-            }
-            Role::Rx => {
-                let class = self.diversity.rx_by_word(word);
-                self.printer.step_by_class(class)
-            }
         }
     }
 

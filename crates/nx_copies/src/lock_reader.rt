@@ -82,9 +82,18 @@ impl LockReader {
             → is_ready self.new.finder ≡ is_over event }
         ensures kept { result ≡ None → self.new.finder ≡ self.old.finder }
     {
-        match self.printer.print(word, role) {
-            Some(byte) => Some((byte, self.finder.hear(byte))),
-            None => None,
+        match role {
+            Role::Dx => {
+                self.printer.diversity.dx_by_word(word);
+                None
+            }
+            Role::Rx => {
+                let class = self.printer.diversity.rx_by_word(word);
+                match self.printer.printer.step_by_class(class) {
+                    Some(byte) => Some((byte, self.finder.hear(byte))),
+                    None => None,
+                }
+            }
         }
     }
 
