@@ -12,6 +12,7 @@ mod watch_fault;
 mod watch_report;
 mod watch_run;
 
+pub use kept_log::log_grammar::LogGrammar;
 pub use kept_log::start::remembered;
 pub use left_on::watch;
 pub use lines::line_effects::StartMoments;

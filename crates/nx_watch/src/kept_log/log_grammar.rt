@@ -9,7 +9,7 @@ use nx_log::{EntryStart, MAX_LOGGED, entry_start};
 
 /// The grammar of logged entries.
 #[derive(Clone, Copy, Drop)]
-pub(crate) struct LogGrammar;
+pub struct LogGrammar;
 
 impl Grammar for LogGrammar {
     ghost is_record = { IsWholeEntry };
