@@ -1,3 +1,2 @@
 -- Lemmas that several proofs cite.
 pub mod Left
-pub mod Trials

@@ -6,8 +6,6 @@ mod file;
 mod history;
 mod log_file;
 mod noted;
-#[cfg(test)]
-mod tests;
 mod torn;
 
 pub use file::{FileFault, FileOpenFault};

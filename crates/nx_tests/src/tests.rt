@@ -1,8 +1,9 @@
 //! Signals, locks, texts, memories, what is sent and checked; entries as they are printed, a
-//! judge's answers, emissions through a receiver, through `listen` and through `locks`, states, and
-//! a watch.
+//! judge's answers, emissions through a receiver, through `listen` and through `locks`, states, a
+//! kept log, and a watch.
 
 mod air_files;
+mod keeping;
 mod locking;
 mod logs;
 mod reading_logs;
@@ -33,6 +34,9 @@ const AGAIN: u64 = FIRST + 237_600;
 const EA01: &[u8] = b"#A01\nTEST\n;\n";
 
 const LOG_OF_EA01: &[u8] = b"[EA01 2025-01-01 00:40:00 full 0/5]\nTEST\n\n";
+
+/// A kept log at rest with the one entry of EA01.
+const KEPT: &[u8] = b"\n[EA01 2025-01-01 00:40:00 full 0/5]\nTEST\n\n ";
 
 /// The first copy of a text, which ends at the end of the text where no marker ends it.
 fn first_copy(text: &[u8]) -> Option<Found> {

@@ -1,6 +1,6 @@
 //! What a watch keeps, over a file in memory.
 
-use super::{EA01, FIRST, LOG_OF_EA01, SECOND, expect_text, sent, shown};
+use super::{EA01, FIRST, KEPT, LOG_OF_EA01, SECOND, expect_text, sent, shown};
 use nx_disk::{LeftBefore, Noted, Tear, TornFile};
 use nx_fec::Counting;
 use nx_watch::{StampedReader, WatchFault, WatchReport, watch};
@@ -11,14 +11,11 @@ use std::process::Abort;
 /// The moment 66 hours after the first.
 const MOMENT_AGAIN: &[u8] = b"T 1735929600\n";
 
-/// A kept log at rest with the one entry of EA01.
-const KEPT: &[u8] = b"\n[EA01 2025-01-01 00:40:00 full 0/5]\nTEST\n\n ";
-
-/// The same and a second entry of it, 66 hours later.
+/// The kept log of EA01, and a second entry of it, 66 hours later.
 const KEPT_TWICE: &[u8] = b"\n[EA01 2025-01-01 00:40:00 full 0/5]\nTEST\n\n\
     \n[EA01 2025-01-03 18:40:00 full 0/5]\nTEST\n\n ";
 
-/// The same and an entry of EB02 without a text.
+/// The kept log of EA01, and an entry of EB02 without a text.
 const KEPT_EB02: &[u8] = b"\n[EA01 2025-01-01 00:40:00 full 0/5]\nTEST\n\n\
     \n[EB02 2025-01-01 00:40:00 full 0/0]\n\n ";
 

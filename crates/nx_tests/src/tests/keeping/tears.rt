@@ -1,27 +1,25 @@
-//! A file in memory whose disk fails, and tears what was written, in each call.
+//! A kept log in a file in memory whose disk fails, and tears what was written, in each call.
 
-use super::grammar::{Count, Trial};
-use crate::{LeftBefore, Noted, Tear, TornFile};
+use super::super::{KEPT, LOG_OF_EA01};
+use super::Count;
+use nx_disk::{LeftBefore, Noted, Tear, TornFile};
 use nx_kept::{KeptLog, OpenFault};
+use nx_watch::LogGrammar;
 use std::alloc::Global;
 use std::process::Abort;
 use std::test::Fail;
 
-// The log of the example of `listen`, and the same entry under other numbers.
-const ENTRY: &[u8; 42] = b"[EA01 2025-01-01 00:40:00 full 0/5]\nTEST\n\n";
+/// The entry of EA01 under other numbers.
+const NEXT: &[u8] = b"[FA02 2025-01-01 00:40:00 full 0/5]\nTEST\n\n";
 
-const NEXT: &[u8; 42] = b"[FA02 2025-01-01 00:40:00 full 0/5]\nTEST\n\n";
-
-const REST: &[u8; 44] = b"\n[EA01 2025-01-01 00:40:00 full 0/5]\nTEST\n\n ";
-
-type Log = KeptLog<Noted<TornFile>, Trial>;
+type Log = KeptLog<Noted<TornFile>, LogGrammar>;
 
 fn open(alloc: Global, file: TornFile) -> (Result<Log, (OpenFault, Noted<TornFile>)>, Count) {
     let mut count = Count::default();
     let opened = KeptLog::open(
         alloc,
         Noted::new(file, LeftBefore::any()),
-        Trial,
+        LogGrammar,
         &mut count,
     );
     (opened, count)
@@ -35,44 +33,44 @@ fn opened(alloc: Global, bytes: &[u8]) -> Result<(Log, Count), Fail> {
     }
 }
 
-// An empty file is opened, and an entry is put.
+/// An empty file is opened, and an entry is put.
 #[test]
 fn an_entry_is_put_behind_a_newline(rt: HostRuntime) -> Result<(), Fail> {
     let alloc = rt.alloc();
     let (mut log, count) = opened(alloc, b"")?;
     assert_eq!(rt; count.records, 0);
     assert_eq!(rt; log.device.file().bytes(), b" ".as_slice());
-    assert_eq!(rt; log.put(ENTRY), Ok(()));
-    assert_eq!(rt; log.device.file().bytes(), REST.as_slice());
+    assert_eq!(rt; log.put(LOG_OF_EA01), Ok(()));
+    assert_eq!(rt; log.device.file().bytes(), KEPT);
     Ok(())
 }
 
-// A log at rest is read, and not written.
+/// A log at rest is read, and not written.
 #[test]
 fn a_log_at_rest_is_only_read(rt: HostRuntime) -> Result<(), Fail> {
     let alloc = rt.alloc();
-    let (log, count) = opened(alloc, REST)?;
+    let (log, count) = opened(alloc, KEPT)?;
     assert_eq!(rt; (count.records, count.cut), (1, 0));
     // It is synced, and read at each gate.
     assert_eq!(rt; log.device.file().calls(), 3);
     Ok(())
 }
 
-// What a torn put left behind the closed gate is cut.
+/// What a torn put left behind the closed gate is cut.
 #[test]
 fn a_torn_tail_is_cut(rt: HostRuntime) -> Result<(), Fail> {
     let alloc = rt.alloc();
-    let mut torn = REST.to_vec(alloc)?;
+    let mut torn = KEPT.to_vec(alloc)?;
     torn.extend_from_slice(b"[EA02 2025")?;
     let (log, count) = opened(alloc, &torn)?;
     assert_eq!(rt; count.records, 1);
     // The closed gate stands on the line behind the four of the entry.
     assert_eq!(rt; (count.cut, count.cut_line), (10, 5));
-    assert_eq!(rt; log.device.file().bytes(), REST.as_slice());
+    assert_eq!(rt; log.device.file().bytes(), KEPT);
     Ok(())
 }
 
-// So is a gate that was torn, which is any byte but a space.
+/// So is a gate that was torn, which is any byte but a space.
 #[test]
 fn a_torn_gate_is_cut(rt: HostRuntime) -> Result<(), Fail> {
     let alloc = rt.alloc();
@@ -82,36 +80,7 @@ fn a_torn_gate_is_cut(rt: HostRuntime) -> Result<(), Fail> {
     Ok(())
 }
 
-fn refused(rt: &impl Abort, alloc: Global, bytes: &[u8], fault: OpenFault) -> Result<(), Fail> {
-    let (opened, count) = open(alloc, TornFile::new(alloc, bytes)?);
-    assert_eq!(rt; count.cut, 0);
-    match opened {
-        Ok(_log) => assert!(rt; false, "refused"),
-        Err((why, device)) => {
-            assert_eq!(rt; why, fault);
-            assert_eq!(rt; device.file().bytes(), bytes);
-        }
-    }
-    Ok(())
-}
-
-// A byte that no entry has: the line on which it stands.
-#[test]
-fn a_damaged_log_is_refused(rt: HostRuntime) -> Result<(), Fail> {
-    let alloc = rt.alloc();
-    let mut damaged = REST.to_vec(alloc)?;
-    assert_eq!(rt; damaged.len(), 44);
-    damaged[37] = 0;
-    refused(&rt, alloc, &damaged, OpenFault::Damaged { line: 3 })
-}
-
-// The log of `listen` has no gate before its first entry.
-#[test]
-fn a_foreign_log_is_refused(rt: HostRuntime) -> Result<(), Fail> {
-    refused(&rt, rt.alloc(), ENTRY, OpenFault::Damaged { line: 1 })
-}
-
-// What the file stands for is counted, and then it is opened with a crash in each call.
+/// What the file stands for is counted, and then it is opened with a crash in each call.
 fn stays(rt: &impl Abort, alloc: Global, bytes: &[u8]) -> Result<u64, Fail> {
     let (_log, count) = opened(alloc, bytes)?;
     for call in 1..12 {
@@ -128,7 +97,7 @@ fn stays(rt: &impl Abort, alloc: Global, bytes: &[u8]) -> Result<u64, Fail> {
     Ok(count.records)
 }
 
-// What is left behind a crash in a call of the opening stands for as many records.
+/// What is left behind a crash in a call of the opening stands for as many records.
 fn stays_so(
     rt: &impl Abort,
     alloc: Global,
@@ -147,14 +116,14 @@ fn stays_so(
     Ok(())
 }
 
-// The file stands for all that was put with an Ok, and for one more at most.
+/// The file stands for all that was put with an Ok, and for one more at most.
 fn crashes_in(rt: &impl Abort, alloc: Global, call: u64) -> Result<(), Fail> {
-    let (opened, _count) = open(alloc, TornFile::new(alloc, REST)?.failing_in(call));
+    let (opened, _count) = open(alloc, TornFile::new(alloc, KEPT)?.failing_in(call));
     if let Ok(mut log) = opened {
         let mut kept = 1;
         if log.put(NEXT).is_ok() {
             kept = 2;
-            if log.put(ENTRY).is_ok() {
+            if log.put(LOG_OF_EA01).is_ok() {
                 kept = 3;
             }
         }
@@ -169,7 +138,7 @@ fn crashes_in(rt: &impl Abort, alloc: Global, call: u64) -> Result<(), Fail> {
     Ok(())
 }
 
-// Two puts, of five calls each, behind an opening of three.
+/// Two puts, of five calls each, behind an opening of three.
 #[test]
 fn each_call_may_be_the_last(rt: HostRuntime) -> Result<(), Fail> {
     for call in 4..15 {

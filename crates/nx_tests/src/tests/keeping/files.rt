@@ -1,15 +1,15 @@
-//! A file of the system.
+//! A kept log in a file of the system.
 
-use super::grammar::{Count, Trial};
-use crate::{FileFault, FileOpenFault, LeftBefore, open};
+use super::super::LOG_OF_EA01;
+use super::Count;
+use nx_disk::{FileFault, FileOpenFault, LeftBefore, open};
 use nx_kept::{DiskFailed, KeptLog};
+use nx_watch::LogGrammar;
 use std::fs;
 use std::os::unix::fs::symlink;
 use std::test::Fail;
 
-const ENTRY: &[u8; 42] = b"[EA01 2025-01-01 00:40:00 full 0/5]\nTEST\n\n";
-
-// It is locked while it is open, and no entry goes where its name doesn't lead any more.
+/// It is locked while it is open, and no entry goes where its name doesn't lead any more.
 #[test]
 fn a_file_is_locked_and_found_by_its_name(rt: HostRuntime) -> Result<(), Fail> {
     let path = "nx_disk_test.log";
@@ -20,24 +20,24 @@ fn a_file_is_locked_and_found_by_its_name(rt: HostRuntime) -> Result<(), Fail> {
         open(rt.alloc(), &rt, path, LeftBefore::any()).err(),
         Some(FileFault::Busy)
     );
-    match KeptLog::open(rt.alloc(), file, Trial, &mut count) {
+    match KeptLog::open(rt.alloc(), file, LogGrammar, &mut count) {
         Ok(mut log) => {
-            assert_eq!(rt; log.put(ENTRY), Ok(()));
+            assert_eq!(rt; log.put(LOG_OF_EA01), Ok(()));
             fs::rename(&rt, path, "nx_disk_test.old")?;
-            assert_eq!(rt; log.put(ENTRY), Err(DiskFailed));
+            assert_eq!(rt; log.put(LOG_OF_EA01), Err(DiskFailed));
         }
         Err(_refused) => assert!(rt; false, "opens"),
     }
     let kept = fs::read(&rt, "nx_disk_test.old")?;
     assert!(rt; kept.len() > 44, "{} bytes are kept", kept.len());
     let again = open(rt.alloc(), &rt, "nx_disk_test.old", LeftBefore::any())?;
-    assert!(rt; KeptLog::open(rt.alloc(), again, Trial, &mut count).is_ok());
+    assert!(rt; KeptLog::open(rt.alloc(), again, LogGrammar, &mut count).is_ok());
     assert!(rt; count.records >= 1, "no record is kept");
     fs::remove_file(&rt, "nx_disk_test.old")?;
     Ok(())
 }
 
-// Why a file can't be opened is told.
+/// Why a file can't be opened is told.
 #[test]
 fn a_file_that_cannot_be_opened_is_told_why(rt: HostRuntime) -> Result<(), Fail> {
     let link = "nx_disk_test_link";
@@ -63,14 +63,14 @@ fn a_file_that_cannot_be_opened_is_told_why(rt: HostRuntime) -> Result<(), Fail>
     Ok(())
 }
 
-// What an opening of the file counts; an entry is put then, if one is asked for.
+/// What an opening of the file counts; an entry is put then, if one is asked for.
 fn reopened(rt: &HostRuntime, path: &str, puts: bool) -> Result<Count, Fail> {
     let mut count = Count::default();
     let file = open(rt.alloc(), rt, path, LeftBefore::any())?;
-    match KeptLog::open(rt.alloc(), file, Trial, &mut count) {
+    match KeptLog::open(rt.alloc(), file, LogGrammar, &mut count) {
         Ok(mut log) => {
             if puts {
-                log.put(ENTRY)?;
+                log.put(LOG_OF_EA01)?;
             }
             Ok(count)
         }
@@ -80,11 +80,11 @@ fn reopened(rt: &HostRuntime, path: &str, puts: bool) -> Result<Count, Fail> {
 
 fn add_entry(bytes: &mut Vec<u8>) -> Result<(), Fail> {
     bytes.push(b'\n')?;
-    bytes.extend_from_slice(ENTRY)?;
+    bytes.extend_from_slice(LOG_OF_EA01)?;
     Ok(())
 }
 
-// A name of more than 200 bytes is taken whole.
+/// A name of more than 200 bytes is taken whole.
 #[test]
 fn a_long_name_leads_to_its_own_file(rt: HostRuntime) -> Result<(), Fail> {
     let mut name = String::from_str(rt.alloc(), "nx_disk_test_")?;
@@ -109,7 +109,7 @@ fn a_long_name_leads_to_its_own_file(rt: HostRuntime) -> Result<(), Fail> {
     Ok(())
 }
 
-// A log of more than 1 MiB is put to, opened again, and opened with a torn tail.
+/// A log of more than 1 MiB is put to, opened again, and opened with a torn tail.
 #[test]
 fn a_long_log_is_kept(rt: HostRuntime) -> Result<(), Fail> {
     let path = "nx_disk_test_long.log";
