@@ -4,6 +4,7 @@ use super::super::{KEPT, LOG_OF_EA01};
 use super::Count;
 use nx_disk::{LeftBefore, Noted, Tear, TornFile};
 use nx_kept::{KeptLog, OpenFault};
+use nx_log::MAX_LOGGED;
 use nx_watch::LogGrammar;
 use std::alloc::Global;
 use std::process::Abort;
@@ -117,18 +118,24 @@ fn stays_so(
 }
 
 /// The file stands for all that was put with an Ok, and for one more at most.
-fn crashes_in(rt: &impl Abort, alloc: Global, call: u64) -> Result<(), Fail> {
+fn crashes_in(
+    rt: &impl Abort,
+    alloc: Global,
+    next: &[u8],
+    call: u64,
+    tears: &[Tear],
+) -> Result<(), Fail> {
     let (opened, _count) = open(alloc, TornFile::new(alloc, KEPT)?.failing_in(call));
     if let Ok(mut log) = opened {
         let mut kept = 1;
-        if log.put(NEXT).is_ok() {
+        if log.put(next).is_ok() {
             kept = 2;
             if log.put(LOG_OF_EA01).is_ok() {
                 kept = 3;
             }
         }
-        for tear in Tear::ALL {
-            let found = stays(rt, alloc, &log.device.file().left(alloc, tear)?)?;
+        for tear in tears {
+            let found = stays(rt, alloc, &log.device.file().left(alloc, *tear)?)?;
             assert!(rt;
                 kept <= found && found <= 3 && found <= kept + 1,
                 "call {call}, {tear:?}: {found} records of {kept} that were put"
@@ -138,11 +145,30 @@ fn crashes_in(rt: &impl Abort, alloc: Global, call: u64) -> Result<(), Fail> {
     Ok(())
 }
 
+/// The longest entry: a first line of 44 bytes, a text of 4,100 lost characters, and two newlines.
+fn longest_entry(alloc: Global) -> Result<Vec<u8>, Fail> {
+    let mut entry = b"[FA02/1 2025-01-01 00:40:00 long 4100/4100]\n".to_vec(alloc)?;
+    entry.resize(4144, b'*')?;
+    entry.extend_from_slice(b"\n\n")?;
+    Ok(entry)
+}
+
 /// Two puts, of five calls each, behind an opening of three.
 #[test]
 fn each_call_may_be_the_last(rt: HostRuntime) -> Result<(), Fail> {
     for call in 4..15 {
-        crashes_in(&rt, rt.alloc(), call)?;
+        crashes_in(&rt, rt.alloc(), NEXT, call, &Tear::ALL)?;
+    }
+    Ok(())
+}
+
+/// A put of the longest entry that ends in one of its calls leaves the longest tail.
+#[test]
+fn the_longest_tail_is_cut(rt: HostRuntime) -> Result<(), Fail> {
+    let longest = longest_entry(rt.alloc())?;
+    assert_eq!(rt; longest.len(), MAX_LOGGED);
+    for call in 4..9 {
+        crashes_in(&rt, rt.alloc(), &longest, call, &[Tear::All])?;
     }
     Ok(())
 }
