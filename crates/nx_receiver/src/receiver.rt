@@ -1,8 +1,9 @@
-//! The receiver: elements, moments and commands in, entries out. What runs for each line of
+//! The receiver: elements, moments and commands in, entries out. It turns elements into copies,
+//! each with the moment and the selection in force at its second digit. What runs for each line of
 //! elements, or of a command, is inlined always. What goes on where something is over is a call, so
 //! that no loop over elements has a place for an entry or its head.
 
-ghost use Rattle.std.specs.Prelude.{◌≡◌, ◌↔◌, ℕ, Option, MatchResult, false, ◌+◌, ◌<◌, ◌≤◌, ◌==◌, ◌||◌, List, [], ◌++◌, length, take, drop, IfErr, IfOk, IfSome, IsErr, IsNone, IsSome, IsTrue, None, OnErr, OnOk, Some, Bool, true};
+ghost use Rattle.std.specs.Prelude.{◌≡◌, ◌↔◌, ℕ, Option, MatchResult, ◌+◌, ◌<◌, ◌≤◌, ◌==◌, ◌||◌, List, [], ◌++◌, length, take, drop, IfErr, IfOk, IfSome, IsErr, IsNone, IsSome, IsTrue, None, OnErr, OnOk, Some, Bool, true};
 ghost use Rattle.nx_envelope.specs.Moment.{last_moment};
 ghost use Rattle.nx_code.specs.Lists.{last_of};
 ghost use Rattle.nx_memory.specs.Memory.{most_entries, newest_moment};
@@ -20,18 +21,16 @@ ghost use Rattle.nx_copies.specs.copies.Printing.{entries_after, printed_copies}
 ghost use Rattle.nx_receiver.specs.Receiver.{HandsOutNoneBefore, HeadsText, RefusesStart, Stands, TakesEvent, entry_list, headed_list, text_of};
 ghost use Rattle.nx_receiver.specs.private.Awaiting.{Awaits, FinishesNext, HearsUpTo};
 ghost use Rattle.nx_copies.specs.copies.FoundCopies.{TaggedCopy};
-ghost use Rattle.nx_receiver.specs.private.CopyHearer.{over_now, over_with, ready_copies};
-ghost use Rattle.nx_copies.specs.ReaderWords.{is_open};
-ghost use Rattle.nx_envelope.specs.Finder.{is_ready};
+ghost use Rattle.nx_receiver.specs.private.CopyHearer.{ready_copies};
 
 use crate::command::Command;
-use crate::copy_hearer::CopyHearer;
-use crate::copy_taker::{CopyTag, Over};
+use crate::copy_taker::{CopyTag, CopyTaker, Over};
 use crate::fault::{MomentFault, ReceiverFault, check_moment};
 use nx_copies::{Entry, EntryHead, judge};
 use nx_envelope::{Identity, LAST_MOMENT, Letter, MAX_FOUND};
 use nx_fec::{MAX_ELEMENTS, PackedElements};
 use nx_memory::{Listed, Recall, RingRecall, Saved, Selection, Vital};
+use nx_sync::Synchroniser;
 use std::alloc::Global;
 use std::marker::Model;
 
@@ -43,7 +42,8 @@ use std::marker::Model;
 /// for memory and throws it away, reading and the trials of refused memory show.
 #[derive(Drop)]
 pub struct Receiver<M: Recall> {
-    hearer: CopyHearer,
+    synchroniser: Synchroniser,
+    taker: CopyTaker,
     memory: M,
 }
 
@@ -52,18 +52,31 @@ impl<M: Recall> Model for Receiver<M> {
     ghost use Rattle.nx_memory.specs.private.RefusedCode.{refused_code};
     ghost use Rattle.nx_receiver.specs.Receiver.{Receiving};
     ghost use Rattle.nx_receiver.specs.private.Awaiting.{IsInOrder};
+    ghost use Rattle.nx_receiver.specs.private.CopyTaker.{hearer_of};
     ghost use Rattle.nx_memory.specs.Memory.{newest_moment};
 
     ghost Value = { Receiving M };
 
     ghost coded = { Prim.hlevel (codes, refused_code, M.code) };
 
-    ghost view = { λ r. record { hearer = r.hearer; memory = r.memory } };
+    ghost view = { λ r. record {
+      hearer = hearer_of r.synchroniser r.taker;
+      memory = r.memory;
+    } };
 
     ghost invariant = { λ r.
-        IsInOrder (newest_moment (M.content r.memory)) r.hearer.tag.moment r.hearer.moment };
+        IsInOrder (newest_moment (M.content r.memory)) r.taker.tag.moment r.taker.moment };
 
-    ghost inverse = { λ v. record { hearer = v.hearer; memory = v.memory } };
+    ghost inverse = { λ v. record {
+      synchroniser = v.hearer.synchroniser;
+      taker = record {
+        reader = v.hearer.reader;
+        selection = v.hearer.refused;
+        moment = v.hearer.moment;
+        tag = v.hearer.tag;
+      };
+      memory = v.memory;
+    } };
 }
 
 impl<M: Recall> Receiver<M> {
@@ -100,13 +113,17 @@ impl<M: Recall> Receiver<M> {
             ((newest_moment (M.content memory) ≤ moment) × (moment ≤ last_moment)) }
     {
         prove!(
-            size_of::<Receiver<RingRecall>>() == size_of::<CopyHearer>() + size_of::<RingRecall>()
+            size_of::<Receiver<RingRecall>>()
+                == size_of::<Synchroniser>() + size_of::<CopyTaker>() + size_of::<RingRecall>()
         );
         if moment > LAST_MOMENT || memory.newest().is_some_and(|newest| moment < newest) {
             return Err(ReceiverFault::MomentRange);
         }
-        let hearer = CopyHearer::new(moment, selection);
-        Ok(Receiver { hearer, memory })
+        Ok(Receiver {
+            synchroniser: Synchroniser::hunting(),
+            taker: CopyTaker::new(moment, selection),
+            memory,
+        })
     }
 
     /// Sets the moment, in whole seconds since 1970-01-01 00:00:00 UTC. `Range` where it is past
@@ -118,8 +135,8 @@ impl<M: Recall> Receiver<M> {
         ensures refused { IfErr result (Refuses self.old.hearer.moment moment) }
         ensures unchanged { OnErr result (self.new ≡ self.old) }
     {
-        check_moment(self.hearer.moment(), moment)?;
-        self.hearer.set_moment(moment);
+        check_moment(self.taker.moment, moment)?;
+        self.taker.moment = moment;
         Ok(())
     }
 
@@ -128,7 +145,7 @@ impl<M: Recall> Receiver<M> {
         ensures { TakesEvent M.content self.old self.new
             (events.command (events.select selection.now)) }
     {
-        self.hearer.set_selection(selection);
+        self.taker.selection = *selection;
     }
 
     /// Does what the command says, from here on. `Vital` where it is to refuse subject A, B, D or L
@@ -141,7 +158,14 @@ impl<M: Recall> Receiver<M> {
         ensures fault { IfErr result (λ vital. command ≡ RefuseSubject vital.subject) }
         ensures unchanged { OnErr result (self.new ≡ self.old) }
     {
-        self.hearer.command(command)
+        let selection = &mut self.taker.selection;
+        match command {
+            Command::RefuseStation(station) => selection.refuse_station(station),
+            Command::AcceptStation(station) => selection.accept_station(station),
+            Command::RefuseSubject(subject) => return selection.refuse_subject(subject),
+            Command::AcceptSubject(subject) => selection.accept_subject(subject),
+        }
+        Ok(())
     }
 
     /// Refuses the station, for all its subjects, from here on.
@@ -195,7 +219,7 @@ impl<M: Recall> Receiver<M> {
             → result
             ≡ admits (setting_after_all (first_setting start) history).refused identity.now }
     {
-        self.hearer.admits(identity)
+        self.taker.selection.admits(identity)
     }
 
     /// Hears elements, true for B, up to and with the one that ends the first copy that is printed;
@@ -265,7 +289,7 @@ impl<M: Recall> Receiver<M> {
         ensures text { result.now ≡ text_of self.now }
         ensures short { length result.now ≤ MAX_FOUND }
     {
-        self.hearer.finder().text()
+        self.taker.reader.finder().text()
     }
 
     /// Ends the elements, and hands out the entry that their end prints: that of the open copy,
@@ -277,7 +301,7 @@ impl<M: Recall> Receiver<M> {
         ensures moment { IfSome result (λ entry. entry.moment ≤ last_moment) }
     {
         let mut receiver = self;
-        receiver.hearer.close_text();
+        receiver.taker.reader.close();
         let head = receiver.judge_ready()?;
         Some(Entry::of(&head, receiver.text()))
     }
@@ -295,7 +319,9 @@ impl<M: Recall> Receiver<M> {
         ensures all { result.1 ≡ None → from + result.0 ≡ length packed.now }
         ensures some { from < length packed.now → 0 < result.0 }
     {
-        self.hearer.hear(packed, from)
+        let left = packed.len() - from;
+        self.taker
+            .hear(&mut self.synchroniser, packed.numbers(), from, left)
     }
 
     /// Hears elements that aren't packed, as `hear` does.
@@ -330,7 +356,9 @@ impl<M: Recall> Receiver<M> {
     }
 
     /// Finishes what is over, and says the head of the entry that it brings, if it brings one. Its
-    /// text is `text`, until more is heard: to leave the lock keeps it.
+    /// text is `text`, until more is heard. Where the lock alone is over, the end of its text ends
+    /// the copy that stood open. Where a copy is over with it, that is judged before the lock is
+    /// left, which keeps its text.
     #[inline(always)]
     fn finish(&mut self, over: Over) -> Option<EntryHead>
         ensures stands { (start : Start) (history : List Event) (log : List TaggedCopy) →
@@ -339,10 +367,18 @@ impl<M: Recall> Receiver<M> {
             (log ++ headed_list result (text_of self.new)) }
         ensures head { IfSome result (λ head. HeadsText head (text_of self.new)) }
     {
-        let is_lock_over = self.close_lock(over);
-        let head = self.judge_ready();
-        self.leave_lock(is_lock_over);
-        head
+        match over {
+            Over::Copy => self.judge_ready(),
+            Over::Lock => {
+                self.taker.reader.close();
+                self.judge_ready()
+            }
+            Over::CopyAndLock => {
+                let head = self.judge_ready();
+                self.taker.reader.restart();
+                head
+            }
+        }
     }
 
     /// Finishes what is over. Where that isn't printed it hears on, from a place on, as
@@ -369,42 +405,6 @@ impl<M: Recall> Receiver<M> {
         self.next_printed(packed, from)
     }
 
-    /// Ends the text where the lock alone is over: the finder then has the copy that stood open, if
-    /// one did. Answers whether the lock is over together with the copy: it has to be left once the
-    /// copy was judged.
-    #[inline(always)]
-    fn close_lock(&mut self, over: Over) -> bool
-        ensures stands { (start : Start) (history : List Event) (log : List TaggedCopy)
-            → Awaits M.content start self.old history log (Some over)
-            → Awaits M.content start self.new history log (over_now self.new.hearer result) }
-        ensures ready { (start : Start) (history : List Event) (log : List TaggedCopy)
-            → Awaits M.content start self.old history log (Some over) → IsTrue result
-            → is_ready self.new.hearer.reader.finder ≡ true }
-    {
-        match over {
-            Over::Copy => false,
-            Over::Lock => {
-                self.hearer.close_text();
-                false
-            }
-            Over::CopyAndLock => true,
-        }
-    }
-
-    /// Leaves the lock where it was over with the copy, which was judged.
-    #[inline(always)]
-    fn leave_lock(&mut self, is_lock_over: bool)
-        ensures stands { (start : Start) (history : List Event) (log : List TaggedCopy)
-            → (IsTrue is_lock_over → is_open self.old.hearer.reader.finder.copy ≡ false)
-            → Awaits M.content start self.old history log (over_with false is_lock_over)
-            → Stands M.content start self.new history log }
-        ensures text { text_of self.new ≡ text_of self.old }
-    {
-        if is_lock_over {
-            self.hearer.restart();
-        }
-    }
-
     /// Judges the copy that the finder has, where it has one. Answers the head of its entry where
     /// it is printed.
     fn judge_ready(&mut self) -> Option<EntryHead>
@@ -422,8 +422,8 @@ impl<M: Recall> Receiver<M> {
         let CopyTag {
             moment,
             is_selected,
-        } = self.hearer.tag();
-        let finder = self.hearer.finder();
+        } = self.taker.tag;
+        let finder = self.taker.reader.finder();
         let found = finder.ready_head()?;
         let head = EntryHead {
             identity: found.identity,
@@ -447,6 +447,6 @@ impl<M: Listed> Receiver<M> {
         ensures entries { result.entries ≡ M.content self.now.memory }
         ensures refused { result.refused ≡ self.now.hearer.refused }
     {
-        Saved::of(&self.hearer.selection(), &self.memory)
+        Saved::of(&self.taker.selection, &self.memory)
     }
 }

@@ -1,12 +1,14 @@
 -- Packed elements that are heard part by part.
-use Rattle.std.proofs.Common.{ℕ, ◌+◌, ◌-◌, ◌<◌, List, Option, None, arith, subst, sym}
-use Rattle.nx_code.specs.Packed.{packed_part}
-use Rattle.nx_sync.proofs.lemmas.hunting.PackedParts.{more_parts}
+use Rattle.std.proofs.Common.{◌≡◌, ℕ, ◌+◌, ◌-◌, ◌<◌, ◌≤◌, Bool, List, Option, None, arith, length}
+use Rattle.std.proofs.Common.{take, drop, ap, ◌∙◌, subst, sym}
+use Rattle.nx_code.specs.Packed.{elements_of_numbers, packed_part}
+use Rattle.nx_sync.proofs.lemmas.hunting.PackedParts.{first_part, more_parts}
 use Rattle.nx_sync.specs.Synchroniser.{Held}
 use Rattle.nx_receiver.specs.declared.copy_taker.CopyTaker.{CopyTaker}
 use Rattle.nx_receiver.specs.declared.copy_taker.Over.{Over}
 use Rattle.nx_receiver.specs.private.CopyTaker.{Hears, HearsPart}
 use Rattle.nx_receiver.specs.private.CopyTakerLaws.{heard-both, heard-none}
+use Rattle.nx_receiver.proofs.lemmas.copy_hearer.Packed.{all_is}
 
 -- no part was heard yet
 pub no_part : (held : Held) (taker : CopyTaker) (numbers : List ℕ) (from : ℕ)
@@ -27,3 +29,15 @@ part_behind old mid new first between last numbers from count at heard left so_f
       (heard-both old mid new first between last (packed_part numbers from at)
       (packed_part numbers (from + at) heard.0) heard.1 so_far part.hears);
 }
+
+-- a part of all packed elements from a place on is that of the elements from there on
+pub part_of_all : (all : List Bool) (numbers : List ℕ) (from count : ℕ) (old new : Held)
+    (before after : CopyTaker) (heard : ℕ × Option Over)
+    → all ≡ take (length all) (elements_of_numbers numbers) → from ≤ length all
+    → count ≡ length all - from → HearsPart old before numbers from count new after heard
+    → Hears old before (take heard.0 (drop from all)) new after heard.1
+part_of_all all numbers from count old new before after heard is room rest part =
+    let same : packed_part numbers from heard.0 ≡ take heard.0 (drop from all) =
+    sym (first_part numbers from count heard.0 part.within)
+    ∙ ap (take heard.0) (ap (packed_part numbers from) rest ∙ all_is all numbers from is room) in
+    subst (λ bits. Hears old before bits new after heard.1) same part.hears

@@ -4,6 +4,8 @@ use Rattle.nx_copies.specs.Events.{elements_among, first_setting, settings}
 use Rattle.nx_receiver.specs.Receiver.{Stands, entry_list, headed_list}
 use Rattle.nx_copies.specs.copies.FoundCopies.{copy_of, headed_copy}
 use Rattle.nx_receiver.specs.private.CopyHearer.{ready_copies}
+use Rattle.nx_receiver.specs.private.CopyTaker.{hearer_of}
+use Rattle.nx_receiver.proofs.lemmas.copy_hearer.Takes.{all_closed}
 use Rattle.nx_receiver.proofs.lemmas.receiver.Printing.{prints_to_end}
 use Rattle.nx_receiver.proofs.receiver.Receiver.close.Goals as goal
 
@@ -12,9 +14,10 @@ returns-in_err-head-clause-stands g c start history log stands =
     let content = g.M.Recall.content in
     let first = first_setting start in
     let before = subst (λ r. Stands content start r history log) (sym c.receiver.view_is) stands in
-    let closed = c.close_text.new.self in
-    let ended = c.close_text.ensures.all first (elements_among history) (settings first history)
-    before.copies before.hearer in
+    let hearer = hearer_of c.receiver.inside.synchroniser c.receiver.inside.taker in
+    let closed : CopyHearing = record hearer { reader = c.close.new.self } in
+    let ended = all_closed first hearer c.close.new.self (elements_among history)
+    (settings first history) before.copies c.close.ensures.closes before.hearer in
     prints_to_end content start history c.receiver.inside.memory before.copies log
     (ready_copies closed) (entry_list c.from_residual.result) ended before.printed before.memory
     (λ entries h. ap entry_list c.from_residual.ensures
@@ -26,9 +29,10 @@ returns-clause-stands g c start history log stands =
     let content = g.M.Recall.content in
     let first = first_setting start in
     let before = subst (λ r. Stands content start r history log) (sym c.receiver.view_is) stands in
-    let closed = c.close_text.new.self in
-    let ended = c.close_text.ensures.all first (elements_among history) (settings first history)
-    before.copies before.hearer in
+    let hearer = hearer_of c.receiver.inside.synchroniser c.receiver.inside.taker in
+    let closed : CopyHearing = record hearer { reader = c.close.new.self } in
+    let ended = all_closed first hearer c.close.new.self (elements_among history)
+    (settings first history) before.copies c.close.ensures.closes before.hearer in
     let head = c.in_ok-head.head in
     let text = c.text.ensures.text
     ∙ ap (λ (w : CopyHearing). w.reader.finder.text) c.judge_ready.ensures.hearer in

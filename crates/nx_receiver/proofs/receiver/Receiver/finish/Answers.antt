@@ -1,45 +1,51 @@
-use Rattle.std.proofs.Common.{◌++◌, ◌∙◌, ap, false, refl, subst, sym}
-use Rattle.std.specs.Prelude.{IfSome}
-use Rattle.nx_envelope.specs.Finder.{is_ready}
-use Rattle.nx_receiver.specs.CopyHearing.{CopyHearing, in_force}
-use Rattle.nx_copies.specs.Events.{elements_among, first_setting, setting_after_all, settings}
-use Rattle.nx_receiver.specs.Receiver.{HeadsText, Stands, headed_list, text_of}
-use Rattle.nx_receiver.specs.private.CopyHearer.{IsOver, over_with, ready_copies}
-use Rattle.nx_receiver.proofs.lemmas.copy_hearer.Takes.{over_ready}
-use Rattle.nx_receiver.proofs.lemmas.receiver.Given.{ready_not_open}
-use Rattle.nx_receiver.proofs.lemmas.receiver.Printing.{awaits_with}
+use Rattle.std.proofs.Common.{Some, subst, sym}
+use Rattle.nx_receiver.specs.Receiver.{Receiving}
+use Rattle.nx_receiver.specs.declared.copy_taker.Over.TheVariants as over
+use Rattle.nx_receiver.specs.private.Awaiting.{Awaits}
+use Rattle.nx_receiver.specs.private.CopyTaker.{hearer_of}
+use Rattle.nx_receiver.proofs.lemmas.receiver.Finishing.{IsJudged, both_finished}
+use Rattle.nx_receiver.proofs.lemmas.receiver.Finishing.{copy_finished, lock_finished}
 use Rattle.nx_receiver.proofs.receiver.Receiver.finish.Goals as goal
 
-pub returns-clause-stands : goal.returns-clause-stands
-returns-clause-stands g c start history log awaits =
+pub returns-in-Copy-clause-stands : goal.returns-in-Copy-clause-stands
+returns-in-Copy-clause-stands g c start history log awaits =
     let content = g.M.Recall.content in
-    let closed = c.close_lock-is_lock_over in
-    let judged = c.judge_ready-head in
-    let mid = closed.new.self in
-    let next = judged.new.self in
-    let kept = judged.ensures.hearer in
-    let first = first_setting start in
-    let h = elements_among history in
-    let s = settings first history in
-    let passed = closed.ensures.stands start history log awaits in
-    let more = headed_list judged.result (text_of mid) in
-    let left = over_with false closed.result in
-    let over = subst (λ w. IsOver first w h s (passed.copies ++ ready_copies mid.hearer) left)
-    (sym kept) (over_ready first mid.hearer h s passed.copies (is_ready mid.hearer.reader.finder)
-    closed.result refl passed.hearer) in
-    let stands = c.leave_lock.ensures.stands start history (log ++ more)
-    (λ both. ready_not_open _ (ap (λ (w : CopyHearing). is_ready w.reader.finder) kept
-    ∙ closed.ensures.ready start history log awaits both))
-    (awaits_with content start mid next h s (setting_after_all first history) passed.copies log
-    (ready_copies mid.hearer) more left over (ap in_force kept ∙ passed.force) passed.printed
-    passed.memory judged.ensures.printed judged.ensures.entered) in
-    subst (λ t. Stands content start c.leave_lock.new.self history
-    (log ++ headed_list judged.result t))
-    (sym (c.leave_lock.ensures.text ∙ ap (λ (w : CopyHearing). w.reader.finder.text) kept)) stands
+    let judged = c.judge_ready.ensures in
+    copy_finished content start history log c.args.self.now c.judge_ready.new.self
+    c.judge_ready.result
+    (record { printed = judged.printed; entered = judged.entered; hearer = judged.hearer })
+    (subst (λ o. Awaits content start c.args.self.now history log (Some o)) c.in-Copy.is awaits)
 
-pub returns-clause-head : goal.returns-clause-head
-returns-clause-head g c =
-    let judged = c.judge_ready-head in
-    subst (λ t. IfSome judged.result (λ head. HeadsText head t))
-    (sym (c.leave_lock.ensures.text
-    ∙ ap (λ (w : CopyHearing). w.reader.finder.text) judged.ensures.hearer)) judged.ensures.head
+pub returns-in-Lock-clause-stands : goal.returns-in-Lock-clause-stands
+returns-in-Lock-clause-stands g c start history log awaits =
+    let content = g.M.Recall.content in
+    let inside = c.self.inside in
+    let old : Receiving _ = record {
+      hearer = hearer_of inside.synchroniser inside.taker;
+      memory = inside.memory;
+    } in
+    let lock = subst (λ o. Awaits content start c.args.self.now history log (Some o)) c.in-Lock.is
+    awaits in
+    let judged = c.judge_ready-in-Lock.ensures in
+    lock_finished content start history log old c.judge_ready-in-Lock.new.self c.close.new.self
+    c.judge_ready-in-Lock.result (record { fresh = c.close.ensures.as_new }) c.close.ensures.closes
+    (record { printed = judged.printed; entered = judged.entered; hearer = judged.hearer })
+    (subst (λ r. Awaits content start r history log (Some over.Lock)) (sym c.self.view_is) lock)
+
+pub returns-in-CopyAndLock-clause-stands : goal.returns-in-CopyAndLock-clause-stands
+returns-in-CopyAndLock-clause-stands g c start history log awaits =
+    let content = g.M.Recall.content in
+    let inside = c.self-in-CopyAndLock.inside in
+    let new : Receiving _ = record {
+      hearer = hearer_of inside.synchroniser inside.taker;
+      memory = inside.memory;
+    } in
+    let both = subst (λ o. Awaits content start c.args.self.now history log (Some o))
+    c.in-CopyAndLock.is awaits in
+    let judged = c.judge_ready-head.ensures in
+    let is = subst (λ r. IsJudged content c.args.self.now r c.judge_ready-head.result)
+    (sym c.self-in-CopyAndLock.view_is)
+    (record { printed = judged.printed; entered = judged.entered; hearer = judged.hearer }) in
+    both_finished content start history log c.args.self.now new c.restart.new.self
+    c.judge_ready-head.result (record { fresh = c.restart.ensures.as_new }) c.restart.ensures.none
+    c.restart.ensures.text is both

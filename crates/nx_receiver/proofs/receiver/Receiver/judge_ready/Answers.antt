@@ -1,4 +1,4 @@
-use Rattle.std.proofs.Common.{◌≡◌, ◌∷◌, ◌∙◌, [], ap, ap₂, arith, cond, refl, subst, sym, true}
+use Rattle.std.proofs.Common.{◌≡◌, ◌∷◌, ◌∙◌, [], ap, arith, cond, refl, subst, sym, true}
 use Rattle.std.specs.Prelude.{IsNone}
 use Rattle.nx_code.specs.Lists.{last_of}
 use Rattle.nx_envelope.specs.Copies.{errors_of}
@@ -7,7 +7,6 @@ use Rattle.nx_envelope.specs.declared.finder.Finder.{Finder}
 use Rattle.nx_memory.specs.Memory.{most_entries}
 use Rattle.nx_receiver.specs.Receiver.{Receiving, headed_list, text_of}
 use Rattle.nx_copies.specs.copies.FoundCopies.{headed_copy}
-use Rattle.nx_receiver.specs.declared.copy_taker.CopyTag.{CopyTag}
 use Rattle.nx_receiver.specs.private.CopyHearer.{ready_copies, ready_in}
 use Rattle.nx_receiver.proofs.lemmas.copy_hearer.Takes.{none_ready}
 use Rattle.nx_receiver.proofs.lemmas.receiver.Given.{has_head, headed_ready, with_moment}
@@ -49,15 +48,14 @@ returns-then-not-judge-clause-printed g c entries h =
     let content = g.M.Recall.content in
     let now = c.args.self.now in
     let finder = c.finder-finder.result.now in
-    let kept = c.tag-moment.result in
+    let kept = c.self.inside.taker.tag in
     let found = c.in_ok-found.found in
     let has = has_head finder c.ready_head.result found c.in_ok-found.was
     c.ready_head.ensures.none c.ready_head.ensures.head in
     let copy = headed_copy (with_moment found kept.moment) c.text.result.now kept.is_selected in
     let one : ready_copies now.hearer ≡ copy ∷ [] =
     sym (ap (λ (r : Receiving g.row.M.Denot). ready_copies r.hearer) c.self.view_is)
-    ∙ ap₂ (λ (f : Finder) t. ready_in f.copy f.text t) (sym c.finder-finder.ensures)
-    (sym c.tag-moment.ensures)
+    ∙ ap (λ (f : Finder). ready_in f.copy f.text kept) (sym c.finder-finder.ensures)
     ∙ headed_ready finder found kept has
     ∙ ap (λ t. headed_copy (with_moment found kept.moment) t kept.is_selected ∷ [])
     (sym c.text.ensures.text) in
@@ -71,15 +69,14 @@ returns-then-not-judge-clause-entered g c entries h =
     let content = g.M.Recall.content in
     let now = c.args.self.now in
     let finder = c.finder-finder.result.now in
-    let kept = c.tag-moment.result in
+    let kept = c.self.inside.taker.tag in
     let found = c.in_ok-found.found in
     let has = has_head finder c.ready_head.result found c.in_ok-found.was
     c.ready_head.ensures.none c.ready_head.ensures.head in
     let copy = headed_copy (with_moment found kept.moment) c.text.result.now kept.is_selected in
     let one : ready_copies now.hearer ≡ copy ∷ [] =
     sym (ap (λ (r : Receiving g.row.M.Denot). ready_copies r.hearer) c.self.view_is)
-    ∙ ap₂ (λ (f : Finder) t. ready_in f.copy f.text t) (sym c.finder-finder.ensures)
-    (sym c.tag-moment.ensures)
+    ∙ ap (λ (f : Finder). ready_in f.copy f.text kept) (sym c.finder-finder.ensures)
     ∙ headed_ready finder found kept has
     ∙ ap (λ t. headed_copy (with_moment found kept.moment) t kept.is_selected ∷ [])
     (sym c.text.ensures.text) in
@@ -93,15 +90,14 @@ returns-clause-printed g c entries h =
     let content = g.M.Recall.content in
     let now = c.args.self.now in
     let finder = c.finder-finder.result.now in
-    let kept = c.tag-moment.result in
+    let kept = c.self.inside.taker.tag in
     let found = c.in_ok-found.found in
     let has = has_head finder c.ready_head.result found c.in_ok-found.was
     c.ready_head.ensures.none c.ready_head.ensures.head in
     let copy = headed_copy (with_moment found kept.moment) c.text.result.now kept.is_selected in
     let one : ready_copies now.hearer ≡ copy ∷ [] =
     sym (ap (λ (r : Receiving g.row.M.Denot). ready_copies r.hearer) c.self.view_is)
-    ∙ ap₂ (λ (f : Finder) t. ready_in f.copy f.text t) (sym c.finder-finder.ensures)
-    (sym c.tag-moment.ensures)
+    ∙ ap (λ (f : Finder). ready_in f.copy f.text kept) (sym c.finder-finder.ensures)
     ∙ headed_ready finder found kept has
     ∙ ap (λ t. headed_copy (with_moment found kept.moment) t kept.is_selected ∷ [])
     (sym c.text.ensures.text) in
@@ -120,15 +116,14 @@ returns-clause-entered g c entries h =
     let content = g.M.Recall.content in
     let now = c.args.self.now in
     let finder = c.finder-finder.result.now in
-    let kept = c.tag-moment.result in
+    let kept = c.self.inside.taker.tag in
     let found = c.in_ok-found.found in
     let has = has_head finder c.ready_head.result found c.in_ok-found.was
     c.ready_head.ensures.none c.ready_head.ensures.head in
     let copy = headed_copy (with_moment found kept.moment) c.text.result.now kept.is_selected in
     let one : ready_copies now.hearer ≡ copy ∷ [] =
     sym (ap (λ (r : Receiving g.row.M.Denot). ready_copies r.hearer) c.self.view_is)
-    ∙ ap₂ (λ (f : Finder) t. ready_in f.copy f.text t) (sym c.finder-finder.ensures)
-    (sym c.tag-moment.ensures)
+    ∙ ap (λ (f : Finder). ready_in f.copy f.text kept) (sym c.finder-finder.ensures)
     ∙ headed_ready finder found kept has
     ∙ ap (λ t. headed_copy (with_moment found kept.moment) t kept.is_selected ∷ [])
     (sym c.text.ensures.text) in
@@ -145,10 +140,5 @@ returns-clause-head g c =
       errors = has.is.errors ∙ ap errors_of (sym has.ready.text
           ∙ ap (λ (f : Finder). f.text) c.finder-finder.ensures
           ∙ ap (λ (r : Receiving g.row.M.Denot). text_of r) c.self.view_is);
-      in_range = omega (
-        arith,
-        order.copy_next,
-        order.in_range,
-        ap (λ (t : CopyTag). t.moment) c.tag-moment.ensures,
-      );
+      in_range = omega (arith, order.copy_next, order.in_range);
     }
