@@ -125,35 +125,10 @@ impl CopyTaker {
 }
 
 impl CopyTaker {
-    /// Hears packed elements by this synchroniser, so many from a place on: up to and with the
-    /// first one with which anything is over, all of them where nothing is. Says how many, and what
-    /// is over.
-    #[inline(always)]
-    pub(crate) fn hear(
-        &mut self,
-        synchroniser: &mut Synchroniser,
-        numbers: &[u64],
-        from: usize,
-        count: usize,
-    ) -> (usize, Option<Over>)
-        requires { HasPart numbers.now from count }
-        ensures all { result.1 ≡ None → result.0 ≡ count }
-        ensures hears { HearsPart synchroniser.old self.old numbers.now from count synchroniser.new
-            self.new result }
-    {
-        if count == 1 {
-            return (1, self.hear_one(synchroniser, numbers, from));
-        }
-        if count < ELEMENTS * 2 {
-            return self.hear_few(synchroniser, numbers, from, count);
-        }
-        self.hear_many(synchroniser, numbers, from, count)
-    }
-
-    /// Hears the one element that there is to hear. Never inlined: it needs none of the registers
-    /// that words do.
+    /// Hears the one packed element that there is to hear, by this synchroniser. Never inlined: it
+    /// needs none of the registers that words do.
     #[inline(never)]
-    fn hear_one(
+    pub(crate) fn hear_one(
         &mut self,
         synchroniser: &mut Synchroniser,
         numbers: &[u64],
@@ -167,10 +142,12 @@ impl CopyTaker {
         self.read(step)
     }
 
-    /// Hears fewer elements than two words have, as `hear` does. Never inlined: it needs few of the
-    /// registers that words at once do.
+    /// Hears packed elements by this synchroniser, fewer than two words have, from a place on: up
+    /// to and with the first one with which anything is over, all of them where nothing is. Says
+    /// how many, and what is over. Never inlined: it needs few of the registers that words at once
+    /// do.
     #[inline(never)]
-    fn hear_few(
+    pub(crate) fn hear_few(
         &mut self,
         synchroniser: &mut Synchroniser,
         numbers: &[u64],
@@ -193,10 +170,10 @@ impl CopyTaker {
         (heard, None)
     }
 
-    /// Hears any number of elements, as `hear` does. Never inlined: its loop has the registers to
-    /// itself.
+    /// Hears any number of elements, as `hear_few` does. Never inlined: its loop has the registers
+    /// to itself.
     #[inline(never)]
-    fn hear_many(
+    pub(crate) fn hear_many(
         &mut self,
         synchroniser: &mut Synchroniser,
         numbers: &[u64],

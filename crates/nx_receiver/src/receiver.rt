@@ -26,6 +26,7 @@ ghost use Rattle.nx_receiver.specs.private.CopyHearer.{ready_copies};
 use crate::command::Command;
 use crate::copy_taker::{CopyTag, CopyTaker, Over};
 use crate::fault::{MomentFault, ReceiverFault, check_moment};
+use nx_code::ELEMENTS;
 use nx_copies::{Entry, EntryHead, judge};
 use nx_envelope::{Identity, LAST_MOMENT, Letter, MAX_FOUND};
 use nx_fec::{MAX_ELEMENTS, PackedElements};
@@ -320,8 +321,15 @@ impl<M: Recall> Receiver<M> {
         ensures some { from < length packed.now → 0 < result.0 }
     {
         let left = packed.len() - from;
-        self.taker
-            .hear(&mut self.synchroniser, packed.numbers(), from, left)
+        let numbers = packed.numbers();
+        let synchroniser = &mut self.synchroniser;
+        if left == 1 {
+            return (1, self.taker.hear_one(synchroniser, numbers, from));
+        }
+        if left < ELEMENTS * 2 {
+            return self.taker.hear_few(synchroniser, numbers, from, left);
+        }
+        self.taker.hear_many(synchroniser, numbers, from, left)
     }
 
     /// Hears elements that aren't packed, as `hear` does.

@@ -5,6 +5,8 @@ use Rattle.std.proofs.Common.{arith, inl, inr, is_some, false, Some, length-drop
 use lib.Seq.{take-add}
 use Rattle.std.proofs.lemmas.Bool.{cases_lt}
 use Rattle.std.proofs.lemmas.List.{drop-drop, length-take, map-append, take-take}
+use Rattle.nx_code.specs.Packed.{elements_of_numbers}
+use Rattle.nx_sync.specs.Synchroniser.{Held}
 use Rattle.nx_memory.specs.declared.memories.entry.MemoryEntry.{MemoryEntry}
 use Rattle.nx_receiver.specs.declared.copy_taker.Over.{Over}
 use Rattle.nx_copies.specs.Events.{Event, Setting, Start, elements_among, element, first_setting}
@@ -15,9 +17,12 @@ use Rattle.nx_receiver.specs.private.Awaiting.{Awaits, AwaitsOver, FinishesNext,
 use Rattle.nx_copies.specs.copies.FoundCopies.{TaggedCopy}
 use Rattle.nx_receiver.specs.private.CopyHearer.{HasEnded, HearsAll, IsOver, all_in_force}
 use Rattle.nx_receiver.specs.CopyHearing.{CopyHearing, in_force}
+use Rattle.nx_receiver.specs.declared.copy_taker.CopyTaker.{CopyTaker}
+use Rattle.nx_receiver.specs.private.CopyTaker.{HearsPart, hearer_of}
 use Rattle.nx_receiver.proofs.lemmas.receiver.Events.{bits_of-more, force-more, settings-more}
 use Rattle.nx_receiver.proofs.lemmas.receiver.Printing.{has_printed}
 use Rattle.nx_receiver.proofs.lemmas.copy_hearer.Packed.{rest_is}
+use Rattle.nx_receiver.proofs.lemmas.copy_hearer.Parts.{part_of_all}
 
 -- the first so many of these elements were fed, and no entry was handed out
 pub record Fed {M : Type 0} (content : M → List MemoryEntry) (old now : Receiving M)
@@ -88,6 +93,34 @@ printed_before content old hearer bits n answer within hears start events log s 
     let t = subst (λ t. HasEnded first (elements_among (events ++ elements some)) t s.copies)
     (sym (settings-more first old.hearer events some s.force)) h in
     has_printed start (events ++ elements some) s.copies log t s.printed
+
+-- a receiver by what it holds
+abbrev pub receiving : {M : Type 0} → Held → CopyTaker → M → Receiving M
+receiving held taker memory = record { hearer = hearer_of held taker; memory = memory }
+
+-- A receiver heard a part of all packed elements from a place on: what is over with the last of
+-- them is awaited, and nothing was printed before it.
+module _ {M : Type 0} (content : M → List MemoryEntry) (whole : Receiving M) (memory : M)
+    (all : List Bool) (numbers : List ℕ) (from count : ℕ) (old new : Held)
+    (before after : CopyTaker) (heard : ℕ × Option Over)
+    (view : receiving old before memory ≡ whole)
+    (is : all ≡ take (length all) (elements_of_numbers numbers)) (room : from ≤ length all)
+    (rest : count ≡ length all - from)
+    (part : HearsPart old before numbers from count new after heard) where
+  pub part_awaits : HearsUpTo content whole (receiving new after memory)
+      (take heard.0 (drop from all)) heard.1
+  part_awaits start history log stands =
+      let hears = part_of_all all numbers from count old new before after heard is room rest part in
+      awaits_on content (receiving old before memory) (hearer_of new after) _ heard.1 hears.hears
+      hears.force start history log
+      (subst (λ r. Stands content start r history log) (sym view) stands)
+
+  pub none_before_part : HandsOutNoneBefore content whole (drop from all) heard.0
+  none_before_part start history log stands k lt =
+      let hears = part_of_all all numbers from count old new before after heard is room rest part in
+      printed_before content (receiving old before memory) (hearer_of new after) (drop from all)
+      heard.0 heard.1 (omega (arith, part.within, rest, length-drop from all)) hears.hears start
+      history log (subst (λ r. Stands content start r history log) (sym view) stands) k lt
 
 -- where nothing is over, nothing is awaited
 pub nothing_awaited : {M : Type 0} (content : M → List MemoryEntry) (start : Start)

@@ -1,43 +1,60 @@
-use Rattle.std.proofs.Common.{◌-◌, arith, drop, length-drop, subst, sym}
-use Rattle.nx_receiver.specs.Receiver.{Receiving, Stands}
-use Rattle.nx_receiver.specs.private.CopyTaker.{hearer_of}
-use Rattle.nx_receiver.proofs.lemmas.copy_hearer.Parts.{part_of_all}
-use Rattle.nx_receiver.proofs.lemmas.receiver.Feeds.{awaits_on, printed_before}
+use Rattle.std.proofs.Common.{◌-◌, arith}
+use Rattle.nx_receiver.proofs.lemmas.receiver.Feeds.{none_before_part, part_awaits}
 use Rattle.nx_receiver.proofs.receiver.Receiver.hear.Goals as goal
 
+-- one element
+pub returns-then-left-eq1-clause-stands : goal.returns-then-left-eq1-clause-stands
+returns-then-left-eq1-clause-stands g c =
+    part_awaits g.M.Recall.content c.args.self.now c.self.inside.memory c.args.packed.now
+    c.numbers-numbers.result.now c.args.from (c.len.result - c.args.from)
+    c.self.inside.synchroniser c.hear_one.new.synchroniser c.self.inside.taker c.hear_one.new.self
+    (1, c.hear_one.result) c.self.view_is c.numbers-numbers.ensures.elements (omega arith)
+    (omega (arith, c.len.ensures.count))
+    (record { within = omega arith; some = λ _. omega arith; hears = c.hear_one.ensures })
+
+pub returns-then-left-eq1-clause-first : goal.returns-then-left-eq1-clause-first
+returns-then-left-eq1-clause-first g c =
+    none_before_part g.M.Recall.content c.args.self.now c.self.inside.memory c.args.packed.now
+    c.numbers-numbers.result.now c.args.from (c.len.result - c.args.from)
+    c.self.inside.synchroniser c.hear_one.new.synchroniser c.self.inside.taker c.hear_one.new.self
+    (1, c.hear_one.result) c.self.view_is c.numbers-numbers.ensures.elements (omega arith)
+    (omega (arith, c.len.ensures.count))
+    (record { within = omega arith; some = λ _. omega arith; hears = c.hear_one.ensures })
+
+-- few of them
+pub returns-then-left-clause-stands : goal.returns-then-left-clause-stands
+returns-then-left-clause-stands g c =
+    part_awaits g.M.Recall.content c.args.self.now c.self.inside.memory c.args.packed.now
+    c.numbers-numbers.result.now c.args.from (c.len.result - c.args.from)
+    c.self.inside.synchroniser c.hear_few.new.synchroniser c.self.inside.taker c.hear_few.new.self
+    c.hear_few.result c.self.view_is c.numbers-numbers.ensures.elements (omega arith)
+    (omega (arith, c.len.ensures.count))
+    c.hear_few.ensures.hears
+
+pub returns-then-left-clause-first : goal.returns-then-left-clause-first
+returns-then-left-clause-first g c =
+    none_before_part g.M.Recall.content c.args.self.now c.self.inside.memory c.args.packed.now
+    c.numbers-numbers.result.now c.args.from (c.len.result - c.args.from)
+    c.self.inside.synchroniser c.hear_few.new.synchroniser c.self.inside.taker c.hear_few.new.self
+    c.hear_few.result c.self.view_is c.numbers-numbers.ensures.elements (omega arith)
+    (omega (arith, c.len.ensures.count))
+    c.hear_few.ensures.hears
+
+-- many of them
 pub returns-clause-stands : goal.returns-clause-stands
-returns-clause-stands g c start history log stands =
-    let content = g.M.Recall.content in
-    let inside = c.self.inside in
-    let old : Receiving _ = record {
-      hearer = hearer_of inside.synchroniser inside.taker;
-      memory = inside.memory;
-    } in
-    let hear = c.hear in
-    let heard = part_of_all c.args.packed.now c.numbers.result.now c.args.from
-    (c.len.result - c.args.from) inside.synchroniser hear.new.synchroniser inside.taker
-    hear.new.self hear.result c.numbers.ensures.elements (omega arith)
-    (omega (arith, c.len.ensures.count)) hear.ensures.hears in
-    awaits_on content old (hearer_of hear.new.synchroniser hear.new.self) _ hear.result.1
-    heard.hears heard.force start history log
-    (subst (λ r. Stands content start r history log) (sym c.self.view_is) stands)
+returns-clause-stands g c =
+    part_awaits g.M.Recall.content c.args.self.now c.self.inside.memory c.args.packed.now
+    c.numbers-numbers.result.now c.args.from (c.len.result - c.args.from)
+    c.self.inside.synchroniser c.hear_many.new.synchroniser c.self.inside.taker c.hear_many.new.self
+    c.hear_many.result c.self.view_is c.numbers-numbers.ensures.elements (omega arith)
+    (omega (arith, c.len.ensures.count))
+    c.hear_many.ensures.hears
 
 pub returns-clause-first : goal.returns-clause-first
-returns-clause-first g c start history log stands k lt =
-    let content = g.M.Recall.content in
-    let inside = c.self.inside in
-    let old : Receiving _ = record {
-      hearer = hearer_of inside.synchroniser inside.taker;
-      memory = inside.memory;
-    } in
-    let hear = c.hear in
-    let part = hear.ensures.hears in
-    let heard = part_of_all c.args.packed.now c.numbers.result.now c.args.from
-    (c.len.result - c.args.from) inside.synchroniser hear.new.synchroniser inside.taker
-    hear.new.self hear.result c.numbers.ensures.elements (omega arith)
-    (omega (arith, c.len.ensures.count)) part in
-    printed_before content old (hearer_of hear.new.synchroniser hear.new.self)
-    (drop c.args.from c.args.packed.now) hear.result.0 hear.result.1
-    (omega (arith, part.within, c.len.ensures.count, length-drop c.args.from c.args.packed.now))
-    heard.hears start history log
-    (subst (λ r. Stands content start r history log) (sym c.self.view_is) stands) k lt
+returns-clause-first g c =
+    none_before_part g.M.Recall.content c.args.self.now c.self.inside.memory c.args.packed.now
+    c.numbers-numbers.result.now c.args.from (c.len.result - c.args.from)
+    c.self.inside.synchroniser c.hear_many.new.synchroniser c.self.inside.taker c.hear_many.new.self
+    c.hear_many.result c.self.view_is c.numbers-numbers.ensures.elements (omega arith)
+    (omega (arith, c.len.ensures.count))
+    c.hear_many.ensures.hears
