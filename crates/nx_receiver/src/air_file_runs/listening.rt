@@ -12,8 +12,8 @@ ghost use Rattle.nx_receiver.specs.air_file_runs.ListenFrom.{GoesOnBy};
 ghost use Rattle.nx_receiver.specs.air_file_runs.ListenOnce.{ListensOnce};
 ghost use Rattle.nx_copies.specs.copies.Log.{IsLog};
 ghost use Rattle.nx_receiver.specs.Receiver.{entry_list};
-ghost use Rattle.nx_copies.specs.copies.Shares.{Given, Starts, all_at_zero, marked, starts_from};
-ghost use Rattle.nx_receiver.specs.Listener.{Listening, starts_of, then_elements};
+ghost use Rattle.nx_copies.specs.copies.Shares.{Given, Starts, all_at_zero, marked};
+ghost use Rattle.nx_receiver.specs.Listener.{Listening, then_elements};
 ghost use Rattle.nx_receiver.specs.private.Listener.{HasClosed, HasClosedSome, HeardSome, HearsLog, IsHearing, IsListening, RefusesLine, StandsFrom, listener_taker};
 ghost use Rattle.nx_receiver.specs.declared.air_file_runs.listen_fault.ListenFault.TheVariants.{Memory};
 
@@ -102,21 +102,12 @@ pub fn listen_from<R: Read, W: Write>(
     ensures memory { (error : AllocError) → result ≡ Err (Memory error)
         → (reader.new ≡ reader.old) × (writer.new ≡ writer.old) }
 {
-    let mut listener = line_listener(alloc, saved)?;
+    let mut listener = Listener::starting(alloc, saved)?;
     let read = listen_lines(reader, writer, &mut listener)?;
     // Before the end: the copy that the end closes is cut, and makes no entry.
     let left = listener.saved();
     let report = close_log(listener, writer, read)?;
     Ok((report, left))
-}
-
-/// A listener that has taken no line, and starts with what is saved.
-fn line_listener(alloc: Global, saved: &SavedSet) -> Result<Listener, AllocError>
-    ensures listens { IfOk result (λ listener.
-        IsListening (starts_from saved.now) listener [] []) }
-    ensures start { IfOk result (λ listener. starts_of listener ≡ starts_from saved.now) }
-{
-    Listener::starting(alloc, saved)
 }
 
 /// Takes a line that sets what is in force: a moment, or a command of selection.

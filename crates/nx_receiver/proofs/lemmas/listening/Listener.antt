@@ -28,10 +28,11 @@ use Rattle.nx_receiver.proofs.lemmas.listening.Taken.{are-taken, taken-each}
 use Rattle.nx_receiver.specs.Listener.{HearsGiven, HearsOver, Listening, ListeningOver, text_on}
 use Rattle.nx_receiver.specs.Listener.{content}
 use Rattle.nx_receiver.specs.Listener.{elements_given, elements_in, moment_in_force, receiver_on}
-use Rattle.nx_receiver.specs.Listener.{starts_over, then_command, then_elements, then_moment}
+use Rattle.nx_receiver.specs.Listener.{starts_of, starts_over, then_command, then_elements}
+use Rattle.nx_receiver.specs.Listener.{then_moment}
 use Rattle.nx_receiver.specs.Listener.{with_receiver}
 use Rattle.nx_receiver.specs.private.Listener.{BeginsListening, BeginsLog, HearsTo}
-use Rattle.nx_receiver.specs.private.Listener.{HearsLog, IsListening}
+use Rattle.nx_receiver.specs.private.Listener.{HearsLog, IsListening, StandsFrom}
 use Rattle.nx_receiver.specs.private.ListenerBegins.{printed-so_far}
 use Rattle.nx_copies.specs.copies.Log.{HasPrinted, IsLog}
 use Rattle.nx_memory.specs.declared.memories.entry.MemoryEntry.{MemoryEntry}
@@ -877,6 +878,14 @@ took-nothing starts listener within heard none = record {
   moment = none;
   hears = record { log = []; hears = heard; spelled = no-log };
 }
+
+-- a listener that starts with what is saved took no line
+pub begins-from : (starts : Starts) (listener : Listening) → starts_of listener ≡ starts
+    → starts.moment ≤ last_moment → HearsGiven starts listener [] []
+    → listener.has_moment ≡ false → StandsFrom listener listener [] []
+begins-from starts listener start within heard none =
+    subst (λ (from : Starts). IsListening from listener [] []) (sym start)
+    (took-nothing starts listener within heard none)
 
 -- after the elements of a line, of the channel that it names
 elements-of : (lines : List Line) (mark : Option Channel) (channel : Channel) (bits : List Bool)

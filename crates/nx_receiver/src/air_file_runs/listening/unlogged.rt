@@ -14,7 +14,7 @@ ghost use Rattle.nx_receiver.specs.private.Unlogged.{HasHeard, HasHeardGiven, Li
 ghost use Rattle.nx_receiver.specs.declared.air_file_runs.listen_fault.ListenFault.TheVariants.{Memory};
 
 use crate::air_file_runs::listen_fault::{LineRefusal, ListenFault};
-use crate::air_file_runs::listening::{Report, line_listener, take_setting};
+use crate::air_file_runs::listening::{Report, take_setting};
 use crate::listener::Listener;
 use nx_fec::{
     AIR_LIMIT, CHUNK, Channel, Counting, LineKind, PackedElements, Piece, Scanner, next_piece,
@@ -36,7 +36,7 @@ pub(crate) fn listen_unlogged<R: Read>(
     ensures memory { (error : AllocError) → result ≡ Err (Memory error)
         → reader.new ≡ reader.old }
 {
-    let mut listener = line_listener(alloc, saved)?;
+    let mut listener = Listener::starting(alloc, saved)?;
     let lines = hear_lines(reader, &mut listener)?;
     // Before the end: the copy that the end closes is cut, and makes no entry.
     let left = listener.saved();

@@ -5,10 +5,11 @@ use Rattle.nx_fec.proofs.lemmas.devices.TransferLaws.{Ok-not_err, Writes-sound}
 use Rattle.nx_receiver.specs.air_file_runs.Listen.{Listens, given_by}
 use Rattle.nx_copies.specs.copies.Shares.{Starts, starts_from}
 use Rattle.nx_receiver.specs.Listener.{starts_of}
-use Rattle.nx_receiver.specs.private.Listener.{StandsFrom, IsListening}
+use Rattle.nx_receiver.specs.private.Listener.{StandsFrom}
 use Rattle.nx_receiver.specs.declared.air_file_runs.listen_fault.ListenFault.TheVariants.{Write}
 use Rattle.nx_receiver.proofs.lemmas.listening.From.{err-is, goes-nowhere, goes-on}
 use Rattle.nx_receiver.proofs.lemmas.listening.Faults.{not-memory}
+use Rattle.nx_receiver.proofs.lemmas.listening.Listener.{begins-from}
 use Rattle.nx_receiver.proofs.lemmas.listening.Runs.{err-of, listens-fault, listens-memory, listens-part}
 use Rattle.nx_receiver.proofs.air_file_runs.listening.listen_from.Goals as goal
 
@@ -28,8 +29,8 @@ returns-in_err-read-clause-listens g c =
     let d = devices g.R.Read.remaining g.W.Write.contents c.args.reader.now
     c.listen_lines.new.reader c.args.writer.now c.listen_lines.new.writer in
     let begun : StandsFrom first first [] [] =
-    subst (λ (starts : Starts). IsListening starts first [] [])
-    (sym c.in_ok-listener.ensures.start) c.in_ok-listener.ensures.listens in
+    begins-from _ first c.in_ok-listener.ensures.start c.in_ok-listener.ensures.range
+    c.in_ok-listener.ensures.heard c.in_ok-listener.ensures.none in
     let ran = c.in_err-read.ensures first begun in
     let fault = c.in_err-read.field-0.0 in
     let made = c.from_residual-in_err-read in
@@ -43,8 +44,8 @@ pub returns-in_err-read-clause-memory : goal.returns-in_err-read-clause-memory
 returns-in_err-read-clause-memory g c = λ error e.
     let first = c.in_ok-listener.listener in
     let begun : StandsFrom first first [] [] =
-    subst (λ (starts : Starts). IsListening starts first [] [])
-    (sym c.in_ok-listener.ensures.start) c.in_ok-listener.ensures.listens in
+    begins-from _ first c.in_ok-listener.ensures.start c.in_ok-listener.ensures.range
+    c.in_ok-listener.ensures.heard c.in_ok-listener.ensures.none in
     let ran = c.in_err-read.ensures first begun in
     let made = c.from_residual-in_err-read in
     let p = err_from_is_err_and made.result made.ensures.1 in
@@ -54,8 +55,8 @@ pub close_log-requires : goal.close_log-requires
 close_log-requires g c =
     let first = c.in_ok-listener.listener in
     let begun : StandsFrom first first [] [] =
-    subst (λ (starts : Starts). IsListening starts first [] [])
-    (sym c.in_ok-listener.ensures.start) c.in_ok-listener.ensures.listens in
+    begins-from _ first c.in_ok-listener.ensures.start c.in_ok-listener.ensures.range
+    c.in_ok-listener.ensures.heard c.in_ok-listener.ensures.none in
     Writes-sound _ _ _ (λ written. Ok-not_err _ _) (c.in_ok-read.ensures first begun).writes
 
 pub returns-in_err-report-clause-listens : goal.returns-in_err-report-clause-listens
@@ -65,8 +66,8 @@ returns-in_err-report-clause-listens g c =
     let d = devices g.R.Read.remaining contents c.args.reader.now c.listen_lines.new.reader
     c.args.writer.now c.close_log.new.writer in
     let begun : StandsFrom first first [] [] =
-    subst (λ (starts : Starts). IsListening starts first [] [])
-    (sym c.in_ok-listener.ensures.start) c.in_ok-listener.ensures.listens in
+    begins-from _ first c.in_ok-listener.ensures.start c.in_ok-listener.ensures.range
+    c.in_ok-listener.ensures.heard c.in_ok-listener.ensures.none in
     goes-nowhere c.args.saved.now d c.from_residual-in_err-report.result _
     c.from_residual-in_err-report.ensures.0
     (err-is c.from_residual-in_err-report.result _ c.from_residual-in_err-report.ensures.0
@@ -84,8 +85,8 @@ returns-clause-listens g c =
     let first = c.in_ok-listener.listener in
     let contents = g.W.Write.contents in
     let begun : StandsFrom first first [] [] =
-    subst (λ (starts : Starts). IsListening starts first [] [])
-    (sym c.in_ok-listener.ensures.start) c.in_ok-listener.ensures.listens in
+    begins-from _ first c.in_ok-listener.ensures.start c.in_ok-listener.ensures.range
+    c.in_ok-listener.ensures.heard c.in_ok-listener.ensures.none in
     goes-on g.R.Read.remaining contents c.args.saved.now c.saved-left.result first
     c.listen_lines.new.listener c.args.reader.now c.listen_lines.new.reader c.args.writer.now
     c.listen_lines.new.writer c.close_log.new.writer

@@ -1,11 +1,10 @@
 use Rattle.std.proofs.Common.{◌∙◌, [], Err, subst, sym}
 use Rattle.nx_receiver.specs.air_file_runs.Listen.{given_by}
 use Rattle.nx_receiver.specs.Listener.{starts_of}
-use Rattle.nx_receiver.specs.private.Listener.{IsListening}
 use Rattle.nx_receiver.specs.private.Unlogged.{ListensUnlogged, StandsUnlogged, as_run_fault}
-use Rattle.nx_copies.specs.copies.Shares.{Starts}
 use Rattle.std.proofs.lemmas.Result.{err_from_is_err_and}
 use Rattle.nx_receiver.proofs.lemmas.listening.Faults.{not-memory}
+use Rattle.nx_receiver.proofs.lemmas.listening.Listener.{begins-from}
 use Rattle.nx_receiver.proofs.lemmas.listening.Runs.{err-of}
 use Rattle.nx_receiver.proofs.lemmas.listening.Unlogged.{unlogged-fault, unlogged-memory, unlogged-ok}
 use Rattle.nx_receiver.proofs.air_file_runs.listening.unlogged.listen_unlogged.Goals as goal
@@ -21,8 +20,8 @@ returns-in_err-lines-clause-listens g c =
     let first = c.in_ok-listener.listener in
     let begun : StandsUnlogged first first [] = (
       [],
-      subst (λ (starts : Starts). IsListening starts first [] [])
-          (sym c.in_ok-listener.ensures.start) c.in_ok-listener.ensures.listens,
+      begins-from _ first c.in_ok-listener.ensures.start c.in_ok-listener.ensures.range
+          c.in_ok-listener.ensures.heard c.in_ok-listener.ensures.none,
     ) in
     let ran = c.in_err-lines.ensures first begun in
     let p = err_from_is_err_and c.from_residual-in_err-lines.result
@@ -37,8 +36,8 @@ returns-in_err-lines-clause-memory g c = λ error e.
     let first = c.in_ok-listener.listener in
     let begun : StandsUnlogged first first [] = (
       [],
-      subst (λ (starts : Starts). IsListening starts first [] [])
-          (sym c.in_ok-listener.ensures.start) c.in_ok-listener.ensures.listens,
+      begins-from _ first c.in_ok-listener.ensures.start c.in_ok-listener.ensures.range
+          c.in_ok-listener.ensures.heard c.in_ok-listener.ensures.none,
     ) in
     let ran = c.in_err-lines.ensures first begun in
     let made = c.from_residual-in_err-lines in
@@ -51,8 +50,8 @@ returns-clause-listens g c =
     let first = c.in_ok-listener.listener in
     let begun : StandsUnlogged first first [] = (
       [],
-      subst (λ (starts : Starts). IsListening starts first [] [])
-          (sym c.in_ok-listener.ensures.start) c.in_ok-listener.ensures.listens,
+      begins-from _ first c.in_ok-listener.ensures.start c.in_ok-listener.ensures.range
+          c.in_ok-listener.ensures.heard c.in_ok-listener.ensures.none,
     ) in
     unlogged-ok c.args.saved.now c.saved-left.result first c.hear_lines.new.listener _ _ _
     c.in_ok-lines.lines c.close_unlogged.result c.in_ok-listener.ensures.start
