@@ -31,21 +31,6 @@ pub(crate) enum Over {
     CopyAndLock,
 }
 
-impl Over {
-    /// What is over, by whether a copy is and whether the lock is.
-    #[inline(always)]
-    pub(crate) fn of(is_copy_over: bool, is_lock_over: bool) -> Option<Over>
-        ensures { result ≡ over_with is_copy_over is_lock_over }
-    {
-        match (is_copy_over, is_lock_over) {
-            (false, false) => None,
-            (true, false) => Some(Over::Copy),
-            (false, true) => Some(Over::Lock),
-            (true, true) => Some(Over::CopyAndLock),
-        }
-    }
-}
-
 /// What was in force at the second digit of a header.
 #[derive(Clone, Copy, Debug)]
 pub(crate) struct CopyTag {
@@ -110,16 +95,22 @@ impl CopyTaker {
         } }
         ensures over { result ≡ over_with (is_over event) is_lock_over }
     {
-        match event {
-            TextEvent::Nothing => Over::of(false, is_lock_over),
+        let is_copy_over = match event {
+            TextEvent::Nothing => false,
             TextEvent::Header(identity) => {
                 self.tag = CopyTag {
                     moment: self.moment,
                     is_selected: self.selection.admits(&identity),
                 };
-                Over::of(false, is_lock_over)
+                false
             }
-            TextEvent::CopyOver => Over::of(true, is_lock_over),
+            TextEvent::CopyOver => true,
+        };
+        match (is_copy_over, is_lock_over) {
+            (false, false) => None,
+            (true, false) => Some(Over::Copy),
+            (false, true) => Some(Over::Lock),
+            (true, true) => Some(Over::CopyAndLock),
         }
     }
 }
@@ -161,7 +152,8 @@ impl CopyTaker {
     {
         let mut heard = 0;
         while heard < count {
-            let (some, over) = self.hear_part(synchroniser, numbers, from + heard, count - heard);
+            let (some, step) = synchroniser.push_some(numbers, from + heard, count - heard);
+            let over = self.read(step);
             heard += some;
             if over.is_some() {
                 return (heard, over);
@@ -218,7 +210,7 @@ impl CopyTaker {
             8 => self.hear_words(synchroniser, &eight[..8]),
             6 => self.hear_words(synchroniser, &eight[..6]),
             2 => self.hear_words(synchroniser, &eight[..2]),
-            _ => self.hear_part_apart(synchroniser, numbers, from, count),
+            _ => self.hear_part(synchroniser, numbers, from, count),
         }
     }
 
@@ -266,8 +258,9 @@ impl CopyTaker {
         (heard, self.meet(event, false))
     }
 
-    /// Hears some of these elements: those of a hunt, one word of a lock, or a part of one.
-    #[inline(always)]
+    /// Hears some of these elements: those of a hunt, one word of a lock, or a part of one. Never
+    /// inlined: a loop over words at once has the registers to itself.
+    #[inline(never)]
     fn hear_part(
         &mut self,
         synchroniser: &mut Synchroniser,
@@ -282,22 +275,5 @@ impl CopyTaker {
     {
         let (heard, step) = synchroniser.push_some(numbers, from, count);
         (heard, self.read(step))
-    }
-
-    /// The same by a call, so that a loop over words at once has the registers to itself.
-    #[inline(never)]
-    fn hear_part_apart(
-        &mut self,
-        synchroniser: &mut Synchroniser,
-        numbers: &[u64],
-        from: usize,
-        count: usize,
-    ) -> (usize, Option<Over>)
-        requires some { 0 < count }
-        requires part { HasPart numbers.now from count }
-        ensures { HearsPart synchroniser.old self.old numbers.now from count synchroniser.new
-            self.new result }
-    {
-        self.hear_part(synchroniser, numbers, from, count)
     }
 }

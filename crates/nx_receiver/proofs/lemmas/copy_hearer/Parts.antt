@@ -1,13 +1,16 @@
 -- Packed elements that are heard part by part.
-use Rattle.std.proofs.Common.{◌≡◌, ℕ, ◌+◌, ◌-◌, ◌<◌, ◌≤◌, Bool, List, Option, None, arith, length}
+use Rattle.std.proofs.Common.{◌≡◌, ℕ, ◌+◌, ◌-◌, ◌*◌, ◌<◌, ◌≤◌, Bool, List, Option, None, arith, length}
 use Rattle.std.proofs.Common.{take, drop, ap, ◌∙◌, subst, sym}
-use Rattle.nx_code.specs.Packed.{elements_of_numbers, packed_part}
-use Rattle.nx_sync.proofs.lemmas.hunting.PackedParts.{first_part, more_parts}
+use Rattle.nx_code.specs.Packed.{elements_of_numbers, packed_elements, packed_part}
+use Rattle.nx_sync.proofs.lemmas.hunting.PackedParts.{first_part, length-part, more_parts}
+use Rattle.nx_sync.specs.Ahead.{BringsStep}
 use Rattle.nx_sync.specs.Synchroniser.{Held}
+use Rattle.nx_sync.specs.declared.step.Step.{Step}
 use Rattle.nx_receiver.specs.declared.copy_taker.CopyTaker.{CopyTaker}
 use Rattle.nx_receiver.specs.declared.copy_taker.Over.{Over}
-use Rattle.nx_receiver.specs.private.CopyTaker.{Hears, HearsPart}
+use Rattle.nx_receiver.specs.private.CopyTaker.{Hears, HearsPart, ReadsStep}
 use Rattle.nx_receiver.specs.private.CopyTakerLaws.{heard-both, heard-none}
+use Rattle.nx_receiver.proofs.lemmas.copy_hearer.Hears.{step_taken}
 use Rattle.nx_receiver.proofs.lemmas.copy_hearer.Packed.{all_is}
 
 -- no part was heard yet
@@ -41,3 +44,19 @@ part_of_all all numbers from count old new before after heard is room rest part 
     sym (first_part numbers from count heard.0 part.within)
     ∙ ap (take heard.0) (ap (packed_part numbers from) rest ∙ all_is all numbers from is room) in
     subst (λ bits. Hears old before bits new after heard.1) same part.hears
+
+-- a taker reads the step that a part brings
+pub part_read : (old new : Held) (before after : CopyTaker) (numbers : List ℕ) (from count : ℕ)
+    (heard : ℕ × Step) (answer : Option Over) → from + count ≤ packed_elements * length numbers
+    → heard.0 ≤ count → 0 < heard.0 → ReadsStep before after heard.1 answer
+    → BringsStep old new (packed_part numbers from heard.0) heard.1
+    → HearsPart old before numbers from count new after (heard.0, answer)
+part_read old new before after numbers from count heard answer room within some reads brings =
+    let n = heard.0 in
+    record {
+      within = within;
+      some = λ _. some;
+      hears = step_taken before after old new (packed_part numbers from n) heard.1 answer
+          (omega (arith, length-part numbers from n (omega (arith, within, room)), some)) reads
+          brings;
+    }

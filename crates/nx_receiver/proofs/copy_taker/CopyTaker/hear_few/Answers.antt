@@ -1,7 +1,7 @@
 use Rattle.std.proofs.Common.{◌≡◌, ◌+◌, None, arith, rules, subst}
 use Rattle.nx_code.specs.Packed.{packed_part}
 use Rattle.nx_receiver.specs.private.CopyTaker.{Hears}
-use Rattle.nx_receiver.proofs.lemmas.copy_hearer.Parts.{no_part, part_behind}
+use Rattle.nx_receiver.proofs.lemmas.copy_hearer.Parts.{no_part, part_behind, part_read}
 use Rattle.nx_receiver.proofs.copy_taker.CopyTaker.hear_few.Goals as goal
 
 pub loop-heard-init : goal.loop-heard-init
@@ -12,22 +12,30 @@ loop-heard-init c = record {
 
 pub returns-then-is_some-clause-hears : goal.returns-then-is_some-clause-hears
 returns-then-is_some-clause-hears c =
-    part_behind c.args.synchroniser.now c.loop-heard.synchroniser c.hear_part-some.new.synchroniser
-    c.args.self.now c.loop-heard.self c.hear_part-some.new.self c.args.numbers.now c.args.from
-    c.args.count c.loop-heard.heard c.hear_part-some.result c.loop-heard-test.true
-    c.loop-heard.invariant.hears c.hear_part-some.ensures
+    let some = c.push_some-some in
+    let read = c.read-over in
+    part_behind c.args.synchroniser.now c.loop-heard.synchroniser some.new.self c.args.self.now
+    c.loop-heard.self read.new.self c.args.numbers.now c.args.from c.args.count c.loop-heard.heard
+    (some.result.0, read.result) c.loop-heard-test.true c.loop-heard.invariant.hears
+    (part_read c.loop-heard.synchroniser some.new.self c.loop-heard.self read.new.self
+    c.args.numbers.now _ _ some.result read.result (omega arith) some.ensures.within
+    some.ensures.some read.ensures some.ensures.brings)
 
 pub loop-heard-preserved : goal.loop-heard-preserved
 loop-heard-preserved c =
-    let part = c.hear_part-some in
-    let none : part.result.1 ≡ None = search rules in
-    let heard = part_behind c.args.synchroniser.now c.loop-heard.synchroniser
-    part.new.synchroniser c.args.self.now c.loop-heard.self part.new.self c.args.numbers.now
-    c.args.from c.args.count c.loop-heard.heard part.result c.loop-heard-test.true
-    c.loop-heard.invariant.hears part.ensures in
+    let some = c.push_some-some in
+    let read = c.read-over in
+    let none : read.result ≡ None = search rules in
+    let heard = part_behind c.args.synchroniser.now c.loop-heard.synchroniser some.new.self
+    c.args.self.now c.loop-heard.self read.new.self c.args.numbers.now c.args.from c.args.count
+    c.loop-heard.heard (some.result.0, read.result) c.loop-heard-test.true
+    c.loop-heard.invariant.hears
+    (part_read c.loop-heard.synchroniser some.new.self c.loop-heard.self read.new.self
+    c.args.numbers.now _ _ some.result read.result (omega arith) some.ensures.within
+    some.ensures.some read.ensures some.ensures.brings) in
     record {
       within = heard.within;
       hears = subst (Hears c.args.synchroniser.now c.args.self.now
-          (packed_part c.args.numbers.now c.args.from (c.loop-heard.heard + part.result.0))
-          part.new.synchroniser part.new.self) none heard.hears;
+          (packed_part c.args.numbers.now c.args.from (c.loop-heard.heard + some.result.0))
+          some.new.self read.new.self) none heard.hears;
     }
