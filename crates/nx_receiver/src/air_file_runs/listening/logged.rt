@@ -1,17 +1,15 @@
 //! Listening where the log is wanted: the lines of a file are taken as they are read, and what they
 //! print is written before each further read.
 
-ghost use Rattle.std.specs.Prelude.{◌≡◌, ◌+◌, ◌<◌, ◌≤◌, ℕ, List, [], ◌∷◌, ◌++◌, Option, Some, Err, IfOk, IfSome, MatchResult, OnOk, length, take};
+ghost use Rattle.std.specs.Prelude.{◌≡◌, ◌+◌, ◌<◌, ◌≤◌, ℕ, List, [], ◌++◌, Option, Some, Err, IfOk, MatchResult, OnOk, length, take};
 ghost use Rattle.std.specs.Io.KnownBytes.{Appends};
-ghost use Rattle.nx_fec.specs.air_files.AirFile.{IsLine, Line};
-ghost use Rattle.nx_fec.specs.air_files.LineRuns.{ExplainsLines, HasGiven, HasTaken, RunsLines, line_run};
-ghost use Rattle.nx_fec.specs.air_files.Scanner.{kind_kept};
+ghost use Rattle.nx_fec.specs.air_files.LineRuns.{ExplainsLines, HasGiven, RunsLines, line_run};
 ghost use Rattle.nx_fec.specs.private.LineTaking.{IsTaking, inside};
 ghost use Rattle.nx_fec.specs.Transfers.{Writes, devices};
 ghost use Rattle.nx_receiver.specs.air_file_runs.Listen.{lines_fault};
 ghost use Rattle.nx_receiver.specs.Listener.{Listening};
 ghost use Rattle.nx_receiver.specs.private.Listener.{StandsFrom, listener_taker};
-ghost use Rattle.nx_receiver.specs.private.ListenFaults.{StandsFor, StopsAtLine};
+ghost use Rattle.nx_receiver.specs.private.ListenFaults.{StandsFor};
 
 use crate::air_file_runs::listen_fault::ListenFault;
 use crate::air_file_runs::listening::{take_elements, take_setting};
@@ -112,8 +110,9 @@ fn take_piece<W: Write>(
     Ok(())
 }
 
-/// Scans the bytes of a piece up to and with its first line feed, and takes the line that it
-/// ends. Answers how many bytes there were.
+/// Scans the bytes of a piece up to and with its first line feed, takes the line that it ends, and
+/// gives the batch what that prints. A line that is refused changes nothing. Answers how many bytes
+/// there were.
 fn take_line<W: Write>(
     listener: &mut Listener,
     piece: &[u8],
@@ -143,36 +142,9 @@ fn take_line<W: Write>(
     let Some(kind) = scanner.latest() else {
         return Ok(count);
     };
-    take_latest(listener, kind, scanner, writer, batch)?;
-    Ok(count)
-}
-
-/// Takes the line that the scanner's last byte ended, which says this, and gives the batch what
-/// it prints. A line that is refused changes nothing.
-fn take_latest<W: Write>(
-    listener: &mut Listener,
-    kind: LineKind,
-    scanner: &Scanner,
-    writer: &mut Counting<W>,
-    batch: &mut Batch,
-) -> Result<(), ListenFault>
-    requires kind { kind_kept scanner.now.latest ≡ Some kind }
-    requires line { IfSome scanner.now.latest IsLine }
-    requires none { writer.old.failures ≡ 0 }
-    ensures taken { (first : Listening) (old : Option (List ℕ)) (lines : List Line)
-        (line : Line) → scanner.now.latest ≡ Some line
-        → HasTaken StandsFrom first listener.old lines
-        (HasGiven old (W.contents writer.old.inner) batch.old)
-        → MatchResult result
-        (λ _. HasTaken StandsFrom first listener.new (lines ++ line ∷ [])
-        (HasGiven old (W.contents writer.new.inner) batch.new))
-        (StopsAtLine first listener.new old (W.contents writer.new.inner) batch.new lines line
-        scanner.now.lines) }
-    ensures writes { Writes writer.new ListenFault.Write result }
-{
     let LineKind::Elements(mark) = kind else {
         return match take_setting(listener, kind) {
-            Ok(()) => Ok(()),
+            Ok(()) => Ok(count),
             Err(why) => Err(ListenFault::of_refusal(scanner.lines(), why)),
         };
     };
@@ -182,5 +154,5 @@ fn take_latest<W: Write>(
         });
     }
     take_elements(listener, mark, scanner.elements(), writer, batch)?;
-    Ok(())
+    Ok(count)
 }
