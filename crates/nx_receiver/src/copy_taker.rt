@@ -152,9 +152,9 @@ impl CopyTaker {
     {
         let mut heard = 0;
         while heard < count {
-            let (some, step) = synchroniser.push_some(numbers, from + heard, count - heard);
+            let (part, step) = synchroniser.push_some(numbers, from + heard, count - heard);
             let over = self.read(step);
-            heard += some;
+            heard += part;
             if over.is_some() {
                 return (heard, over);
             }
