@@ -3,7 +3,7 @@
 ghost use Rattle.std.specs.Prelude.{IfOk};
 ghost use Rattle.nx_program.specs.Arguments.{bare_tree, damage_tree, file_tree, navtex, number_rule, slot_tree};
 ghost use Rattle.nx_program.specs.Arguments.{text_rule};
-ghost use Rattle.nx_program.specs.private.Reading.{AddsRow, AddsRule, IsBuiltAs, IsReadAs};
+ghost use Rattle.nx_program.specs.private.Reading.{AddsRule, IsBuiltAs, IsReadAs};
 ghost use Rattle.nx_program.specs.private.Reading.{row_tree, with_rows};
 
 use crate::log_command::{LOG_ABOUT, LOG_EXAMPLE, LOG_HELP, LOG_SHORT, log_command};
@@ -750,36 +750,22 @@ impl Row {
             None => described,
         }
     }
-
-    /// The program with the command of this row behind those that it has.
-    fn added_to<'a>(&self, alloc: Global, program: Command<'a>) -> Result<Command<'a>, AllocError>
-        ensures { IfOk result (AddsRow self.now program.entry) }
-    {
-        let command = self.bare_command(alloc)?;
-        program.subcommand(self.described(command))
-    }
-}
-
-/// The program without its commands.
-fn bare_program<'a>(alloc: Global) -> Result<Command<'a>, AllocError>
-    ensures { IfOk result (IsBuiltAs bare_tree) }
-{
-    Command::new(alloc, "navtex")
-        .about(PROGRAM_HELP)
-        .version(VERSION)
-        .after_help(STATUS_HELP)
-        .disable_help_subcommand(true)
-        .subcommand_required(true)
-        .bin_name("navtex")
 }
 
 /// The program with the commands of these rows.
 fn program_of<'a>(alloc: Global, rows: &[Row]) -> Result<Command<'a>, AllocError>
     ensures { IfOk result (IsBuiltAs (with_rows bare_tree rows.now)) }
 {
-    let mut program = bare_program(alloc)?;
+    let mut program = Command::new(alloc, "navtex")
+        .about(PROGRAM_HELP)
+        .version(VERSION)
+        .after_help(STATUS_HELP)
+        .disable_help_subcommand(true)
+        .subcommand_required(true)
+        .bin_name("navtex")?;
     for row in rows {
-        program = row.added_to(alloc, program)?;
+        let command = row.bare_command(alloc)?;
+        program = program.subcommand(row.described(command))?;
     }
     Ok(program)
 }

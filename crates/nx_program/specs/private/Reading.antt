@@ -51,11 +51,6 @@ row_tree row = taking_tree row.takes row.name.now
 abbrev pub AddsRule : Rule → Command → Command → Type 0
 AddsRule rule old new = (app : App) → IsBuiltAs app old → IsBuiltAs (with_rule app rule) new
 
--- the new command is built as the old one is, with the command of the row behind its commands
-abbrev pub AddsRow : TableRow → Command → Command → Type 0
-AddsRow row old new =
-    (app : App) → IsBuiltAs app old → IsBuiltAs (with_subcommand app (row_tree row).top) new
-
 -- the command tree with the commands of these rows
 abbrev pub with_rows : App → List TableRow → App
 with_rows = fold (λ (tree : App) (row : TableRow). with_subcommand tree (row_tree row).top)

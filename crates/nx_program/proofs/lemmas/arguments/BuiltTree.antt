@@ -8,7 +8,7 @@ use Rattle.clap.specs.Words.{with_subcommand}
 use Rattle.clap.specs.declared.builder.arg.Arg.{Arg}
 use Rattle.clap.specs.declared.builder.command.Command.{Command}
 use Rattle.nx_program.specs.declared.commands.Row.{Row}
-use Rattle.nx_program.specs.private.Reading.{AddsRow, AddsRule, IsBuiltAs, IsReadAs, row_tree}
+use Rattle.nx_program.specs.private.Reading.{AddsRule, IsBuiltAs, IsReadAs, row_tree}
 use Rattle.nx_program.specs.private.Reading.{with_rows}
 
 pub rule_added : (rule : Rule) (arg : Arg) (old new : Command) → rule_of arg ≡ rule
@@ -35,10 +35,13 @@ built_again app old new built same = record {
 }
 
 -- with the commands of the rows before this one and with that of this one, it has those up to here
-pub with_next : (app : App) (rows : List Row) (i : ℕ) (none : Row) (old new : Command)
+pub with_next : (app : App) (rows : List Row) (i : ℕ) (none : Row) (old sub new : Command)
     → i < length rows → IsBuiltAs (with_rows app (take i rows)) old
-    → AddsRow (get_or rows i none) old new → IsBuiltAs (with_rows app (take (i + 1) rows)) new
-with_next app rows i none old new within built adds =
+    → IsBuiltAs (row_tree (get_or rows i none)) sub → AddsSubcommand old sub new
+    → IsBuiltAs (with_rows app (take (i + 1) rows)) new
+with_next app rows i none old sub new within built sub_built added =
     let P : App → Type 0 = λ a. IsBuiltAs a new in
     let add : App → Row → App = λ tree row. with_subcommand tree (row_tree row).top in
-    subst P (sym (fold_more add app rows i none within)) (adds (with_rows app (take i rows)) built)
+    subst P (sym (fold_more add app rows i none within))
+    (with_one_more (with_rows app (take i rows)) (row_tree (get_or rows i none)) old sub new built
+    sub_built added)
