@@ -1,7 +1,7 @@
 //! The program without its process.
 
-ghost use Rattle.std.specs.Prelude.{◌≡◌, ◌≢◌, ◌⊎◌, ◌∷◌, [], IfErr, IfNone, IfOk, IfSome, List, MatchResult, None, Option, map, string_bytes, ℕ};
-ghost use Rattle.nx_program.specs.Program.{EndsLog, EndsOnStreams, EndsRun, Exits, NamesTelling, Performs, PerformsOnStreams};
+ghost use Rattle.std.specs.Prelude.{◌≡◌, ◌≢◌, ◌⊎◌, ◌∷◌, [], IfNone, IfOk, IfSome, List, MatchResult, None, Option, map, string_bytes, ℕ};
+ghost use Rattle.nx_program.specs.Program.{EndsLog, EndsRun, Exits, NamesTelling, Performs, PerformsOnStreams};
 ghost use Rattle.nx_program.specs.Program.{Succeeds, WritesText, fresh_device, version_text};
 ghost use Rattle.nx_program.specs.Report.{Answers, IsFaultLine, IsWantOfArguments, LacksArguments, WritesOne};
 ghost use Rattle.nx_program.specs.Status.{IsStatus};
@@ -9,7 +9,7 @@ ghost use Rattle.nx_program.specs.WatchCommand.{WatchesLog, beside, notices_betw
 ghost use Rattle.nx_watch.specs.Stamps.{IsFresh, counted_of, stamps_of};
 ghost use Rattle.nx_program.specs.Arguments.{IsRefused, Names, as_read};
 ghost use Rattle.nx_program.specs.Arguments.{help_words as the_words};
-ghost use Rattle.nx_program.specs.private.Reading.{ExplainsArguments, IsOnStreams};
+ghost use Rattle.nx_program.specs.private.Reading.{EndsUncalled, ExplainsArguments, IsOnStreams};
 ghost use Rattle.clap.specs.Words.{Text};
 ghost use Rattle.nx_fec.specs.Transfers.{CountedDevice, devices};
 ghost use Rattle.nx_fec.specs.texts.TableText.{table_text};
@@ -126,40 +126,31 @@ fn give_version<W: Write>(writer: &mut Counting<W>) -> Result<(), RunFault>
     Ok(())
 }
 
-/// Does what the arguments ask for that were read so, where they name neither a watch nor a run
-/// over a log.
-fn obey_on_streams<R: Read, W: Write>(
+/// Answers arguments that name no call, for this reason: gives help or the version where they ask
+/// for it, and else tells the fault. It reads nothing.
+fn answer_uncalled<W: Write>(
     alloc: Global,
-    read: Result<Call, ArgumentsFault>,
-    reader: &mut Counting<R>,
+    why: ArgumentsFault,
     writer: &mut Counting<W>,
 ) -> Result<(), Fault<'static>>
-    requires reader { reader.old.failures ≡ 0 }
-    requires writer { writer.old.failures ≡ 0 }
-    requires streams { IfOk read IsOnStreams }
-    ensures { (arguments : List Text) → IfOk read.entry (Names arguments)
-        → IfErr read.entry (ExplainsArguments arguments) → EndsOnStreams arguments
-        (devices R.remaining W.contents reader.old reader.new writer.old writer.new)
-        result }
+    requires { writer.old.failures ≡ 0 }
+    ensures { (arguments : List Text) → ExplainsArguments arguments why
+        → EndsUncalled arguments W.contents writer.old writer.new result }
 {
-    match read {
-        Ok(call) => {
-            perform(alloc, call, reader, writer)?;
-            Ok(())
-        }
-        Err(ArgumentsFault::Help(help)) => {
+    match why {
+        ArgumentsFault::Help(help) => {
             give_help(alloc, &help, writer)?;
             Ok(())
         }
-        Err(ArgumentsFault::Version) => {
+        ArgumentsFault::Version => {
             give_version(writer)?;
             Ok(())
         }
-        Err(ArgumentsFault::Refused(answer)) => Err(Fault::Arguments(answer.to_string(alloc)?)),
-        Err(ArgumentsFault::Station) => Err(Fault::Station),
-        Err(ArgumentsFault::Kind) => Err(Fault::Kind),
-        Err(ArgumentsFault::Value(report)) => Err(Fault::Value(report)),
-        Err(ArgumentsFault::Memory(want)) => Err(Fault::from(want)),
+        ArgumentsFault::Refused(answer) => Err(Fault::Arguments(answer.to_string(alloc)?)),
+        ArgumentsFault::Station => Err(Fault::Station),
+        ArgumentsFault::Kind => Err(Fault::Kind),
+        ArgumentsFault::Value(report) => Err(Fault::Value(report)),
+        ArgumentsFault::Memory(want) => Err(Fault::from(want)),
     }
 }
 
@@ -176,7 +167,7 @@ struct Obeyed<'a, I, D> {
 }
 
 /// Reads the arguments and does what they ask for. The log's file is handed back, if one was
-/// opened.
+/// opened. The reads of a watch alone need stamps.
 fn obey<'a, S: AsStr, R: Read, W: Write, E: Write, F: LogFiles + Drop>(
     alloc: Global,
     arguments: &'a [S],
@@ -206,8 +197,20 @@ fn obey<'a, S: AsStr, R: Read, W: Write, E: Write, F: LogFiles + Drop>(
                 damaged,
             },
         ) => log_input(alloc, &query, form, damaged, input, writer, faults),
-        Ok(call) => obey_unstamped(alloc, Ok(call), input, writer),
-        Err(why) => obey_unstamped(alloc, Err(why), input, writer),
+        Ok(call) => {
+            let mut reader = input.into_inner();
+            let outcome = perform(alloc, call, &mut reader, writer);
+            Obeyed {
+                outcome: outcome.map_err(|why| Fault::Call(why)),
+                input: StampedReader::new(reader),
+                file: None,
+            }
+        }
+        Err(why) => Obeyed {
+            outcome: answer_uncalled(alloc, why, writer),
+            input,
+            file: None,
+        },
     }
 }
 
@@ -292,34 +295,6 @@ fn print_log<R: Read, W: Write, E: Write>(
     match log_run(alloc, reader, writer, faults, query, form, damaged) {
         Ok(_printed) => Ok(()),
         Err(why) => Err(Fault::Call(CallFault::Log(why))),
-    }
-}
-
-/// Does what the arguments ask for that were read so, where they name neither a watch nor a run
-/// over a log. Its reads need no stamps.
-fn obey_unstamped<R: Read, W: Write, E: Write, D>(
-    alloc: Global,
-    read: Result<Call, ArgumentsFault>,
-    input: Input<R, D, W, E>,
-    writer: &mut Counting<W>,
-) -> Obeyed<'static, Input<R, D, W, E>, D>
-    requires input { IsFresh input }
-    requires writer { writer.old.failures ≡ 0 }
-    requires streams { IfOk read IsOnStreams }
-    ensures ended { (arguments : List Text) → IfOk read.entry (Names arguments)
-        → IfErr read.entry (ExplainsArguments arguments) → EndsOnStreams arguments
-        (devices R.remaining W.contents (counted_of input) (counted_of result.input) writer.old
-        writer.new)
-        result.outcome }
-    ensures unopened { result.file ≡ None }
-    ensures unstamped { stamps_of result.input ≡ [] }
-{
-    let mut reader = input.into_inner();
-    let outcome = obey_on_streams(alloc, read, &mut reader, writer);
-    Obeyed {
-        outcome,
-        input: StampedReader::new(reader),
-        file: None,
     }
 }
 

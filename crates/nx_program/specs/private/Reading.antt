@@ -1,6 +1,7 @@
 -- How the program reads its arguments by clap: the command that it builds, and what it makes of
 -- clap's answer (this profile).
-use Rattle.std.specs.Prelude.{◌≡◌, ◌≢◌, ⊤, ℕ, List, Some, false, fold, codes, string_bytes}
+use Rattle.std.specs.Prelude.{◌≡◌, ◌≢◌, ◌⊎◌, ⊤, ℕ, List, Option, Some, Result, Ok, Err, false, fold}
+use Rattle.std.specs.Prelude.{alloc_error, codes, string_bytes}
 use Rattle.clap.specs.Words.{App, Row, Rule, Text, app_of, first_of, kind_of, with_rule}
 use Rattle.clap.specs.Words.{with_subcommand}
 use Rattle.clap.specs.declared.builder.command.Command.{Command}
@@ -10,12 +11,15 @@ use Rattle.clap.specs.declared.error.kind.ErrorKind.TheVariants.{DisplayHelp, Di
 use Rattle.clap.specs.declared.error.kind.ErrorKind.TheVariants.{OutOfMemory}
 use Rattle.nx_program.specs.Arguments.{AsksForHelp, AsksForVersion, IsRefusal, IsRefusedByClap}
 use Rattle.nx_envelope.specs.declared.letter.Letter.{Letter}
+use Rattle.nx_fec.specs.Transfers.{CountedDevice}
+use Rattle.nx_fec.specs.declared.fault.RunFault.TheVariants as run
 use Rattle.nx_station.specs.declared.damaging.DamageKind.{DamageKind}
 use Rattle.nx_program.specs.declared.arguments.Call.{Call}
 use Rattle.nx_program.specs.declared.arguments.Call.TheVariants as call
 use Rattle.nx_program.specs.Arguments.{HasUnfitValue, IsFile, IsKind, IsMoment, IsNumber}
 use Rattle.nx_program.specs.Arguments.{IsReportedMoment, IsStation, LacksKind, LacksStation}
 use Rattle.nx_program.specs.LogArguments.{log_tree}
+use Rattle.nx_program.specs.Program.{Tells, WritesText, version_text}
 use Rattle.nx_program.specs.Arguments.{SaysMoment, damage_tree, file_tree, plain_tree, slot_tree}
 use Rattle.nx_program.specs.declared.commands.Row.{Row as TableRow}
 use Rattle.nx_program.specs.declared.commands.Takes.{Takes}
@@ -24,6 +28,10 @@ use Rattle.nx_program.specs.declared.arguments.ArgumentsFault.{ArgumentsFault}
 use Rattle.nx_program.specs.declared.arguments.ArgumentsFault.TheVariants.{Help, Kind, Memory, Refused}
 use Rattle.nx_program.specs.declared.arguments.ArgumentsFault.TheVariants.{Station}
 use Rattle.nx_program.specs.declared.arguments.ArgumentsFault.TheVariants.{Value, Version}
+use Rattle.nx_program.specs.declared.fault.CallFault.{CallFault}
+use Rattle.nx_program.specs.declared.fault.CallFault.TheVariants.{Run}
+use Rattle.nx_program.specs.declared.fault.Fault.{Fault}
+use Rattle.nx_program.specs.declared.fault.Fault.TheVariants as fault
 
 -- the command is built as this tree says
 pub record IsBuiltAs (app : App) (command : Command) : Type 0 where
@@ -107,6 +115,32 @@ abbrev pub LacksRange : List Row → Type 0
 LacksRange rows =
     (k : DamageKind) (f c : ℕ) → IsKind rows k → IsNumber (codes "FROM") rows f
     → IsNumber (codes "COUNT") rows c → ⊥
+
+-- help or the version was asked for, and its text written, whole or as far as the outcome says
+abbrev pub GivesAsked : {W : Type 0} → List Text → (W → Option (List ℕ)) → CountedDevice W
+    → CountedDevice W → Result (Unit {0}) CallFault → Type 0
+GivesAsked arguments contents old new outcome =
+    (AsksForHelp arguments
+    × Tells (λ why. Run why) (WritesText (λ text. ⊤) contents old new) outcome)
+    ⊎ (AsksForVersion arguments
+    × Tells (λ why. Run why) (WritesText (λ text. text ≡ version_text) contents old new) outcome)
+
+-- how the program ends where its arguments name no call, by what it did on its output
+abbrev pub EndsUncalled : {W : Type 0} → List Text → (W → Option (List ℕ)) → CountedDevice W
+    → CountedDevice W → Result (Unit {0}) Fault → Type 0
+EndsUncalled arguments contents old new (Ok done) = GivesAsked arguments contents old new (Ok done)
+EndsUncalled arguments contents old new (Err (fault.Arguments answer)) =
+    IsRefusedByClap arguments × (new ≡ old)
+EndsUncalled arguments contents old new (Err fault.NoText) = ⊥
+EndsUncalled arguments contents old new (Err fault.Station) =
+    LacksStation arguments × (new ≡ old)
+EndsUncalled arguments contents old new (Err fault.Kind) = LacksKind arguments × (new ≡ old)
+EndsUncalled arguments contents old new (Err (fault.Value report)) =
+    HasUnfitValue arguments (string_bytes report) × (new ≡ old)
+EndsUncalled arguments contents old new (Err (fault.Watch name why)) = ⊥
+EndsUncalled arguments contents old new (Err (fault.Call why)) =
+    GivesAsked arguments contents old new (Err why)
+    ⊎ ((new ≡ old) × (why ≡ Run (run.Memory alloc_error)))
 
 -- the call is neither a watch nor a run over a log
 abbrev pub IsOnStreams : Call → Type 0

@@ -47,6 +47,7 @@ use Rattle.nx_program.specs.Status.{fault_status, listen_status, log_status, res
 use Rattle.nx_program.specs.Status.{run_status, send_status, status_of, watch_failure_status}
 use Rattle.nx_fec.specs.Transfers.{Devices, devices, CountedDevice}
 use Rattle.nx_program.specs.Arguments.{IsRefused, Names}
+use Rattle.nx_program.specs.private.Reading.{EndsUncalled}
 use Rattle.nx_program.proofs.lemmas.arguments.Arguments.{help_not_refused, named_not_help, named_not_refused}
 use Rattle.nx_program.proofs.lemmas.arguments.Arguments.{named_not_version, named_once, version_not_refused}
 
@@ -343,6 +344,36 @@ success-named arguments d b call named success = elim success [
   | inr (inr (unused, inr (inr version))) ↦ absurd (named_not_version arguments call named
       version.asked)
 ]
+
+-- how the program ends where its arguments name no call, told of an input that it doesn't read
+pub uncalled-ends : {R W : Type 0} (arguments : List Text) (remaining : R → Option (List ℕ))
+    (contents : W → Option (List ℕ)) (reader : CountedDevice R) (old new : CountedDevice W)
+    (outcome : Result (Unit {0}) Fault) → EndsUncalled arguments contents old new outcome
+    → EndsOnStreams arguments (devices remaining contents reader reader old new) outcome
+uncalled-ends arguments remaining contents reader old new (Ok done) (inl help) =
+    inr (inl (record { asked = help.0; unread = refl; written = help.1 }))
+uncalled-ends arguments remaining contents reader old new (Ok done) (inr version) =
+    inr (inr (record { asked = version.0; unread = refl; written = version.1 }))
+uncalled-ends arguments remaining contents reader old new (Err (fault.Arguments answer)) ends =
+    (ends.0, record { reader = refl; writer = ends.1 })
+uncalled-ends arguments remaining contents reader old new (Err fault.NoText) ends = ends
+uncalled-ends arguments remaining contents reader old new (Err fault.Station) ends =
+    (ends.0, record { reader = refl; writer = ends.1 })
+uncalled-ends arguments remaining contents reader old new (Err fault.Kind) ends =
+    (ends.0, record { reader = refl; writer = ends.1 })
+uncalled-ends arguments remaining contents reader old new (Err (fault.Value report)) ends =
+    (ends.0, record { reader = refl; writer = ends.1 })
+uncalled-ends arguments remaining contents reader old new (Err (fault.Watch name why)) ends = ends
+uncalled-ends arguments remaining contents reader old new (Err (fault.Call why)) (inl (inl help)) =
+    inr (inl (record { asked = help.0; unread = refl; written = help.1 }))
+uncalled-ends arguments remaining contents reader old new (Err (fault.Call why))
+    (inl (inr version)) =
+    inr (inr (inl (record { asked = version.0; unread = refl; written = version.1 })))
+uncalled-ends arguments remaining contents reader old new (Err (fault.Call why)) (inr lacks) =
+    inr (inr (inr (record {
+      untouched = record { reader = refl; writer = lacks.0 };
+      memory = lacks.1;
+    })))
 
 -- what a run answered is told
 pub tells-ok : {N F : Type 0} (name : F → CallFault) (answers : Result N F → Type 0) (answer : N)
