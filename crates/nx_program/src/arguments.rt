@@ -10,7 +10,7 @@ ghost use Rattle.nx_program.specs.Arguments.{moment_report as the_report};
 ghost use Rattle.nx_program.specs.private.Reading.{ExplainsMoment, HasFitMoment, HasUnfitMoment};
 ghost use Rattle.nx_program.specs.private.Reading.{ExplainsArguments, IsSortedAs, LacksRange, LacksSlot};
 ghost use Rattle.nx_program.specs.private.LogReading.{ExplainsOptions};
-ghost use Rattle.nx_program.specs.private.Reading.{LacksWatch, WantsValues};
+ghost use Rattle.nx_program.specs.private.Reading.{LacksWatch};
 ghost use Rattle.nx_program.specs.declared.arguments.Call.{Call};
 ghost use Rattle.nx_station.specs.declared.damaging.DamageKind.{DamageKind};
 ghost use Rattle.nx_program.specs.declared.arguments.ArgumentsFault.TheVariants.{Kind, Memory};
@@ -189,27 +189,6 @@ fn log_call<'a>(alloc: Global, values: &ArgMatches) -> Result<Call<'a>, Argument
 }
 
 impl<'a> Call<'a> {
-    /// The call of a command that takes no value, by its name.
-    fn without_values(name: &str) -> Option<Call<'a>>
-        ensures some { IfSome result (λ call. (name.now ≡ command_name call)
-            × ((rows : List Row) → HasValues call rows)) }
-        ensures none { IfNone result ((call : Call) → name.now ≡ command_name call
-            → WantsValues call) }
-    {
-        Some(match name {
-            "decode" => Call::Decode,
-            "encode" => Call::Encode,
-            "code" => Call::Code,
-            "show" => Call::Show,
-            "check" => Call::Check,
-            "listen" => Call::Listen,
-            "resume" => Call::Resume,
-            "save" => Call::Save,
-            "locks" => Call::Locks,
-            _ => return None,
-        })
-    }
-
     /// The call of the command of this name with these values, but for `log`.
     fn of_command(name: &str, values: &ArgMatches<'a>) -> Option<Call<'a>>
         ensures some { IfSome result (λ call. (name.now ≡ command_name call)
@@ -219,6 +198,15 @@ impl<'a> Call<'a> {
             → ¬ HasValues call (rows_of (found_of values.now))) }
     {
         match name {
+            "decode" => Some(Call::Decode),
+            "encode" => Some(Call::Encode),
+            "code" => Some(Call::Code),
+            "show" => Some(Call::Show),
+            "check" => Some(Call::Check),
+            "listen" => Some(Call::Listen),
+            "resume" => Some(Call::Resume),
+            "save" => Some(Call::Save),
+            "locks" => Some(Call::Locks),
             "send" => {
                 let (station, moment) = slot_in(values)?;
                 Some(Call::Send { station, moment })
@@ -235,7 +223,7 @@ impl<'a> Call<'a> {
                 let (file, moment) = watch_in(values)?;
                 Some(Call::Watch { file, moment })
             }
-            _ => Call::without_values(name),
+            _ => None,
         }
     }
 }

@@ -147,12 +147,3 @@ abbrev pub IsOnStreams : Call → Type 0
 IsOnStreams (call.Watch name moment) = ⊥
 IsOnStreams (call.Log query form damaged) = ⊥
 IsOnStreams _ = ⊤
-
--- the call is one that takes values
-abbrev pub WantsValues : Call → Type 0
-WantsValues (call.Send station moment) = ⊤
-WantsValues (call.Watch name moment) = ⊤
-WantsValues (call.Slots station moment) = ⊤
-WantsValues (call.Damage kind from count) = ⊤
-WantsValues (call.Log query form damaged) = ⊤
-WantsValues _ = ⊥
