@@ -1,7 +1,7 @@
 -- Clap's reading of the program's arguments: the command tree is one of those that clap's clauses
 -- speak of exactly, and a command that it enters is the command of a call.
 use Rattle.std.proofs.Common.{ℕ, codes, ◌≤◌, ◌≡◌, ◌≢◌, ◌∙◌, true, false, List, [], ◌∷◌, Option}
-use Rattle.std.proofs.Common.{Some, None, is_some, ◌⊎◌, IfNone, IfSome, IfOk, IfErr, Result, Ok, Err}
+use Rattle.std.proofs.Common.{Some, None, is_some, ◌⊎◌, IfSome, IfOk, IfErr, Result, Ok, Err}
 use Rattle.std.proofs.Common.{option_map, refl, ap, ap₂, inl, inr, sym, subst, string_bytes, Box}
 use Rattle.std.proofs.Common.{Global}
 use Rattle.std.specs.Box.{box_value}

@@ -34,7 +34,7 @@ use Rattle.nx_watch.specs.declared.watch_report.WatchReport.{WatchReport}
 use Rattle.nx_program.specs.declared.watch_command.WatchFailure.{WatchFailure}
 use Rattle.nx_program.specs.declared.watch_command.WatchFailure.TheVariants.{Ended, Unopened}
 use Rattle.nx_program.specs.Program.{EndsOnStreams, EndsRun, Exits, IsUntouchedByWant, Performs}
-use Rattle.nx_program.specs.Program.{EndsLog, PerformsOnStreams, RunsLog, Succeeds, Tells, fresh_device}
+use Rattle.nx_program.specs.Program.{EndsLog, PerformsOnStreams, Succeeds, Tells, fresh_device}
 use Rattle.nx_program.specs.Program.{log_outcome}
 use Rattle.nx_log.specs.Notices.{Notices}
 use Rattle.nx_log.specs.declared.queries.query.Query.{Query}

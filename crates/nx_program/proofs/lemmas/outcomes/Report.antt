@@ -1,5 +1,5 @@
 -- What the program's answer says of its outcome and of standard error.
-use Rattle.std.proofs.Common.{◌≡◌, ◌≢◌, ◌≤◌, ◌<◌, ◌+◌, ◌-◌, ◌^◌, ◌==◌, ◌++◌, ◌∷◌, ◌∙◌, ℕ, Bool, true, false}
+use Rattle.std.proofs.Common.{◌≡◌, ◌≢◌, ◌<◌, ◌+◌, ◌-◌, ◌^◌, ◌==◌, ◌++◌, ◌∷◌, ◌∙◌, ℕ, Bool, true, false}
 use Rattle.std.proofs.Common.{List, []}
 use Rattle.std.proofs.Common.{Result, Ok, Err, Option, Some, None, length, take, min, refl, sym, subst, ap, inl, inr}
 use Rattle.std.proofs.Common.{arith, append_assoc, length-append, if◌then◌else◌}
