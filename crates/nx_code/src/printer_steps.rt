@@ -1,5 +1,5 @@
-//! A printer's step by tables: what a position of each class prints, and the shift after it, each
-//! found by the class and the shift with no branch.
+//! The tables of a printer's step: what a position of each class prints, and the shift after it,
+//! each found by the class and the shift with no branch. Beside them, what some positions print.
 
 ghost use Rattle.std.specs.Prelude.{◌≡◌};
 

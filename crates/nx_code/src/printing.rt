@@ -112,6 +112,7 @@ impl Printer {
         ensures printed { byte_given result ≡ byte_of (reception_of_class class) self.old }
         ensures shift { self.new ≡ shift_after (reception_of_class class) self.old }
     {
+        // Each class has two rows, one for letters and one for figures.
         let row = 2 * usize::from(class) + self.shift as usize;
         self.shift = AFTER[row];
         PRINTED[row]

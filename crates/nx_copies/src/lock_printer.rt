@@ -12,7 +12,8 @@ ghost use Rattle.nx_sync.specs.declared.step.Role.TheVariants.{Dx as DxRole};
 use nx_code::{FourPrinted, Printer, Word};
 use nx_fec::Diversity;
 
-/// Prints the words of a lock, of which it is given one after the other, DX and RX by turns.
+/// Prints the words of a lock, DX and RX by turns: some at once by a call of its own, one alone by
+/// its fields, in `LockReader::read_word`.
 ///
 /// It holds the latest three DX words and the shift in force.
 #[derive(Clone, Copy, Debug)]

@@ -1,8 +1,8 @@
 //! The arguments of the command line and the call that they name, read by `clap`.
 
-ghost use Rattle.std.specs.Prelude.{◌≡◌, ◌≢◌, ℕ, List, [], ◌∷◌, IfErr, IfNone, IfOk, IfSome};
+ghost use Rattle.std.specs.Prelude.{◌≡◌, ◌≢◌, ℕ, [], ◌∷◌, IfErr, IfNone, IfOk, IfSome};
 ghost use Rattle.std.specs.Prelude.{codes, map};
-ghost use Rattle.clap.specs.Words.{Row, Text, found_of, rows_of};
+ghost use Rattle.clap.specs.Words.{Text, found_of, rows_of};
 ghost use Rattle.std.specs.Prelude.{string_bytes};
 ghost use Rattle.nx_program.specs.Arguments.{HasValues, IsFile, IsKind, IsMoment, IsNumber, IsStation, Names};
 ghost use Rattle.nx_program.specs.Arguments.{SaysMoment, command_name, kind_name};

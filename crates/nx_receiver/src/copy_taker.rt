@@ -133,10 +133,10 @@ impl CopyTaker {
         self.read(step)
     }
 
-    /// Hears packed elements by this synchroniser, fewer than two words have, from a place on: up
-    /// to and with the first one with which anything is over, all of them where nothing is. Says
-    /// how many, and what is over. Never inlined: it needs few of the registers that words at once
-    /// do.
+    /// Hears packed elements by this synchroniser, so many from a place on: up to and with the
+    /// first one with which anything is over, all of them where nothing is. Says how many, and what
+    /// is over. It hears one word after the other, which suits fewer elements than two words have.
+    /// Never inlined: it needs few of the registers that words at once do.
     #[inline(never)]
     pub(crate) fn hear_few(
         &mut self,
@@ -162,8 +162,8 @@ impl CopyTaker {
         (heard, None)
     }
 
-    /// Hears any number of elements, as `hear_few` does: in a lock words at once, where some lie
-    /// ahead that bring no change, else one word, or a part of one. Never inlined: its loop has the
+    /// Hears elements as `hear_few` does: in a lock words at once, where some lie ahead that bring
+    /// no change, else those of a hunt, one word, or a part of one. Never inlined: its loop has the
     /// registers to itself.
     #[inline(never)]
     pub(crate) fn hear_many(

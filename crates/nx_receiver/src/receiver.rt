@@ -323,6 +323,8 @@ impl<M: Recall> Receiver<M> {
         let left = packed.len() - from;
         let numbers = packed.numbers();
         let synchroniser = &mut self.synchroniser;
+        // One element, fewer than two words have, and more: each is a call with registers of its
+        // own.
         if left == 1 {
             return (1, self.taker.hear_one(synchroniser, numbers, from));
         }
@@ -365,8 +367,8 @@ impl<M: Recall> Receiver<M> {
 
     /// Finishes what is over, and says the head of the entry that it brings, if it brings one. Its
     /// text is `text`, until more is heard. Where the lock alone is over, the end of its text ends
-    /// the copy that stood open. Where a copy is over with it, that is judged before the lock is
-    /// left, which keeps its text.
+    /// the copy that stood open. Where a copy is over with it, the copy is judged first, and then
+    /// the lock is left: that keeps the text.
     #[inline(always)]
     fn finish(&mut self, over: Over) -> Option<EntryHead>
         ensures stands { (start : Start) (history : List Event) (log : List TaggedCopy) →

@@ -111,8 +111,8 @@ fn take_piece<W: Write>(
 }
 
 /// Scans the bytes of a piece up to and with its first line feed, takes the line that it ends, and
-/// gives the batch what that prints. A line that is refused changes nothing. Answers how many bytes
-/// there were.
+/// gives the batch what that prints. A line that is refused changes neither the listener nor the
+/// batch. Answers how many bytes there were.
 fn take_line<W: Write>(
     listener: &mut Listener,
     piece: &[u8],
