@@ -162,8 +162,7 @@ impl CopyTaker {
         (heard, None)
     }
 
-    /// Hears elements as `hear_few` does: in a lock words at once, where some lie ahead that bring
-    /// no change, else those of a hunt, one word, or a part of one. Never inlined: its loop has the
+    /// Hears elements as `hear_few` does, but some at once. Never inlined: its loop has the
     /// registers to itself.
     #[inline(never)]
     pub(crate) fn hear_many(
@@ -180,21 +179,39 @@ impl CopyTaker {
     {
         let mut heard = 0;
         while heard < count {
-            let (at, left) = (from + heard, count - heard);
-            let (many, eight) = synchroniser.words_ahead(numbers, at, left);
-            // A number that the compiler knows, so that it makes a form for each.
-            let (some, over) = match many {
-                8 => self.hear_words(synchroniser, &eight[..8]),
-                6 => self.hear_words(synchroniser, &eight[..6]),
-                2 => self.hear_words(synchroniser, &eight[..2]),
-                _ => self.hear_part(synchroniser, numbers, at, left),
-            };
+            let (some, over) = self.hear_some(synchroniser, numbers, from + heard, count - heard);
             heard += some;
             if over.is_some() {
                 return (heard, over);
             }
         }
         (heard, None)
+    }
+
+    /// Hears some of these elements. In a lock these are words at once, where some lie ahead that
+    /// bring no change: all of these, or those up to and with the first one that begins or ends a
+    /// copy. Else these are those of a hunt, one word, or a part of one.
+    #[inline(always)]
+    fn hear_some(
+        &mut self,
+        synchroniser: &mut Synchroniser,
+        numbers: &[u64],
+        from: usize,
+        count: usize,
+    ) -> (usize, Option<Over>)
+        requires some { 0 < count }
+        requires part { HasPart numbers.now from count }
+        ensures { HearsPart synchroniser.old self.old numbers.now from count synchroniser.new
+            self.new result }
+    {
+        let (many, eight) = synchroniser.words_ahead(numbers, from, count);
+        // A number that the compiler knows, so that it makes a form for each.
+        match many {
+            8 => self.hear_words(synchroniser, &eight[..8]),
+            6 => self.hear_words(synchroniser, &eight[..6]),
+            2 => self.hear_words(synchroniser, &eight[..2]),
+            _ => self.hear_part(synchroniser, numbers, from, count),
+        }
     }
 
     /// Hears the first of these words at once, which lie ahead and bring no change: all of them, or

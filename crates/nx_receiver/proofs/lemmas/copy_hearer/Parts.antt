@@ -1,12 +1,9 @@
 -- Packed elements that are heard part by part.
 use Rattle.std.proofs.Common.{◌≡◌, ℕ, ◌+◌, ◌-◌, ◌*◌, ◌<◌, ◌≤◌, Bool, List, Option, None, arith, length}
 use Rattle.std.proofs.Common.{take, drop, ap, ◌∙◌, subst, sym}
-use Rattle.std.proofs.lemmas.List.{length-take}
-use Rattle.std.specs.List.{flat_map}
 use Rattle.nx_code.specs.Packed.{elements_of_numbers, packed_elements, packed_part}
-use Rattle.nx_code.specs.Word.{elements, word_elements}
 use Rattle.nx_sync.proofs.lemmas.hunting.PackedParts.{first_part, length-part, more_parts}
-use Rattle.nx_sync.specs.Ahead.{BringsStep, LieAhead}
+use Rattle.nx_sync.specs.Ahead.{BringsStep}
 use Rattle.nx_sync.specs.Synchroniser.{Held}
 use Rattle.nx_sync.specs.declared.step.Step.{Step}
 use Rattle.nx_receiver.specs.declared.copy_taker.CopyTaker.{CopyTaker}
@@ -62,27 +59,4 @@ part_read old new before after numbers from count heard answer room within some 
       hears = step_taken before after old new (packed_part numbers from n) heard.1 answer
           (omega (arith, length-part numbers from n (omega (arith, within, room)), some)) reads
           brings;
-    }
-
--- a taker hears the first of the words that lie ahead
-pub words_heard : (old new : Held) (before after : CopyTaker) (numbers : List ℕ)
-    (from count many : ℕ) (ahead : ℕ × List ℕ) (words : List ℕ) (heard : ℕ × Option Over)
-    → LieAhead old numbers from count ahead → ahead.0 ≡ many → take many ahead.1 ≡ words
-    → heard.0 ≤ word_elements * length words → 0 < heard.0
-    → Hears old before (take heard.0 (flat_map elements words)) new after heard.1
-    → HearsPart old before numbers from count new after heard
-words_heard old new before after numbers from count many ahead words heard lie is same within some
-    hears =
-    let are : flat_map elements words ≡ packed_part numbers from (word_elements * many) =
-    ap (flat_map elements) (sym same)
-    ∙ subst (λ m. flat_map elements (take m ahead.1)
-    ≡ packed_part numbers from (word_elements * m)) is lie.are in
-    let few : heard.0 ≤ word_elements * many =
-    omega (arith, within, ap length same, length-take many ahead.1) in
-    record {
-      within = omega (arith, few, lie.within, is);
-      some = λ _. some;
-      hears = subst (λ bits. Hears old before bits new after heard.1)
-          (ap (take heard.0) are ∙ first_part numbers from (word_elements * many) heard.0 few)
-          hears;
     }
