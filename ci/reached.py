@@ -13,8 +13,9 @@ from dataclasses import dataclass
 
 from sources import HEAD, ROOT, UNREAD, without_antt
 
-# Where programs begin: the process, the calls for C, and the example of a program.
-ROOTS = {"nx_cli": ["main"], "nx_c": None, "nx_example": ["main"]}
+# Where programs begin: the process, the calls for C with a heap and without, and the example of a
+# program.
+ROOTS = {"nx_cli": ["main"], "nx_c": None, "nx_live": None, "nx_example": ["main"]}
 WORD = re.compile(r"\w+")
 EXTERN = re.compile(r"\bextern \"C\" ")
 
