@@ -53,9 +53,8 @@ uninstall:
 	rm -f $(DESTDIR)$(PREFIX)/bin/navtex
 	rm -f $(DESTDIR)$(PREFIX)/share/man/man1/navtex.1 $(DESTDIR)$(PREFIX)/share/man/man1/navtex-elements.1
 	rm -f $(DESTDIR)$(PREFIX)/share/man/man1/navtex-tones.1 $(DESTDIR)$(PREFIX)/share/man/man8/navtex-watch.8
-	rm -f $(DESTDIR)$(PREFIX)/share/bash-completion/completions/navtex
+	for tool in '' -elements -tones -watch; do rm -f $(DESTDIR)$(PREFIX)/share/bash-completion/completions/navtex$$tool $(DESTDIR)$(PREFIX)/share/fish/vendor_completions.d/navtex$$tool.fish; done
 	rm -f $(DESTDIR)$(PREFIX)/share/zsh/site-functions/_navtex
-	rm -f $(DESTDIR)$(PREFIX)/share/fish/vendor_completions.d/navtex.fish
 	rm -rf $(DESTDIR)$(PREFIX)/lib/navtex
 	rm -f $(DESTDIR)$(PREFIX)/bin/navtex-elements $(DESTDIR)$(PREFIX)/bin/navtex-tones $(DESTDIR)$(PREFIX)/bin/navtex-watch
 	rm -f $(DESTDIR)$(PREFIX)/lib/systemd/system/navtex-watch.service $(DESTDIR)$(PREFIX)/lib/sysusers.d/navtex.conf

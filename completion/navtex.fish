@@ -1,4 +1,4 @@
-# Completion of navtex's arguments for fish. Which commands and options there are, and what each takes, is read from navtex's own help.
+# Completion of the arguments of navtex and its tools for sound, for fish. Which commands and options there are, and what each takes, is read from their own help.
 
 # Each command and, behind a tab, what it does.
 function __navtex_commands
@@ -47,6 +47,35 @@ function __navtex_values
         case '*: * or *'
             string match --regex --all '\w+' -- (string replace --regex '.*: (.*) or (.*)' '$1, $2' -- $value)
     end
+end
+
+# The help of a tool for sound; navtex-watch hands its options on.
+function __navtex_tool_help
+    set --local given (commandline --tokenize --cut-at-cursor --current-process)
+    set --local tool (string replace --regex 'watch$' elements -- $given[1])
+    $tool --help 2>/dev/null
+end
+
+# What may stand for the value at hand, of a line of help as `--channel {0,1,2}  write lines ..`.
+function __navtex_tool_values
+    set --local given (commandline --tokenize --cut-at-cursor --current-process)
+    set --local value (__navtex_tool_help | string match --regex --groups-only "^  $given[-1] ([A-Z{]\S*)")
+    switch "$value"
+        case '{*'
+            string split , -- (string trim --chars '{}' -- $value)
+        case MOMENT
+            date -u +%FT%R
+    end
+end
+
+# Each option of a tool for sound and, behind a tab, what it does.
+function __navtex_tool_options
+    __navtex_tool_help | string replace --regex --filter '^  (?:-., )?(--[a-z][a-z-]*)(?: [A-Z{]\S*)? *(.*)' '$1\t$2'
+end
+
+for tool in navtex-elements navtex-tones navtex-watch
+    complete -c $tool -n 'string match --quiet -- "-*" (commandline --current-token)' -a '(__navtex_tool_options)'
+    complete -c $tool -a '(__navtex_tool_values)'
 end
 
 complete -c navtex -f
