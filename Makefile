@@ -8,7 +8,7 @@ MODULE = out/live/navtex32.wasm
 
 help:
 	@echo 'make check CRATE=nx_sync  prove one crate, and those below it that have changed'
-	@echo 'make test                 run all tests that need no proof: two to three minutes on two processors'
+	@echo 'make test                 run the tests without a proof, and what documents show: two to three minutes on two processors'
 	@echo 'make ci                   the merge gate: all proofs, wrong bodies, tests, programs: hours'
 	@echo 'make bench                measure the built program'
 	@echo 'make page                 out/navtex.html, the receiver as a page for a browser; make live builds its module first'
