@@ -485,7 +485,7 @@ def room(trial):
 def images(trial):
     """Records runs, and opens what a power cut could leave of them; answers what is to be told."""
     if not trial.library():
-        return "left out: there is no C compiler"
+        return "left out: all of it, since there is no C compiler"
     with room(trial) as (folder, pool):
         recorder = Recorder(trial, folder)
         first, others = runs(trial)
@@ -503,14 +503,14 @@ def images(trial):
             one = recorder.record(Run(random_feed(trial, number)))
             files += open_images(trial, folder, one, pool)
         count = len(first) + len(others) + number
-        by = f"{traced} of them by strace too" if recorder.strace else "there is no strace"
+        by = f"{traced} of them by strace too" if recorder.strace else "left out: strace, which is not there"
         return f"{count} runs recorded, {by}; {files} files, none wrong"
 
 
 def memory(trial):
     """Hears a long feed, and counts the calls that take memory; answers what is to be told."""
     if not trial.library():
-        return "left out: there is no C compiler"
+        return "left out: all of it, since there is no C compiler"
     with room(trial) as (folder, _):
         recorder = Recorder(trial, folder)
         lengths, losses = [0, 5, 60, 60, 300, 1_500], [0, 0, 9]
@@ -520,6 +520,6 @@ def memory(trial):
         start = kept_of(some_entries(trial.chance, 300, 60))
         taken = recorder.record(Run(heard, start), True).taken
         expect(taken > 0, "no call is seen that takes memory before the first read")
-        by = "nor by strace" if recorder.strace else "there is no strace"
+        by = "nor by strace" if recorder.strace else "left out: strace, which is not there"
         size = f"{len(heard.data)} bytes and {len(heard.entries)} entries"
         return f"{taken} calls take memory before the first read; over {size} none behind it, {by}"
