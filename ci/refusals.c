@@ -32,16 +32,22 @@ static bool is_refused(void) {
     return growths == refused;
 }
 
+/* what is answered of a block; where there is none, a pointer that isn't null */
+static struct tried tried(void *block) {
+    static char nothing;
+    return (struct tried){block != NULL, block != NULL ? block : &nothing};
+}
+
 struct tried rattle_alloc(size_t size, size_t align) {
     void *block = is_refused() ? NULL : malloc(size > 0 ? size : align);
     blocks += block != NULL;
-    return (struct tried){block != NULL, block};
+    return tried(block);
 }
 
 struct tried rattle_realloc(void *block, size_t kept, size_t size, size_t align) {
     (void)kept;
     void *grown = is_refused() ? NULL : realloc(block, size > 0 ? size : align);
-    return (struct tried){grown != NULL, grown};
+    return tried(grown);
 }
 
 void rattle_dealloc(void *block) {

@@ -4,7 +4,8 @@
 #include <stddef.h>
 #include <stdlib.h>
 
-/* what came of asking for a block: where it is, or that there is none */
+/* What came of asking for a block: where it is, or that there is none. `block` is no null pointer
+ * then, and nobody owns what is there: that much the library's proofs take for granted. */
 struct tried {
     bool ok;
     void *block;
@@ -15,7 +16,8 @@ struct tried rattle_realloc(void *block, size_t kept, size_t size, size_t align)
 void rattle_dealloc(void *block);
 
 static struct tried tried(void *block) {
-    return (struct tried){.ok = block != NULL, .block = block};
+    static char nothing;
+    return (struct tried){.ok = block != NULL, .block = block != NULL ? block : &nothing};
 }
 
 /* A block of no bytes is one of as many as its alignment. */

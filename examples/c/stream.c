@@ -287,20 +287,25 @@ struct tried {
     void *block;
 };
 
+static _Bool is_refused(void) {
+    return left >= 0 && left-- == 0;
+}
+
+/* What is answered of a block; where there is none, a pointer that isn't null. */
+static struct tried tried(void *block) {
+    static char nothing;
+    return (struct tried){block != NULL, block != NULL ? block : &nothing};
+}
+
 struct tried rattle_alloc(size_t size, size_t align) {
-    if (left >= 0 && left-- == 0)
-        return (struct tried){0, NULL};
-    void *block = malloc(size > 0 ? size : align);
+    void *block = is_refused() ? NULL : malloc(size > 0 ? size : align);
     in_use += block != NULL;
-    return (struct tried){block != NULL, block};
+    return tried(block);
 }
 
 struct tried rattle_realloc(void *block, size_t kept, size_t size, size_t align) {
     (void)kept;
-    if (left >= 0 && left-- == 0)
-        return (struct tried){0, NULL};
-    void *other = realloc(block, size > 0 ? size : align);
-    return (struct tried){other != NULL, other};
+    return tried(is_refused() ? NULL : realloc(block, size > 0 ? size : align));
 }
 
 void rattle_dealloc(void *block) {
