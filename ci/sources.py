@@ -274,6 +274,8 @@ class Sources:
                     self.handed_out[module[0]].append((inner, None))
             elif kind not in ("impl", "mod"):
                 self.names[module][name] = (path, name)
+                if public and module[2] == "lib":
+                    self.handed_out[module[0]].append((module, name))
                 self.read_item(kind, Item(path, name, start + 1, end, public), scope, lines, text)
         for start, end, _, kind, _ in found:
             if kind == "impl":
