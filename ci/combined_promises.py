@@ -8,7 +8,6 @@ from combined_air import (
     HEADER_LENGTH,
     LEAD,
     M0,
-    PHASING,
     another_text,
     behind_header,
     emission,

@@ -5,13 +5,14 @@ their moments and texts."""
 import re
 import string
 
-from combined_air import M0, damaged, emission, header, lines_of, message, replaced, sent_at, spelled, without, words_of
+from combined_air import HEADER_LENGTH, LEAD, M0
+from combined_air import damaged, emission, header, lines_of, message, replaced, sent_at, spelled, without, words_of
 from combined_examples import BUOY, L24, L52, M1, M2, OTHER, P, X24, air, heard
-from combined_reader import BLANK, COUNTS_AS, CR, LETTERS, LF, LTRS, WORDS
+from combined_reader import BLANK, CR, LETTERS, LF, LTRS, WORDS
 
 LATE = M0 + 240_000
 WRONG = "0000000"
-BEHIND_DIGITS = 83  # the first position behind a first message's second digit; a line begins two later
+BEHIND_DIGITS = LEAD + HEADER_LENGTH  # the first position behind a first message's second digit
 TEST = heard("TEST")
 TEST_N = 184  # the slot of its first N
 
@@ -36,11 +37,6 @@ def letter(it):
 def other_signal(words, at, it):
     """The words with both of a position replaced by those of a letter."""
     return replaced(replaced(words, at, letter(it)), at + 5, letter(it))
-
-
-def joined_words(*messages):
-    """The words of an emission of these messages, with no phasing between them."""
-    return words_of(emission(*messages, between=0))
 
 
 def identities(count):
@@ -203,16 +199,14 @@ HOLE = heard(Y25)
 
 
 def one_emission(*lines):
-    """An emission of pairs of an identity and a line; where a third is said, that position of the
-    text, counted from the letter shift before it, is lost."""
-    positions, lost = emission(), []
-    messages = []
+    """An emission of pairs of an identity and a line, with no phasing between; where a third is
+    said, that letter of the line is lost, from 1."""
+    messages, lost = [], []
     for identity, line, *at in lines:
-        before = 72 + sum(map(len, messages))
+        first = LEAD + sum(map(len, messages))
         messages.append(message(identity, line + "\n"))
-        lost += [2 * (before + BEHIND_DIGITS - 72 + 2 + it) for it in at]
-    positions = emission(*messages, between=0)
-    return without(words_of(positions), *lost)
+        lost += [2 * (first + HEADER_LENGTH + len([CR, LF, LTRS]) - 1 + it) for it in at]
+    return without(words_of(emission(*messages, between=0)), *lost)
 
 
 def entered_twice(count):
