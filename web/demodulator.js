@@ -9,7 +9,8 @@
 // What stands in examples/sound is here:
 // - elements: this file, and sound/said.js
 // - demodulator.py: sound/whole.js, sound/find.js
-// - receive.py: sound/rates.js, sound/middle.js, sound/mixer.js, sound/clock.js
+// - receive.py: sound/rates.js, sound/middle.js, sound/mixer.js, sound/clock.js,
+//   sound/swings.js
 // - sendings.py: sound/sendings.js, and what it needs: sound/loudness.js, sound/cases.js,
 //   sound/likelihood.js, sound/words.js, sound/phase.js, sound/carried.js, sound/ways.js,
 //   sound/jumps.js, sound/store.js

@@ -25,6 +25,7 @@ class Demodulator:
         self.samples = np.zeros(0)
         self.piece = int(rate * receive.PIECE / receive.BAUD)
         self.heard = self.told = self.locks = 0
+        self.outside = 0              # pieces of a sender whose clock is too fast or slow to follow
         self.tone = 0.0               # the greatest score of two tones so far
         self.aside = 0.0, 0.0         # how clear two tones out of reach were at most, and where
         self.was = False
@@ -60,6 +61,9 @@ class Demodulator:
         begins, upper, lower = self.clock.hear(self.mixer.hear(samples, self.middle))
         if self.clock.is_moved:
             self.sendings.moved = self.begins.end
+        if self.clock.is_other:       # elements before it weren't counted rightly
+            self.sendings.forget(self.begins.end)
+        self.outside += self.clock.is_outside
         self.begins.add(begins.real)
         told = self.sendings.hear(upper, lower, np.full(len(upper), self.middle))
         self.locks += self.locked and not self.was
@@ -78,7 +82,7 @@ class Demodulator:
         is_aside = (most > max(THERE, CLEAR * here)
                     and abs(clearest - np.clip(clearest, *self.reach)) > FAR)
         is_beside = abs(clearest - self.middle) <= NEAR + receive.SHIFT or most >= OTHER * here
-        self.sendings.is_tuned = not (is_aside and is_beside)
+        self.sendings.is_tuned = not (is_aside and is_beside or self.clock.is_outside)
         if is_aside:
             self.aside = max(self.aside, (float(most), float(clearest)))
         if self.locked:

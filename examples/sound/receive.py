@@ -12,7 +12,12 @@ RATE = BAUD * PER     # samples a second there
 PIECE = 20            # elements a piece
 AHEAD = 5             # pieces that the clock looks ahead
 MEMORY = 15.0         # pieces that the clock remembers
+PAST = 45             # pieces before which it has forgotten all
 STEP = 100.0          # what a step of the clock has to explain: noise gives 80, half an element 450
+SHOWN = 150.0         # a sum of swings so long isn't that of noise
+RATES = np.arange(-48, 49) / 100   # how far swings may turn from piece to piece, in turns
+FOLLOWED = 0.24       # turns that are followed: a clock that is 1.2 per cent too fast or too slow
+NEAR = 0.05           # rates so near each other have a sum of much the same length
 MOVED = 3             # a change of place by so many samples shows a jump
 BAND = 320.0          # Hz on each side of the middle that pass the filter
 LOUDEST = 3.5         # what is so many times as loud as the median of its piece is made softer
@@ -117,27 +122,33 @@ class Clock:
 
     E(t) is the energy of a tone over the 16 samples up to t. |E_B - E_Y| is largest where an
     element ends, so the angle of the sum of |E_B - E_Y| e^(-2 pi i t / 16) tells the place (after
-    Oerder and Meyr 1988). The sum is over 3 s before and 1 s after. Each element moves by an eighth
-    of what it is late, at most 2 per cent of its length, so that the count of elements goes on
-    where nothing is heard. Where sound was lost or doubled the place changes at once: two sums,
-    before a piece and from it on, are then together much longer than the sum of all.
+    Oerder and Meyr 1988). Each piece has such a sum, its swing; they are added up over 3 s before
+    and 1 s after. Where the clock of the sender goes too fast or too slow the swing turns from
+    piece to piece. So swings are turned back by each of RATES, and the rate is followed for which
+    their sum is longest. Each element moves by what the rate tells, and by an eighth of what it is
+    late, at most 2 per cent of its length, so that the count of elements goes on where nothing is
+    heard. Where sound was lost or doubled the place changes at once: two sums, before a piece and
+    from it on, are then together much longer than that of all at any rate.
     """
 
     def __init__(self):
         self.heard = np.zeros(0, complex)   # samples at RATE that are still needed
         self.begin = 0                      # number of the first of them
         self.seen = 0                       # pieces whose swing is known
-        self.swings = []                    # the sums of the pieces that no element was taken of
-        self.past = 0j                      # the sum before them, as it is remembered
+        self.swings = []                    # those of the pieces that no element was taken of
+        self.past = []                      # those before, since the place changed at once
+        self.rate = 0.0                     # how far swings turn from piece to piece, in turns
+        self.is_outside = False             # whether it is farther than FOLLOWED
         self.loud = 0.0
         self.next = 0.0                     # where the next element begins
         self.is_moved = False               # whether the place changed at once in the latest elements
+        self.is_other = False               # whether the rate did so
 
     def hear(self, samples):
         """(begins, upper, lower): where the new elements begin, in samples, and r of both tones."""
         self.heard = np.concatenate((self.heard, samples))
         size = PER * PIECE
-        told, self.is_moved = [], False
+        told, self.is_moved, self.is_other = [], False, False
         while (self.seen + 1) * size + PER <= self.begin + len(self.heard):
             self.swings.append(self.swing(self.seen * size))
             self.seen += 1
@@ -162,30 +173,56 @@ class Clock:
 
     def piece(self):
         """The elements of the oldest piece."""
-        sums = np.cumsum([self.past, *self.swings])
-        gains = np.abs(sums[:-1]) + np.abs(sums[-1] - sums[:-1]) - np.abs(sums[-1])
-        first = gains.argmax()
-        shown = sums[-1]
-        if gains[first] > STEP:
-            shown = sums[first] if first else shown - self.past
-            self.past *= first > 0
-        place = float(-np.angle(shown) / (2 * np.pi) * PER)
-        if gains[first] > STEP and first == 0:
-            step = (place - self.next + PER / 2) % PER - PER / 2
-            self.next += step
-            self.is_moved |= abs(step) >= MOVED
-        self.past = (self.past + self.swings.pop(0)) * np.exp(-1 / MEMORY)
         limit = (self.seen - AHEAD) * PER * PIECE
+        place, is_step = self.place()
+        middle, slip = limit - PER * PIECE / 2, -self.rate * PER / PIECE
+        late = lambda: (place + slip * (self.next - middle) / PER - self.next + PER / 2) % PER - PER / 2
+        if is_step:
+            self.is_moved |= abs(late()) >= MOVED
+            self.next += late()
         begins = []
         while self.next < limit:
             begins.append(self.next)
-            late = (place - self.next + PER / 2) % PER - PER / 2
-            self.next += PER + min(max(late / 8, -0.02 * PER), 0.02 * PER)
+            self.next += PER + slip + min(max(late() / 8, -0.02 * PER), 0.02 * PER)
         begins = np.array(begins)
         pair = [self.tone(begins, sign) for sign in (1, -1)]
         drop = max(0, int(self.next) - self.begin - 2 * PER)
         self.heard, self.begin = self.heard[drop:], self.begin + drop
         return np.array([begins, *pair])
+
+    def place(self):
+        """Where elements begin in the middle of the oldest piece, and whether the place changed at
+        once before it; then the swings before it are forgotten."""
+        pieces = np.arange(-len(self.past), len(self.swings))
+        swings = np.array(self.past + self.swings) * np.exp(np.minimum(pieces, 0) / MEMORY)
+        turned = lambda: swings * np.exp(-2j * np.pi * self.rate * pieces)
+        lengths = np.abs(np.exp(-2j * np.pi * RATES[:, None] * pieces) @ swings)
+        sums = np.cumsum(np.append(0, turned()))
+        sums, shown = sums[len(self.past):-1], sums[-1]
+        pairs = np.abs(sums) + np.abs(shown - sums)
+        first = pairs.argmax()
+        is_step = pairs[first] - max(lengths.max(), abs(shown)) > STEP
+        if is_step:
+            shown = sums[first] if first else shown - sums[0]
+        else:
+            self.follow(lengths, abs(shown))
+            shown = turned().sum()
+        self.past = (self.past * (first > 0 or not is_step) + [self.swings.pop(0)])[-PAST:]
+        return float(-np.angle(shown) / (2 * np.pi) * PER), is_step and first == 0
+
+    def follow(self, lengths, here):
+        """Follows the rate for which the sum of the swings is longest: at once where that explains
+        much more than the sum at the present rate, which is `here` long; else slowly."""
+        best = min(max(lengths.argmax(), 1), len(RATES) - 2)
+        before, longest, behind = lengths[best - 1:best + 2]
+        peak = (behind - before) / (2 * abs(2 * longest - before - behind) + 1e-9)
+        rate = RATES[best] + min(max(peak, -1), 1) * (RATES[1] - RATES[0])
+        is_far = longest > max(SHOWN, here + STEP)
+        self.is_outside = is_far and abs(rate) > FOLLOWED
+        if is_far and not self.is_outside:
+            self.rate, self.is_other = rate, True
+        elif longest > SHOWN and abs(rate - self.rate) < NEAR:
+            self.rate += (rate - self.rate) / 8
 
     def tone(self, begins, sign):
         """r of the upper tone (sign 1) or the lower: the mean of x e^(-2 pi i f t) over each

@@ -1,11 +1,10 @@
 // Where elements begin, and what each of the tones is in them.
 
-import { between, clip, listOf, modulo, placeOfGreatest } from './numbers.js';
+import { between, clip, listOf, modulo } from './numbers.js';
 import { AHEAD, INNER_RATE, PER, PIECE, SHIFT } from './rates.js';
 import { Signal } from './signal.js';
+import { Swings } from './swings.js';
 
-const CLOCK_MEMORY = 15;   // pieces that the clock remembers
-const CLOCK_STEP = 100;    // what a step of the clock has to explain: noise gives 80, half an element 450
 const MOVED = 3;           // a change of place by so many samples shows a jump
 const ROUND = 320;         // samples in which both tones, half a SHIFT off, make whole turns (17 of them)
 const TONE_ANGLE = -Math.PI * SHIFT / INNER_RATE;
@@ -17,21 +16,27 @@ const TONE_SINES = listOf(ROUND, (place) => Math.sin(TONE_ANGLE * place));
  *
  * E(t) is the energy of a tone over the 16 samples up to t. |E_B - E_Y| is largest where an element
  * ends, so the angle of the sum of |E_B - E_Y| e^(-2 pi i t / 16) tells the place (after Oerder and
- * Meyr 1988). The sum is over 3 s before and 1 s after. Each element moves by an eighth of what it
- * is late, at most 2 per cent of its length, so that the count of elements goes on where nothing is
- * heard. Where sound was lost or doubled the place changes at once: two sums, before a piece and
- * from it on, are then together much longer than the sum of all.
+ * Meyr 1988). Each piece has such a sum, its swing; they are added up over 3 s before and 1 s after,
+ * at the rate of the sender's clock. Each element moves by what the rate tells, and by an eighth of
+ * what it is late, at most 2 per cent of its length, so that the count of elements goes on where
+ * nothing is heard. Where sound was lost or doubled the place changes at once: two sums, before a
+ * piece and from it on, are then together much longer than that of all at any rate.
  */
 export class Clock {
     constructor() {
         this.heard = Signal.still(0);   // samples at INNER_RATE that are still needed
         this.begin = 0;                 // number of the first of them
         this.seen = 0;                  // pieces whose swing is known
-        this.swings = [];               // the sums of the pieces that no element was taken of
-        this.past = point(0, 0);        // the sum before them, as it is remembered
+        this.swings = new Swings();
         this.loud = 0;
         this.next = 0;                  // where the next element begins
         this.isMoved = false;           // whether the place changed at once in the latest elements
+        this.isOther = false;           // whether the rate did so
+    }
+
+    /** Whether the clock of the sender is too fast or too slow to be followed. */
+    get isOutside() {
+        return this.swings.isOutside;
     }
 
     /** The new elements of each piece: where they begin, in samples, and both tones in them. */
@@ -40,10 +45,11 @@ export class Clock {
         const size = PER * PIECE;
         const told = [];
         this.isMoved = false;
+        this.isOther = false;
         while ((this.seen + 1) * size + PER <= this.begin + this.heard.length) {
-            this.swings.push(this.swing(this.seen * size));
+            this.swings.add(this.swing(this.seen * size));
             this.seen += 1;
-            if (this.swings.length > AHEAD) {
+            if (this.swings.isEnough) {
                 told.push(...this.piece());
             }
         }
@@ -71,16 +77,7 @@ export class Clock {
 
     /** The elements of the oldest piece. */
     piece() {
-        const place = this.place();
-        const oldest = this.swings.shift();
-        const kept = Math.exp(-1 / CLOCK_MEMORY);
-        this.past = point((this.past.real + oldest.real) * kept, (this.past.imaginary + oldest.imaginary) * kept);
-        const limit = (this.seen - AHEAD) * PER * PIECE;
-        const begins = [];
-        while (this.next < limit) {
-            begins.push(this.next);
-            this.next += PER + clip(late(place, this.next) / 8, -0.02 * PER, 0.02 * PER);
-        }
+        const begins = this.begins();
         const upper = this.tones(begins, 1);
         const lower = this.tones(begins, -1);
         const drop = Math.max(0, Math.trunc(this.next) - this.begin - 2 * PER);
@@ -89,28 +86,25 @@ export class Clock {
         return begins.map((begin, one) => ({ begin, upper: upper[one], lower: lower[one] }));
     }
 
-    /** The place that the swings show; the past counts as long as no step explains them better. */
-    place() {
-        const sums = [this.past];
-        for (const swing of this.swings) {
-            sums.push(plus(sums[sums.length - 1], swing));
+    /** Where the elements of the oldest piece begin. */
+    begins() {
+        const limit = (this.seen - AHEAD) * PER * PIECE;
+        const middle = limit - PER * PIECE / 2;
+        const { place, isStep } = this.swings.place();
+        const slip = -this.swings.rate * PER / PIECE;
+        const late = () => modulo(place + slip * (this.next - middle) / PER - this.next + PER / 2, PER) - PER / 2;
+        if (isStep) {
+            const step = late();
+            this.isMoved ||= Math.abs(step) >= MOVED;
+            this.next += step;
         }
-        const all = sums[sums.length - 1];
-        const gains = sums.slice(0, -1).map((sum) => sizeOf(sum) + sizeOf(minus(all, sum)) - sizeOf(all));
-        const first = placeOfGreatest(gains);
-        const isStep = gains[first] > CLOCK_STEP;
-        if (!isStep) {
-            return shownBy(all);
+        this.isOther ||= this.swings.isOther;
+        const begins = [];
+        while (this.next < limit) {
+            begins.push(this.next);
+            this.next += PER + slip + clip(late() / 8, -0.02 * PER, 0.02 * PER);
         }
-        if (first > 0) {
-            return shownBy(sums[first]);
-        }
-        const place = shownBy(minus(all, this.past));
-        const step = late(place, this.next);
-        this.past = point(0, 0);
-        this.next += step;
-        this.isMoved ||= Math.abs(step) >= MOVED;
-        return place;
+        return begins;
     }
 
     /**
@@ -152,28 +146,6 @@ function energies(sums) {
         (sums.real[place + PER] - sums.real[place]) ** 2 + (sums.imaginary[place + PER] - sums.imaginary[place]) ** 2);
 }
 
-/** How much later than `next` the nearest place of a beginning is. */
-function late(place, next) {
-    return modulo(place - next + PER / 2, PER) - PER / 2;
-}
-
-/** Where elements begin, by a sum of swings. */
-function shownBy(sum) {
-    return -Math.atan2(sum.imaginary, sum.real) / (2 * Math.PI) * PER;
-}
-
 function point(real, imaginary) {
     return { real, imaginary };
-}
-
-function plus(one, other) {
-    return point(one.real + other.real, one.imaginary + other.imaginary);
-}
-
-function minus(one, other) {
-    return point(one.real - other.real, one.imaginary - other.imaginary);
-}
-
-function sizeOf(one) {
-    return Math.hypot(one.real, one.imaginary);
 }

@@ -3,6 +3,7 @@
 import { THERE } from './whole.js';
 
 const SAID_SINGLE = 50;   // locks refused for one tone alone, some 7 s of them, are worth to be said
+const SAID_OUTSIDE = 25;  // pieces of a clock that is too fast or slow, 5 s of them, are worth to be said
 export const QUIET = 1e-4;   // of the full scale: what is less loud is silence (-80 dB)
 
 /** How loud, where, locked or not, how many elements and phasings. */
@@ -41,6 +42,9 @@ function judgedWithoutWords(one) {
         const aside = one.aside.place.toFixed(0);
         return `heard two tones near ${aside} Hz, where --centre names others: name ${aside}, or none`;
     }
+    if (one.outside > SAID_OUTSIDE) {
+        return `heard two tones near ${middle} Hz, but elements came more than 1.2 per cent too fast or too slow`;
+    }
     if (one.single > SAID_SINGLE) {
         return `heard words on one tone alone, the other one is missing near ${middle} Hz: `
             + 'look at the filter of the radio';
@@ -62,6 +66,9 @@ function amiss(one) {
     }
     if (one.single > SAID_SINGLE) {
         said.push('one of the two tones was missing for a time');
+    }
+    if (one.outside > SAID_OUTSIDE) {
+        said.push('elements came more than 1.2 per cent too fast or too slow for a time');
     }
     if (one.aside.score > 0) {
         said.push(`two tones were clearer near ${one.aside.place.toFixed(0)} Hz`);

@@ -35,6 +35,7 @@ export class Whole {
         this.heard = 0;
         this.told = 0;
         this.locks = 0;
+        this.outside = 0;                           // pieces of a sender whose clock can't be followed
         this.tone = 0;                              // the greatest score of two tones so far
         this.aside = { score: 0, place: 0 };        // how clear two tones out of reach were at most, and where
         this.wasLocked = false;
@@ -96,6 +97,10 @@ export class Whole {
         if (this.clock.isMoved) {
             this.sendings.moved = this.begins.end;
         }
+        if (this.clock.isOther) {                   // elements before it weren't counted rightly
+            this.sendings.forget(this.begins.end);
+        }
+        this.outside += this.clock.isOutside ? 1 : 0;
         this.begins.add(elements.map(({ begin }) => begin));
         const bits = this.sendings.hear(elements, this.middle);
         this.locks += this.locked && !this.wasLocked ? 1 : 0;
@@ -130,7 +135,7 @@ export class Whole {
             && Math.abs(clearest.place - clip(clearest.place, ...this.reach)) > FAR;
         const isBeside = Math.abs(clearest.place - this.middle) <= NEAR_CENTRE + SHIFT
             || clearest.score >= OTHER * here;
-        this.sendings.isTuned = !(isAside && isBeside);
+        this.sendings.isTuned = !(isAside && isBeside) && !this.clock.isOutside;
         if (isAside && clearest.score >= this.aside.score) {
             this.aside = clearest;
         }
