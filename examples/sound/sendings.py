@@ -7,6 +7,8 @@ tone over an element, A its size where the tone is sent, N the power of noise in
 """
 import numpy as np
 
+import headers
+
 TRAFFIC = [int(n, 16) for n in (            # the 32 traffic combinations (ITU-R M.476, M.625)
     "47 72 1D 53 56 1B 35 69 4D 17 1E 65 39 59 71 2D "
     "2E 55 4B 74 4E 3C 27 3A 2B 63 78 6C 5A 36 5C 6A").split()]
@@ -47,7 +49,9 @@ TURNED = np.exp(-2j * np.pi * (np.cumsum(STEPS, 1) - STEPS))
 ADDED = 0.85                                # turns that a word adds, which has one B more than Y
 DX = np.array(TRAFFIC + [P2, P1])           # what may be sent: a combination twice, phasing, P1 twice
 RX = np.array(TRAFFIC + [P1, P1])
-PRIOR = np.log([0.75 / 32] * 32 + [0.20, 0.02])
+PHASING = len(TRAFFIC)                      # the number of phasing among them
+COMBINATION = 0.75 / 32                     # how often each combination is sent
+PRIOR = np.log([COMBINATION] * 32 + [0.20, 0.02])
 LAST = np.log(0.001)                        # an end position: P1, and no second sending
 BESSEL = np.linspace(0, 40, 1601), np.log(np.i0(np.linspace(0, 40, 1601)))
 
@@ -165,7 +169,7 @@ class Sendings:
         self.middle = None                       # the middle by the phase of words, in a lock
         self.phasing = self.phases = 0           # pairs of phasing positions met; those in a row now
         self.tones = Store(2, dtype=complex)     # r of the upper and of the lower tone
-        self.mixed = Store()                     # the frequency that they were mixed down by
+        self.mixed_by = Store()                  # the frequency that they were mixed down by
         self.state = Store(2, 4)                 # of each tone A^2, A / N, A^2 / N, and its likelihood
         self.words = Store(129)                  # the likelihood of each word that begins here: `spoilt`
         self.proof = Store(2)                    # that of a position that begins here; exchanged
@@ -174,10 +178,12 @@ class Sendings:
         self.out = Store(dtype=int)
         self.told = 0
         self.ways = np.zeros(3)                  # what spoke of late for each way to see the phase
+        self.header_place = headers.Place()      # whether a header may begin
+        self.header = {}                         # the numbers of its words, by where they are told
 
     def hear(self, upper, lower, middle):
         self.tones.add(np.array([upper, lower]).T)
-        self.mixed.add(middle)
+        self.mixed_by.add(middle)
         self.hear_tones()
         self.hear_words()
         self.hear_positions()
@@ -352,31 +358,52 @@ class Sendings:
         return None
 
     def write(self, place):
-        """The words of the position that begins here, in both places; where none is sure, 0. Three
-        models are mixed by what spoke for each of late: without phase, with a phase that goes on
-        through a word, and with one that goes on from the words beside it too. What a word tells
-        that a jump may cut is added, as `joined` has it without phase."""
+        """The words of the position that begins here, in both places; where none is sure, 0."""
         off = self.off(place)
-        places = self.heard(self.told), self.heard(self.told + GAP)
-        rows = np.zeros((3, 2, 129))
-        for is_rx, begin in enumerate(places):
-            if begin is not None:
-                rows[0, is_rx] = self.words[begin]
-                rows[1:, is_rx] = spoilt(self.with_phase(begin, off, np.array([0, self.carried(begin, is_rx, off)])))
-        ways = pairs(rows[:, 0], rows[:, 1], self.exchanged)
+        ways = self.seen(self.told, off)
         shown = 0.95 * self.ways + log_sum(ways)
         self.ways = np.maximum(shown - shown.max(), -6)
-        models = log_sum((ways + self.ways[:, None]).T) - log_sum(self.ways)
-        if self.told in self.joined:
-            models += self.joined[self.told] - ways[0]
+        models = self.mixed(self.told, ways)
         best = models.argmax()
-        dx, rx = (P1, 0) if best == len(DX) else (DX[best], RX[best])
-        if models[best] - log_sum(models) < np.log(SURE):
-            dx = rx = 0
+        is_sure = models[best] - log_sum(models) >= np.log(SURE)
+        if best != PHASING or not is_sure:
+            self.find_header(place)
+        if self.told in self.header:
+            best = self.header.pop(self.told)
+            is_sure = best is not None
+        dx, rx = ((P1, 0) if best == len(DX) else (DX[best], RX[best])) if is_sure else (0, 0)
         self.count(dx)
+        self.header_place.hear(best if is_sure else None, best == PHASING)
         for begin, word in ((self.told, dx), (self.told + GAP, rx)):
             self.out.add(np.zeros(max(0, begin + WORD - self.out.end), int))
             self.out[begin:begin + WORD][:] = PATTERNS[word]
+
+    def seen(self, told, off):
+        """What speaks for each pair of words of the position that is told there, in three ways:
+        without phase, with a phase that goes on through a word, and with one that goes on from the
+        words beside it too."""
+        rows = np.zeros((3, 2, 129))
+        for is_rx, begin in enumerate((self.heard(told), self.heard(told + GAP))):
+            if begin is not None:
+                rows[0, is_rx] = self.words[begin]
+                rows[1:, is_rx] = spoilt(self.with_phase(begin, off, np.array([0, self.carried(begin, is_rx, off)])))
+        return pairs(rows[:, 0], rows[:, 1], self.exchanged)
+
+    def mixed(self, told, ways):
+        """These three together, by what spoke for each of late. What a word tells that a jump may
+        cut is added, as `joined` has it without phase."""
+        models = log_sum((ways + self.ways[:, None]).T) - log_sum(self.ways)
+        return models + self.joined[told] - ways[0] if told in self.joined else models
+
+    def find_header(self, place):
+        """Looks for a header that begins here, where one may."""
+        if self.header or not self.header_place.is_open or len(self.stretches) > 1:
+            return
+        places = TURN * np.arange(len(headers.FORM))
+        models = [self.mixed(told, self.seen(told, self.off_at(told - self.told + place))) for told in self.told + places]
+        words = headers.header(np.array(models), COMBINATION, SURE)
+        if words is not None:
+            self.header = dict(zip(self.told + places, words))
 
     def count(self, dx):
         """Counts a position: words that aren't sure count only between sure ones of a lock."""
@@ -395,8 +422,11 @@ class Sendings:
         if begin >= end:
             return 0.0
         total = self.slopes[begin:end:TURN][:, int(self.exchanged)].sum()
-        self.middle = self.mixed[begin:end:TURN].mean() + np.angle(total) / (4 * np.pi * T)
-        return self.middle - self.mixed[place]
+        self.middle = self.mixed_by[begin:end:TURN].mean() + np.angle(total) / (4 * np.pi * T)
+        return self.off_at(place)
+
+    def off_at(self, place):
+        return 0.0 if self.middle is None else self.middle - self.mixed_by[place]
 
     def carried(self, place, is_rx, off):
         """The phase in which a word begins at `place`, as the two words on each side tell it: by
@@ -405,7 +435,7 @@ class Sendings:
         total = 0
         for words in (-2, -1, 1, 2):
             begin, of = place + words * WORD, (is_rx + words) % 2
-            if first <= begin - of * GAP and begin + WORD <= last:
+            if first <= begin - of * GAP < self.phasors.end and begin + WORD <= last:
                 phasor = self.phasors[begin - of * GAP][int(self.exchanged), of]
                 turns = off * T * (WORD * words + 3) + (-ADDED if self.exchanged else ADDED) * words
                 total += phasor * np.exp(-2j * np.pi * turns) / (1 + WANDER * abs(words) * np.abs(phasor))

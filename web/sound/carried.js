@@ -26,7 +26,7 @@ export function carriedPhase(phasors, stretch, { place, isRx, isExchanged, off }
         const begin = place + words * WORD;
         const isOtherRx = (isRx + Math.abs(words)) % 2;
         const position = begin - isOtherRx * GAP;
-        if (position >= stretch.first && begin + WORD <= stretch.last) {
+        if (position >= stretch.first && position < phasors.end && begin + WORD <= stretch.last) {
             const column = 4 * Number(isExchanged) + 2 * isOtherRx;
             const real = phasors.get(position, column);
             const imaginary = phasors.get(position, column + 1);

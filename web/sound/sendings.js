@@ -1,6 +1,7 @@
 // From the tones of elements to elements: words are decided from both sendings of a position.
 
 import { carriedPhase, NO_PHASE, PHASORS } from './carried.js';
+import { HEADER_POSITIONS, headerOf, HeaderPlace } from './headers.js';
 import { findJump, ON, TURN } from './jumps.js';
 import { BEFORE, BEHIND, inState, LOUD, SENT, STATE, statesOf } from './loudness.js';
 import { clip, modulo, placeOfGreatest, sum } from './numbers.js';
@@ -8,8 +9,8 @@ import { offBySlope, phasorOf, slopeOf, turnedBack, wordsWithPhase } from './pha
 import { Store } from './store.js';
 import { Ways } from './ways.js';
 import {
-    asHeard, DX, GAP, pairs, PAIRS, PATTERNS, PHASING_ONE, PHASING_TWO, RX, UNHEARD, WORD, WORDS, wordsByElements,
-    wordsByLikelihoods,
+    asHeard, DX, GAP, pairs, PAIRS, PATTERNS, PHASING_NUMBER, PHASING_ONE, PHASING_TWO, RX, UNHEARD, WORD, WORDS,
+    wordsByElements, wordsByLikelihoods,
 } from './words.js';
 
 const BACK = 14;       // positions before one that tell a lock
@@ -46,8 +47,10 @@ export class Sendings {
         this.phasing = 0;                  // pairs of phasing positions met
         this.phases = 0;                   // phasing positions in a row now
         this.ways = new Ways();            // what spoke of late for each way to see the phase
+        this.headerPlace = new HeaderPlace();   // whether a header may begin
+        this.header = new Map();           // the numbers of its words, by where they are told
         this.tones = new Store(4);         // of the upper and of the lower tone, real and imaginary
-        this.mixed = new Store(1);         // the frequency that they were mixed down by
+        this.mixedBy = new Store(1);       // the frequency that they were mixed down by
         this.state = new Store(STATE);     // loudness of both tones, and how probable they are
         this.words = new Store(WORDS);     // how likely each word is that begins here
         this.proof = new Store(2);         // what speaks for a position that begins here; exchanged
@@ -61,7 +64,7 @@ export class Sendings {
     hear(elements, middle) {
         for (const { upper, lower } of elements) {
             this.tones.add([upper.real, upper.imaginary, lower.real, lower.imaginary]);
-            this.mixed.add([middle]);
+            this.mixedBy.add([middle]);
         }
         this.hearTones();
         this.hearWords();
@@ -260,28 +263,55 @@ export class Sendings {
 
     /** The words of the position that begins here, in both places; where none is sure, 0. */
     write(place) {
-        const models = this.models(place);
+        const ways = this.seen(this.told, this.off(place));
+        this.ways.hear(ways);
+        const models = this.mixed(this.told, ways);
         const best = placeOfGreatest(models);
         const isSure = models[best] >= SURE * sum(models);
-        const [dx, rx] = isSure ? pairOf(best) : [0, 0];
+        if (!isSure || best !== PHASING_NUMBER) {
+            this.findHeader(place);
+        }
+        const number = this.header.get(this.told) ?? null;
+        const told = this.header.has(this.told) ? number : [null, best][Number(isSure)];
+        this.header.delete(this.told);
+        const [dx, rx] = told === null ? [0, 0] : pairOf(told);
         this.count(dx);
+        this.headerPlace.hear(told, told === PHASING_NUMBER);
         this.put(this.told, dx);
         this.put(this.told + GAP, rx);
     }
 
     /**
-     * How likely each pair of words of the position that begins here is. Three models are mixed by
-     * what spoke for each of late: without phase, with a phase that goes on through a word, and
-     * with one that goes on from the words beside it too. What a word tells that a jump may cut
+     * How likely each pair of words of the position that is told there is, in three ways: without
+     * phase, with a phase that goes on through a word, and with one that goes on from the words
+     * beside it too.
+     */
+    seen(told, off) {
+        const [dx, rx] = this.heardWords(told).map((at, isRx) => this.rows(at, isRx, off));
+        return dx.map((row, way) => pairs(row, rx[way], this.exchanged));
+    }
+
+    /**
+     * These three together, by what spoke for each of late. What a word tells that a jump may cut
      * counts too, as `joined` has it without phase.
      */
-    models(place) {
-        const off = this.off(place);
-        const [dx, rx] = this.heardWords(this.told).map((at, isRx) => this.rows(at, isRx, off));
-        const ways = dx.map((row, way) => pairs(row, rx[way], this.exchanged));
+    mixed(told, ways) {
         const models = this.ways.mixed(ways);
-        const joined = this.joined.get(this.told);
+        const joined = this.joined.get(told);
         return joined ? models.map((one, pair) => one * joined[pair] / ways[0][pair]) : models;
+    }
+
+    /** Looks for a header that begins here, where one may. */
+    findHeader(place) {
+        if (this.header.size || !this.headerPlace.isOpen || this.stretches.length > 1) {
+            return;
+        }
+        const places = Array.from({ length: HEADER_POSITIONS }, (_, position) => TURN * position);
+        const models = places.map((at) => this.mixed(this.told + at, this.seen(this.told + at, this.offAt(place + at))));
+        const words = headerOf(models, SURE);
+        if (words) {
+            this.header = new Map(places.map((at, position) => [this.told + at, words[position]]));
+        }
     }
 
     /** How likely each word is that begins at an element, in each way to see its phase. */
@@ -324,7 +354,7 @@ export class Sendings {
             if (at >= Math.max(first, this.slopes.first) && at < last) {
                 total.real += this.slopes.get(at, column);
                 total.imaginary += this.slopes.get(at, column + 1);
-                middles += this.mixed.get(at);
+                middles += this.mixedBy.get(at);
                 count += 1;
             }
         }
@@ -332,7 +362,11 @@ export class Sendings {
             return 0;
         }
         this.middle = middles / count + offBySlope(total);
-        return this.middle - this.mixed.get(place);
+        return this.offAt(place);
+    }
+
+    offAt(place) {
+        return this.middle === null ? 0 : this.middle - this.mixedBy.get(place);
     }
 }
 

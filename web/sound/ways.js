@@ -12,11 +12,15 @@ export class Ways {
         this.shown = new Float64Array(WAYS);
     }
 
-    /** How likely each pair is, up to a factor, where `models` tells it for each way. */
-    mixed(models) {
+    /** Takes the models of a position, one for each way: what spoke for it. */
+    hear(models) {
         const shown = listOf(WAYS, (way) => REMEMBERED * this.shown[way] + Math.log(sum(models[way])));
         const most = Math.max(...shown);
         this.shown = listOf(WAYS, (way) => Math.max(shown[way] - most, LEAST));
+    }
+
+    /** How likely each pair is, up to a factor, where `models` tells it for each way. */
+    mixed(models) {
         const shares = this.shown.map(Math.exp);
         return listOf(models[0].length, (pair) =>
             sum(listOf(WAYS, (way) => models[way][pair] * shares[way])));

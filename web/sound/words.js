@@ -17,7 +17,9 @@ const TRAFFIC = [               // the 32 traffic combinations (ITU-R M.476, M.6
 export const DX = [...TRAFFIC, PHASING_TWO, PHASING_ONE];   // a combination twice, phasing, P1 twice
 export const RX = [...TRAFFIC, PHASING_ONE, PHASING_ONE];
 export const PAIRS = DX.length + 1;                         // these, and an end
-const PRIOR = [...TRAFFIC.map(() => 0.75 / 32), 0.20, 0.02];
+export const PHASING_NUMBER = TRAFFIC.length;               // the number of phasing among them
+export const COMBINATION = 0.75 / 32;                       // how often each combination is sent
+const PRIOR = [...TRAFFIC.map(() => COMBINATION), 0.20, 0.02];
 const LAST = 0.001;             // an end position: P1, and no second sending
 const SPOILT = 0.002;           // how often one sending of a word is spoilt in any way
 
