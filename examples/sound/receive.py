@@ -16,6 +16,7 @@ PAST = 45             # pieces before which it has forgotten all
 STEP = 100.0          # what a step of the clock has to explain: noise gives 80, half an element 450
 SHOWN = 150.0         # a sum of swings so long isn't that of noise
 RATES = np.arange(-48, 49) / 100   # how far swings may turn from piece to piece, in turns
+BACK = np.exp(-2j * np.pi * RATES[:, None] * np.arange(-PAST, AHEAD + 1))   # by rate, and by piece
 FOLLOWED = 0.24       # turns that are followed: a clock that is 1.2 per cent too fast or too slow
 NEAR = 0.05           # rates so near each other have a sum of much the same length
 MOVED = 3             # a change of place by so many samples shows a jump
@@ -196,7 +197,7 @@ class Clock:
         pieces = np.arange(-len(self.past), len(self.swings))
         swings = np.array(self.past + self.swings) * np.exp(np.minimum(pieces, 0) / MEMORY)
         turned = lambda: swings * np.exp(-2j * np.pi * self.rate * pieces)
-        lengths = np.abs(np.exp(-2j * np.pi * RATES[:, None] * pieces) @ swings)
+        lengths = np.abs(BACK[:, -len(pieces):] @ swings)
         sums = np.cumsum(np.append(0, turned()))
         sums, shown = sums[len(self.past):-1], sums[-1]
         pairs = np.abs(sums) + np.abs(shown - sums)
