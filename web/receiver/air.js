@@ -1,5 +1,6 @@
 // The lines of an air file, and what a receiver does with them: as `navtex watch` takes them, a line
-// that isn't understood has no effect, and neither has a moment that goes back.
+// that isn't understood has no effect, and neither has a moment that goes back. A line may end by CR
+// LF, as files of Windows have it.
 import { MAX_MOMENT, ReceiverFault } from './receiver.js';
 
 const LONGEST = 514; // characters of a line without its end
@@ -30,22 +31,17 @@ export class LineSplitter {
 
     push(text) {
         const lines = (this.#rest + text).split('\n');
-        this.#rest = lines.pop();
-        return lines;
+        this.#rest = lines.pop().slice(0, LONGEST + 2); // a longer line isn't understood anyway
+        return lines.map(withoutReturn);
     }
 
     /** What stands behind the last line's end. */
     get rest() {
-        return this.#rest;
+        return withoutReturn(this.#rest);
     }
 }
 
-/** Lines of a whole text, with what stands behind the last end as one more. */
-export function linesOf(text) {
-    const splitter = new LineSplitter();
-    const lines = splitter.push(text);
-    return splitter.rest === '' ? lines : [...lines, splitter.rest];
-}
+const withoutReturn = (line) => (line.endsWith('\r') ? line.slice(0, -1) : line);
 
 /** Gives lines to a receiver, and counts those without effect. */
 export class AirRun {

@@ -33,6 +33,11 @@ export function writeState(channels) {
     return ['STATE 2', ...lines, 'END', ''].join('\n');
 }
 
+/** For each channel the stations and the subjects that a state refuses. */
+export function refusedIn(text) {
+    return readState(text).map(({ stations, subjects }) => ({ stations, subjects }));
+}
+
 /** A state without what a clock that ran far ahead left in it: 66 hours or more after now. */
 export function stateAt(text, now) {
     return writeState(readState(text).map((channel) => ({
@@ -49,6 +54,16 @@ export function stateWith(text, entries) {
         const added = logged.map((entry) => ({ identity: identityOf(entry), moment: entry.moment }));
         return { ...channel, remembered: joined([...channel.remembered, ...added]) };
     }));
+}
+
+/** A state that remembers the same and refuses what `refused` says of each channel. */
+export function stateRefusing(text, refused) {
+    return writeState(readState(text).map(({ remembered }, number) => ({ ...refused[number], remembered })));
+}
+
+/** A state that remembers nothing and refuses the same. */
+export function stateForgotten(text) {
+    return writeState(readState(text).map((channel) => ({ ...channel, remembered: [] })));
 }
 
 /** In order of time, two of one identity at least 66 hours apart, the last 200 of them. */

@@ -1,11 +1,7 @@
 // What went wrong, in words on the page.
-import { SoundFault } from './capture.js';
-import { StoreFault } from './store.js';
 
-/** A fault of what was given to the page, with its words. */
+/** A fault that has words for who uses the page. */
 export class PageFault extends Error {}
-
-const WITH_WORDS = [PageFault, SoundFault, StoreFault];
 
 export class Faults {
     #place;
@@ -19,11 +15,18 @@ export class Faults {
         try {
             await action();
         } catch (fault) {
-            const hasWords = WITH_WORDS.some((kind) => fault instanceof kind);
-            this.show(hasWords ? fault.message
-                : `Something went wrong: ${fault.message}. Reload the page; what was received is kept.`);
-            if (!hasWords) console.error(fault);
+            this.tell(fault);
         }
+    }
+
+    /** Shows the words of a fault; one that has none is an error of the page. */
+    tell(fault) {
+        if (fault instanceof PageFault) {
+            this.show(fault.message);
+            return;
+        }
+        this.show(`Something went wrong: ${fault?.message ?? fault}. Reload the page; what was received is kept.`);
+        console.error(fault);
     }
 
     /** Shows words, once, until somebody closes them. */

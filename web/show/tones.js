@@ -1,17 +1,19 @@
-// Where the tones are and how loud: the waterfall, the fields beside it, and the lock.
+// Where the tones of a frequency are and how loud: the waterfall, the fields beside it, and the lock.
+// Each frequency has tones of its own; those of one are shown.
 import { Waterfall } from './waterfall.js';
 
 const find = (id) => document.getElementById(id);
 
 export class Tones {
     #waterfall;
-    #tuning = { centre: 1000, search: true, exchanged: false };
+    #tunings; // of each channel what its demodulator is to do: centre, search, exchanged
+    #shown = 0;
     #onChange;
 
-    /** `onChange` gets what the demodulator is to do: centre, search, exchanged. */
-    constructor(tuning, onChange) {
+    /** `onChange` gets a channel and its tuning, where somebody chose another one. */
+    constructor(tunings, onChange) {
         this.#onChange = onChange;
-        this.#tuning = { ...this.#tuning, ...tuning };
+        this.#tunings = tunings;
         this.#waterfall = new Waterfall(find('waterfall'), (middle) => this.#choose({ centre: middle, search: false }));
         const middle = find('middle');
         middle.addEventListener('change', () =>
@@ -21,20 +23,35 @@ export class Tones {
         this.#showTuning();
     }
 
-    get tuning() {
-        return this.#tuning;
+    get tunings() {
+        return this.#tunings;
+    }
+
+    /** The channel whose tones are shown. */
+    get shown() {
+        return this.#shown;
     }
 
     set isNight(isNight) {
         this.#waterfall.isNight = isNight;
     }
 
-    /** Draws a row of the waterfall; `powerAt` gives the power at a pitch. */
-    add(powerAt) {
-        this.#waterfall.add(powerAt);
+    /** Shows the tones of a channel from here on. */
+    show(channel) {
+        if (channel === this.#shown) return;
+        this.#shown = channel;
+        this.#waterfall.clear();
+        this.#showLock(false);
+        this.#showTuning();
     }
 
-    show({ middle, level, isLocked }) {
+    /** Draws a row of the waterfall. */
+    add(channel, row) {
+        if (channel === this.#shown) this.#waterfall.add(row);
+    }
+
+    showStatus(channel, { middle, level, isLocked }) {
+        if (channel !== this.#shown) return;
         find('meter').value = level;
         find('level').textContent = `${level.toFixed(0)} dB`;
         this.#showLock(isLocked);
@@ -47,15 +64,16 @@ export class Tones {
     }
 
     #choose(changed) {
-        this.#tuning = { ...this.#tuning, ...changed };
+        this.#tunings[this.#shown] = { ...this.#tunings[this.#shown], ...changed };
         this.#showTuning();
-        this.#onChange(this.#tuning);
+        this.#onChange(this.#shown, this.#tunings[this.#shown]);
     }
 
     #showTuning() {
-        find('search').checked = this.#tuning.search;
-        find('exchanged').checked = this.#tuning.exchanged;
-        this.#showMiddle(this.#tuning.centre);
+        const { centre, search, exchanged } = this.#tunings[this.#shown];
+        find('search').checked = search;
+        find('exchanged').checked = exchanged;
+        this.#showMiddle(centre);
     }
 
     #showMiddle(middle) {

@@ -34,18 +34,27 @@ export function civilOf(moment) {
     return new Date(moment * 1000).toISOString().slice(0, 19).replace('T', ' ');
 }
 
-/** All entries of a log, of a kept log, or of several one behind the other; and the first line that
- *  belongs to none of them, or null. */
-export function readLog(text) {
-    const entries = [];
-    let stray = null;
+/** All entries of a log, of a kept log, or of several one behind the other. `onStray` gets the place of
+ *  what belongs to none of them. */
+export function* entriesOf(text, onStray = () => {}) {
     for (let at = 0; at < text.length;) {
         const entry = text[at] === '[' ? entryAt(text, at) : null;
-        if (entry !== null) entries.push(entry);
-        else if (!/\s/.test(text[at])) stray ??= text.slice(0, at).split('\n').length;
+        if (entry !== null) yield entry;
+        else if (!/\s/.test(text[at])) onStray(at);
         at += entry?.log.length ?? 1;
     }
+}
+
+/** Those entries, and the first line that belongs to none of them, or null. */
+export function readLog(text) {
+    let stray = null;
+    const entries = [...entriesOf(text, (at) => { stray ??= lineOf(text, at); })];
     return { entries, stray };
+}
+
+/** The line of a text in which a place stands, from 1 on. */
+export function lineOf(text, at) {
+    return text.slice(0, at).split('\n').length;
 }
 
 /** Whether a log remembers the entry: it is whole, and less than 4 per cent of it are lost. */

@@ -1,12 +1,11 @@
 // The waterfall: the loudness of each pitch, newest at the top, and two lines where the tones are
 // expected. The lines are moved by dragging, by the arrow keys, or by the number beside them.
-import { HIGHEST, LOWEST } from './spectrum.js';
+import { HIGHEST, LOWEST } from '../hear/spectrum.js';
 
 const SHIFT = 170;
 const RANGE = 35;     // dB from dark to bright
 const BELOW = 8;      // dB by which dark is quieter than what is usual in a row
 const SLOW = 10;      // rows over which the usual loudness is averaged
-const LEAST = -100;   // dB
 const STEP = 5;       // Hz of an arrow key
 const STRIDE = 50;    // Hz of Page Up and Page Down
 
@@ -62,11 +61,9 @@ export class Waterfall {
         });
     }
 
-    /** Draws one row at the top; `powerAt` gives the power at a pitch. */
-    add(powerAt) {
+    /** Draws one row at the top: the loudness of its pitches, in dB. */
+    add(row) {
         const { width, height } = this.#canvas;
-        const row = Float32Array.from({ length: width }, (_, x) =>
-            Math.max(LEAST, 10 * Math.log10(powerAt(LOWEST + ((HIGHEST - LOWEST) * x) / width) + 1e-12)));
         const sorted = Float32Array.from(row).sort();
         const dark = Math.max(sorted[width >> 1] - BELOW, sorted[width - 1] - RANGE);
         this.#dark = this.#dark === null ? dark : this.#dark + (dark - this.#dark) / SLOW;
@@ -74,6 +71,13 @@ export class Waterfall {
         this.#rows = [bright, ...this.#rows].slice(0, height);
         this.#drawing.drawImage(this.#canvas, 0, 0, width, height - 1, 0, 1, width, height - 1);
         this.#draw(bright, 0);
+    }
+
+    /** Takes all rows away. */
+    clear() {
+        this.#rows = [];
+        this.#dark = null;
+        this.#drawing.clearRect(0, 0, this.#canvas.width, this.#canvas.height);
     }
 
     /** Draws all rows anew, in red or in the colours of the day. */

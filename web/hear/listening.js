@@ -1,0 +1,134 @@
+// Live sound in the queue: one or two inputs at once, each on a frequency of its own, until somebody
+// stops it.
+import { Beside } from './beside.js';
+import { askForInput, Capture, endStream, SoundFault } from './capture.js';
+import { Stopped, unlessStopped } from './queue.js';
+import { clock, Sound } from './sound.js';
+
+const ROWS = 10;      // rows of the waterfall in a second
+const SILENT = 5000;  // milliseconds in which an input has to give something
+const LATE = 2;       // seconds that the demodulator may be late before it is said
+
+export class Listening extends Sound {
+    #inputs;
+    #given;
+    #captures = [];
+    #besides = new Map(); // of each channel
+    #behind = new Map();  // of each channel how many seconds its demodulator is late, and are lost
+    #hasHeard = false;
+    #fail;                // ends it with a fault
+
+    /** `inputs` have each a channel, a side, and the number of an input, or a stream. `given` has the
+     *  script of the worker, `tuningOf(channel)`, and `saidOf(channel)`. */
+    constructor(name, inputs, given, kept, show) {
+        super(name, kept, show);
+        this.#inputs = inputs;
+        this.#given = given;
+    }
+
+    get channels() {
+        return this.#inputs.map(({ channel }) => channel);
+    }
+
+    tune(channel, tuning) {
+        this.#besides.get(channel)?.tune(tuning);
+    }
+
+    /** Hears another side of an input. */
+    setSide(channel, side) {
+        const at = this.channels.indexOf(channel);
+        if (this.#captures[at] !== undefined) this.#captures[at].side = side;
+    }
+
+    /** It was taken out before it began: a tab that was asked for is let go. */
+    drop() {
+        for (const { stream } of this.#inputs) if (stream !== undefined) endStream(stream);
+    }
+
+    async hear(signal) {
+        this.show.source(`Asking for ${this.name.replace(/^./, (letter) => letter.toLowerCase())}.`);
+        try {
+            const failed = new Promise((_, reject) => { this.#fail = reject; });
+            failed.catch(() => {});
+            for (const input of this.#inputs) this.#captures.push(await this.#open(input, signal));
+            await this.within(clock(), () => this.#hearAll(signal, failed));
+        } finally {
+            await this.#close();
+        }
+    }
+
+    async #open({ input, stream, side }, signal) {
+        const gone = () => this.#fail(new SoundFault(`${this.name} is gone. Is it still connected?`));
+        const asked = stream ?? await unlessStopped(signal, askForInput(input), endStream);
+        return unlessStopped(signal, Capture.of(asked, side, gone), (late) => late.close());
+    }
+
+    async #hearAll(signal, failed) {
+        this.#inputs.forEach(({ channel }, at) => this.#connect(channel, this.#captures[at]));
+        this.#showSource();
+        this.show.live();
+        const silent = setTimeout(() => {
+            if (!this.#hasHeard) this.show.fault(new SoundFault(`No sound comes from ${this.name.toLowerCase()}. `
+                + 'Does the computer have a sound card in use?'));
+        }, SILENT);
+        try {
+            await unlessStopped(signal, failed);
+            return '';
+        } catch (fault) {
+            if (!(fault instanceof Stopped)) throw fault;
+            return await this.#finish();
+        } finally {
+            clearTimeout(silent);
+        }
+    }
+
+    #connect(channel, capture) {
+        const { script, tuningOf } = this.#given;
+        const beside = new Beside(script, { rate: capture.rate, tuning: tuningOf(channel), rows: ROWS }, {
+            onTold: (told) => this.#hearLive(channel, told),
+            onFault: (fault) => this.#fail(fault),
+        });
+        this.#besides.set(channel, beside);
+        const { port1, port2 } = new MessageChannel();
+        beside.connect(port1, capture.rate);
+        capture.handTo(port2);
+    }
+
+    #hearLive(channel, told) {
+        this.#hasHeard = true;
+        try {
+            this.take(channel, told);
+        } catch (fault) {
+            this.#fail(fault);
+        }
+        this.#behind.set(channel, { behind: told.behind, lost: told.lost });
+        this.#showSource();
+    }
+
+    #showSource() {
+        const { saidOf } = this.#given;
+        const all = [...this.#behind.values()];
+        const behind = Math.max(0, ...all.map((one) => one.behind));
+        const lost = Math.max(0, ...all.map((one) => one.lost));
+        this.show.source(`Hearing ${this.name.replace(/^./, (letter) => letter.toLowerCase())}, on `
+            + `${this.channels.map(saidOf).join(' and ')}.`
+            + (behind > LATE ? ` The demodulator is ${behind.toFixed(0)} s late.` : '')
+            + (lost > 0 ? ` ${lost.toFixed(0)} s of sound were lost: this computer is too slow.` : ''));
+    }
+
+    /** The microphone is let go at once; then what was held back is heard. */
+    async #finish() {
+        await Promise.all(this.#captures.map((capture) => capture.close()));
+        const said = [];
+        for (const [channel, beside] of this.#besides) {
+            said.push(await this.finish(channel, beside));
+        }
+        return said.filter((words) => words !== '').join(', and on the second frequency ');
+    }
+
+    async #close() {
+        this.drop();
+        for (const beside of this.#besides.values()) beside.end();
+        await Promise.all(this.#captures.map((capture) => capture.close()));
+    }
+}

@@ -1,0 +1,381 @@
+// Tries what the scripts of web/ make of the module of the receiver, and those that need no browser.
+// usage: node web/trial/module.mjs MODULE [PROGRAM]
+import assert from 'node:assert/strict';
+import { spawnSync } from 'node:child_process';
+import { readFileSync, readdirSync } from 'node:fs';
+import { kindOf, linesOf, logOf } from '../hear/files.js';
+import { Look } from '../hear/look.js';
+import { Ring } from '../hear/ring.js';
+import { layoutOf, samplesOf } from '../hear/wave.js';
+import { choicesOf, USUAL_TUNING } from '../keep/choices.js';
+import { KeptReceiver } from '../keep/kept.js';
+import { StoreFault } from '../keep/store.js';
+import { AirRun, LineSplitter, readLine } from '../receiver/air.js';
+import { entryAt, isGood, jsonOf, momentOf, readLog } from '../receiver/entries.js';
+import { MAX_ENTRY, Receiver, ReceiverFault, ROOM, Status } from '../receiver/receiver.js';
+import { EMPTY_STATE, readState, refusedIn, stateAt, stateRefusing, stateWith, writeState } from '../receiver/state.js';
+import { headOf, waveOf } from './waves.mjs';
+
+const EXAMPLES = new URL('../../examples/', import.meta.url);
+const PIECES = [Infinity, 1, 7, 4096];
+const FAR = 32503680000; // later than every moment
+
+const [, , modulePath, program] = process.argv;
+const module = readFileSync(modulePath);
+const example = (name) => readFileSync(new URL(name, EXAMPLES), 'latin1');
+const names = readdirSync(EXAMPLES).filter((name) => name.endsWith('.log')).map((name) => name.slice(0, -4));
+
+/** The lines of an air file, those of elements that follow each other on a channel joined to one. */
+function joinedLines(air) {
+    const said = air.split('\n').slice(0, -1).map(readLine);
+    assert.ok(said.every((line) => line !== null));
+    const joined = [];
+    for (const line of said) {
+        const last = joined.at(-1);
+        if (line.kind === 'elements' && last?.kind === 'elements' && last.channel === line.channel) {
+            last.elements = Uint8Array.from([...last.elements, ...line.elements]);
+        } else {
+            joined.push(line);
+        }
+    }
+    return joined;
+}
+
+/** The log of an air file by a receiver that is open, its elements given in pieces. */
+function logInPieces(receiver, air, piece) {
+    const entries = [];
+    for (const line of joinedLines(air)) {
+        if (line.kind === 'moment') receiver.setMoment(line.moment);
+        else if (line.kind === 'choice') receiver[line.call](line.channel, line.letter);
+        else {
+            const size = Math.min(piece, line.elements.length);
+            for (let at = 0; at < line.elements.length; at += size) {
+                entries.push(...receiver.hear(line.channel, line.elements.subarray(at, at + size)));
+            }
+        }
+    }
+    return entries;
+}
+
+async function triesExamples() {
+    const receiver = await Receiver.load(module);
+    for (const name of names) {
+        for (const piece of PIECES) {
+            receiver.open(0);
+            const log = [...logInPieces(receiver, example(`${name}.air`), piece), ...receiver.close()].join('');
+            assert.equal(log, example(`${name}.log`), `${name}, in pieces of ${piece}`);
+        }
+    }
+}
+
+/** As the page does it: the text of the file in pieces, line by line. */
+async function triesTextInPieces() {
+    const receiver = await Receiver.load(module);
+    for (const name of names) {
+        for (const piece of PIECES) {
+            receiver.open(0);
+            const [run, splitter] = [new AirRun(receiver), new LineSplitter()];
+            const air = example(`${name}.air`);
+            const entries = [];
+            for (let at = 0; at < air.length; at += Math.min(piece, air.length)) {
+                for (const line of splitter.push(air.slice(at, at + piece))) entries.push(...run.take(line));
+            }
+            assert.equal(run.withoutEffect, 0);
+            const log = [...entries, ...receiver.close()].join('');
+            assert.equal(log, example(`${name}.log`), `${name}, its text in pieces of ${piece}`);
+        }
+    }
+}
+
+async function triesWeek() {
+    const receiver = await Receiver.load(module);
+    for (const piece of PIECES) {
+        let state = example('week/0.state');
+        for (let day = 1; day <= 7; day++) {
+            receiver.openFrom(state);
+            const entries = logInPieces(receiver, example(`week/${day}.air`), piece);
+            state = receiver.save();
+            const log = [...entries, ...receiver.close()].join('');
+            assert.equal(log, example(`week/${day}.log`), `week/${day}, in pieces of ${piece}`);
+            assert.equal(state, example(`week/${day}.state`), `week/${day}, in pieces of ${piece}`);
+        }
+    }
+}
+
+/** What the page reads and writes itself: states, and what a log remembers. */
+function triesStates() {
+    assert.equal(writeState(readState(example('week/0.state'))), EMPTY_STATE);
+    for (let day = 1; day <= 7; day++) {
+        const state = example(`week/${day}.state`);
+        assert.equal(writeState(readState(state)), state);
+        assert.equal(stateAt(state, FAR), state);
+        const { entries } = readLog(example(`week/${day}.log`));
+        const remembered = readState(stateWith(example(`week/${day - 1}.state`), entries));
+        assert.deepEqual(remembered.map((one) => one.remembered), readState(state).map((one) => one.remembered));
+    }
+    const refusing = 'STATE 2\nC0\nRS B\nRJ C\nEA01 1735929600\nC1\nC2\nEND\n';
+    assert.equal(stateRefusing(refusing, refusedIn(EMPTY_STATE)), refusing.replace('RS B\nRJ C\n', ''));
+    const ahead = 'STATE 2\nC0\nEA01 1735929600\nEA02 1735929601\nC1\nC2\nEND\n';
+    assert.equal(stateAt(ahead, 1735692001), ahead.replace('EA02 1735929601\n', ''));
+}
+
+/** The numbers of receiver.js are those of the header. */
+function triesHeader() {
+    const header = readFileSync(new URL('../../crates/nx_live/navtex-live.h', import.meta.url), 'utf8');
+    assert.match(header, new RegExp(`#define NX_LIVE_ROOM ${ROOM}$`, 'm'));
+    assert.match(header, new RegExp(`#define NX_LIVE_MAX_ENTRY ${MAX_ENTRY}$`, 'm'));
+    for (const [name, number] of Object.entries(Status)) {
+        assert.match(header, new RegExp(`\\bNX_LIVE_${name} = ${number}\\b`));
+    }
+}
+
+async function triesFaults() {
+    const receiver = await Receiver.load(module);
+    const faultOf = (call) => {
+        try {
+            call();
+        } catch (fault) {
+            assert.ok(fault instanceof ReceiverFault);
+            return fault.status;
+        }
+        return Status.DONE;
+    };
+    assert.equal(faultOf(() => receiver.setMoment(1)), Status.CLOSED);
+    assert.equal(faultOf(() => receiver.openFrom('STATE 2\n')), Status.STATE_CUT);
+    assert.equal(faultOf(() => receiver.openFrom('Buoy\n')), Status.STATE_LINE);
+    receiver.open(1735692000);
+    assert.equal(faultOf(() => receiver.open(1735692000)), Status.ALREADY_OPEN);
+    assert.equal(faultOf(() => receiver.setMoment(1735691999)), Status.MOMENT_BACK);
+    assert.equal(faultOf(() => receiver.setMoment(FAR)), Status.MOMENT_RANGE);
+    assert.equal(faultOf(() => receiver.refuseSubject(0, 'L')), Status.VITAL);
+    assert.equal(faultOf(() => receiver.refuseStation(0, 'a')), Status.NO_STATION);
+    assert.equal(faultOf(() => receiver.hear(3, new Uint8Array(1))), Status.NO_CHANNEL);
+    assert.equal(faultOf(() => receiver.hear(0, Uint8Array.of(2))), Status.NO_ELEMENT);
+    receiver.abandon();
+}
+
+/** A store in memory, in place of the browser's: what was kept last, and all messages. */
+function storeOf(state = undefined, messages = []) {
+    const store = {
+        state,
+        messages: new Map(messages.map((message) => [message.id, message])),
+        async read(last = 0) {
+            return { state: store.state, messages: [...store.messages.values()].filter(({ id }) => !(id <= last)) };
+        },
+        async keep({ state: next, messages: changed = [], isAnew = false, aside }) {
+            if (isAnew) store.messages.clear();
+            store.aside ??= aside;
+            store.state = next;
+            for (const message of changed) store.messages.set(message.id, { ...message });
+            return store.gone?.() ?? [];
+        },
+    };
+    return store;
+}
+
+const NOW = 1735700000;
+
+/** A receiver over a store, and what it told. */
+async function keptOver(store) {
+    const told = { faults: [], added: [] };
+    const kept = new KeptReceiver([await Receiver.load(module), await Receiver.load(module)], store, {
+        fault: (fault) => told.faults.push(fault.message),
+        added: (added) => told.added.push(...added),
+        changed: () => {},
+    });
+    await kept.open(NOW);
+    return { kept, told };
+}
+
+/** What a receiver prints of an air file, and how many messages of it were new, known and refused. */
+async function printed({ kept, told }, air) {
+    const before = told.added.length;
+    const run = kept.begin(NOW);
+    for (const line of air.split('\n').slice(0, -1)) kept.take(line);
+    await kept.endOfSound(NOW);
+    return { log: told.added.slice(before).map(({ log }) => log).join(''), ...run.counts };
+}
+
+/** What is kept goes on in another receiver: nothing is printed again, and a log is taken up. */
+async function triesKeeping() {
+    const store = storeOf();
+    const first = await keptOver(store);
+    first.kept.choose('Station', 1, 'B', true);
+    assert.deepEqual(await printed(first, example('ea01.air')),
+        { log: example('ea01.log'), heard: 1, added: 1, known: 0, refused: 0, notWhole: 0 });
+    const later = await keptOver(store);
+    assert.equal(later.kept.messages.length, 1);
+    assert.deepEqual(later.kept.refused[1].stations, ['B']);
+    assert.deepEqual(await printed(later, example('ea01.air')),
+        { log: '', heard: 1, added: 0, known: 1, refused: 0, notWhole: 0 });
+    const badly = await keptOver(storeOf());
+    assert.equal((await printed(badly, example('heard-badly.air'))).log, example('heard-badly.log'));
+    assert.equal((await printed(badly, example('ea01.air'))).log, '', 'a moment that goes back leaves the one in force');
+    const other = await keptOver(storeOf());
+    const breathe = async () => {};
+    assert.deepEqual(await other.kept.load(` \n${example("ea01.log")} `, NOW, breathe), { found: 1, added: 1, stray: null });
+    assert.deepEqual(await other.kept.load(`x\n${example("ea01.log")}`, NOW, breathe), { found: 1, added: 0, stray: 1 });
+    assert.equal((await printed(other, example('ea01.air'))).log, '');
+    await other.kept.beginAnew(NOW);
+    assert.equal((await printed(other, example('cut.air'))).log, example('cut.log'));
+    assert.deepEqual([first, later, badly, other].flatMap(({ told }) => told.faults), []);
+}
+
+/** Commands in a file hold for that file alone, in the store too; and what they refuse is counted. */
+async function triesCommands() {
+    const store = storeOf();
+    const one = await keptOver(store);
+    const { log, ...counts } = await printed(one, example('refused.air'));
+    assert.equal(log, example('refused.log'));
+    assert.deepEqual(counts, { heard: 2, added: 1, known: 0, refused: 1, notWhole: 0 });
+    assert.deepEqual(one.kept.refused, refusedIn(EMPTY_STATE));
+    assert.doesNotMatch(store.state, /^R[SJ]/m);
+}
+
+/** A store whose values are odd, or that is full, ends nothing. */
+async function triesOddStores() {
+    const entry = { id: 1, text: example('ea01.log'), isRead: true };
+    const damaged = storeOf('STATE 2\nC0\n', [entry]);
+    const mended = await keptOver(damaged);
+    assert.match(mended.told.faults[0], /put aside/);
+    assert.equal((await printed(mended, example('ea01.air'))).log, '', 'the messages tell what is remembered');
+    assert.equal(damaged.aside, 'STATE 2\nC0\n');
+    for (const state of [7, null, {}, 'Buoy 7']) {
+        const odd = await keptOver(storeOf(state, [entry]));
+        assert.equal((await printed(odd, example('ea01.air'))).log, '');
+    }
+    const strange = await keptOver(storeOf(EMPTY_STATE, [entry, { id: 2, text: 'Buoy' }, { id: 3 },
+        { id: 'x', text: example('ea01.log') }, { id: 5, text: 5, isRead: [] }]));
+    assert.match(strange.told.faults[0], /^The browser's store has 4 entries that are no messages/);
+    assert.equal(strange.kept.messages.length, 1);
+    await printed(strange, example('cut.air'));
+    const ids = strange.kept.messages.map(({ id }) => id);
+    assert.deepEqual(ids, [1, 6, 7], 'an odd entry is never written over');
+    const full = storeOf();
+    full.keep = async () => { throw new StoreFault('full'); };
+    const still = await keptOver(full);
+    assert.equal((await printed(still, example('ea01.air'))).log, example('ea01.log'));
+    assert.deepEqual(new Set(still.told.faults), new Set(['full']));
+    const forgetting = storeOf(EMPTY_STATE, [entry]);
+    forgetting.gone = () => [1];
+    const fewer = await keptOver(forgetting);
+    await printed(fewer, example('cut.air'));
+    assert.deepEqual(fewer.kept.messages.map(({ id }) => id), [2, 3]);
+    assert.match(fewer.told.faults[0], /is full: the 1 oldest messages went/);
+}
+
+/** Choices that may be anything. */
+function triesChoices() {
+    const usual = choicesOf(null);
+    assert.deepEqual(usual, { view: [], tunings: Array(3).fill({ ...USUAL_TUNING }), rings: ['D', '00'], notifies: false,
+        names: {}, ends: 'changed' });
+    for (const odd of [7, 'x', [], { view: 7, tunings: { centre: 'x' }, rings: 'D', names: [1], notifies: 'yes' },
+        { tunings: [{ centre: 1e9, search: 'no' }, null, 5], names: { e: 'x', E: 7, F: ' ' } }]) {
+        assert.deepEqual(choicesOf(odd), usual);
+    }
+    assert.deepEqual(choicesOf(JSON.parse(JSON.stringify({ ...usual, view: ['night'], names: { E: 'Niton' } }))),
+        { ...usual, view: ['night'], names: { E: 'Niton' } });
+}
+
+/** A file, as the browser gives one. */
+function fileOf(bytes, name = 'x') {
+    const file = new Blob([bytes]);
+    file.name = name;
+    return file;
+}
+
+/** Files of Windows: a mark at the beginning, and lines ended by CR LF. */
+async function triesFiles() {
+    const dressed = (text) => Buffer.from('\xef\xbb\xbf' + text.replaceAll('\n', '\r\n'), 'latin1');
+    const air = fileOf(dressed(example('two-messages.air')));
+    assert.equal(await kindOf(air), 'air');
+    const lines = [];
+    for await (const [some] of linesOf(air)) lines.push(...some);
+    assert.equal(lines.join('\n'), example('two-messages.air').trimEnd());
+    const log = fileOf(dressed(example('two-messages.log')));
+    assert.equal(await kindOf(log), 'log');
+    assert.equal(await logOf(log), example('two-messages.log'));
+    assert.equal(await kindOf(fileOf(example('ea01.log'))), 'log');
+    assert.equal(await kindOf(fileOf(waveOf([[0, 1]]))), 'sound');
+    await assert.rejects(kindOf(fileOf('Buoy 7 is unlit\n', 'note.txt')), /note.txt is a text, but neither/);
+    await assert.rejects(kindOf(fileOf('', 'none.wav')), /none.wav is empty/);
+}
+
+/** WAV files of each kind give their samples, in slices too. */
+async function triesWaves() {
+    const left = [0, 0.5, -0.5, 0.25, -1, 0.75];
+    const right = left.map((sample) => -sample / 2);
+    const near = (found, wanted, step) => {
+        assert.equal(found.length, wanted.length);
+        found.forEach((sample, at) => assert.ok(Math.abs(sample - wanted[at]) <= step, `${sample} for ${wanted[at]}`));
+    };
+    for (const [bits, step] of [[8, 0.01], [16, 1e-4], [24, 1e-6], [32, 0]]) {
+        const file = fileOf(waveOf([left, right], { bits, rate: 11025 }));
+        const layout = await layoutOf(file);
+        assert.equal(layout.rate, 11025);
+        const slice = await file.slice(layout.begin + layout.width, layout.end).arrayBuffer();
+        near(samplesOf(slice, layout, 'left'), left.slice(1), step);
+        near(samplesOf(slice, layout, 'right'), right.slice(1), step);
+        near(samplesOf(slice, layout, 'both'), left.slice(1).map((sample) => sample / 4), step);
+    }
+    for (const length of [0, 0xffffffff, 1e9]) {
+        const head = headOf({ length: 0 });
+        head.writeUInt32LE(length, 40);
+        const { begin, end } = await layoutOf(fileOf(Buffer.concat([head, Buffer.alloc(7)])));
+        assert.deepEqual([begin, end], [44, 50], `a length of ${length}`);
+    }
+    const packed = headOf({ tag: 17, bits: 4, length: 8 });
+    assert.equal(await layoutOf(fileOf(packed)), null);
+    assert.equal(await layoutOf(fileOf('RIFF')), null);
+    assert.equal(await layoutOf(fileOf(Buffer.alloc(100))), null);
+}
+
+function triesRing() {
+    const ring = new Ring(5);
+    ring.push(Float32Array.of(1, 2, 3));
+    assert.deepEqual([...ring.take(2)], [1, 2]);
+    ring.push(Float32Array.of(4, 5, 6, 7, 8));
+    assert.equal(ring.lost, 1);
+    assert.equal(ring.count, 5);
+    assert.deepEqual([...ring.take(9)], [3, 4, 5, 6, 7]);
+    assert.deepEqual([...ring.take(1)], []);
+}
+
+function triesLogs() {
+    const all = names.map((name) => example(`${name}.log`)).join('');
+    const { entries, stray } = readLog(all);
+    assert.equal(stray, null);
+    assert.equal(entries.map(({ log }) => log).join(''), all);
+    assert.equal(readLog(`x\n${all}[EA01 2025-\n${all}`).entries.length, 2 * entries.length);
+    assert.equal(readLog(`\n\n[EA01 2025-\n${all}`).stray, 3);
+    assert.equal(momentOf('2025-02-30 00:00:00'), null);
+    assert.equal(entryAt(example('heard-badly.log')).errors, 1);
+    assert.ok(!isGood(entryAt(example('heard-badly.log'))));
+    assert.equal(jsonOf(entryAt(example('ea01.log'))), '{"channel":0,"characters":5,"end":"full","errors":0,'
+        + '"moment":1735692000,"number":1,"station":"E","subject":"A","text":"TEST\\n","time":"2025-01-01T00:40:00Z"}');
+    if (!program) return;
+    const { stdout, status } = spawnSync(program, ['log', '--json'], { input: all, encoding: 'latin1' });
+    assert.equal(status, 0);
+    assert.equal(entries.map((entry) => `${jsonOf(entry)}\n`).join(''), stdout);
+}
+
+function triesLook() {
+    const digits = [...example('half-damaged.air').matchAll(/^B ([01]+)$/gm)].map(([, bits]) => bits).join('');
+    assert.equal(new Look().push(digits), '\nZCZC EA01\nTEST\nNNNN\n\n');
+}
+
+triesHeader();
+triesStates();
+triesLogs();
+triesLook();
+triesChoices();
+triesRing();
+await triesFiles();
+await triesWaves();
+await triesExamples();
+await triesTextInPieces();
+await triesWeek();
+await triesFaults();
+await triesKeeping();
+await triesCommands();
+await triesOddStores();

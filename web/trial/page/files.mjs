@@ -1,0 +1,181 @@
+// Tries files: air files, recordings, logs, what is refused, what is kept, and what is told at the end.
+import assert from 'node:assert/strict';
+import { existsSync, readFileSync, utimesSync, writeFileSync } from 'node:fs';
+import { setTimeout as pause } from 'node:timers/promises';
+import { bitsOf, example, path, tonesOf, waveOf } from '../waves.mjs';
+
+async function triesAirFile({ tab }) {
+    assert.deepEqual(await tab.hear(path('heard-badly.air')),
+        ['heard-badly.air: 2 messages heard: 2 new, 0 known, 0 refused; 1 of the new not whole.']);
+    const shown = await tab.titles();
+    assert.match(shown[0], /^New EA01: station E, A navigational warning, number 01$/);
+    assert.equal((await tab.textsOf('mark.lost')).length, 1);
+    assert.match(await tab.textOf('look'), /ZCZC EA01/);
+    assert.equal(await tab.textOf('counts'), '2 messages, 2 not read yet');
+    await tab.value("document.querySelector('.unread button').focus()");
+    await tab.press('.unread button');
+    assert.equal(await tab.value("document.activeElement.getAttribute('aria-label')"), 'Mark EA01 as read');
+    assert.equal(await tab.textOf('counts'), '2 messages, 1 not read yet');
+}
+
+async function triesReload({ tab }) {
+    await tab.loadAgain();
+    assert.equal(await tab.textOf('counts'), '2 messages, 1 not read yet');
+    assert.deepEqual(await tab.hear(path('ea01.air')), ['ea01.air: 1 message heard: 0 new, 1 known, 0 refused.']);
+    assert.match((await tab.faults())[0], /^Lines without effect: 1\. The first is line 1: the time is before/);
+    assert.equal((await tab.titles()).length, 2);
+    await tab.forgetFaults();
+}
+
+async function triesRecording({ tab, room }) {
+    const [, first] = example('two-messages.air').split(/^T .*\n/m);
+    const samples = tonesOf(bitsOf(first), { centre: 1437 });
+    const file = `${room}/two-messages.wav`;
+    writeFileSync(file, waveOf([samples]));
+    await tab.set('began', '2025-01-05 00:40');
+    const before = (await tab.ended()).length;
+    await tab.dropFiles('#drop', file);
+    await tab.untilEnded(before + 1);
+    assert.match((await tab.ended())[0], /^two-messages.wav: 2 messages heard: 2 new, .* The demodulator heard NAVTEX/);
+    const shown = await tab.titles();
+    assert.equal(shown.length, 4);
+    assert.match(shown[0], /EB02: station E, B meteorological warning, number 02$/);
+    assert.match((await tab.textsOf('#list time'))[0], /^2025-01-05 00:40:\d\d UTC$/);
+    assert.equal(await tab.value("document.getElementById('began').value"), '', 'it is said of one recording');
+    await tab.set('began', '2025-01-04 00:40');
+    assert.match((await tab.hear(file))[0], /2 messages heard: 0 new, 2 known/);
+    assert.match((await tab.faults())[0], /^The time of this sound had no effect: the time is before the one in force/);
+    await tab.forgetFaults();
+}
+
+/** A recording ends when its file was changed last, or just now where that is chosen. */
+async function triesEnds({ tab, room }) {
+    const bits = bitsOf(example('slip.air'));
+    const samples = tonesOf(bits, { rate: 8000 });
+    const file = `${room}/changed.wav`;
+    writeFileSync(file, waveOf([samples], { rate: 8000 }));
+    const end = Date.UTC(2025, 1, 3, 4, 5, 6) / 1000;
+    utimesSync(file, end, end);
+    await tab.hear(file);
+    const [time] = await tab.textsOf('#list time');
+    const moment = Date.parse(time.replace(' UTC', 'Z').replace(' ', 'T')) / 1000;
+    assert.ok(moment > end - samples.length / 8000 && moment < end, time);
+    await tab.forgetFaults();
+}
+
+/** Sides, numbers of samples, and ways in which samples are written. */
+async function triesWaves({ tab, room }) {
+    const other = tonesOf(bitsOf(example('cut.air')), { rate: 11025, centre: 2000 });
+    const wanted = tonesOf(bitsOf(example('refused.air')), { rate: 11025, centre: 2000 });
+    writeFileSync(`${room}/sides.wav`, waveOf([other, wanted], { rate: 11025, bits: 24 }));
+    await tab.set('side', 'right');
+    await tab.hear(`${room}/sides.wav`);
+    await tab.set('side', 'both');
+    assert.match((await tab.titles())[0], /EL06/);
+}
+
+async function triesRefusal({ tab }) {
+    const labels = "[...document.querySelectorAll('#stations label')]";
+    const box = `${labels}.find((one) => one.textContent === ' E').firstChild`;
+    const count = (await tab.titles()).length;
+    await tab.value(`${box}.click()`);
+    assert.match(await tab.textOf('refused'), /^Refused on 518 kHz:station E Lift$/);
+    assert.match((await tab.hear(path('number-00.air')))[0], /: 3 messages heard: 0 new, 0 known, 3 refused\.$/);
+    await tab.loadAgain();
+    assert.equal(await tab.value(`${box}.checked`), true);
+    await tab.press('#refused button');
+    assert.equal(await tab.value(`${box}.checked`), false);
+    assert.equal(await tab.value("document.getElementById('refused').hidden"), true);
+    assert.match((await tab.hear(path('number-00.air')))[0], /: 3 messages heard: 3 new/);
+    await tab.forgetFaults();
+    assert.equal((await tab.titles()).length, count + 3);
+    assert.equal(await tab.value("document.querySelectorAll('#subjects input:disabled').length"), 4);
+}
+
+/** Commands in a file hold for that file alone. */
+async function triesCommands({ tab, room }) {
+    writeFileSync(`${room}/commands.air`, `RS Q\nRJ C\n${example('refused.air')}`);
+    await tab.hear(`${room}/commands.air`);
+    await tab.forgetFaults();
+    assert.equal(await tab.value("document.getElementById('refused').hidden"), true);
+    await tab.loadAgain();
+    assert.equal(await tab.value("document.querySelectorAll('#subjects input:checked').length"), 0);
+}
+
+/** Files of Windows: a mark at the beginning, and lines that end by CR LF. */
+async function triesWindowsFiles({ tab, room }) {
+    const dressed = (text) => Buffer.from('\xef\xbb\xbf' + text.replaceAll('\n', '\r\n'), 'latin1');
+    writeFileSync(`${room}/windows.air`, dressed(example('two-channels.air')));
+    const [line] = await tab.hear(`${room}/windows.air`);
+    assert.doesNotMatch(line, /: no message/);
+    await tab.forgetFaults();
+    writeFileSync(`${room}/windows.log`, dressed(example('ea01.log')));
+    assert.deepEqual(await tab.hear(`${room}/windows.log`), ['windows.log: a log of 1 message, 1 new here.']);
+}
+
+async function triesFaults({ tab, room }) {
+    writeFileSync(`${room}/note.txt`, 'Buoy 7 is unlit\n');
+    writeFileSync(`${room}/noise.bin`, Buffer.from(Array.from({ length: 5000 }, (_, at) => (at * at) % 251)));
+    writeFileSync(`${room}/empty.wav`, '');
+    const expect = async (words, ...files) => {
+        await tab.forgetFaults();
+        const [line] = await tab.hear(...files);
+        assert.match(line, /: not heard\.$/);
+        assert.match((await tab.faults())[0], words);
+    };
+    await expect(/neither an air file nor a log/, `${room}/note.txt`);
+    await expect(/no sound that the browser can decode/, `${room}/noise.bin`);
+    await expect(/empty.wav is empty/, `${room}/empty.wav`);
+    await tab.forgetFaults();
+    await tab.set('began', 'yesterday');
+    await tab.giveFiles('#file', path('ea01.air'));
+    await tab.until("document.querySelector('#faults .fault')");
+    assert.match((await tab.faults())[0], /has to be a time of UTC/);
+    await tab.set('began', '');
+    await tab.forgetFaults();
+    await tab.giveFiles('#load-log', `${room}/note.txt`);
+    await tab.until("document.querySelector('#faults .fault')");
+    assert.match((await tab.faults())[0], /has no message/);
+    await tab.forgetFaults();
+}
+
+/** The text of a file that the page offers where a button is pressed. */
+async function saved(tab, room, button, name) {
+    await tab.press(button);
+    for (let tried = 0; tried < 100 && !existsSync(`${room}/${name}`); tried++) await pause(100);
+    return readFileSync(`${room}/${name}`, 'latin1');
+}
+
+/** The log as a file, and what another page that takes it remembers. */
+async function triesLogs({ browser, tab, room }) {
+    await browser.downloadsTo(room);
+    const count = (await tab.titles()).length;
+    const log = await saved(tab, room, '#save-log', 'navtex.log');
+    for (const entry of example('heard-badly.log').split(/(?=\[)/)) assert.ok(log.includes(entry), entry);
+    const lines = (await saved(tab, room, '#save-json', 'navtex.json')).split('\n').slice(0, -1).map(JSON.parse);
+    assert.equal(lines.length, count);
+    assert.ok(lines.some(({ text }) => text === 'ABCDEFGHIJKLMNOPQRSTUVWX\n'));
+    tab.agrees = false;
+    await tab.press('#anew');
+    assert.match(tab.asked.at(-1), /^Forget all messages/);
+    assert.equal((await tab.titles()).length, count);
+    tab.agrees = true;
+    await tab.press('#anew');
+    await tab.until("document.querySelectorAll('#list li').length === 0");
+    await tab.giveFiles('#load-log', `${room}/navtex.log`);
+    await tab.until(`document.querySelectorAll('#list li').length === ${count}`);
+    assert.match((await tab.hear(path('ea01.air')))[0], /: 1 message heard: 0 new, 1 known/);
+    await tab.forgetFaults();
+    await tab.loadAgain();
+    assert.equal((await tab.titles()).length, count);
+}
+
+async function triesNoRequests({ tab, address }) {
+    assert.deepEqual(tab.requests.filter((asked) => asked !== address), []);
+}
+
+const all = [triesAirFile, triesReload, triesRecording, triesEnds, triesWaves, triesRefusal, triesCommands,
+    triesWindowsFiles, triesFaults];
+
+/** What a Firefox gives no trial: files that are saved, and what the network was asked for. */
+export const trials = (kind) => (kind === 'chromium' ? [...all, triesLogs, triesNoRequests] : all);

@@ -1,0 +1,66 @@
+// Tries long recordings: two hours of 48 kHz in stereo are read in slices, and the page answers
+// meanwhile; other formats that are too long are told.
+import assert from 'node:assert/strict';
+import { setTimeout as pause } from 'node:timers/promises';
+import { headOf, bitsOf, example, tonesOf, writeLong } from '../waves.mjs';
+import { writeFileSync } from 'node:fs';
+
+const HOURS = 2;
+const WATCHED = 15000;  // milliseconds
+const ANSWER = 100;     // milliseconds in which the page answers
+const LATE = 0.02;      // the part of all answers that may come later, as where the machine is busy
+const MEMORY = 200e6;   // bytes that the page may take more
+
+/** Asks the page each 10 ms, and keeps how late each answer is. */
+const ASKING = `
+    window.late = [];
+    let due = performance.now() + 10;
+    window.asking = setInterval(() => {
+        const now = performance.now();
+        window.late.push(Math.max(0, now - due));
+        due = now + 10;
+    }, 10);
+    true`;
+
+async function triesTwoHours({ tab, room, kind }) {
+    const samples = tonesOf(bitsOf(example('ea01.air')));
+    writeLong(`${room}/two-hours.wav`, HOURS * 3600, samples);
+    const memory = () => tab.value('performance.memory?.usedJSHeapSize ?? 0');
+    const before = await memory();
+    await tab.value(ASKING);
+    await tab.giveFiles('#file', `${room}/two-hours.wav`);
+    await tab.until("document.querySelectorAll('#list li').length === 1");
+    await pause(WATCHED);
+    const late = (await tab.value('(clearInterval(window.asking), window.late)')).sort((one, other) => one - other);
+    const count = late.filter((one) => one > ANSWER).length;
+    assert.ok(count <= LATE * late.length, `${kind}: ${count} of ${late.length} answers came after ${ANSWER} ms, `
+        + `the last after ${late.at(-1).toFixed(0)} ms`);
+    assert.ok(await memory() - before < MEMORY);
+    assert.ok(await tab.value("document.getElementById('progress').value > 0"));
+    assert.match(await tab.textOf('left'), /^\d+ %, some \d+ (s|min) left$/);
+    await tab.press('#stop');
+    await tab.untilIdle();
+    assert.match((await tab.ended())[0], /^two-hours.wav, stopped: 1 message heard: 1 new/);
+}
+
+/** The end of a long recording is heard too: the same with a minute of silence between. */
+async function triesItsEnd({ tab, room }) {
+    const samples = tonesOf(bitsOf(example('slip.air')));
+    writeLong(`${room}/minutes.wav`, Math.ceil((2 * samples.length) / 48000) + 60, samples);
+    const [line] = await tab.hear(`${room}/minutes.wav`);
+    assert.match(line, /: 1 message heard: 1 new/);
+    assert.match(await tab.textOf('look'), /ZCZC[^]*ZCZC/);
+}
+
+/** What only the browser decodes is told before it takes the memory. */
+async function triesTooLong({ tab, room }) {
+    // 4000 samples a second, which the page doesn't read itself: a day of it
+    const length = 24 * 3600 * 4000;
+    writeFileSync(`${room}/day.wav`, Buffer.concat([headOf({ rate: 4000, length, bits: 8 }), Buffer.alloc(length, 128)]));
+    const [line] = await tab.hear(`${room}/day.wav`);
+    assert.match(line, /day.wav: not heard/);
+    assert.match((await tab.faults())[0], /^day.wav is too long for this browser, some 24 hours/);
+    await tab.forgetFaults();
+}
+
+export const trials = () => [triesTwoHours, triesItsEnd, triesTooLong];
