@@ -14,7 +14,8 @@ export class Beside {
     #waiting = [];   // who waits for what a piece told, in order
     #onTold;
 
-    /** `script` is that of the worker, `given` what it begins with: rate, tuning, rows, layout, side.
+    /** `script` is that of the worker, `given` what it begins with: tuning, rows and side; of
+     *  a recording its rate, and the layout of a WAV file.
      *  `onTold` gets what live sound tells, and `onFault` what ends it. */
     constructor(script, given, { onTold = () => {}, onFault = () => {} } = {}) {
         this.#onTold = onTold;
@@ -39,9 +40,15 @@ export class Beside {
         return this.#answer('piece', piece, [piece.buffer ?? piece]);
     }
 
-    /** Hears what a port gives, at so many samples a second. */
-    connect(port, rate) {
-        this.#ask('live', { port, rate }, [port]);
+    /** Hears live sound: `frames`, a stream of pieces as they were captured, or a `port` that gives
+     *  samples, at a `rate` of so many a second. */
+    connect(live) {
+        this.#ask('live', live, [live.frames ?? live.port]);
+    }
+
+    /** Hears another side of live sound from here on. */
+    set side(side) {
+        this.#ask('side', side);
     }
 
     tune(tuning) {

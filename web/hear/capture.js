@@ -1,34 +1,30 @@
 // Live sound: a microphone, the sound card's input, or the sound of another tab.
 import { PageFault } from '../show/faults.js';
 
-const RATE = 8000; // samples a second that a sound is brought to, where the browser can do that
-const BLOCK = 800; // samples that are handed on at a time
+const RATE = 8000;   // samples a second that a sound is brought to, where the browser can do that
+const BLOCK = 800;   // samples that are handed on at a time
+const FRAMES = 3000; // pieces of sound that wait within the browser, some 30 s
 export const TAB = 'tab';
 
 /** Why there is no sound, in words for who uses the page. */
 export class SoundFault extends PageFault {}
 
-// What runs where the browser hears: it hands one side, or both as one, to whom it is told.
+// What runs where the browser hears, and hands both sides of the sound to whom it is told.
 const GATHERER = `
 registerProcessor("gatherer", class extends AudioWorkletProcessor {
     constructor() {
         super();
-        this.block = new Float32Array(${BLOCK});
+        this.sides = [new Float32Array(${BLOCK}), new Float32Array(${BLOCK})];
         this.count = 0;
-        this.side = "both";
-        this.port.onmessage = ({ data }) => {
-            if (data.to) this.to = data.to;
-            if (data.side) this.side = data.side;
-        };
+        this.port.onmessage = ({ data }) => { this.to = data; };
     }
     process([sides]) {
         if (!this.to || !sides.length) return true;
-        const [left, right] = [sides[0], sides[1] ?? sides[0]];
-        for (let at = 0; at < left.length; at++) {
-            this.block[this.count++] = this.side === "left" ? left[at] : this.side === "right" ? right[at]
-                : (left[at] + right[at]) / 2;
-            if (this.count === this.block.length) {
-                this.to.postMessage(this.block);
+        for (let at = 0; at < sides[0].length; at++) {
+            this.sides[0][this.count] = sides[0][at];
+            this.sides[1][this.count++] = (sides[1] ?? sides[0])[at];
+            if (this.count === ${BLOCK}) {
+                this.to.postMessage(this.sides);
                 this.count = 0;
             }
         }
@@ -89,41 +85,42 @@ export function endStream(stream) {
     for (const track of stream.getTracks()) track.stop();
 }
 
-/** A stream whose sound is handed on, until it is closed. */
+/**
+ * A stream whose sound is handed on, until it is closed. Where the browser gives the sound itself, as it
+ * was captured (MediaStreamTrackProcessor), nothing of it is lost on a busy machine; elsewhere it goes
+ * through the browser's mixer (AudioContext), which loses some where it comes too late.
+ */
 export class Capture {
     #stream;
-    #context;
+    #context = null;
     #gatherer;
+    #frames = null;
 
     /** Begins; `onGone` is called where the sound goes away. Where it can't begin the stream ends. */
-    static async of(stream, side, onGone) {
-        if (typeof AudioWorkletNode === 'undefined') {
-            endStream(stream);
-            throw new SoundFault('This browser lacks what a microphone needs here (AudioWorklet).');
-        }
+    static async of(stream, onGone) {
         const capture = new Capture();
         capture.#stream = stream;
+        const [track] = stream.getAudioTracks();
+        track.onended = onGone;
         try {
-            await capture.#begin(side, onGone);
+            capture.#frames = framesOf(track);
+            if (capture.#frames === null) await capture.#mix();
         } catch (fault) {
             await capture.close();
-            throw new SoundFault(`The sound can't be used: ${fault.message}`);
+            throw fault instanceof SoundFault ? fault : new SoundFault(`The sound can't be used: ${fault.message}`);
         }
         return capture;
     }
 
-    get rate() {
-        return this.#context.sampleRate;
-    }
-
-    /** Hears one side from here on, or both. */
-    set side(side) {
-        this.#gatherer.port.postMessage({ side });
-    }
-
-    /** Hands blocks of samples to a port from here on. */
-    handTo(port) {
-        this.#gatherer.port.postMessage({ to: port }, [port]);
+    /** Hands the sound to a worker from here on: in pieces as they were captured, or by a port. */
+    handTo(beside) {
+        if (this.#frames !== null) {
+            beside.connect({ frames: this.#frames });
+            return;
+        }
+        const { port1, port2 } = new MessageChannel();
+        beside.connect({ port: port1, rate: this.#context.sampleRate });
+        this.#gatherer.port.postMessage(port2, [port2]);
     }
 
     async close() {
@@ -131,25 +128,36 @@ export class Capture {
         await this.#context?.close().catch(() => {});
     }
 
-    async #begin(side, onGone) {
+    async #mix() {
+        if (typeof AudioWorkletNode === 'undefined') {
+            throw new SoundFault('This browser lacks what a microphone needs here (AudioWorklet).');
+        }
         const source = this.#join();
         await this.#context.audioWorklet.addModule('data:text/javascript,' + encodeURIComponent(GATHERER));
         this.#gatherer = new AudioWorkletNode(this.#context, 'gatherer');
-        this.side = side;
         source.connect(this.#gatherer).connect(this.#context.destination); // which gets silence
-        this.#stream.getAudioTracks()[0].onended = onGone;
         this.#context.resume().catch(() => {}); // where there is no sound at all it never answers
     }
 
     /** The stream as a source of sound, at our rate; some browsers give it at its own rate alone. */
     #join() {
         try {
-            this.#context = new AudioContext({ sampleRate: RATE });
+            this.#context = new AudioContext({ sampleRate: RATE, latencyHint: 'playback' });
             return this.#context.createMediaStreamSource(this.#stream);
         } catch {
             this.#context?.close();
-            this.#context = new AudioContext();
+            this.#context = new AudioContext({ latencyHint: 'playback' });
             return this.#context.createMediaStreamSource(this.#stream);
         }
+    }
+}
+
+/** The sound of a track in pieces as they were captured, or null where the browser gives none. */
+function framesOf(track) {
+    if (typeof MediaStreamTrackProcessor === 'undefined') return null;
+    try {
+        return new MediaStreamTrackProcessor({ track, maxBufferSize: FRAMES }).readable;
+    } catch {
+        return null; // some give pictures alone
     }
 }

@@ -52,7 +52,8 @@ export async function decodedOf(file, side) {
     } catch {
         throw new PageFault('This file is no sound that the browser can decode. WAV, MP3, FLAC and Ogg mostly are.');
     }
-    return { rate: sound.sampleRate, seconds: sound.duration, layout: null, pieces: (length) => piecesOf(sound, side, length) };
+    return { rate: sound.sampleRate, seconds: sound.duration, layout: null,
+        pieces: (length) => piecesOf(sound, side, length) };
 }
 
 /** Pieces of so many seconds, of one side or of both as one, each with the second of its end. */

@@ -36,8 +36,8 @@ export class Listening extends Sound {
 
     /** Hears another side of an input. */
     setSide(channel, side) {
-        const at = this.channels.indexOf(channel);
-        if (this.#captures[at] !== undefined) this.#captures[at].side = side;
+        const beside = this.#besides.get(channel);
+        if (beside !== undefined) beside.side = side;
     }
 
     /** It was taken out before it began: a tab that was asked for is let go. */
@@ -57,14 +57,14 @@ export class Listening extends Sound {
         }
     }
 
-    async #open({ input, stream, side }, signal) {
+    async #open({ input, stream }, signal) {
         const gone = () => this.#fail(new SoundFault(`${this.name} is gone. Is it still connected?`));
         const asked = stream ?? await unlessStopped(signal, askForInput(input), endStream);
-        return unlessStopped(signal, Capture.of(asked, side, gone), (late) => late.close());
+        return unlessStopped(signal, Capture.of(asked, gone), (late) => late.close());
     }
 
     async #hearAll(signal, failed) {
-        this.#inputs.forEach(({ channel }, at) => this.#connect(channel, this.#captures[at]));
+        this.#inputs.forEach((input, at) => this.#connect(input, this.#captures[at]));
         this.#showSource();
         this.show.live();
         const silent = setTimeout(() => {
@@ -82,16 +82,14 @@ export class Listening extends Sound {
         }
     }
 
-    #connect(channel, capture) {
+    #connect({ channel, side }, capture) {
         const { script, tuningOf } = this.#given;
-        const beside = new Beside(script, { rate: capture.rate, tuning: tuningOf(channel), rows: ROWS }, {
+        const beside = new Beside(script, { tuning: tuningOf(channel), rows: ROWS, side }, {
             onTold: (told) => this.#hearLive(channel, told),
             onFault: (fault) => this.#fail(fault),
         });
         this.#besides.set(channel, beside);
-        const { port1, port2 } = new MessageChannel();
-        beside.connect(port1, capture.rate);
-        capture.handTo(port2);
+        capture.handTo(beside);
     }
 
     #hearLive(channel, told) {

@@ -262,8 +262,8 @@ export class ListenSection {
     #showProgress(part, left) {
         find('progress-row').hidden = false;
         find('progress').value = part;
-        find('left').textContent = `${Math.floor(100 * part)} %`
-            + (left === null ? '' : `, some ${left < 90 ? `${Math.ceil(left)} s` : `${Math.ceil(left / 60)} min`} left`);
+        const some = left < 90 ? `${Math.ceil(left)} s` : `${Math.ceil(left / 60)} min`;
+        find('left').textContent = `${Math.floor(100 * part)} %${left === null ? '' : `, some ${some} left`}`;
     }
 
     #showText(channel, text) {

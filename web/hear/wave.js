@@ -34,7 +34,8 @@ function wordAt(view, at) {
  */
 export async function layoutOf(file) {
     const head = await viewOf(file, 0, HEAD);
-    if (head.byteLength < HEAD || !/^(RIFF|RF64|BW64)$/.test(wordAt(head, 0)) || wordAt(head, 8) !== 'WAVE') return null;
+    if (head.byteLength < HEAD || wordAt(head, 8) !== 'WAVE') return null;
+    if (!['RIFF', 'RF64', 'BW64'].includes(wordAt(head, 0))) return null;
     let form = null;
     let long = null; // the length of the samples, where it takes 64 bits
     let at = HEAD;

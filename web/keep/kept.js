@@ -46,21 +46,19 @@ export class KeptReceiver {
     async open(now, before = () => null) {
         const { state, messages } = await this.#read();
         const older = state === undefined && messages.length === 0 ? before() : null;
-        this.#take(older === null ? messages : older.entries.map((entry, at) => ({ ...entry, id: at + 1 })));
+        const stored = older === null ? messages : older.entries.map((entry, at) => ({ ...entry, id: at + 1 }));
+        this.#take(stored);
+        const odd = stored.length - this.#messages.length;
+        if (odd > 0) this.#on.fault(new StoreFault(`The browser's store has ${odd} entries that are no messages. `
+            + 'They stay there, and are not shown.'));
         this.#start(older?.state ?? state ?? stateWith(EMPTY_STATE, this.#messages), now);
         if (older !== null) await this.#write({ messages: this.#messages });
     }
 
-    /** Shows what another window received since. */
-    async follow({ isAnew }) {
-        if (isAnew) {
-            this.#messages = [];
-            this.#lastId = 0;
-        }
-        const { state, messages } = await this.#read(this.#lastId);
-        this.#take(messages);
-        if (typeof state === 'string') this.#refused = refusedIn(state);
-        this.#on.changed();
+    /** Shows what another window received since; `isAnew` says that others changed too. */
+    follow({ isAnew }) {
+        this.#written = this.#written.then(() => this.#follow(isAnew));
+        return this.#written;
     }
 
     get messages() {
@@ -142,6 +140,17 @@ export class KeptReceiver {
         await this.#write({ isAnew: true });
     }
 
+    async #follow(isAnew) {
+        const { state, messages } = await this.#read(isAnew ? 0 : this.#lastId);
+        if (isAnew) {
+            this.#messages = [];
+            this.#lastId = 0;
+        }
+        this.#take(messages);
+        if (typeof state === 'string') this.#refused = refusedIn(state);
+        this.#on.changed();
+    }
+
     /** What another window left in the store; where it can't be read, nothing. */
     async #read(last) {
         try {
@@ -154,9 +163,6 @@ export class KeptReceiver {
 
     #take(stored) {
         const messages = stored.map(messageOf).filter((message) => message !== null);
-        const odd = stored.length - messages.length;
-        if (odd > 0) this.#on.fault(new StoreFault(`The browser's store has ${odd} entries that are no messages. `
-            + 'They stay there, and are not shown.'));
         this.#messages = [...this.#messages, ...messages].sort(inOrder);
         for (const { id } of stored) if (Number.isSafeInteger(id)) this.#lastId = Math.max(this.#lastId, id);
     }
@@ -216,7 +222,7 @@ export class KeptReceiver {
         const change = { state: this.#state(), messages: messages.map(storedOf), ...rest };
         this.#written = this.#written.then(async () => {
             try {
-                this.#forget(await this.#store.keep(change));
+                await this.#store.keep(change, (gone) => this.#forget(gone));
                 this.#on.kept?.({ isAnew: change.isAnew === true || change.messages.some(({ isRead }) => isRead) });
             } catch (fault) {
                 if (!(fault instanceof StoreFault)) throw fault;
@@ -229,7 +235,6 @@ export class KeptReceiver {
 
     /** The store was full, and the oldest messages went. */
     #forget(gone) {
-        if (gone.length === 0) return;
         const ids = new Set(gone);
         this.#messages = this.#messages.filter(({ id }) => !ids.has(id));
         this.#on.fault(new StoreFault(`The browser's store is full: the ${gone.length} oldest messages went. `

@@ -8,7 +8,7 @@ const VERSION = 1;
 const MESSAGES = 'messages';
 const REST = 'receiver'; // the state, the window that owns the store, and a state that was put aside
 const AT_ONCE = 100;     // messages that go where the store is full
-const OFTEN = 20;        // times that this is done for one entry
+const OFTEN = 3;         // times that this is done, until it helps
 
 /** Why nothing can be kept, in words for who uses the page. */
 export class StoreFault extends PageFault {}
@@ -51,6 +51,7 @@ function opened() {
 export class Store {
     #database;
     #window;
+    #helps = true; // that the oldest messages go
 
     /** Opens the browser's store for a window of the page. */
     static async open(window) {
@@ -98,21 +99,23 @@ export class Store {
     }
 
     /**
-     * Keeps a state, with messages that are new or changed. Where the store is full the oldest go: the
-     * answer has their numbers. `isAnew` takes all messages away first; `aside` is an unreadable state
-     * that nobody overwrites.
+     * Keeps a state, with messages that are new or changed. Where the store is full the oldest go:
+     * `onGone` gets their numbers. `isAnew` takes all messages away first; `aside` is an unreadable
+     * state that nobody overwrites.
      */
-    async keep(change) {
-        const gone = [];
+    async keep(change, onGone) {
         for (let tried = 0; ; tried++) {
             try {
                 await this.#write(change);
-                return gone;
+                return;
             } catch (fault) {
-                if (!isFull(fault) || tried === OFTEN) throw this.#words(fault);
+                if (!isFull(fault) || tried === OFTEN || !this.#helps) {
+                    this.#helps &&= !isFull(fault); // what didn't help takes no more messages away
+                    throw this.#words(fault);
+                }
                 const oldest = await this.#forgetOldest().catch((other) => { throw this.#words(other); });
                 if (oldest.length === 0) throw this.#words(fault);
-                gone.push(...oldest);
+                onGone(oldest);
             }
         }
     }
@@ -179,6 +182,6 @@ export class NoStore {
     }
 
     async keep() {
-        return [];
+        // nothing stays
     }
 }

@@ -64,7 +64,8 @@ export class Alarm {
         if (!this.#notifies || !this.#mayNotify) return;
         for (const message of added.filter((one) => this.rings(one))) {
             try {
-                new Notification(`NAVTEX ${identityOf(message)}`, { body: `${titleOf(message, this.#names())}\n${message.text}` });
+                const body = `${titleOf(message, this.#names())}\n${message.text}`;
+                new Notification(`NAVTEX ${identityOf(message)}`, { body });
             } catch {
                 // some phones let a page notify in another way alone
             }

@@ -82,7 +82,8 @@ export class MessageSection {
 
     #join() {
         this.#joinButton('read-all', () => this.#markRead(this.#kept.messages));
-        this.#joinButton('alarm-read', () => this.#markRead(this.#kept.messages.filter((one) => this.#alarm.rings(one))));
+        this.#joinButton('alarm-read', () =>
+            this.#markRead(this.#kept.messages.filter((one) => this.#alarm.rings(one))));
         this.#joinButton('save-log', () => offer(this.#joined(({ log }) => log), 'navtex.log'));
         this.#joinButton('save-json', () => offer(this.#joined((one) => `${jsonOf(one)}\n`), 'navtex.json'));
         this.#joinButton('print', () => window.print());

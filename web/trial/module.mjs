@@ -162,12 +162,12 @@ function storeOf(state = undefined, messages = []) {
         async read(last = 0) {
             return { state: store.state, messages: [...store.messages.values()].filter(({ id }) => !(id <= last)) };
         },
-        async keep({ state: next, messages: changed = [], isAnew = false, aside }) {
+        async keep({ state: next, messages: changed = [], isAnew = false, aside }, onGone) {
             if (isAnew) store.messages.clear();
             store.aside ??= aside;
             store.state = next;
             for (const message of changed) store.messages.set(message.id, { ...message });
-            return store.gone?.() ?? [];
+            if (store.gone) onGone(store.gone);
         },
     };
     return store;
@@ -257,7 +257,7 @@ async function triesOddStores() {
     assert.equal((await printed(still, example('ea01.air'))).log, example('ea01.log'));
     assert.deepEqual(new Set(still.told.faults), new Set(['full']));
     const forgetting = storeOf(EMPTY_STATE, [entry]);
-    forgetting.gone = () => [1];
+    forgetting.gone = [1];
     const fewer = await keptOver(forgetting);
     await printed(fewer, example('cut.air'));
     assert.deepEqual(fewer.kept.messages.map(({ id }) => id), [2, 3]);

@@ -59,16 +59,17 @@ export function headOf({ tag = 1, sides = 1, rate = 48000, bits = 16, length }) 
     return head;
 }
 
-/** A stereo WAV file of so many seconds at 48 kHz with an emission at its beginning and at its end; in
- *  between nothing was written, so it takes no room on the disk. */
-export function writeLong(file, seconds, samples) {
+/** A stereo WAV file of so many seconds at 48 kHz, with one emission at its beginning and another at its
+ *  end; in between nothing was written, so it takes no room on the disk. */
+export function writeLong(file, seconds, first, last) {
     const length = seconds * 48000 * 4;
-    const sound = waveOf([samples, samples]).subarray(44);
     const place = openSync(file, 'w');
     writeSync(place, headOf({ sides: 2, length }), 0, 44, 0);
     ftruncateSync(place, 44 + length);
-    writeSync(place, sound, 0, sound.length, 44);
-    writeSync(place, sound, 0, sound.length, 44 + length - sound.length);
+    for (const [samples, isLast] of [[first, false], [last, true]]) {
+        const sound = waveOf([samples, samples]).subarray(44);
+        writeSync(place, sound, 0, sound.length, isLast ? 44 + length - sound.length : 44);
+    }
     closeSync(place);
 }
 

@@ -21,7 +21,16 @@ async function triesLacking({ tab, room }) {
         expect(/can't decode sound/, () => give(`${room}/decoded.wav`)));
     await tab.loadWith('delete window.Worker', () =>
         expect(/lacks what sound needs here/, () => give(`${room}/slices.wav`)));
-    await tab.loadWith('delete window.AudioWorkletNode', () =>
+    const mixed = 'delete window.MediaStreamTrackProcessor;'; // the sound comes by the browser's mixer
+    await tab.loadWith(mixed, async () => {
+        await tab.ready();
+        await tab.press('#microphone');
+        await tab.until("document.getElementById('source').textContent.startsWith('Hearing the microphone')");
+        await tab.until("document.getElementById('level').textContent !== ''");
+        await tab.press('#stop');
+        await tab.untilIdle();
+    });
+    await tab.loadWith(`${mixed} delete window.AudioWorkletNode`, () =>
         expect(/lacks what a microphone needs/, () => tab.press('#microphone')));
     await tab.loadWith("IDBFactory.prototype.open = () => { throw new Error('none'); }",
         () => shown(/^This browser keeps nothing for this page/));
