@@ -1,4 +1,6 @@
 -- Lemmas that several proofs cite.
+pub mod QuietElements
+pub mod WordLoop
 pub mod channels
 pub mod emissions
 pub mod locks

@@ -1,6 +1,7 @@
 pub mod Events
 pub mod LockReader
 pub mod ReaderWords
+pub mod WordLoop
 pub mod copies
 pub mod laws
 pub mod private

@@ -6,11 +6,13 @@ mod entry;
 mod judging;
 mod lock_printer;
 mod lock_reader;
+mod word_loop;
 mod writing;
 
 pub use entry::{Entry, EntryHead};
 pub use judging::judge;
 pub use lock_reader::LockReader;
+pub use word_loop::{WordTaker, hear_elements};
 pub use writing::{
     MAX_ENTRY, entry_bytes, entry_end, entry_text, entry_text_on, give_entry, spell_entry,
 };

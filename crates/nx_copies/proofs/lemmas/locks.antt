@@ -3,4 +3,5 @@ pub mod Found
 pub mod Growing
 pub mod PlainPairs
 pub mod ReaderWords
+pub mod StillStands
 pub mod Texts
