@@ -1,21 +1,19 @@
 //! What takes what the elements bring, and shows their locks. What runs for each word is inlined
 //! always; what opens or closes a lock never is.
 
-ghost use Rattle.std.specs.Prelude.{◌≡◌, ℕ, ◌+◌, ◌*◌, ◌<◌, ◌≤◌, List, Bool, false, [], ◌∷◌, ◌++◌, length, take, IsTrue};
-ghost use Rattle.std.specs.List.{flat_map};
+ghost use Rattle.std.specs.Prelude.{◌≡◌, ◌+◌, ◌*◌, ◌≤◌, [], ◌++◌, length};
 ghost use Rattle.nx_code.specs.Packed.{packed_elements, packed_part};
-ghost use Rattle.nx_code.specs.Word.{elements, word_elements};
-ghost use Rattle.nx_sync.specs.Ahead.{ArePairs, BringsStep, BringsWords, HasPart};
-ghost use Rattle.nx_sync.specs.Synchroniser.{Held, is_hunting, keeps_lock};
 ghost use Rattle.nx_envelope.specs.Moment.{last_moment};
 ghost use Rattle.nx_locks.specs.ReportText.{last_line};
-ghost use Rattle.nx_locks.specs.private.Taker.{Closes, HasRoom, Hears, HearsPart, Opens, ReadsWord, ShowsStep, TakerShows};
+ghost use Rattle.nx_locks.specs.private.Taker.{Closes, HasRoom, Hears, Opens, ReadsWord, ShowsStep, TakerShows};
 
 use crate::reader::CountingReader;
 use crate::report_text::{Counts, Shown, close_lock, end_report, open_lock};
 use arrayvec::ArrayVec;
 use nx_code::{ELEMENTS, NEWLINE, Word};
+use nx_copies::{WordTaker, hear_elements};
 use nx_sync::{Change, Role, Step, Synchroniser};
+use std::convert::Infallible;
 use std::marker::Model;
 
 /// Takes what the elements bring, and shows their locks.
@@ -194,132 +192,38 @@ impl LockTaker {
 }
 
 impl LockTaker {
-    /// Hears packed elements by this synchroniser, and shows their locks. Never inlined: its loop
-    /// has the registers to itself.
-    #[inline(never)]
+    /// Hears packed elements by this synchroniser, and shows their locks.
+    #[inline(always)]
     pub(crate) fn hear(&mut self, synchroniser: &mut Synchroniser, numbers: &[u64], count: usize)
         requires part { count ≤ packed_elements * length numbers.now }
         requires room { HasRoom self.old count }
         ensures { Hears synchroniser.old self.old (packed_part numbers.now 0 count)
             synchroniser.new self.new }
     {
-        let mut heard = 0;
-        while heard < count {
-            heard += self.hear_some(synchroniser, numbers, heard, count - heard);
-        }
+        let (_all, None) = hear_elements(self, synchroniser, numbers, 0, count);
     }
+}
 
-    /// Hears some of these elements, so many from a place on, and says how many. In a lock these
-    /// are words at once, where some lie ahead that bring no change, and surely no header begins or
-    /// ends with any of them.
+impl WordTaker for LockTaker {
+    ghost use Rattle.nx_locks.specs.private.Taker.{HasRoom, Hears};
+    ghost use Rattle.nx_locks.specs.private.TakerLaws.{hears_both, hears_none, room_behind};
+
+    /// Nothing is ever over: the next lock is shown as this one is.
+    type Over = Infallible;
+
+    ghost has_room = { HasRoom };
+
+    ghost hears = { λ old before bits new after over. Hears old before bits new after };
+
     #[inline(always)]
-    fn hear_some(
-        &mut self,
-        synchroniser: &mut Synchroniser,
-        numbers: &[u64],
-        from: usize,
-        count: usize,
-    ) -> usize
-        requires some { 0 < count }
-        requires part { HasPart numbers.now from count }
-        requires room { HasRoom self.old count }
-        ensures { HearsPart synchroniser.old self.old numbers.now from count synchroniser.new
-            self.new result }
-    {
-        let (many, eight) = synchroniser.words_ahead(numbers, from, count);
-        // A number that the compiler knows, so that it makes a form for each.
-        match many {
-            8 => self.hear_words(synchroniser, &eight[..8]),
-            6 => self.hear_words(synchroniser, &eight[..6]),
-            2 => self.hear_words(synchroniser, &eight[..2]),
-            _ => self.hear_part(synchroniser, numbers, from, count),
-        }
-    }
-
-    /// Hears the first of these words at once, which lie ahead and bring no change: all of them
-    /// where surely no header begins or ends with any, else the first two. Says how many elements
-    /// these are.
-    #[inline(always)]
-    fn hear_words(&mut self, synchroniser: &mut Synchroniser, words: &[Word]) -> usize
-        requires pairs { ArePairs words.now }
-        requires keeps { (n : ℕ) → 0 < n → n ≤ length words.now
-            → IsTrue (keeps_lock synchroniser.old (take n words.now)) }
-        requires room { HasRoom self.old (word_elements * length words.now) }
-        ensures within { result ≤ word_elements * length words.now }
-        ensures some { 0 < result }
-        ensures few { length self.new.shown ≤ length self.old.shown + 113 * result }
-        ensures hears { Hears synchroniser.old self.old
-            (take result (flat_map elements words.now)) synchroniser.new self.new }
-    {
-        if self.take_words(words) {
-            synchroniser.accept(words);
-            return ELEMENTS * words.len();
-        }
-        self.take_pair(words[0], words[1]);
-        synchroniser.accept(&words[..2]);
-        ELEMENTS * 2
-    }
-
-    /// Hears some of these elements: those of a hunt, one word of a lock, or a part of one. Never
-    /// inlined, so that a loop over words at once has the registers to itself.
-    #[inline(never)]
-    fn hear_part(
-        &mut self,
-        synchroniser: &mut Synchroniser,
-        numbers: &[u64],
-        from: usize,
-        count: usize,
-    ) -> usize
-        requires some { 0 < count }
-        requires part { HasPart numbers.now from count }
-        requires room { HasRoom self.old count }
-        ensures { HearsPart synchroniser.old self.old numbers.now from count synchroniser.new
-            self.new result }
-    {
-        let (heard, step) = synchroniser.push_some(numbers, from, count);
-        self.take(heard, step);
-        heard
-    }
-
-    /// Takes what so many elements bring: the last one this step, and those before it nothing.
-    #[inline(always)]
-    fn take(&mut self, count: usize, step: Step)
-        requires some { 0 < count }
-        requires room { HasRoom self.old count }
-        ensures few { length self.new.shown ≤ length self.old.shown + 113 * count }
-        ensures hears { (old new : Held) (bits : List Bool) → length bits ≡ count
-            → BringsStep old new bits step → Hears old self.old bits new self.new }
-    {
+    fn take_step(&mut self, count: usize, step: Step) -> Option<Infallible> {
         self.elements = self.elements.saturating_add(count as u64);
         self.show(step);
+        None
     }
 
-    /// Takes two words of a lock that bring no change, a DX word and an RX word. Never inlined: few
-    /// words go this way, and a loop over words has the registers to itself.
-    #[inline(never)]
-    fn take_pair(&mut self, dx: Word, rx: Word)
-        requires room { HasRoom self.old 14 }
-        ensures few { length self.new.shown ≤ length self.old.shown + 113 * 14 }
-        ensures hears { (old new : Held) → BringsWords old new (dx ∷ rx ∷ [])
-            → Hears old self.old (flat_map elements (dx ∷ rx ∷ [])) new self.new }
-    {
-        self.elements = self.elements.saturating_add(2 * ELEMENTS as u64);
-        self.reader.hear_word(dx, Role::Dx, &mut self.shown);
-        self.reader.hear_word(rx, Role::Rx, &mut self.shown);
-    }
-
-    /// Takes words of a lock that bring no change, DX and RX by turns, at once, where surely no
-    /// header begins or ends with any of them: `true` where it did. Else nothing changed.
     #[inline(always)]
-    fn take_words(&mut self, words: &[Word]) -> bool
-        requires pairs { ArePairs words.now }
-        requires room { HasRoom self.old (word_elements * length words.now) }
-        ensures few { length self.new.shown
-            ≤ length self.old.shown + 113 * (word_elements * length words.now) }
-        ensures hears { IsTrue result → (old new : Held) → BringsWords old new words.now
-            → Hears old self.old (flat_map elements words.now) new self.new }
-        ensures same { result ≡ false → self.new ≡ self.old }
-    {
+    fn take_plain(&mut self, words: &[Word]) -> bool {
         if !self.reader.hear_words(words, &mut self.shown) {
             return false;
         }
@@ -327,4 +231,21 @@ impl LockTaker {
         self.elements = self.elements.saturating_add(elements);
         true
     }
+
+    // Few words go this way, and a loop over words has the registers to itself.
+    #[inline(never)]
+    fn take_pairs(&mut self, words: &[Word]) -> (usize, Option<Infallible>) {
+        self.elements = self.elements.saturating_add(2 * ELEMENTS as u64);
+        self.reader.hear_word(words[0], Role::Dx, &mut self.shown);
+        self.reader.hear_word(words[1], Role::Rx, &mut self.shown);
+        (2, None)
+    }
+
+    ghost none = { λ held taker. hears_none held taker };
+
+    ghost both = { λ old mid new first between last xs ys over one rest.
+        hears_both old mid new first between last xs ys one rest };
+
+    ghost room = { λ old new before after bits over count more hears within room.
+        room_behind old new before after bits count more hears within room };
 }

@@ -1,12 +1,12 @@
 -- What the elements that a taker takes show.
-use Rattle.std.proofs.Common.{◌≡◌, ℕ, zero, suc, ◌+◌, ◌-◌, ◌^◌, ◌<◌, ◌≤◌, Bool, false, List, []}
-use Rattle.std.proofs.Common.{◌∷◌, ◌++◌, length, take, Option, Some, None, get_or, refl, sym}
+use Rattle.std.proofs.Common.{◌≡◌, ℕ, ◌+◌, ◌-◌, ◌^◌, ◌<◌, ◌≤◌, Bool, List, []}
+use Rattle.std.proofs.Common.{◌∷◌, ◌++◌, length, Option, Some, None, refl, sym}
 use Rattle.std.proofs.Common.{ap, ◌∙◌}
-use Rattle.std.proofs.Common.{subst, subst₂, arith, append_assoc, append-nil, add-one}
+use Rattle.std.proofs.Common.{subst, subst₂, arith, append_assoc, append-nil}
 use Rattle.std.proofs.Common.{length-append}
 use Rattle.std.specs.Prelude.{min}
 use Rattle.std.specs.Option.{option_to_list}
-use Rattle.std.proofs.lemmas.List.{length_push, take_all, take_more}
+use Rattle.std.proofs.lemmas.List.{length_push}
 use Rattle.nx_envelope.specs.Moment.{IsShownAs}
 use Rattle.nx_sync.specs.Laws.{OneMore, still_hunts, now_finds, still_stands, now_over}
 use Rattle.nx_sync.specs.Locks.{Lock, Now, hunting, locked, IsNow, Past}
@@ -20,11 +20,10 @@ use Rattle.nx_sync.specs.declared.step.Role.{Role}
 use Rattle.nx_sync.specs.declared.step.Step.{Step}
 use Rattle.nx_sync.proofs.lemmas.states.KeptPast.{Past-within}
 use Rattle.nx_sync.proofs.lemmas.states.StateChanges.{one_more}
-use Rattle.nx_receiver.proofs.lemmas.copy_hearer.Bits.{no_word}
+use Rattle.nx_copies.proofs.lemmas.QuietElements.{before_last, marks_of, no_word}
 use Rattle.nx_locks.specs.private.Reader.{Reading}
 use Rattle.nx_locks.specs.private.Taker.{Closes, GoesTo, Hears, ReadsTo, Shows, ShowsStep}
 use Rattle.nx_locks.specs.private.Taker.{TakerShows, Taking, all_at, closing_of, with_word}
-use Rattle.nx_locks.specs.private.TakerLaws.{all_at-append, nothing_heard}
 use Rattle.nx_locks.specs.ReportText.{opening_line}
 use Rattle.nx_locks.proofs.lemmas.Bits.{now_found, still_hunting, still_inside, word_on, word_over}
 
@@ -152,10 +151,6 @@ module _ (old new : Taking) (bits : List Bool) (b : Bool) (moments given : List 
     step_shown is = cases s.locks s.now refl refl s.stands is.locks is.now is.stands is.brings
         (one_more bits b s.locks is.locks s.now is.now s.stands is.stands)
 
-all_at-one : (moment : ℕ) (b : Bool) → all_at moment (b ∷ []) ≡ moment ∷ []
-unfolding all_at
-all_at-one moment b = refl
-
 -- elements that bring nothing
 module _ (reader : Reading) (began copies : ℕ) (bits : List Bool) (b : Bool) (moments : List ℕ)
     (m : ℕ) (given : List ℕ) (r : Step) (f : r ≡ step None None)
@@ -205,69 +200,27 @@ module _ (reader : Reading) (began copies : ℕ) (bits : List Bool) (b : Bool) (
       (quiet_cases s.locks s.now refl refl s.stands is.locks is.now is.stands is.brings
       (one_more bits b s.locks is.locks s.now is.now s.stands is.stands))
 
-quiet_bits : (reader : Reading) (began copies : ℕ) (h : List Bool) (moments : List ℕ) (m : ℕ)
-    (given : List ℕ) (bits : List Bool) (n : ℕ) → n ≤ length bits
-    → ((k : ℕ) → k < n → IsStep (h ++ take (k + 1) bits) (step None None))
-    → Shows reader began copies h moments given
-    → Shows reader began copies (h ++ take n bits) (moments ++ all_at m (take n bits)) given
-quiet_bits reader began copies h moments m given bits zero le quiet s =
-    nothing_heard reader began copies h moments m given s
-quiet_bits reader began copies h moments m given bits (suc n) le quiet s =
-    let before = quiet_bits reader began copies h moments m given bits n (omega arith)
-    (λ k lt. quiet k (omega arith)) s in
-    let x = get_or bits n false in
-    let next : take (n + 1) bits ≡ take n bits ++ x ∷ [] = take_more bits n false (omega arith) in
-    let whole : h ++ take (n + 1) bits ≡ (h ++ take n bits) ++ x ∷ [] =
-    ap (λ l. h ++ l) next ∙ sym (append_assoc h (take n bits) (x ∷ [])) in
-    let force : moments ++ all_at m (take (n + 1) bits)
-    ≡ (moments ++ all_at m (take n bits)) ++ m ∷ [] =
-    ap (λ l. moments ++ all_at m l) next
-    ∙ ap (λ l. moments ++ l) (all_at-append m (take n bits) (x ∷ [])
-    ∙ ap (λ l. all_at m (take n bits) ++ l) (all_at-one m x))
-    ∙ sym (append_assoc moments (all_at m (take n bits)) (m ∷ [])) in
-    let is : IsStep ((h ++ take n bits) ++ x ∷ []) (step None None) =
-    subst (λ (l : List Bool). IsStep l (step None None)) whole (quiet n (omega arith)) in
-    let after = quiet_bit reader began copies (h ++ take n bits) x
-    (moments ++ all_at m (take n bits)) m given (step None None) refl before is in
-    let one : n + 1 ≡ suc n = add-one n in
-    subst (λ (k : ℕ). Shows reader began copies (h ++ take k bits)
-    (moments ++ all_at m (take k bits)) given) one
-    (subst₂ (λ (x : List Bool) (y : List ℕ). Shows reader began copies x y given) (sym whole)
-    (sym force) after)
-
 -- elements were taken, of which the last one brings a step, and those before it nothing
 pub step_taken : (old new : Taking) (before after : Held) (count : ℕ) (bits : List Bool) (r : Step)
     → 0 < length bits → BringsStep before after bits r
     → count ≡ min (old.elements + length bits) (2 ^ 64 - 1)
     → ShowsStep (record old { elements = count }) new r → new.moment ≡ old.moment
-    → Hears before old bits after new
-step_taken old new before after count bits r some brings counted ss kept = record {
+    → length new.shown ≤ length old.shown + 113 → Hears before old bits after new
+unfolding all_at
+step_taken old new before after count bits r some brings counted ss kept short = record {
   stands = brings.stands;
   moment = kept;
+  few = omega (arith, short, some);
   shows = λ h moments given stands w few.
-      let n = length bits - 1 in
-      let x = get_or bits n false in
-      let quiet = take n bits in
-      let m = old.moment in
-      let steps = brings.brings h stands in
-      let all : take (n + 1) bits ≡ bits = take_all (n + 1) bits (omega (arith, some)) in
-      let cut : bits ≡ quiet ++ x ∷ [] =
-      sym all ∙ take_more bits n false (omega (arith, some)) in
-      let whole : h ++ bits ≡ (h ++ quiet) ++ x ∷ [] =
-      ap (λ l. h ++ l) cut ∙ sym (append_assoc h quiet (x ∷ [])) in
-      let force : moments ++ all_at m bits ≡ (moments ++ all_at m quiet) ++ m ∷ [] =
-      ap (λ l. moments ++ all_at m l) cut
-      ∙ ap (λ l. moments ++ l) (all_at-append m quiet (x ∷ [])
-      ∙ ap (λ l. all_at m quiet ++ l) (all_at-one m x))
-      ∙ sym (append_assoc moments (all_at m quiet) (m ∷ [])) in
-      let first = quiet_bits old.reader old.locks old.copies h moments m given bits n
-      (omega (arith, some)) (λ k lt. steps.quiet k (omega (arith, some, lt))) w.shows in
-      let size : length ((h ++ quiet) ++ x ∷ []) ≡ length h + length bits =
-      sym (ap length whole) ∙ length-append h bits in
-      let one = step_shown (record old { elements = count }) new (h ++ quiet) x
-      (moments ++ all_at m quiet) given r first
-      (omega (arith, counted, w.elements, few, size)) (omega (arith, few, size)) ss
-      (subst (λ (l : List Bool). IsStep l r) whole steps.last) in
-      subst₂ (λ (x : List Bool) (y : List ℕ). GoesTo new x y given old.shown) (sym whole)
-      (sym force) one;
+      let shows : List Bool → List ℕ → Type 0 =
+      λ x y. Shows old.reader old.locks old.copies x y given in
+      let last = before_last shows old.moment
+      (λ x b y is s. quiet_bit old.reader old.locks old.copies x b y old.moment given
+      (step None None) refl s is) h bits moments r some (brings.brings h stands) w.shows in
+      let size : length ((h ++ last.before) ++ last.bit ∷ []) ≡ length h + length bits =
+      sym (ap length last.whole) ∙ length-append h bits in
+      let one = step_shown (record old { elements = count }) new (h ++ last.before) last.bit
+      (moments ++ marks_of old.moment last.before) given r last.stood
+      (omega (arith, counted, w.elements, few, size)) (omega (arith, few, size)) ss last.brings in
+      subst₂ (λ x y. GoesTo new x y given old.shown) (sym last.whole) (sym last.force) one;
 }

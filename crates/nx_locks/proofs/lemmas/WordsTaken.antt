@@ -1,5 +1,5 @@
 -- Words of a lock that are heard at once, where none of them brings a change.
-use Rattle.std.proofs.Common.{◌≡◌, ℕ, ◌+◌, ◌-◌, ◌*◌, ◌^◌, ◌<◌, Bool, List, [], ◌∷◌, ◌++◌}
+use Rattle.std.proofs.Common.{◌≡◌, ℕ, ◌+◌, ◌-◌, ◌*◌, ◌^◌, ◌<◌, ◌≤◌, Bool, List, ◌++◌}
 use Rattle.std.proofs.Common.{length, refl, sym, subst, arith}
 use Rattle.std.proofs.Common.{length-append}
 use Rattle.std.specs.Prelude.{min}
@@ -11,24 +11,13 @@ use Rattle.nx_sync.specs.Synchroniser.{Held}
 use Rattle.nx_sync.specs.Ahead.{BringsWords}
 use Rattle.nx_sync.specs.Words.{first_role, word_of_lock}
 use Rattle.nx_sync.specs.declared.step.Role.TheVariants.{Dx}
-use Rattle.nx_code.proofs.lemmas.Packed.{length-elements}
+use Rattle.nx_sync.proofs.lemmas.words.LastSteps.{length-of_words}
 use Rattle.nx_sync.proofs.lemmas.states.UniqueStates.{locks-unique, now-unique}
 use Rattle.nx_locks.specs.private.Reader.{Reading}
 use Rattle.nx_locks.specs.private.Reader.{ShowsWords}
-use Rattle.nx_receiver.proofs.lemmas.copy_hearer.PlainWords.{still_words}
+use Rattle.nx_copies.proofs.lemmas.locks.StillStands.{still_words}
 use Rattle.nx_locks.specs.private.Taker.{Hears, Taking, all_at}
 use Rattle.nx_locks.proofs.lemmas.Bits.{words_on}
-
--- a word has seven elements
-length-of_words : (words : List ℕ) → length (flat_map elements words) ≡ 7 * length words
-length-of_words [] = refl
-length-of_words (w ∷ words) =
-    omega (
-      arith,
-      length-append (elements w) (flat_map elements words),
-      length-elements w,
-      length-of_words words,
-    )
 
 length-all_at : (moment : ℕ) (bits : List Bool) → length (all_at moment bits) ≡ length bits
 unfolding all_at
@@ -39,11 +28,13 @@ pub words_taken : (old : Taking) (before after : Held) (count : ℕ) (reader : R
     (heard shown : List ℕ) → 0 < length heard → BringsWords before after heard
     → count ≡ min (old.elements + 7 * length heard) (2 ^ 64 - 1)
     → ShowsWords old.reader reader Dx heard old.shown shown
+    → length shown ≤ length old.shown + 8
     → Hears before old (flat_map elements heard) after
     (record old { reader = reader; elements = count; shown = shown })
-words_taken old before after count reader heard shown some brings counted shows = record {
+words_taken old before after count reader heard shown some brings counted shows short = record {
   stands = brings.stands;
   moment = refl;
+  few = omega (arith, short, some, length-of_words heard);
   shows = λ bits moments given stands w few.
       let s = w.shows in
       let xs = flat_map elements heard in

@@ -4,7 +4,6 @@ use Rattle.std.specs.Prelude.{◌≡◌, ℕ, ◌+◌, ◌-◌, ◌*◌, ◌^◌
 use Rattle.std.specs.Prelude.{◌∷◌, ◌++◌, length, map, min, Option, Some, None}
 use Rattle.std.specs.Option.{option_to_list}
 use Rattle.nx_envelope.specs.Moment.{IsShownAs}
-use Rattle.nx_code.specs.Packed.{packed_part}
 use Rattle.nx_code.specs.Reading.{newline}
 use Rattle.nx_sync.specs.Synchroniser.{Held, StandsAfter}
 use Rattle.nx_sync.specs.Locks.{Lock, Now, hunting, locked, IsNow}
@@ -72,7 +71,8 @@ pub record GoesTo (taker : Taking) (bits : List Bool) (moments given before : Li
     pub shows : TakerShows taker bits moments (given ++ more)
 
 -- A synchroniser heard these elements, and a taker took what they bring: after whatever bits both
--- stood, fewer than a counter counts, the taker shows these elements after them.
+-- stood, fewer than a counter counts, the taker shows these elements after them. An element brings
+-- at most 113 bytes.
 pub record Hears (before : Held) (old : Taking) (heard : List Bool) (after : Held) (new : Taking)
     : Type 0 where
   pub stands : (bits : List Bool) → StandsAfter before bits → StandsAfter after (bits ++ heard)
@@ -80,20 +80,12 @@ pub record Hears (before : Held) (old : Taking) (heard : List Bool) (after : Hel
       → TakerShows old bits moments given → length bits + length heard < 2 ^ 64
       → GoesTo new (bits ++ heard) (moments ++ all_at old.moment heard) given old.shown
   pub moment : new.moment ≡ old.moment
+  pub few : length new.shown ≤ length old.shown + 113 * length heard
 
--- There is room for what so many elements bring. One brings at most 113 bytes, a line of an air
--- file has at most 512 elements, and these are all.
+-- There is room for what so many elements bring. A line of an air file has at most 512 elements,
+-- and these are all.
 abbrev pub HasRoom : Taking → ℕ → Type 0
 HasRoom taker count = length taker.shown + 113 * count ≤ 57856
-
--- Of so many packed elements from a place on, the first ones were heard, so many and at least one.
--- What they bring was shown, in no more room than there is for it.
-pub record HearsPart (before : Held) (old : Taking) (numbers : List ℕ) (from count : ℕ)
-    (after : Held) (new : Taking) (heard : ℕ) : Type 0 where
-  pub within : heard ≤ count
-  pub some : 0 < heard
-  pub few : length new.shown ≤ length old.shown + 113 * heard
-  pub hears : Hears before old (packed_part numbers from heard) after new
 
 -- a lock was opened
 pub record Opens (old new : Taking) : Type 0 where

@@ -1,12 +1,12 @@
 -- The laws of a taker that shows locks: no elements bring nothing, and elements after others bring
 -- what both do.
-use Rattle.std.specs.Prelude.{◌≡◌, ℕ, Bool, List, [], ◌++◌, length}
+use Rattle.std.specs.Prelude.{◌≡◌, ℕ, ◌+◌, ◌≤◌, Bool, List, [], ◌++◌, length}
 use Rattle.std.proofs.Common.{refl, sym, ap, ◌∙◌, subst, subst₂, arith, append_assoc, append-nil}
 use Rattle.std.proofs.Common.{length-append}
 use Rattle.std.proofs.lemmas.List.{map-append}
 use Rattle.nx_sync.specs.Synchroniser.{Held, StandsAfter}
 use Rattle.nx_locks.specs.private.Reader.{Reading}
-use Rattle.nx_locks.specs.private.Taker.{Hears, Shows, TakerShows, Taking, all_at}
+use Rattle.nx_locks.specs.private.Taker.{HasRoom, Hears, Shows, TakerShows, Taking, all_at}
 
 pub all_at-nil : (moment : ℕ) → all_at moment [] ≡ []
 unfolding all_at
@@ -62,6 +62,7 @@ hears_none held taker = record {
         });
   };
   moment = refl;
+  few = omega arith;
 }
 
 pub hears_both : (old mid new : Held) (first between last : Taking) (xs ys : List Bool)
@@ -86,4 +87,12 @@ hears_both old mid new first between last xs ys one rest = record {
             (append_assoc given f.more g.more) g.shows;
       };
   moment = rest.moment ∙ one.moment;
+  few = omega (arith, one.few, rest.few, length-append xs ys);
 }
+
+-- where elements and more have room, the more have room behind them
+pub room_behind : (old new : Held) (before after : Taking) (bits : List Bool) (count more : ℕ)
+    → Hears old before bits new after → length bits + more ≤ count → HasRoom before count
+    → HasRoom after more
+room_behind old new before after bits count more hears within room =
+    omega (arith, hears.few, within, room)

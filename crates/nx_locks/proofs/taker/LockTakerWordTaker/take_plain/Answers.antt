@@ -1,8 +1,8 @@
-use Rattle.std.proofs.Common.{rules}
+use Rattle.std.proofs.Common.{arith, rules}
 use Rattle.std.specs.Prelude.{IsTrue}
 use Rattle.nx_locks.proofs.lemmas.WordsTaken.{words_taken}
 use Rattle.nx_locks.specs.private.Taker.{Taking}
-use Rattle.nx_locks.proofs.taker.LockTaker.take_words.Goals as goal
+use Rattle.nx_locks.proofs.taker.LockTakerWordTaker.take_plain.Goals as goal
 
 pub returns-clause-hears : goal.returns-clause-hears
 returns-clause-hears c = rw (← c.self.view_is) (λ is before after brings.
@@ -20,4 +20,4 @@ returns-clause-hears c = rw (← c.self.view_is) (λ is before after brings.
     } in
     words_taken old before after count c.hear_words.new.self words c.hear_words.new.shown.items
     c.requires.pairs.some brings c.saturating_add-self-inside.ensures
-    (c.hear_words.ensures.shows heard))
+    (c.hear_words.ensures.shows heard) (omega (arith, c.hear_words.ensures.few)))
