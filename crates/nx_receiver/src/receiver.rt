@@ -26,8 +26,7 @@ ghost use Rattle.nx_receiver.specs.private.CopyHearer.{ready_copies};
 use crate::command::Command;
 use crate::copy_taker::{CopyTag, CopyTaker, Over};
 use crate::fault::{MomentFault, ReceiverFault, check_moment};
-use nx_code::ELEMENTS;
-use nx_copies::{Entry, EntryHead, judge};
+use nx_copies::{Entry, EntryHead, hear_elements, judge};
 use nx_envelope::{Identity, LAST_MOMENT, Letter, MAX_FOUND};
 use nx_fec::{MAX_ELEMENTS, PackedElements};
 use nx_memory::{Listed, Recall, RingRecall, Saved, Selection, Vital};
@@ -322,16 +321,7 @@ impl<M: Recall> Receiver<M> {
     {
         let left = packed.len() - from;
         let numbers = packed.numbers();
-        let synchroniser = &mut self.synchroniser;
-        // One element, fewer than two words have, and more: each is a call with registers of its
-        // own.
-        if left == 1 {
-            return (1, self.taker.hear_one(synchroniser, numbers, from));
-        }
-        if left < ELEMENTS * 2 {
-            return self.taker.hear_few(synchroniser, numbers, from, left);
-        }
-        self.taker.hear_many(synchroniser, numbers, from, left)
+        hear_elements(&mut self.taker, &mut self.synchroniser, numbers, from, left)
     }
 
     /// Hears elements that aren't packed, as `hear` does.

@@ -1,8 +1,7 @@
 -- What a taker of copies does with what the elements bring that a synchroniser hears (this
 -- profile). The two together are a hearer.
-use Rattle.std.specs.Prelude.{◌≡◌, ℕ, ◌+◌, ◌<◌, ◌≤◌, Bool, is_some, List}
+use Rattle.std.specs.Prelude.{◌≡◌, ℕ, ◌+◌, Bool, is_some, List}
 use Rattle.std.specs.Prelude.{Option, Some, None}
-use Rattle.nx_code.specs.Packed.{packed_part}
 use Rattle.nx_sync.specs.Synchroniser.{Held}
 use Rattle.nx_sync.specs.Words.{role_of}
 use Rattle.nx_sync.specs.declared.step.Step.{Step}
@@ -67,11 +66,3 @@ pub record Hears (old : Held) (before : CopyTaker) (heard : List Bool) (new : He
   pub hears : HearsAll (hearer_of old before) (hearer_of new after) heard answer
   pub force : setting_of after ≡ setting_of before
   pub kept : TagGoesOn (hearer_of old before) (hearer_of new after)
-
--- Of so many packed elements from a place on, the first ones were heard, and at least one where
--- there are any. `heard` says how many that were, and what is over with the last of them.
-pub record HearsPart (old : Held) (before : CopyTaker) (numbers : List ℕ) (from count : ℕ)
-    (new : Held) (after : CopyTaker) (heard : ℕ × Option Over) : Type 0 where
-  pub within : heard.0 ≤ count
-  pub some : 0 < count → 0 < heard.0
-  pub hears : Hears old before (packed_part numbers from heard.0) new after heard.1

@@ -1,6 +1,6 @@
 -- What one more element does to what a hearer stands after.
 use Rattle.std.proofs.Common.{◌≡◌, ℕ, zero, suc, ◌+◌, ◌*◌, ◌<◌, ◌≤◌, Bool, List, [], ◌∷◌, ◌++◌}
-use Rattle.std.proofs.Common.{length, Some, None, refl, sym, ap, ◌∙◌, subst, arith}
+use Rattle.std.proofs.Common.{length, None, refl, sym, ap, ◌∙◌, subst, arith}
 use Rattle.std.specs.List.{All}
 use Rattle.std.proofs.lemmas.List.{get_or_append_left, length_push}
 use Rattle.std.proofs.lemmas.List.Elements.{All-nil, All-head, All-tail, All-weaker}
@@ -25,6 +25,7 @@ use Rattle.nx_copies.specs.copies.LockText.{dx_words}
 use Rattle.nx_copies.specs.LockReader.{LockReading}
 use Rattle.nx_copies.specs.copies.LockText.{PlacedByte, lock_text, text_by}
 use Rattle.nx_receiver.specs.private.CopyHearer.{HasTag, ReadsNow, ReadsOver, copies_by, setting_in}
+use Rattle.nx_copies.proofs.lemmas.QuietElements.{no_word}
 use Rattle.nx_copies.proofs.lemmas.locks.Found.{IsByteIn, IsCopyIn, text_placed}
 use Rattle.nx_copies.proofs.lemmas.locks.Growing.{past_copies-more, whole_heard}
 use Rattle.nx_copies.proofs.lemmas.locks.Texts.{lock_text-more, positions-same}
@@ -81,10 +82,6 @@ standing_heard bits locks (locked p t) is =
     All-weaker (IsByteIn t (t + 7 * whole_words bits t)) (IsByteIn 0 (length bits))
     (λ b h. (omega arith, omega (arith, h.1, heard))) (lock_text bits t (whole_words bits t))
     (text_placed _ _ t (whole_words bits t))
-
--- a step without a word completes none
-pub no_word : (r : Step) (w : ℕ × Role) → r.word ≡ None → r.word ≡ Some w → ⊥
-no_word r w e f = let both : None ≡ Some w = sym e ∙ f in cc
 
 module _ (first : Setting) (bits : List Bool) (b : Bool) (settings : List Setting) (s : Setting)
     (many : length settings ≡ length bits) where

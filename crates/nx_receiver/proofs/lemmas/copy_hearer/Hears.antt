@@ -1,8 +1,7 @@
 -- What a hearer hears: the elements of a step of its synchroniser, which its taker takes.
-use Rattle.std.proofs.Common.{◌≡◌, ℕ, zero, suc, ◌+◌, ◌-◌, ◌<◌, ◌≤◌, Bool, List, [], ◌∷◌}
-use Rattle.std.proofs.Common.{false, ◌++◌, length, take, get_or, Option, Some, None, refl, sym, ap}
-use Rattle.std.proofs.Common.{◌∙◌, subst, subst₂, arith, append_assoc, append-nil, add-one}
-use Rattle.std.proofs.lemmas.List.{take_more, take_all}
+use Rattle.std.proofs.Common.{◌≡◌, ℕ, ◌<◌, Bool, List, [], ◌∷◌}
+use Rattle.std.proofs.Common.{◌++◌, length, take, Option, Some, None, refl, sym, ap}
+use Rattle.std.proofs.Common.{subst, subst₂, arith}
 use Rattle.nx_sync.specs.Locks.{Past, hunting}
 use Rattle.nx_sync.specs.Steps.{IsLastStep, IsStep, step}
 use Rattle.nx_sync.specs.Synchroniser.{Held, StandsAfter}
@@ -13,17 +12,17 @@ use Rattle.nx_receiver.specs.declared.copy_taker.CopyTaker.{CopyTaker}
 use Rattle.nx_receiver.specs.declared.copy_taker.CopyTag.{CopyTag}
 use Rattle.nx_receiver.specs.declared.copy_taker.Over.{Over}
 use Rattle.nx_copies.specs.Events.{Setting}
-use Rattle.nx_receiver.specs.CopyHearing.{CopyHearing, in_force}
+use Rattle.nx_receiver.specs.CopyHearing.{CopyHearing}
 use Rattle.nx_copies.specs.LockReader.{LockReading}
 use Rattle.nx_copies.specs.copies.FoundCopies.{TaggedCopy, past_copies}
 use Rattle.nx_envelope.specs.declared.found.TextEvent.{TextEvent}
 use Rattle.nx_envelope.specs.declared.found.TextEvent.TheVariants as events
 use Rattle.nx_receiver.specs.private.CopyTaker.{Hears, ReadsStep, setting_of}
 use Rattle.nx_receiver.specs.private.CopyTaker.{tag_after, hearer_of}
-use Rattle.nx_receiver.specs.private.CopyTakerLaws.{all_in_force-append}
 use Rattle.nx_receiver.specs.private.CopyHearer.{HasEnded, HearsBits, IsFresh, IsOver, ReadsOver}
 use Rattle.nx_receiver.specs.private.CopyHearer.{TagGoesOn, HearerStands, all_in_force, as_it_was}
 use Rattle.nx_receiver.specs.private.CopyHearer.{copies_by, now_in_force}
+use Rattle.nx_copies.proofs.lemmas.QuietElements.{before_last, marks_of, quiet_bits}
 use Rattle.nx_copies.proofs.lemmas.locks.Growing.{hunted}
 use Rattle.nx_receiver.proofs.lemmas.copy_hearer.Takes.{tag-hunting}
 use Rattle.nx_receiver.proofs.lemmas.copy_hearer.Bits.{quiet_bit}
@@ -65,39 +64,13 @@ element_over first old new held bit h s copies r answer stands is read o =
           (read.some w.0 w.1 one) stands
     ] refl
 
--- elements that bring nothing
-quiet_bits : (first : Setting) (old : CopyHearing) (h : List Bool) (s : List Setting)
-    (copies : List TaggedCopy) (bits : List Bool) (n : ℕ) → n ≤ length bits
-    → ((k : ℕ) → k < n → IsStep (h ++ take (k + 1) bits) (step None None))
-    → ReadsOver first old.reader old.tag h s copies
-    → ReadsOver first old.reader old.tag (h ++ take n bits)
-    (s ++ all_in_force old (take n bits)) copies
-unfolding all_in_force
-quiet_bits first old h s copies bits zero le quiet o =
-    subst₂ (λ (x : List Bool) (y : List Setting). ReadsOver first old.reader old.tag x y copies)
-    (sym (append-nil h)) (sym (append-nil s)) o
-quiet_bits first old h s copies bits (suc n) le quiet o =
-    let before = quiet_bits first old h s copies bits n (omega arith)
-    (λ k lt. quiet k (omega arith)) o in
-    let x = get_or bits n false in
-    let more : take (n + 1) bits ≡ take n bits ++ x ∷ [] = take_more bits n false (omega arith) in
-    let whole : h ++ take (n + 1) bits ≡ (h ++ take n bits) ++ x ∷ [] =
-    ap (λ l. h ++ l) more ∙ sym (append_assoc h (take n bits) (x ∷ [])) in
-    let force : s ++ all_in_force old (take (n + 1) bits)
-    ≡ (s ++ all_in_force old (take n bits)) ++ in_force old ∷ [] =
-    ap (λ l. s ++ all_in_force old l) more
-    ∙ ap (λ l. s ++ l) (all_in_force-append old (take n bits) (x ∷ []))
-    ∙ sym (append_assoc s (all_in_force old (take n bits)) (in_force old ∷ [])) in
-    let is : IsStep ((h ++ take n bits) ++ x ∷ []) (step None None) =
-    subst (λ (l : List Bool). IsStep l (step None None)) whole (quiet n (omega arith)) in
-    let after = quiet_bit first old.reader old.tag (h ++ take n bits) x
-    (s ++ all_in_force old (take n bits)) (in_force old) copies (step None None) before is
-    refl in
-    let next : n + 1 ≡ suc n = add-one n in
-    subst (λ (m : ℕ). ReadsOver first old.reader old.tag (h ++ take m bits)
-    (s ++ all_in_force old (take m bits)) copies) next
-    (subst₂ (λ (x : List Bool) (y : List Setting). ReadsOver first old.reader old.tag x y copies)
-    (sym whole) (sym force) after)
+-- an element that brings nothing
+quiet_after : (first : Setting) (old : CopyTaker) (copies : List TaggedCopy) (bits : List Bool)
+    (bit : Bool) (s : List Setting) → IsStep (bits ++ bit ∷ []) (step None None)
+    → ReadsOver first old.reader old.tag bits s copies
+    → ReadsOver first old.reader old.tag (bits ++ bit ∷ []) (s ++ setting_of old ∷ []) copies
+quiet_after first old copies bits bit s is o =
+    quiet_bit first old.reader old.tag bits bit s (setting_of old) copies (step None None) o is refl
 
 -- elements of which the last one brings a step, and those before it nothing
 pub step_heard : (first : Setting) (old new : CopyTaker) (before after : Held) (bits : List Bool)
@@ -107,34 +80,20 @@ pub step_heard : (first : Setting) (old new : CopyTaker) (before after : Held) (
     → HearsBits first (hearer_of before old) (hearer_of after new) h s copies bits answer
 unfolding all_in_force
 step_heard first old new before after bits h s copies r answer some stands is read o =
-    let hearer = hearer_of before old in
-    let n = length bits - 1 in
-    let e : n + 1 ≡ length bits = omega arith in
-    let x = get_or bits n false in
-    let rest = take n bits in
-    let cut : bits ≡ rest ++ x ∷ [] =
-    sym (take_all (length bits) bits (omega arith)) ∙ ap (λ k. take k bits) (sym e)
-    ∙ take_more bits n false (omega arith) in
-    let whole : h ++ bits ≡ (h ++ rest) ++ x ∷ [] =
-    ap (λ l. h ++ l) cut ∙ sym (append_assoc h rest (x ∷ [])) in
-    let force : s ++ all_in_force hearer bits
-    ≡ (s ++ all_in_force hearer rest) ++ setting_of old ∷ [] =
-    ap (λ l. s ++ all_in_force hearer l) cut
-    ∙ ap (λ l. s ++ l) (all_in_force-append hearer rest (x ∷ []))
-    ∙ sym (append_assoc s (all_in_force hearer rest) (setting_of old ∷ [])) in
-    let quiet : (k : ℕ) → k < n → IsStep (h ++ take (k + 1) bits) (step None None) =
-    λ k lt. is.quiet k (omega (arith, lt, e)) in
-    let before_last = quiet_bits first hearer h s copies bits n (omega arith) quiet o in
-    let last = element_over first old new after x (h ++ rest) (s ++ all_in_force hearer rest) copies
-    r answer (subst (StandsAfter after) whole stands)
-    (subst (λ (l : List Bool). IsStep l r) whole is.last) read before_last in
+    let over : List Bool → List Setting → Type 0 =
+    λ x y. ReadsOver first old.reader old.tag x y copies in
+    let quiet = quiet_after first old copies in
+    let last = before_last over (setting_of old) quiet h bits s r some is o in
     record {
-      brings = subst₂ (λ (x : List Bool) (y : List Setting).
-          IsOver first (hearer_of after new) x y copies answer) (sym whole) (sym force) last;
+      brings = subst₂ (λ x y. IsOver first (hearer_of after new) x y copies answer)
+          (sym last.whole) (sym last.force)
+          (element_over first old new after last.bit (h ++ last.before)
+          (s ++ marks_of (setting_of old) last.before) copies r answer
+          (subst (StandsAfter after) last.whole stands) last.brings read last.stood);
       none_before = λ k lt. has_ended first old.reader old.tag (h ++ take k bits)
-          (s ++ all_in_force hearer (take k bits)) copies
-          (quiet_bits first hearer h s copies bits k (omega arith)
-          (λ j small. quiet j (omega (arith, small, lt, e))) o);
+          (s ++ marks_of (setting_of old) (take k bits)) copies
+          (quiet_bits over (setting_of old) quiet h bits s k (omega arith)
+          (λ j small. is.quiet j (omega (arith, small, lt))) o);
     }
 
 -- what is in force stays where a step is read

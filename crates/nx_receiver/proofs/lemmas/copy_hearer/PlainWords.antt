@@ -1,27 +1,21 @@
 -- Words of a lock that a taker takes at once, where none of them brings anything.
-use Rattle.std.proofs.Common.{◌≡◌, ℕ, zero, suc, ◌+◌, ◌*◌, ◌<◌, ◌≤◌, Bool, false, List, [], ◌∷◌}
-use Rattle.std.proofs.Common.{◌++◌, length, take, drop, get_or, Some, None, refl, sym, ap, ◌∙◌}
-use Rattle.std.proofs.Common.{subst, arith, append_assoc, append-nil, add-one, map, slice_index}
+use Rattle.std.proofs.Common.{◌≡◌, ℕ, suc, ◌+◌, ◌*◌, ◌<◌, ◌≤◌, Bool, List, [], ◌∷◌}
+use Rattle.std.proofs.Common.{◌++◌, length, take, drop, None, refl, sym, ap, ◌∙◌}
+use Rattle.std.proofs.Common.{subst, arith, append_assoc, append-nil, map, slice_index}
 use Rattle.std.proofs.Common.{subst₂}
 use Rattle.std.specs.List.{All, flat_map}
 use Rattle.std.proofs.lemmas.List.{append_cancel_left, length-append, length-map, take-append-drop}
-use Rattle.std.proofs.lemmas.List.{take_all, take_more}
 use Rattle.nx_code.specs.Word.{elements}
-use Rattle.nx_sync.specs.Laws.{OneMore, still_stands, now_over}
 use Rattle.nx_sync.specs.Locks.{Lock, Now, hunting, locked, IsNow}
-use Rattle.nx_sync.specs.Steps.{AreQuietWords, LimitStands, Brings, found, word, inside, over}
-use Rattle.nx_sync.specs.Steps.{hunts, IsStep, IsWordStep, step}
+use Rattle.nx_sync.specs.Steps.{AreQuietWords, LimitStands}
 use Rattle.nx_sync.specs.Synchroniser.{Held}
 use Rattle.nx_sync.specs.Ahead.{BringsWords}
-use Rattle.nx_sync.specs.Words.{word_of_lock, first_role, heard_word, other_role, role_of}
+use Rattle.nx_sync.specs.Words.{word_of_lock, first_role}
 use Rattle.nx_sync.specs.Words.{whole_words}
 use Rattle.nx_sync.specs.declared.step.Role.{Role}
 use Rattle.nx_sync.specs.declared.step.Role.TheVariants.{Dx}
-use Rattle.nx_sync.specs.declared.step.Step.{Step}
-use Rattle.nx_sync.proofs.lemmas.words.WordsAtOnce.{quiet_first, quiet_rest}
-use Rattle.nx_sync.proofs.lemmas.states.KeptPast.{word_at-more, first_role-more}
-use Rattle.nx_code.proofs.lemmas.Packed.{length-elements}
-use Rattle.nx_sync.proofs.lemmas.states.StateChanges.{one_more, standing_after}
+use Rattle.nx_sync.proofs.lemmas.words.LastSteps.{length-of_words}
+use Rattle.nx_sync.proofs.lemmas.states.StateChanges.{standing_after}
 use Rattle.nx_sync.proofs.lemmas.states.UniqueStates.{now-unique}
 use Rattle.nx_envelope.specs.Copies.{ended_copies, open_headers}
 use Rattle.nx_envelope.specs.Finder.{BringNothing, Keeps}
@@ -43,131 +37,12 @@ use Rattle.nx_receiver.specs.private.CopyHearer.{setting_in}
 use Rattle.nx_copies.proofs.lemmas.locks.Found.{IsByteIn, ended_headers_in, found-same, open_headers_in}
 use Rattle.nx_copies.proofs.lemmas.locks.Found.{text_placed}
 use Rattle.nx_copies.proofs.lemmas.locks.Growing.{ended_go_on, past_copies-more}
+use Rattle.nx_copies.proofs.lemmas.locks.StillStands.{still_words}
 use Rattle.nx_copies.proofs.lemmas.locks.Texts.{bytes_are_reading, bytes_of-append, lock_text-more}
 use Rattle.nx_copies.proofs.lemmas.locks.Texts.{text_by-grows}
 use Rattle.nx_copies.proofs.lemmas.printing.Logged.{ended_placed}
-use Rattle.nx_receiver.proofs.lemmas.copy_hearer.Bits.{copies_by-later, no_word, reads-more}
+use Rattle.nx_receiver.proofs.lemmas.copy_hearer.Bits.{copies_by-later, reads-more}
 use Rattle.nx_receiver.proofs.lemmas.copy_hearer.Texts.{IsTagOf, tags-same}
-
--- an element with no change, after which the lock still stands, and the word that it completes
-record StillStands (bits : List Bool) (r : Step) (locks : List Lock) (p t : ℕ) : Type 0 where
-  stands : IsNow bits locks (locked p t)
-  completes : (w : ℕ) (role : Role) → r.word ≡ Some (w, role)
-      → (k : ℕ) × (length bits ≡ t + 7 * (k + 1)) × (heard_word bits t k ≡ (w, role))
-
-still_case : (bits : List Bool) (locks : List Lock) (p t : ℕ) (r : Step) → r.change ≡ None
-    → (newer : List Lock) (next : Now) → IsNow bits newer next → Brings bits r newer next
-    → OneMore bits locks (locked p t) newer next → StillStands bits r locks p t
-still_case bits locks p t r same newer (locked q u) on (found e f) still_stands =
-    absurd (let change = ap (λ x. x.change) f in cc)
-still_case bits locks p t r same newer (locked q u) on (word k e f) still_stands = record {
-  stands = on;
-  completes = λ w role one.
-      let both : Some (heard_word bits t k) ≡ Some (w, role) = sym (ap (λ x. x.word) f) ∙ one in
-      (k, e, cc);
-}
-still_case bits locks p t r same newer (locked q u) on (inside k i e pos lt f) still_stands =
-    record {
-      stands = on;
-      completes = λ w role one. absurd (no_word r (w, role) (ap (λ x. x.word) f) one);
-    }
-still_case bits locks p t r same newer (hunting q) on (over e f) (now_over lock x y z) =
-    absurd (let change = ap (λ x. x.change) f in cc)
-still_case bits locks p t r same newer (hunting q) on (hunts h e) (now_over lock x y z) =
-    absurd (omega (arith, h, z))
-
-still_bit : (bits : List Bool) (b : Bool) (locks : List Lock) (p t : ℕ) (r : Step)
-    → IsNow bits locks (locked p t) → IsStep (bits ++ b ∷ []) r → r.change ≡ None
-    → StillStands (bits ++ b ∷ []) r locks p t
-still_bit bits b locks p t r now is same =
-    still_case (bits ++ b ∷ []) locks p t r same is.locks is.now is.stands is.brings
-    (one_more bits b locks is.locks (locked p t) is.now now is.stands)
-
-still_bits : (h bits : List Bool) (locks : List Lock) (p t n : ℕ) → n ≤ length bits
-    → ((k : ℕ) → k < n → IsStep (h ++ take (k + 1) bits) (step None None))
-    → IsNow h locks (locked p t) → IsNow (h ++ take n bits) locks (locked p t)
-still_bits h bits locks p t zero le quiet now =
-    subst (λ (l : List Bool). IsNow l locks (locked p t)) (sym (append-nil h)) now
-still_bits h bits locks p t (suc n) le quiet now =
-    let x = get_or bits n false in
-    let before = still_bits h bits locks p t n (omega arith) (λ k lt. quiet k (omega arith)) now in
-    let whole : h ++ take (n + 1) bits ≡ (h ++ take n bits) ++ x ∷ [] =
-    ap (λ l. h ++ l) (take_more bits n false (omega arith))
-    ∙ sym (append_assoc h (take n bits) (x ∷ [])) in
-    let is = subst (λ (l : List Bool). IsStep l (step None None)) whole (quiet n (omega arith)) in
-    let one = still_bit (h ++ take n bits) x locks p t (step None None) before is refl in
-    subst (λ (m : ℕ). IsNow (h ++ take m bits) locks (locked p t)) (add-one n)
-    (subst (λ (l : List Bool). IsNow l locks (locked p t)) (sym whole) one.stands)
-
-still_word : (h bits : List Bool) (locks : List Lock) (p t : ℕ) (r : Step) → length bits ≡ 7
-    → IsWordStep h bits r → r.change ≡ None → IsNow h locks (locked p t)
-    → StillStands (h ++ bits) r locks p t
-still_word h bits locks p t r long is same now =
-    let x = get_or bits 6 false in
-    let whole : h ++ bits ≡ (h ++ take 6 bits) ++ x ∷ [] =
-    ap (λ l. h ++ l) (sym (take_all 7 bits (omega arith)) ∙ take_more bits 6 false (omega arith))
-    ∙ sym (append_assoc h (take 6 bits) (x ∷ [])) in
-    let six = still_bits h bits locks p t 6 (omega arith) is.inside now in
-    subst (λ (l : List Bool). StillStands l r locks p t) (sym whole)
-    (still_bit (h ++ take 6 bits) x locks p t r six
-    (subst (λ (l : List Bool). IsStep l r) whole is.last) same)
-
--- after words that bring no change the lock still stands, and these are its words
-pub record StillWords (bits : List Bool) (role_of_first : Role) (locks : List Lock) (p t m : ℕ)
-    (words : List ℕ) : Type 0 where
-  pub stands : IsNow (bits ++ flat_map elements words) locks (locked p t)
-  pub are : (k : ℕ) → k < length words
-      → word_of_lock (bits ++ flat_map elements words) t (m + k) ≡ slice_index words k
-  pub role : 0 < length words
-      → role_of (first_role (bits ++ flat_map elements words) t) m ≡ role_of_first
-
-pub still_words : (words : List ℕ) (bits : List Bool) (role : Role) (locks : List Lock) (p t m : ℕ)
-    → IsNow bits locks (locked p t) → length bits ≡ t + 7 * m → AreQuietWords bits role words
-    → StillWords bits role locks p t m words
-still_words [] bits role locks p t m now limit quiet = record {
-  stands = subst (λ (l : List Bool). IsNow l locks (locked p t)) (sym (append-nil bits)) now;
-  are = λ k lt. absurd (omega arith);
-  role = λ some. absurd (omega arith);
-}
-still_words (w ∷ words) bits role locks p t m now limit quiet =
-    let here : List Bool = bits ++ elements w in
-    let long : length here ≡ t + 7 * (m + 1) =
-    omega (arith, limit, length-append bits (elements w), length-elements w) in
-    let one = still_word bits (elements w) locks p t (step (Some (w, role)) None)
-    (length-elements w) (quiet_first bits role w words quiet) refl now in
-    let this = one.completes w role refl in
-    let place : this.0 ≡ m = omega (arith, this.1, long) in
-    let is : word_of_lock here t m ≡ w =
-    ap (word_of_lock here t) (sym place) ∙ ap (λ (x : ℕ × Role). x.0) this.2 in
-    let rest = still_words words here (other_role role) locks p t (m + 1) one.stands long
-    (quiet_rest bits role w words quiet) in
-    let whole : here ++ flat_map elements words ≡ bits ++ (elements w ++ flat_map elements words) =
-    append_assoc bits (elements w) (flat_map elements words) in
-    record {
-      stands = subst (λ (l : List Bool). IsNow l locks (locked p t)) whole rest.stands;
-      are = λ k lt. subst (λ (l : List Bool). word_of_lock l t (m + k)
-          ≡ slice_index (w ∷ words) k) whole (each here words w t m long is rest.are k lt);
-      role = λ some. ap (λ l. role_of (first_role l t) m) (sym whole)
-          ∙ ap (λ (first : Role). role_of first m)
-          (first_role-more here (flat_map elements words) t one.stands.found.here.enough
-          one.stands.found.here.heard)
-          ∙ ap (role_of (first_role here t)) (sym place)
-          ∙ ap (λ (x : ℕ × Role). x.1) this.2;
-    }
-  where
-    each : (here : List Bool) (words : List ℕ) (w t m : ℕ) → length here ≡ t + 7 * (m + 1)
-        → word_of_lock here t m ≡ w
-        → ((k : ℕ) → k < length words
-        → word_of_lock (here ++ flat_map elements words) t (m + 1 + k) ≡ slice_index words k)
-        → (k : ℕ) → k < length (w ∷ words)
-        → word_of_lock (here ++ flat_map elements words) t (m + k) ≡ slice_index (w ∷ words) k
-    each here words w t m long is are zero lt =
-        let e : m + 0 ≡ m = omega arith in
-        ap (word_of_lock (here ++ flat_map elements words) t) e
-        ∙ word_at-more here (flat_map elements words) t m (omega (arith, long)) ∙ is
-    each here words w t m long is are (suc k) lt =
-        let e : m + suc k ≡ m + 1 + k = omega arith in
-        ap (word_of_lock (here ++ flat_map elements words) t) e ∙ are k (omega arith)
 
 -- bytes that bring nothing leave the copies
 record LeaveCopies (text bytes : List ℕ) : Type 0 where
@@ -294,16 +169,6 @@ module _ (first : Setting) (h : List Bool) (s : List Setting) (old : CopyHearing
         length-map more (λ (bit : Bool). in_force old),
       )
 
-  long : (words : List ℕ) → length (flat_map elements words) ≡ 7 * length words
-  long [] = refl
-  long (w ∷ words) =
-      omega (
-        arith,
-        long words,
-        length-elements w,
-        length-append (elements w) (flat_map elements words),
-      )
-
   -- nothing has ended with them, and the reader and the tag stand after them
   words_over : (locks : List Lock) (p t m : ℕ) → IsNow h locks (locked p t)
       → length h ≡ t + 7 * m → ReadsNow old.reader h (locked p t)
@@ -317,7 +182,7 @@ module _ (first : Setting) (h : List Bool) (s : List Setting) (old : CopyHearing
       let heard : t + 7 * m ≤ length h = omega (arith, limit) in
       let was : whole_words h t ≡ m = omega (arith, limit) in
       let is : m + count ≡ whole_words h' t =
-      omega (arith, limit, long next, length-append h more) in
+      omega (arith, limit, length-of_words next, length-append h more) in
       let role : Role = first_role h' t in
       let words : ℕ → ℕ = word_of_lock h' t in
       let text : List PlacedByte = lock_text h t m in

@@ -18,7 +18,8 @@ use Rattle.nx_copies.specs.copies.FoundCopies.{TaggedCopy}
 use Rattle.nx_receiver.specs.private.CopyHearer.{HasEnded, HearsAll, IsOver, all_in_force}
 use Rattle.nx_receiver.specs.CopyHearing.{CopyHearing, in_force}
 use Rattle.nx_receiver.specs.declared.copy_taker.CopyTaker.{CopyTaker}
-use Rattle.nx_receiver.specs.private.CopyTaker.{HearsPart, hearer_of}
+use Rattle.nx_copies.specs.WordLoop.{HearsPart}
+use Rattle.nx_receiver.specs.private.CopyTaker.{Hears, hearer_of}
 use Rattle.nx_receiver.proofs.lemmas.receiver.Events.{bits_of-more, force-more, settings-more}
 use Rattle.nx_receiver.proofs.lemmas.receiver.Printing.{has_printed}
 use Rattle.nx_receiver.proofs.lemmas.copy_hearer.Packed.{rest_is}
@@ -106,7 +107,7 @@ module _ {M : Type 0} (content : M → List MemoryEntry) (whole : Receiving M) (
     (view : receiving old before memory ≡ whole)
     (is : all ≡ take (length all) (elements_of_numbers numbers)) (room : from ≤ length all)
     (rest : count ≡ length all - from)
-    (part : HearsPart old before numbers from count new after heard) where
+    (part : HearsPart Hears old before numbers from count new after heard) where
   pub part_awaits : HearsUpTo content whole (receiving new after memory)
       (take heard.0 (drop from all)) heard.1
   part_awaits start history log stands =
