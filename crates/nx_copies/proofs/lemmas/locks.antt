@@ -1,6 +1,7 @@
 -- The texts of locks, and the copies in them.
 pub mod Found
 pub mod Growing
+pub mod Moves
 pub mod PlainPairs
 pub mod ReaderWords
 pub mod StillStands

@@ -8,9 +8,8 @@ use Rattle.std.specs.Prelude.{min}
 use Rattle.std.specs.Option.{option_to_list}
 use Rattle.std.proofs.lemmas.List.{length_push}
 use Rattle.nx_envelope.specs.Moment.{IsShownAs}
-use Rattle.nx_sync.specs.Laws.{OneMore, still_hunts, now_finds, still_stands, now_over}
 use Rattle.nx_sync.specs.Locks.{Lock, Now, hunting, locked, IsNow, Past}
-use Rattle.nx_sync.specs.Steps.{Brings, found, word, inside, over, hunts, IsStep, step}
+use Rattle.nx_sync.specs.Steps.{IsStep, step}
 use Rattle.nx_sync.specs.Synchroniser.{Held}
 use Rattle.nx_sync.specs.Ahead.{BringsStep}
 use Rattle.nx_sync.specs.Words.{heard_word, whole_words}
@@ -18,9 +17,9 @@ use Rattle.nx_sync.specs.declared.step.Change.{Change}
 use Rattle.nx_sync.specs.declared.step.Change.TheVariants.{Locked}
 use Rattle.nx_sync.specs.declared.step.Role.{Role}
 use Rattle.nx_sync.specs.declared.step.Step.{Step}
-use Rattle.nx_sync.proofs.lemmas.states.KeptPast.{Past-within}
-use Rattle.nx_sync.proofs.lemmas.states.StateChanges.{one_more}
 use Rattle.nx_copies.proofs.lemmas.QuietElements.{before_last, marks_of, no_word}
+use Rattle.nx_copies.proofs.lemmas.locks.Moves.{Moves, ends_word, finds, goes_on, hunts_on, one_move}
+use Rattle.nx_copies.proofs.lemmas.locks.Moves.{releases}
 use Rattle.nx_locks.specs.private.Reader.{Reading}
 use Rattle.nx_locks.specs.private.Taker.{Closes, GoesTo, Hears, ReadsTo, Shows, ShowsStep}
 use Rattle.nx_locks.specs.private.Taker.{TakerShows, Taking, all_at, closing_of, with_word}
@@ -80,32 +79,22 @@ module _ (old new : Taking) (bits : List Bool) (b : Bool) (moments given : List 
         }
 
     cases : (locks : List Lock) (now : Now) → s.locks ≡ locks → s.now ≡ now → IsNow bits locks now
-        → (newer : List Lock) (next : Now) → IsNow bits' newer next → Brings bits' r newer next
-        → OneMore bits' locks now newer next
-        → GoesTo new bits' moments' given old.shown
+        → (newer : List Lock) (next : Now) → IsNow bits' newer next
+        → Moves bits bits' r locks now newer next → GoesTo new bits' moments' given old.shown
     unfolding Past
-    cases locks (hunting p) l e is newer (hunting q) on (hunts h f) still_hunts =
+    cases locks (hunting p) l e is newer (hunting q) on (hunts_on f) =
         nothing_came f (still_hunting bits b moments old.moment old.reader old.locks old.copies
         given
         p s e (subst (λ k. IsNow bits' k (hunting p)) (sym l) on))
-    cases locks (hunting p) l e is newer (hunting q) on (over g f) still_hunts =
-        absurd (omega (arith, g, longer, Past-within bits locks p is.past))
-    cases locks (hunting p) l e is newer (locked q t) on (found g f) (now_finds at) =
+    cases locks (hunting p) l e is newer (locked q t) on (finds at f) =
         found_came t f at (now_found bits b moments old.moment old.reader old.locks old.copies given
         p
         t s e at (subst (λ k. IsNow bits' k (locked p t)) (sym l) on))
-    cases locks (hunting p) l e is newer (locked q t) on (word n g f) (now_finds at) =
-        absurd (omega (arith, g, at))
-    cases locks (hunting p) l e is newer (locked q t) on (inside n i g pos lt f) (now_finds at) =
-        absurd (omega (arith, g, at, pos))
-    cases locks (locked p t) l e is newer (locked q u) on (found g f) still_stands =
-        absurd (omega (arith, g, longer, is.found.here.heard))
-    cases locks (locked p t) l e is newer (locked q u) on (inside n i g pos lt f) still_stands =
-        let same : whole_words bits' t ≡ whole_words bits t = omega (arith, g, longer, pos, lt) in
+    cases locks (locked p t) l e is newer (locked q u) on (goes_on same f) =
         nothing_came f (still_inside bits b moments old.moment old.reader old.locks old.copies given
         p
         t s e is.found.here same (subst (λ k. IsNow bits' k (locked p t)) (sym l) on))
-    cases locks (locked p t) l e is newer (locked q u) on (word n g f) still_stands =
+    cases locks (locked p t) l e is newer (locked q u) on (ends_word n g f) =
         let w = heard_word bits' t n in
         let r' = ss.word w.0 w.1 (ap (λ x. x.word) f) in
         let heard = with_word old r'.reader r'.printed in
@@ -120,9 +109,7 @@ module _ (old new : Taking) (bits : List Bool) (b : Bool) (moments given : List 
           shows = subst (λ k. TakerShows k bits' moments' (given ++ option_to_list r'.printed))
               (sym to) (record { elements = counted; room = few; shows = now });
         }
-    cases locks (locked p t) l e is newer (hunting q) on (hunts h f) (now_over lock x y z) =
-        absurd (omega (arith, h, z))
-    cases locks (locked p t) l e is newer (hunting q) on (over g f) (now_over lock x y z) =
+    cases locks (locked p t) l e is newer (hunting q) on (releases lock y z f) =
         let w = heard_word bits' lock.at lock.last in
         let r' = ss.word w.0 w.1 (ap (λ v. v.word) f) in
         let heard = with_word old r'.reader r'.printed in
@@ -148,8 +135,8 @@ module _ (old new : Taking) (bits : List Bool) (b : Bool) (moments given : List 
         }
 
     step_shown : IsStep bits' r → GoesTo new bits' moments' given old.shown
-    step_shown is = cases s.locks s.now refl refl s.stands is.locks is.now is.stands is.brings
-        (one_more bits b s.locks is.locks s.now is.now s.stands is.stands)
+    step_shown is = cases s.locks s.now refl refl s.stands is.locks is.now is.stands
+        (one_move bits b r s.locks s.now s.stands is)
 
 -- elements that bring nothing
 module _ (reader : Reading) (began copies : ℕ) (bits : List Bool) (b : Bool) (moments : List ℕ)
@@ -166,39 +153,27 @@ module _ (reader : Reading) (began copies : ℕ) (bits : List Bool) (b : Bool) (
 
   quiet_cases : (locks : List Lock) (now : Now) → s.locks ≡ locks → s.now ≡ now
       → IsNow bits locks now → (newer : List Lock) (next : Now) → IsNow (bits ++ b ∷ []) newer next
-      → Brings (bits ++ b ∷ []) r newer next → OneMore (bits ++ b ∷ []) locks now newer next
+      → Moves bits (bits ++ b ∷ []) r locks now newer next
       → Shows reader began copies (bits ++ b ∷ []) (moments ++ m ∷ []) (given ++ [])
-  quiet_cases locks (hunting p) l e is newer (hunting q) on (hunts h g) still_hunts =
+  quiet_cases locks (hunting p) l e is newer (hunting q) on (hunts_on g) =
       still_hunting bits b moments m reader began copies given p s e
       (subst (λ k. IsNow (bits ++ b ∷ []) k (hunting p)) (sym l) on)
-  quiet_cases locks (hunting p) l e is newer (hunting q) on (over h g) still_hunts =
-      absurd (wrong_word _ (ap (λ x. x.word) g))
-  quiet_cases locks (hunting p) l e is newer (locked q t) on (found h g) (now_finds at) =
+  quiet_cases locks (hunting p) l e is newer (locked q t) on (finds at g) =
       absurd (wrong_change (ap (λ x. x.change) g))
-  quiet_cases locks (hunting p) l e is newer (locked q t) on (word n h g) (now_finds at) =
-      absurd (wrong_word _ (ap (λ x. x.word) g))
-  quiet_cases locks (hunting p) l e is newer (locked q t) on (inside n i h pos lt g)
-      (now_finds at) = absurd (omega (arith, h, at, pos))
-  quiet_cases locks (locked p t) l e is newer (locked q u) on (found h g) still_stands =
-      absurd (wrong_change (ap (λ x. x.change) g))
-  quiet_cases locks (locked p t) l e is newer (locked q u) on (word n h g) still_stands =
-      absurd (wrong_word _ (ap (λ x. x.word) g))
-  quiet_cases locks (locked p t) l e is newer (locked q u) on (inside n i h pos lt g) still_stands =
-      let same : whole_words (bits ++ b ∷ []) t ≡ whole_words bits t =
-      omega (arith, h, more, pos, lt) in
+  quiet_cases locks (locked p t) l e is newer (locked q u) on (goes_on same g) =
       still_inside bits b moments m reader began copies given p t s e is.found.here same
       (subst (λ k. IsNow (bits ++ b ∷ []) k (locked p t)) (sym l) on)
-  quiet_cases locks (locked p t) l e is newer (hunting q) on (hunts h g) (now_over lock x y z) =
-      absurd (omega (arith, h, z))
-  quiet_cases locks (locked p t) l e is newer (hunting q) on (over h g) (now_over lock x y z) =
+  quiet_cases locks (locked p t) l e is newer (locked q u) on (ends_word n h g) =
+      absurd (wrong_word _ (ap (λ x. x.word) g))
+  quiet_cases locks (locked p t) l e is newer (hunting q) on (releases lock y z g) =
       absurd (wrong_word _ (ap (λ v. v.word) g))
 
   quiet_bit : IsStep (bits ++ b ∷ []) r
       → Shows reader began copies (bits ++ b ∷ []) (moments ++ m ∷ []) given
   quiet_bit is = subst (Shows reader began copies (bits ++ b ∷ []) (moments ++ m ∷ []))
       (append-nil given)
-      (quiet_cases s.locks s.now refl refl s.stands is.locks is.now is.stands is.brings
-      (one_more bits b s.locks is.locks s.now is.now s.stands is.stands))
+      (quiet_cases s.locks s.now refl refl s.stands is.locks is.now is.stands
+      (one_move bits b r s.locks s.now s.stands is))
 
 -- elements were taken, of which the last one brings a step, and those before it nothing
 pub step_taken : (old new : Taking) (before after : Held) (count : ℕ) (bits : List Bool) (r : Step)

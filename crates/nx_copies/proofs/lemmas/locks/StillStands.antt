@@ -6,17 +6,15 @@ use Rattle.std.specs.List.{flat_map}
 use Rattle.std.proofs.lemmas.List.{length-append, take_all, take_more}
 use Rattle.nx_code.specs.Word.{elements}
 use Rattle.nx_code.proofs.lemmas.Packed.{length-elements}
-use Rattle.nx_sync.specs.Laws.{OneMore, still_stands, now_over}
 use Rattle.nx_sync.specs.Locks.{Lock, Now, hunting, locked, IsNow}
-use Rattle.nx_sync.specs.Steps.{AreQuietWords, Brings, found, word, inside, over, hunts, IsStep}
-use Rattle.nx_sync.specs.Steps.{IsWordStep, step}
+use Rattle.nx_sync.specs.Steps.{AreQuietWords, IsStep, IsWordStep, step}
 use Rattle.nx_sync.specs.Words.{word_of_lock, first_role, heard_word, other_role, role_of}
 use Rattle.nx_sync.specs.declared.step.Role.{Role}
 use Rattle.nx_sync.specs.declared.step.Step.{Step}
 use Rattle.nx_sync.proofs.lemmas.words.WordsAtOnce.{quiet_first, quiet_rest}
 use Rattle.nx_sync.proofs.lemmas.states.KeptPast.{word_at-more, first_role-more}
-use Rattle.nx_sync.proofs.lemmas.states.StateChanges.{one_more}
 use Rattle.nx_copies.proofs.lemmas.QuietElements.{no_word, quiet_bits}
+use Rattle.nx_copies.proofs.lemmas.locks.Moves.{Moves, ends_word, goes_on, one_move, releases}
 
 -- an element with no change, after which the lock still stands, and the word that it completes
 record StillStands (bits : List Bool) (r : Step) (locks : List Lock) (p t : ℕ) : Type 0 where
@@ -24,33 +22,28 @@ record StillStands (bits : List Bool) (r : Step) (locks : List Lock) (p t : ℕ)
   completes : (w : ℕ) (role : Role) → r.word ≡ Some (w, role)
       → (k : ℕ) × (length bits ≡ t + 7 * (k + 1)) × (heard_word bits t k ≡ (w, role))
 
-still_case : (bits : List Bool) (locks : List Lock) (p t : ℕ) (r : Step) → r.change ≡ None
-    → (newer : List Lock) (next : Now) → IsNow bits newer next → Brings bits r newer next
-    → OneMore bits locks (locked p t) newer next → StillStands bits r locks p t
-still_case bits locks p t r same newer (locked q u) on (found e f) still_stands =
-    absurd (let change = ap (λ x. x.change) f in cc)
-still_case bits locks p t r same newer (locked q u) on (word k e f) still_stands = record {
+still_case : (before bits : List Bool) (locks : List Lock) (p t : ℕ) (r : Step) → r.change ≡ None
+    → (newer : List Lock) (next : Now) → IsNow bits newer next
+    → Moves before bits r locks (locked p t) newer next → StillStands bits r locks p t
+still_case before bits locks p t r same newer (locked q u) on (ends_word k e f) = record {
   stands = on;
   completes = λ w role one.
       let both : Some (heard_word bits t k) ≡ Some (w, role) = sym (ap (λ x. x.word) f) ∙ one in
       (k, e, cc);
 }
-still_case bits locks p t r same newer (locked q u) on (inside k i e pos lt f) still_stands =
-    record {
-      stands = on;
-      completes = λ w role one. absurd (no_word r (w, role) (ap (λ x. x.word) f) one);
-    }
-still_case bits locks p t r same newer (hunting q) on (over e f) (now_over lock x y z) =
+still_case before bits locks p t r same newer (locked q u) on (goes_on whole f) = record {
+  stands = on;
+  completes = λ w role one. absurd (no_word r (w, role) (ap (λ x. x.word) f) one);
+}
+still_case before bits locks p t r same newer (hunting q) on (releases lock y z f) =
     absurd (let change = ap (λ x. x.change) f in cc)
-still_case bits locks p t r same newer (hunting q) on (hunts h e) (now_over lock x y z) =
-    absurd (omega (arith, h, z))
 
 still_bit : (bits : List Bool) (b : Bool) (locks : List Lock) (p t : ℕ) (r : Step)
     → IsNow bits locks (locked p t) → IsStep (bits ++ b ∷ []) r → r.change ≡ None
     → StillStands (bits ++ b ∷ []) r locks p t
 still_bit bits b locks p t r now is same =
-    still_case (bits ++ b ∷ []) locks p t r same is.locks is.now is.stands is.brings
-    (one_more bits b locks is.locks (locked p t) is.now now is.stands)
+    still_case bits (bits ++ b ∷ []) locks p t r same is.locks is.now is.stands
+    (one_move bits b r locks (locked p t) now is)
 
 still_bits : (h bits : List Bool) (locks : List Lock) (p t n : ℕ) → n ≤ length bits
     → ((k : ℕ) → k < n → IsStep (h ++ take (k + 1) bits) (step None None))

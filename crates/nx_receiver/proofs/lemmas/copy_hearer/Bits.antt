@@ -4,13 +4,11 @@ use Rattle.std.proofs.Common.{length, None, refl, sym, ap, ◌∙◌, subst, ari
 use Rattle.std.specs.List.{All}
 use Rattle.std.proofs.lemmas.List.{get_or_append_left, length_push}
 use Rattle.std.proofs.lemmas.List.Elements.{All-nil, All-head, All-tail, All-weaker}
-use Rattle.nx_sync.specs.Laws.{OneMore, still_hunts, now_finds, still_stands, now_over}
 use Rattle.nx_sync.specs.Locks.{Lock, Now, hunting, locked, IsNow, IsPattern}
-use Rattle.nx_sync.specs.Steps.{Brings, found, word, inside, over, hunts, IsStep}
+use Rattle.nx_sync.specs.Steps.{IsStep}
 use Rattle.nx_sync.specs.Words.{word_of_lock, first_role, whole_words}
 use Rattle.nx_sync.specs.declared.step.Role.{Role}
 use Rattle.nx_sync.specs.declared.step.Step.{Step}
-use Rattle.nx_sync.proofs.lemmas.states.StateChanges.{one_more}
 use Rattle.nx_sync.proofs.lemmas.states.KeptPast.{word_at-more, first_role-more}
 use Rattle.nx_fec.specs.emissions.Pairing.{IsLatest}
 use Rattle.nx_code.specs.Reading.{shift_after_all, text}
@@ -28,6 +26,8 @@ use Rattle.nx_receiver.specs.private.CopyHearer.{HasTag, ReadsNow, ReadsOver, co
 use Rattle.nx_copies.proofs.lemmas.QuietElements.{no_word}
 use Rattle.nx_copies.proofs.lemmas.locks.Found.{IsByteIn, IsCopyIn, text_placed}
 use Rattle.nx_copies.proofs.lemmas.locks.Growing.{past_copies-more, whole_heard}
+use Rattle.nx_copies.proofs.lemmas.locks.Moves.{Moves, ends_word, finds, goes_on, hunts_on, one_move}
+use Rattle.nx_copies.proofs.lemmas.locks.Moves.{releases}
 use Rattle.nx_copies.proofs.lemmas.locks.Texts.{lock_text-more, positions-same}
 use Rattle.nx_copies.proofs.lemmas.printing.Logged.{ended_placed, past_is}
 use Rattle.nx_receiver.proofs.lemmas.copy_hearer.Texts.{tag-later}
@@ -136,43 +136,28 @@ module _ (first : Setting) (bits : List Bool) (b : Bool) (settings : List Settin
       → IsNow bits locks now → ReadsNow reader bits now
       → HasTag first settings (standing_text bits now) kept
       → (r : Step) → r.word ≡ None → (newer : List Lock) (next : Now) → IsNow bits' newer next
-      → Brings bits' r newer next → OneMore bits' locks now newer next
-      → ReadsOver first reader kept bits' settings'
+      → Moves bits bits' r locks now newer next → ReadsOver first reader kept bits' settings'
       (copies_by first settings (ended_so_far bits locks now))
   unfolding text_by
-  quiet_case reader kept locks (hunting p) is reads k r none newer (hunting q) on (hunts h e)
-      still_hunts =
+  quiet_case reader kept locks (hunting p) is reads k r none newer (hunting q) on (hunts_on f) =
       keeps_text reader kept locks (hunting p) (hunting p) is on refl reads k
-  quiet_case reader kept locks (hunting p) is reads k r none newer (hunting q) on (over e f)
-      still_hunts = absurd (no_word r _ none (ap (λ x. x.word) f))
-  quiet_case reader kept locks (hunting p) is reads k r none newer (locked q t) on (found e f)
-      (now_finds g) =
+  quiet_case reader kept locks (hunting p) is reads k r none newer (locked q t) on (finds g f) =
       let whole : whole_words bits' t ≡ 0 = omega (arith, g) in
       keeps_text reader kept locks (hunting p) (locked p t) is on (ap (lock_text bits' t) whole)
       (subst (ReadsLock reader (first_role bits' t) (word_of_lock bits' t)) (sym whole)
       (reads.fresh (first_role bits' t) (word_of_lock bits' t))) k
-  quiet_case reader kept locks (hunting p) is reads k r none newer (locked q t) on (word n e f)
-      (now_finds g) = absurd (no_word r _ none (ap (λ x. x.word) f))
-  quiet_case reader kept locks (hunting p) is reads k r none newer (locked q t) on
-      (inside n i e pos lt f) (now_finds g) = absurd (omega (arith, e, g, pos))
-  quiet_case reader kept locks (locked p t) is reads k r none newer (locked q u) on (found e f)
-      still_stands = absurd (omega (arith, e, one_longer, is.found.here.heard))
-  quiet_case reader kept locks (locked p t) is reads k r none newer (locked q u) on (word n e f)
-      still_stands = absurd (no_word r _ none (ap (λ x. x.word) f))
   quiet_case reader kept locks (locked p t) is reads k r none newer (locked q u) on
-      (inside n i e pos lt f) still_stands =
-      let now_whole : whole_words bits' t ≡ whole_words bits t =
-      omega (arith, e, one_longer, pos, lt) in
+      (goes_on whole f) =
       let heard = whole_heard bits t is.found.here.heard in
       keeps_text reader kept locks (locked p t) (locked p t) is on
-      (ap (lock_text bits' t) now_whole
+      (ap (lock_text bits' t) whole
       ∙ lock_text-more bits (b ∷ []) t (whole_words bits t) is.found.here heard)
-      (subst (ReadsLock reader (first_role bits' t) (word_of_lock bits' t)) (sym now_whole)
+      (subst (ReadsLock reader (first_role bits' t) (word_of_lock bits' t)) (sym whole)
       (reads-more reader bits (b ∷ []) t (whole_words bits t) is.found.here heard reads)) k
-  quiet_case reader kept locks (locked p t) is reads k r none newer (hunting q) on (over e f)
-      (now_over lock x y z) = absurd (no_word r _ none (ap (λ x. x.word) f))
-  quiet_case reader kept locks (locked p t) is reads k r none newer (hunting q) on (hunts h e)
-      (now_over lock x y z) = absurd (omega (arith, h, z))
+  quiet_case reader kept locks (locked p t) is reads k r none newer (locked q u) on
+      (ends_word n e f) = absurd (no_word r _ none (ap (λ x. x.word) f))
+  quiet_case reader kept locks (locked p t) is reads k r none newer (hunting q) on
+      (releases lock y z f) = absurd (no_word r _ none (ap (λ x. x.word) f))
 
 pub quiet_bit : (first : Setting) (reader : LockReading) (kept : CopyTag) (bits : List Bool)
     (b : Bool) (settings : List Setting) (s : Setting) (copies : List TaggedCopy) (r : Step)
@@ -181,5 +166,4 @@ pub quiet_bit : (first : Setting) (reader : LockReading) (kept : CopyTag) (bits 
 quiet_bit first reader kept bits b settings s copies r o is none =
     subst (ReadsOver first reader kept (bits ++ b ∷ []) (settings ++ s ∷ [])) (sym o.ended)
     (quiet_case first bits b settings s o.many reader kept o.locks o.now o.stands o.reads o.has_tag
-    r none is.locks is.now is.stands is.brings
-    (one_more bits b o.locks is.locks o.now is.now o.stands is.stands))
+    r none is.locks is.now is.stands (one_move bits b r o.locks o.now o.stands is))

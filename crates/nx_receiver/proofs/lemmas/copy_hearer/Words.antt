@@ -1,17 +1,14 @@
 -- What a word of the lock does to what a hearer stands after, with its last element.
 use Rattle.std.proofs.Common.{◌≡◌, ℕ, ◌+◌, ◌*◌, ◌≤◌, Bool, true, false, is_some, List, [], ◌∷◌}
-use Rattle.std.proofs.Common.{◌++◌, length, Option, Some, None, sym, ap, ◌∙◌, subst, arith, append_assoc}
+use Rattle.std.proofs.Common.{◌++◌, length, Option, Some, sym, ap, ◌∙◌, subst, arith, append_assoc}
 use Rattle.std.proofs.Common.{append-nil}
 use Rattle.std.proofs.lemmas.List.{length_push}
-use Rattle.nx_sync.specs.Laws.{OneMore, still_hunts, now_finds, still_stands, now_over}
 use Rattle.nx_sync.specs.Locks.{Lock, Now, hunting, locked, IsNow, Past, IsPattern}
-use Rattle.nx_sync.specs.Steps.{Brings, found, word, inside, over, hunts, IsStep, step}
+use Rattle.nx_sync.specs.Steps.{IsStep, step}
 use Rattle.nx_sync.specs.Synchroniser.{Held, StandsAfter}
 use Rattle.nx_sync.specs.Words.{word_of_lock, first_role, role_of, whole_words, heard_word}
 use Rattle.nx_sync.specs.declared.step.Role.{Role}
 use Rattle.nx_sync.specs.declared.step.Step.{Step}
-use Rattle.nx_sync.proofs.lemmas.states.StateChanges.{one_more}
-use Rattle.nx_sync.proofs.lemmas.states.KeptPast.{Past-within}
 use Rattle.nx_envelope.specs.Finder.{is_over}
 use Rattle.nx_receiver.specs.declared.copy_taker.CopyTaker.{CopyTaker}
 use Rattle.nx_receiver.specs.declared.copy_taker.CopyTag.{CopyTag}
@@ -27,8 +24,11 @@ use Rattle.nx_receiver.specs.private.CopyHearer.{HearerStands, copies_by, over_w
 use Rattle.nx_receiver.specs.private.CopyTaker.{ReadsWord, setting_of, tag_after}
 use Rattle.nx_receiver.specs.private.CopyTaker.{hearer_of}
 use Rattle.nx_receiver.specs.CopyHearing.{CopyHearing}
+use Rattle.nx_copies.proofs.lemmas.QuietElements.{no_word}
 use Rattle.nx_copies.proofs.lemmas.locks.Found.{text_placed}
 use Rattle.nx_copies.proofs.lemmas.locks.Growing.{past_copies-more}
+use Rattle.nx_copies.proofs.lemmas.locks.Moves.{Moves, ends_word, finds, goes_on, hunts_on, one_move}
+use Rattle.nx_copies.proofs.lemmas.locks.Moves.{releases}
 use Rattle.nx_copies.proofs.lemmas.locks.Texts.{lock_text-more}
 use Rattle.nx_copies.proofs.lemmas.printing.Logged.{ended_placed}
 use Rattle.nx_receiver.proofs.lemmas.copy_hearer.Texts.{AfterWord, Brought, adds_byte, after_word}
@@ -191,31 +191,19 @@ module _ (first : Setting) (bits : List Bool) (b : Bool) (settings : List Settin
   word_case : (w : ℕ) (role : Role) (locks : List Lock) (now : Now) → IsNow bits locks now
       → ReadsNow old.reader bits now → HasTag first settings (standing_text bits now) old.tag
       → (r : Step) → r.word ≡ Some (w, role) → ReadsWord old new w role (is_some r.change) answer
-      → (newer : List Lock) (next : Now) → IsNow bits' newer next → Brings bits' r newer next
-      → OneMore bits' locks now newer next
+      → (newer : List Lock) (next : Now) → IsNow bits' newer next
+      → Moves bits bits' r locks now newer next
       → IsOver first hearer bits' settings' (copies_by first settings (ended_so_far bits locks now))
       answer
   unfolding ended_so_far
-  word_case w role locks (hunting p) is reads k r one wr newer (hunting q) on (hunts h e)
-      still_hunts = absurd (let both : None ≡ Some (w, role) = sym (ap (λ x. x.word) e) ∙ one in cc)
-  word_case w role locks (hunting p) is reads k r one wr newer (hunting q) on (over e f)
-      still_hunts = absurd (omega (arith, e, longer, Past-within bits locks p is.past))
-  word_case w role locks (hunting p) is reads k r one wr newer (locked q t) on (found e f)
-      (now_finds g) = absurd (let both : None ≡ Some (w, role) = sym (ap (λ x. x.word) f) ∙ one in
-      cc)
-  word_case w role locks (hunting p) is reads k r one wr newer (locked q t) on (word n e f)
-      (now_finds g) = absurd (omega (arith, e, g))
-  word_case w role locks (hunting p) is reads k r one wr newer (locked q t) on
-      (inside n i e pos lt f) (now_finds g) =
-      absurd (let both : None ≡ Some (w, role) = sym (ap (λ x. x.word) f) ∙ one in cc)
-  word_case w role locks (locked p t) is reads k r one wr newer (locked q u) on (found e f)
-      still_stands = absurd (let both : None ≡ Some (w, role) = sym (ap (λ x. x.word) f) ∙ one in
-      cc)
+  word_case w role locks (hunting p) is reads k r one wr newer (hunting q) on (hunts_on f) =
+      absurd (no_word r (w, role) (ap (λ x. x.word) f) one)
+  word_case w role locks (hunting p) is reads k r one wr newer (locked q t) on (finds g f) =
+      absurd (no_word r (w, role) (ap (λ x. x.word) f) one)
+  word_case w role locks (locked p t) is reads k r one wr newer (locked q u) on (goes_on same f) =
+      absurd (no_word r (w, role) (ap (λ x. x.word) f) one)
   word_case w role locks (locked p t) is reads k r one wr newer (locked q u) on
-      (inside n i e pos lt f) still_stands =
-      absurd (let both : None ≡ Some (w, role) = sym (ap (λ x. x.word) f) ∙ one in cc)
-  word_case w role locks (locked p t) is reads k r one wr newer (locked q u) on (word n e f)
-      still_stands =
+      (ends_word n e f) =
       let whole : whole_words bits t ≡ n = omega (arith, e, longer) in
       let now_whole : n + 1 ≡ whole_words bits' t = omega (arith, e) in
       let both : Some (heard_word bits' t n) ≡ Some (w, role) = sym (ap (λ x. x.word) f) ∙ one in
@@ -246,11 +234,8 @@ module _ (first : Setting) (bits : List Bool) (b : Bool) (settings : List Settin
               now_whole read.after.has_tag;
         };
       }))
-  word_case w role locks (locked p t) is reads k r one wr newer (hunting q) on (hunts h e)
-      (now_over lock x y z) = absurd
-      (let both : None ≡ Some (w, role) = sym (ap (λ x. x.word) e) ∙ one in cc)
-  word_case w role locks (locked p t) is reads k r one wr newer (hunting q) on (over e f)
-      (now_over lock x y z) =
+  word_case w role locks (locked p t) is reads k r one wr newer (hunting q) on
+      (releases lock y z f) =
       subst (λ (u : ℕ). IsNow bits locks (locked p u) → ReadsNow old.reader bits (locked p u)
       → HasTag first settings (standing_text bits (locked p u)) old.tag
       → IsOver first hearer bits' settings'
@@ -269,5 +254,5 @@ word_bit first bits b settings copies old new held answer r w role o is one wr s
     subst (λ (l : List TaggedCopy). IsOver first (hearer_of held new) (bits ++ b ∷ [])
     (settings ++ setting_of old ∷ []) l answer) (sym o.ended)
     (word_case first bits b settings o.many old new held answer synchroniser w role o.locks o.now
-    o.stands o.reads o.has_tag r one wr is.locks is.now is.stands is.brings
-    (one_more bits b o.locks is.locks o.now is.now o.stands is.stands))
+    o.stands o.reads o.has_tag r one wr is.locks is.now is.stands
+    (one_move bits b r o.locks o.now o.stands is))
