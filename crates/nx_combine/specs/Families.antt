@@ -1,0 +1,163 @@
+-- Families of copies, and what the copies of one come to together (this profile). The copies are
+-- those of one channel, in the order of their headers.
+use Rattle.std.specs.Prelude.{ℕ, ◌+◌, ◌-◌, nat_lt, nat_le, Bool, false, not, ◌&&◌, ◌||◌}
+use Rattle.std.specs.Prelude.{if◌then◌else◌, List, [], ◌∷◌, ◌++◌, length, position}
+use Rattle.std.specs.Prelude.{slice_get, slice_set, Option, Some, None, unwrap_or}
+use Rattle.std.specs.Option.{option_and_then, option_map, option_map_or}
+use Rattle.nx_code.specs.Reading.{Reception}
+use Rattle.nx_envelope.specs.Copies.{errors_of}
+use Rattle.nx_envelope.specs.Identity.{same_identity}
+use Rattle.nx_envelope.specs.declared.identity.Identity.{Identity}
+use Rattle.nx_memory.specs.Memory.{most_entries, seconds_known}
+use Rattle.nx_copies.specs.copies.FoundCopies.{TaggedCopy}
+use Rattle.nx_copies.specs.copies.Printing.{is_full, is_number_00}
+use Rattle.nx_combine.specs.CopyPositions.{HeardCopy}
+use Rattle.nx_combine.specs.Joining.{is_of_one_text, joined}
+use Rattle.nx_combine.specs.PositionEnds.{ending_by, up_to_end}
+
+-- a family: the identity of its copies, the moment of the first one, and their positions, joined
+pub record Family : Type 0 where
+  pub identity : Identity
+  pub moment : ℕ
+  pub positions : List Reception
+
+-- the most positions of a copy that has a family
+abbrev pub most_positions : ℕ
+most_positions = 8192
+
+-- behind how many later ones a family is joined no more: as many as a memory has entries
+abbrev pub most_families : ℕ
+most_families = most_entries
+
+-- for how many seconds behind its first copy a family is joined: 66 hours, as an entry is known
+abbrev pub seconds_joined : ℕ
+seconds_joined = seconds_known
+
+-- only selected copies that aren't numbered 00 have a family, and only those of so few positions
+abbrev pub has_family : HeardCopy → Bool
+has_family heard =
+    heard.copy.selected && not (is_number_00 heard.copy)
+    && nat_le (length heard.positions) most_positions
+
+-- the family began less than 66 hours before the copy, and its positions up to their end and those
+-- of the copy are of one text
+abbrev pub takes_in : Family → HeardCopy → Bool
+takes_in family heard =
+    nat_lt (heard.copy.moment - family.moment) seconds_joined
+    && is_of_one_text (up_to_end family.positions) heard.positions
+
+-- the index of the last family of the identity among all, which stand newest first: so many were
+-- begun behind it
+abbrev pub last_index : Identity → List Family → Option ℕ
+last_index identity families =
+    position (λ family. same_identity family.identity identity) families
+
+-- fewer than 200 families were begun behind the one of this index, and it takes the copy in
+abbrev pub joins_at : List Family → HeardCopy → ℕ → Bool
+joins_at families heard index =
+    nat_lt index most_families
+    && unwrap_or (option_map (λ family. takes_in family heard) (slice_get families index)) false
+
+-- the index of the family that the copy joins: the last one of its identity, if that takes it in
+unfoldable pub index_joined : List Family → HeardCopy → Option ℕ
+index_joined families heard =
+    option_and_then (λ index. if joins_at families heard index then Some index else None)
+    (last_index heard.copy.identity families)
+
+-- the family that a copy begins
+abbrev pub begun_by : HeardCopy → Family
+begun_by heard = record {
+  identity = heard.copy.identity;
+  moment = heard.copy.moment;
+  positions = heard.positions;
+}
+
+-- the family after the copy joined it: it has the joined positions, whole
+abbrev pub joined_by : HeardCopy → Family → Family
+joined_by heard family = record family { positions = joined family.positions heard.positions }
+
+-- the families, newest first, after the one of this index was joined
+abbrev pub joined_at : List Family → HeardCopy → ℕ → List Family
+joined_at families heard index =
+    option_map_or (λ family. slice_set families index (joined_by heard family))
+    (slice_get families index) families
+
+-- the families, newest first, after one more copy
+unfoldable pub families_after : List Family → HeardCopy → List Family
+families_after families heard =
+    if has_family heard then
+    option_map_or (joined_at families heard) (index_joined families heard)
+    (begun_by heard ∷ families)
+    else families
+
+-- the one copy has fewer errors than the other
+abbrev pub has_fewer_errors : TaggedCopy → TaggedCopy → Bool
+has_fewer_errors one other = nat_lt (errors_of one.text) (errors_of other.text)
+
+-- One copy is better than another where it is full and the other isn't; or where both are full, or
+-- neither is, and it has fewer errors.
+abbrev pub is_better : TaggedCopy → TaggedCopy → Bool
+is_better one other =
+    if is_full other.how then is_full one.how && has_fewer_errors one other
+    else is_full one.how || has_fewer_errors one other
+
+-- the copy as the positions of its family give it: they say how it ended, and its text
+unfoldable pub given_by : List Reception → TaggedCopy → TaggedCopy
+given_by positions copy = record copy {
+  how = (ending_by positions).how;
+  text = (ending_by positions).text;
+}
+
+-- of the copy and what its family gives, the latter, unless the copy itself is better
+abbrev pub combined : List Reception → TaggedCopy → TaggedCopy
+combined positions copy =
+    if is_better copy (given_by positions copy) then copy else given_by positions copy
+
+-- A combined copy: the copy that joined last, its family, by how many were begun before that one,
+-- the positions of the family, and what it comes to. One that has no family is the copy itself.
+pub record CombinedCopy : Type 0 where
+  pub own : HeardCopy
+  pub family : Option ℕ
+  pub positions : List Reception
+  pub copy : TaggedCopy
+
+-- the combined copy of one that joins no other: it is the copy itself
+abbrev pub alone : Option ℕ → HeardCopy → CombinedCopy
+alone family heard = record {
+  own = heard;
+  family = family;
+  positions = heard.positions;
+  copy = heard.copy;
+}
+
+-- the combined copy of one that joins the family of so many begun before it, with these positions
+abbrev pub together : ℕ → List Reception → HeardCopy → CombinedCopy
+together number positions heard = record {
+  own = heard;
+  family = Some number;
+  positions = positions;
+  copy = combined positions heard.copy;
+}
+
+-- the combined copy of one that joins the family of this index, of these, which stand newest first
+abbrev pub combined_at : List Family → HeardCopy → ℕ → CombinedCopy
+combined_at families heard index =
+    option_map_or
+    (λ family. together (length families - 1 - index) (joined_by heard family).positions heard)
+    (slice_get families index) (alone None heard)
+
+-- the combined copy of a copy that comes behind these families
+unfoldable pub combined_copy : List Family → HeardCopy → CombinedCopy
+combined_copy families heard =
+    if has_family heard then
+    option_map_or (combined_at families heard) (index_joined families heard)
+    (alone (Some (length families)) heard)
+    else alone None heard
+
+-- the combined copies of copies that come behind these families, one for each that is selected, in
+-- the same order
+unfoldable pub combined_copies : List Family → List HeardCopy → List CombinedCopy
+combined_copies families [] = []
+combined_copies families (heard ∷ later) =
+    (if heard.copy.selected then combined_copy families heard ∷ [] else [])
+    ++ combined_copies (families_after families heard) later

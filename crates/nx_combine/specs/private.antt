@@ -1,0 +1,3 @@
+-- What only private contracts, models and proofs cite.
+pub mod HeldFamilies
+pub mod Kept

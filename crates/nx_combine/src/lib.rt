@@ -1,0 +1,15 @@
+//! Several sendings of a message taken together, position by position.
+#![tactic(auto)]
+
+mod combining;
+mod families;
+mod joining;
+pub mod laws;
+mod position;
+mod reading;
+
+pub use combining::{Combined, is_better};
+pub use families::{Families, MAX_FAMILIES};
+pub use joining::{MAX_POSITIONS, is_of_one_text, join};
+pub use position::Position;
+pub use reading::read_positions;
