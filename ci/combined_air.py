@@ -164,13 +164,14 @@ def with_idle(chance, positions):
 
 
 def behind_headers(positions):
-    """The indexes of the positions that are none of phasing, and stand behind a message's header."""
+    """The indexes of the positions that stand behind a message's header; where idle cuts each
+    message too early, those behind the first phasing."""
     found, first = [], None
     for at, it in enumerate(positions):
         first = None if it == PHASING else at if first is None else first
         if first is not None and at >= first + HEADER_LENGTH:
             found.append(at)
-    return found
+    return found or list(range(LEAD, len(positions)))
 
 
 def on_the_way(chance, positions):

@@ -42,6 +42,10 @@ FROM, BOUND_FROM = 96, 144  # slots: what is as sent begins, and what may be dam
 
 # ---- Nothing invented, never worse ---------------------------------------------------------------
 
+# Idle among the characters of a text prints nothing. Where another copy has it lost, the joined
+# position is lost, and prints `*`: so a full text without errors may change there, though no two
+# copies took different things. Such texts are counted, and aren't wrong.
+
 
 def broken_promises(channel):
     """What isn't as promised of the combined copies of a channel, and how often it was tried."""
@@ -56,15 +60,19 @@ def broken_promises(channel):
         for its, it in zip(had, copy.positions):
             its.add(it)
         families[member.family] = member.positions, had
-        tried["joined"] += member.has_joined
+        tried["copies that joined"] += member.has_joined
         if not all(it <= IDLE or it in its for it, its in zip(member.positions, had)):
             wrong.append(("a combination is invented", copy))
         if member.has_joined and not any(len(its - {LOST}) > 1 for its in had):
-            tried["of one mind"] += 1
-            end = read_positions(before)[2]
-            has_idle = any(IDLE in its for its in had[:end])
-            tried["of one mind, with idle in the text"] += has_idle
-            wrong += [(it + ", with idle in it" * has_idle, copy) for it in what_changed(before, member.positions)]
+            tried["where no two differ"] += 1
+            if any(was > IDLE and was != it for was, it in zip(before, member.positions)):
+                wrong.append(("a combination is gone", copy))
+            text, how, end = read_positions(before)
+            if how == "full" and not errors_in(text) and read_positions(member.positions)[:2] != (text, how):
+                if any(IDLE in its for its in had[:end]):
+                    tried["full texts that changed where idle was lost"] += 1
+                else:
+                    wrong.append(("a full text without errors changed", copy))
     return wrong, tried
 
 
@@ -83,21 +91,13 @@ def unlike_listen(channel):
         yield "no identity is found twice, and the log is another one"
 
 
-def what_changed(before, now):
-    """What is no more as it was, of a family of which no two copies differ."""
-    if any(was > IDLE and was != it for was, it in zip(before, now)):
-        yield "a combination is gone"
-    text, how, _ = read_positions(before)
-    if how == "full" and not errors_in(text) and read_positions(now)[:2] != (text, how):
-        yield "a full text without errors changed"
-
-
 # ---- Together ------------------------------------------------------------------------------------
 
 # One sending of a message: what was sent, where the last element of the second digit's RX word
 # stands, and whether each position of its header has a word as sent.
 Sending = namedtuple("Sending", "identity text place has_header")
 IDENTITY = "EA01"
+PREMISES, CAME = "meet the premises", "of which each character came through"
 A_FULL_SLOT = ("A" * 69 + "\n") * 58 + "\n" * 36
 
 
@@ -246,15 +246,15 @@ def together(data, sendings):
     text = sendings_text(sendings)
     at, is_wrong = came_through(channel, mine, behind_header(text))
     if is_wrong:
-        return "what was taken wasn't sent", ("met",)
+        return "what was taken wasn't sent", (PREMISES,)
     if at is None:
-        return None, ("met",)
+        return None, (PREMISES,)
     shown, is_printed = channel.shown[at], channel.printed[at]
     if not is_printed or tuple(shown) != (text, "full"):
-        return "the message isn't printed whole", ("met", "came")
+        return "the message isn't printed whole", (PREMISES, CAME)
     if any(channel.printed[it] for it in mine if it > at):
-        return "something is printed of it afterwards", ("met", "came")
+        return "something is printed of it afterwards", (PREMISES, CAME)
     itself = channel.copies[at]
     is_new = (itself.text, itself.how) != (text, "full")
     kept_out = any(is_good(*channel.shown[it]) and channel.printed[it] for it in mine if it < at)
-    return None, ("met", "came") + ("joined",) * is_new + ("kept out",) * kept_out
+    return None, (PREMISES, CAME) + ("whole in no copy before",) * is_new + ("behind a good one with a hole",) * kept_out
