@@ -5,7 +5,7 @@ their moments and texts."""
 import re
 import string
 
-from combined_air import HEADER_LENGTH, LEAD, M0
+from combined_air import BETA_SENT, HEADER_LENGTH, LEAD, M0
 from combined_air import damaged, emission, header, lines_of, message, replaced, sent_at, spelled, without, words_of
 from combined_examples import BUOY, L24, L52, M1, M2, OTHER, P, X24, air, heard
 from combined_reader import BLANK, CR, LETTERS, LF, LTRS, WORDS
@@ -326,7 +326,16 @@ def counted():
 
 FIGURES_FIRST = "51-24.3"
 
+IDLE_SENT = message("EA01", "TEST\n")
+IDLE_SENT = words_of(emission(IDLE_SENT[:16] + [BETA_SENT] + IDLE_SENT[16:]))  # TE, idle, ST
+
 OTHERS = [
+    (
+        "idle in a text, which one copy has lost",
+        air((M0, without(IDLE_SENT, 172)), (M1, without(IDLE_SENT, 174, 176)), (M2, IDLE_SENT)),
+        ["EA01 full 1/5", "EA01 full 2/6", "EA01 full 0/5"],
+        ["EA01 full 1/5", "EA01 full 1/6", "EA01 full 0/5"],
+    ),
     (
         "two sendings at one moment",
         air((M0, one_emission(("EA01", X24, 1), ("EA01", X24, 2)))),
