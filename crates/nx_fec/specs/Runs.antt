@@ -7,6 +7,8 @@ use Rattle.nx_fec.specs.emissions.Aligned.{aligned_text, words_of, AreWhole}
 use Rattle.nx_fec.specs.texts.WordLines.{word_lines}
 use Rattle.nx_fec.specs.Transfers.{AnswersToEnd, Contents, CountedDevice, Devices, Extent, Manner}
 use Rattle.nx_fec.specs.Transfers.{Reads, Transfers, WroteSome, at_the_end, contents_of, input}
+use Rattle.nx_fec.specs.declared.fault.AirFault.{AirFault}
+use Rattle.nx_fec.specs.declared.fault.AirFault.TheVariants as air
 use Rattle.nx_fec.specs.declared.fault.LineFault.{LineFault}
 use Rattle.nx_fec.specs.declared.fault.LineFault.TheVariants as file
 use Rattle.nx_fec.specs.air_files.BitLines.{bit_lines}
@@ -33,6 +35,11 @@ run_fault file.TooLong = FileTooLong
 run_fault (file.LineLong line) = LineLong line
 run_fault (file.LineCut line) = LineCut line
 run_fault (file.BadLine line) = BadLine line
+
+-- and for the fault of its lines
+abbrev pub air_run_fault : AirFault → RunFault
+air_run_fault air.Read = Read
+air_run_fault (air.Line why) = run_fault why
 
 -- the fault of a run that stands for the fault of reading a file whole
 abbrev pub reading_fault : ReadFault → RunFault

@@ -54,6 +54,16 @@ IsNextPiece remaining old new buffer (Bytes count) =
     (0 < count) × (count ≤ length buffer)
     × Consumes (remaining old.inner) (remaining new.inner) (take count buffer) × (new.failures ≡ 0)
 
+-- the most bytes that one read gives
+abbrev pub max_piece : ℕ
+max_piece = 65536
+
+-- these are all bytes that a read gave
+abbrev pub HasLength : List ℕ → Piece → Type 0
+HasLength bytes End = bytes ≡ []
+HasLength bytes Failed = bytes ≡ []
+HasLength bytes (Bytes count) = length bytes ≡ count
+
 -- what a run says of its writer: the count of failures is 1 where the outcome is a fault `write`,
 -- and else 0
 pub record Writes {W N F : Type 0} (new : CountedDevice W) (write : ℕ → F)

@@ -2,8 +2,8 @@
 pub mod CountedCode
 pub mod LineTaking
 pub mod Packing
+pub mod PieceReading
 pub mod ScannerFields
 pub mod ScannerKept
-pub mod Takers
 pub mod WordClasses
 pub mod WholeLines

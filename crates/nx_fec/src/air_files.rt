@@ -3,6 +3,7 @@
 pub(crate) mod bounded_bytes;
 pub(crate) mod channel;
 pub(crate) mod line_feeds;
+pub(crate) mod line_reader;
 pub(crate) mod line_runs;
 pub(crate) mod lines;
 pub(crate) mod packed_elements;

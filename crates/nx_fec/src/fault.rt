@@ -17,6 +17,15 @@ pub enum LineFault {
     BadLine { line: u64 },
 }
 
+/// Why the lines of an air file ended early.
+#[derive(Clone, Copy, Debug, PartialEq, Eq)]
+pub enum AirFault {
+    /// A read failed.
+    Read,
+    /// The file has this fault.
+    Line(LineFault),
+}
+
 /// Why a run over a reader, and a writer, ended early. Lines count from 1, characters from 0.
 #[derive(Clone, Copy, Debug, Drop, PartialEq, Eq, Error)]
 pub enum RunFault {
@@ -68,6 +77,31 @@ pub enum ReadFault {
 #[error("write failed after {written} bytes")]
 pub struct WriteFault {
     pub written: u64,
+}
+
+impl From<LineFault> for AirFault {
+    ghost use Rattle.std.specs.Prelude.{◌≡◌};
+    ghost use Rattle.nx_fec.specs.declared.fault.AirFault.TheVariants.{Line};
+
+    ghost from_gives = { λ fault made. made ≡ Line fault };
+
+    fn from(fault: LineFault) -> AirFault {
+        AirFault::Line(fault)
+    }
+}
+
+impl From<AirFault> for RunFault {
+    ghost use Rattle.std.specs.Prelude.{◌≡◌};
+    ghost use Rattle.nx_fec.specs.Runs.{air_run_fault};
+
+    ghost from_gives = { λ fault made. made ≡ air_run_fault fault };
+
+    fn from(fault: AirFault) -> RunFault {
+        match fault {
+            AirFault::Read => RunFault::Read,
+            AirFault::Line(why) => RunFault::from(why),
+        }
+    }
 }
 
 impl From<LineFault> for RunFault {

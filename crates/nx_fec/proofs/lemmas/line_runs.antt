@@ -1,3 +1,6 @@
 -- Runs over lines, step by step.
+pub mod ElementsRead
 pub mod Hearing
+pub mod LineReading
 pub mod LineRun
+pub mod LinesRead

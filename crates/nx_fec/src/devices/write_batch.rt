@@ -1,5 +1,5 @@
 //! Bytes that are gathered for one write.
-ghost use Rattle.std.specs.Prelude.{◌≡◌, ◌+◌, ◌≤◌, length, take, ℕ, List, [], ◌++◌, Option, OnOk, MatchResult};
+ghost use Rattle.std.specs.Prelude.{◌≡◌, ◌+◌, ◌≤◌, Ok, length, take, ℕ, List, [], ◌++◌, Option, OnOk, MatchResult};
 ghost use Rattle.nx_fec.specs.Transfers.{FailsOnce, WroteSome};
 ghost use Rattle.nx_fec.specs.air_files.LineRuns.{HasGiven};
 
@@ -101,7 +101,7 @@ impl Batch {
         Ok(())
     }
 
-    /// Writes the bytes that wait.
+    /// Writes the bytes that wait. Where none does, the writer isn't called.
     pub fn send<W: Write>(&mut self, writer: &mut Counting<W>) -> Result<(), WriteFault>
         requires { writer.old.failures ≡ 0 }
         ensures bytes { (first : Option (List ℕ)) (before : List ℕ)
@@ -109,6 +109,7 @@ impl Batch {
             (λ _. HasGiven first (W.contents writer.new.inner) self.new before)
             (λ fault. WroteSome first (W.contents writer.new.inner) before fault.written) }
         ensures empty { OnOk result (self.new.bytes ≡ []) }
+        ensures idle { self.old.bytes ≡ [] → (result ≡ Ok tt) × (writer.new ≡ writer.old) }
         ensures counts { FailsOnce writer.new result }
     {
         if self.waiting.len() == 0 {

@@ -1,10 +1,10 @@
 -- What a run says of its reader follows from what its reading said of it.
-use Rattle.std.proofs.Common.{◌≡◌, ◌≢◌, ◌↔◌, ◌∙◌, ℕ, arith, List, [], ◌++◌, append-nil, ap, refl}
+use Rattle.std.proofs.Common.{◌≡◌, ◌≢◌, ◌↔◌, ◌∙◌, ℕ, arith, List, [], ◌++◌, append-nil, ap}
 use Rattle.std.proofs.Common.{subst, sym, Option, None, Some, IfSome, Result, Ok, Err, IfErr}
 use Rattle.std.proofs.Common.{IsErrOf}
 use Rattle.std.specs.Io.KnownBytes.{Consumes, IsAtEnd}
 use Rattle.std.proofs.lemmas.Option.{IfSome_then}
-use Rattle.nx_fec.proofs.lemmas.lines.ReadingLaws.{Err-same, IfSome-always}
+use Rattle.nx_fec.proofs.lemmas.lines.ReadingLaws.{Err-same}
 use Rattle.nx_fec.specs.Transfers.{AnswersToEnd, CountedDevice, Extent, Input, Reads, Writes}
 use Rattle.nx_fec.specs.Transfers.{read_from, whole_input}
 use Rattle.nx_fec.specs.declared.fault.RunFault.{RunFault}
@@ -94,21 +94,7 @@ module _ {R N F : Type 0} (i : Input R) (unread : F) (behind : F → List ℕ �
     (good : N → List ℕ → Type 0) (explains : List ℕ → F → Type 0) (bytes : List ℕ)
     (consumed : Consumes (i.remaining i.reader.inner) (i.remaining i.reader_after.inner) bytes)
   where
-    -- a file is read to its end
-    pub Reads-ended : (answer : N) → IsAtEnd (i.remaining i.reader_after.inner) → good answer bytes
-        → i.reader_after.failures ≡ 0
-        → Reads i unread behind (Ok answer) (AnswersToEnd good (λ _. explains) (Ok answer))
-    Reads-ended answer end h none = record {
-      bytes = bytes;
-      consumed = consumed;
-      answer = (end, h);
-      file = IfSome-end _ _ bytes (λ xs. Unit {0} × good answer xs) consumed end (tt, h);
-      before = tt;
-      failed = read_failed-none _ _ _ (Ok-not_err _ _) none;
-      once = omega (arith, none);
-    }
-
-    -- or it has a fault
+    -- a file that is read has a fault
     pub Reads-stopped : (fault : F) → behind fault bytes
         → ((more : List ℕ) → explains (bytes ++ more) fault)
         → (◌≡◌ {A = Result N F} (Err fault) (Err unread) → ⊥) → i.reader_after.failures ≡ 0
@@ -121,19 +107,4 @@ module _ {R N F : Type 0} (i : Input R) (unread : F) (behind : F → List ℕ �
       before = clean;
       failed = read_failed-none _ _ _ other none;
       once = omega (arith, none);
-    }
-
-    -- or a read fails
-    pub Reads-failed : ((xs : List ℕ) → explains xs unread) → behind unread bytes
-        → i.reader_after.failures ≡ 1
-        → Reads {N = N} i unread behind (Err unread)
-        (AnswersToEnd good (λ _. explains) (Err unread))
-    Reads-failed h clean one = record {
-      bytes = bytes;
-      consumed = consumed;
-      answer = h bytes;
-      file = IfSome-always _ _ h;
-      before = clean;
-      failed = (λ e. one, λ o. refl);
-      once = omega (arith, one);
     }

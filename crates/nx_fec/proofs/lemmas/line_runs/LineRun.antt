@@ -151,12 +151,12 @@ IsTaking-sent stands first now s old mid new batch batch' bytes f h =
           HasTaken-map stands first now h.lines _ _ f h.taken;
     }
 
-All-front : (xs ys : List Line) → AllByRecursion IsLine (xs ++ ys) → AllByRecursion IsLine xs
+pub All-front : (xs ys : List Line) → AllByRecursion IsLine (xs ++ ys) → AllByRecursion IsLine xs
 All-front [] ys h = tt
 All-front (x ∷ xs) ys h = (h.0, All-front xs ys h.1)
 
 -- the length of the last line that a scanner has ended
-last-within : (limit : ℕ) (s : Scanning) (bytes : List ℕ) (lines : List Line) (line : Line)
+pub last-within : (limit : ℕ) (s : Scanning) (bytes : List ℕ) (lines : List Line) (line : Line)
     → Scans limit s bytes (lines ++ line ∷ []) → length (file_of lines ++ spelling line) < limit
 last-within limit s bytes lines line scans =
     omega (
@@ -184,7 +184,7 @@ StopsAt-map bytes P Q f h = record {
   here = f h.lines h.rest h.more h.here;
 }
 
-StopsAt-more : (ys : List ℕ) (P Q : List Line → List ℕ → List ℕ → Type 0) (bytes : List ℕ)
+pub StopsAt-more : (ys : List ℕ) (P Q : List Line → List ℕ → List ℕ → Type 0) (bytes : List ℕ)
     → ((lines : List Line) (rest more : List ℕ) → P lines rest more → Q lines rest (more ++ ys))
     → StopsAt bytes P → StopsAt (bytes ++ ys) Q
 StopsAt-more ys P Q bytes f h = record {
@@ -216,20 +216,20 @@ refused-whole limit s bytes piece more count lines line scans =
     ∙ sym (append_assoc (file_of lines) (spelling line) (10 ∷ [])))
     ∙ append_assoc (file_of lines ++ spelling line) (10 ∷ []) rest
 
-IsPlaced-left : (ys : List ℕ) (why : LineFault) → IsPlaced (ys ≡ []) why
+pub IsPlaced-left : (ys : List ℕ) (why : LineFault) → IsPlaced (ys ≡ []) why
     → IsAtByte why ⊎ (ys ≡ [])
 IsPlaced-left ys TooLong h = inl tt
 IsPlaced-left ys (LineLong line) h = inl tt
 IsPlaced-left ys (LineCut line) h = inr h
 IsPlaced-left ys (BadLine line) h = inl tt
 
-IsPlaced-any : (why : LineFault) → IsPlaced (Unit {0}) why
+pub IsPlaced-any : (why : LineFault) → IsPlaced (Unit {0}) why
 IsPlaced-any TooLong = tt
 IsPlaced-any (LineLong line) = tt
 IsPlaced-any (LineCut line) = tt
 IsPlaced-any (BadLine line) = tt
 
-cause-longer : (limit front : ℕ) (lines : List Line) (rest more ys : List ℕ) (why : LineFault)
+pub cause-longer : (limit front : ℕ) (lines : List Line) (rest more ys : List ℕ) (why : LineFault)
     → IsAtByte why ⊎ (ys ≡ []) → IsCause limit front lines rest more why
     → IsCause limit front lines rest (more ++ ys) why
 cause-longer limit front lines rest more ys why (inl at) h =
