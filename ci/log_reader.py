@@ -84,6 +84,8 @@ def json_of(entry):
         "characters": len(entry.text),
         "end": entry.end,
         "errors": entry.text.count(b"*"),
+        "good": is_good(entry),
+        "identity": identity_of(entry),
         "moment": entry.moment,
         "number": entry.number,
         "station": entry.station,
@@ -92,6 +94,11 @@ def json_of(entry):
         "time": civil(entry.moment, "T") + "Z",
     }
     return json.dumps(said, separators=(",", ":")).encode() + b"\n"
+
+
+def identity_of(entry):
+    """Its identity, as EA01."""
+    return f"{entry.station}{entry.subject}{entry.number:02}"
 
 
 def is_good(entry):

@@ -73,6 +73,8 @@ export function jsonOf(entry) {
         characters: entry.characters,
         end: entry.how,
         errors: entry.errors,
+        good: isGood(entry),
+        identity: identityOf(entry),
         moment: entry.moment,
         number: Number(entry.number),
         station: entry.station,

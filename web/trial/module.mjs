@@ -351,8 +351,8 @@ function triesLogs() {
     assert.equal(momentOf('2025-02-30 00:00:00'), null);
     assert.equal(entryAt(example('heard-badly.log')).errors, 1);
     assert.ok(!isGood(entryAt(example('heard-badly.log'))));
-    assert.equal(jsonOf(entryAt(example('ea01.log'))), '{"channel":0,"characters":5,"end":"full","errors":0,'
-        + '"moment":1735692000,"number":1,"station":"E","subject":"A","text":"TEST\\n","time":"2025-01-01T00:40:00Z"}');
+    assert.equal(jsonOf(entryAt(example('ea01.log'))), '{"channel":0,"characters":5,"end":"full","errors":0,"good":true,'
+        + '"identity":"EA01","moment":1735692000,"number":1,"station":"E","subject":"A","text":"TEST\\n","time":"2025-01-01T00:40:00Z"}');
     if (!program) return;
     const { stdout, status } = spawnSync(program, ['log', '--json'], { input: all, encoding: 'latin1' });
     assert.equal(status, 0);

@@ -1,12 +1,14 @@
 -- A logged entry as a line of JSON (RFC 8259; its keys are this profile's).
 use Rattle.std.specs.Prelude.{◌≡◌, ℕ, List, [], ◌∷◌, ◌++◌, codes, length}
-use Rattle.serde_json.specs.Data.{Data, member, no_members, number, object, string, unsigned}
+use Rattle.serde_json.specs.Data.{Data, boolean, member, no_members, number, object, string, unsigned}
 use Rattle.serde_json.specs.Written.{compact_text}
 use Rattle.nx_envelope.specs.Copies.{errors_of}
+use Rattle.nx_envelope.specs.Identity.{identity_bytes}
 use Rattle.nx_code.specs.Reading.{newline}
 use Rattle.nx_envelope.specs.Moment.{IsShownAs}
 use Rattle.nx_fec.specs.air_files.Channels.{channel_number}
 use Rattle.nx_copies.specs.copies.Log.{how_name}
+use Rattle.nx_copies.specs.copies.Printing.{is_good}
 use Rattle.nx_copies.specs.copies.Shares.{MarkedCopy}
 use Rattle.nx_log.specs.Times.{joined}
 
@@ -25,13 +27,15 @@ entry_data one time =
     (member (codes "characters") (count (length one.copy.text))
     (member (codes "end") (string (how_name one.copy.how))
     (member (codes "errors") (count (errors_of one.copy.text))
+    (member (codes "good") (boolean (is_good one.copy))
+    (member (codes "identity") (string (identity_bytes one.copy.identity))
     (member (codes "moment") (count one.copy.moment)
     (member (codes "number") (count one.copy.identity.number)
     (member (codes "station") (letter one.copy.identity.b1.byte)
     (member (codes "subject") (letter one.copy.identity.b2.byte)
     (member (codes "text") (string one.copy.text)
     (member (codes "time") (string time)
-    no_members))))))))))
+    no_members))))))))))))
 
 -- JSON line: the object of an entry with no space in it, and a newline. Its time is the civil time
 -- of its moment as ISO 8601 writes it in UTC, with a `T` and a `Z`.

@@ -41,8 +41,8 @@ where it is full, with less than 4 per cent of errors. A TIME is one of these:
                         digits alone are refused, as they could be a date
 A space may stand for the T, and a Z behind the time of day.
 With --json each entry is one line, an object with the keys channel, characters,
-end (full, cut or long), errors, moment, number, station, subject, text and
-time.
+end (full, cut or long), errors, good, identity, moment, number, station,
+subject, text and time.
 
 Where the bytes stop being a log, the entries before were written, and the line
 is told. With --salvage they are passed over up to the next [, and it goes on

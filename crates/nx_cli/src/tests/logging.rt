@@ -41,7 +41,7 @@ fn selects_entries(rt: HostRuntime) {
         (&["navtex", "log", "--good"], FIRST),
         (
             &["navtex", "log", "--json", "--subject", "AC"],
-            b"{\"channel\":0,\"characters\":5,\"end\":\"full\",\"errors\":0,\"moment\":1735692000,\"number\":1,\"station\":\"E\",\"subject\":\"A\",\"text\":\"TEST\\n\",\"time\":\"2025-01-01T00:40:00Z\"}\n",
+            b"{\"channel\":0,\"characters\":5,\"end\":\"full\",\"errors\":0,\"good\":true,\"identity\":\"EA01\",\"moment\":1735692000,\"number\":1,\"station\":\"E\",\"subject\":\"A\",\"text\":\"TEST\\n\",\"time\":\"2025-01-01T00:40:00Z\"}\n",
         ),
     ];
     for &(arguments, output) in &ROWS {

@@ -7,10 +7,11 @@ ghost use Rattle.nx_log.specs.Json.{IsJsonLine};
 ghost use Rattle.nx_log.specs.Logged.{is_text_byte};
 ghost use Rattle.nx_log.specs.Times.{joined};
 ghost use Rattle.nx_log.specs.View.{IsSeen, copy_said};
-ghost use Rattle.nx_log.specs.private.JsonParts.{json_head, json_tail};
+ghost use Rattle.nx_log.specs.private.JsonParts.{json_front, json_middle, json_tail, truth_name as the_truth_name};
 ghost use Rattle.nx_copies.specs.copies.Log.{how_name as the_how_name};
 
 use crate::entries::entry::EntryView;
+use crate::entries::head::LoggedHead;
 use arrayvec::ArrayVec;
 use itoa::Buffer;
 use memchr::memchr;
@@ -18,9 +19,11 @@ use nx_code::NEWLINE;
 use nx_envelope::{CIVIL_LEN, How, MAX_FOUND, civil};
 use nx_fec::append;
 
-/// The most bytes of a line before the text of its entry: 99 bytes of keys, and the values of the
-/// keys.
-const MAX_HEAD: usize = 160;
+/// The most bytes of a line up to the identity of its entry: 65 bytes of keys, and their values.
+const MAX_FRONT: usize = 96;
+
+/// The most bytes from there up to the text: 56 bytes of keys, and their values.
+const MAX_MIDDLE: usize = 96;
 
 /// The bytes of a time in UTC, `2025-01-01T00:40:00Z`.
 const UTC_LEN: usize = CIVIL_LEN + 1;
@@ -29,33 +32,36 @@ const UTC_LEN: usize = CIVIL_LEN + 1;
 const TAIL_LEN: usize = UTC_LEN + 13;
 
 /// The most bytes of a line. Each byte of a text takes at most two.
-const MAX_LINE: usize = MAX_HEAD + 2 * MAX_FOUND + TAIL_LEN;
+const MAX_LINE: usize = MAX_FRONT + MAX_MIDDLE + 2 * MAX_FOUND + TAIL_LEN;
 
 /// The place between a date and a time of day.
 const BETWEEN: usize = 10;
 
 /// A logged entry as one line of JSON with its newline: an object with the keys `channel`,
-/// `characters`, `end`, `errors`, `moment`, `number`, `station`, `subject`, `text` and `time` in
-/// this order. `end` is `full`, `cut` or `long`, and `time` is the civil time of the moment in UTC,
-/// as `2025-01-01T00:40:00Z`. It takes no memory.
+/// `characters`, `end`, `errors`, `good`, `identity`, `moment`, `number`, `station`, `subject`,
+/// `text` and `time` in this order. `end` is `full`, `cut` or `long`, `good` is `true` or `false`,
+/// and `time` is the civil time of the moment in UTC, as `2025-01-01T00:40:00Z`. It takes no
+/// memory.
 pub fn json_line(view: &EntryView) -> ArrayVec<u8, MAX_LINE>
     requires { IsSeen view.now }
     ensures { IsJsonLine (copy_said view.now.head view.now.text.now) result.items }
 {
-    let head = json_head(view);
-    let tail = json_tail(view.head.moment);
+    let head = &view.head;
+    let front = json_front(head, head.is_good());
+    let middle = json_middle(head);
+    let tail = json_tail(head.moment);
     let mut line = ArrayVec::new();
-    append(&mut line, head.as_slice());
+    append(&mut line, front.as_slice());
+    append(&mut line, middle.as_slice());
     append_escaped(&mut line, view.text);
     append(&mut line, tail.as_slice());
     line
 }
 
-/// The line up to the text of its entry.
-fn json_head(view: &EntryView) -> ArrayVec<u8, MAX_HEAD>
-    ensures { result.items ≡ json_head view.now.head }
+/// The line up to the identity of its entry, which is good or isn't.
+fn json_front(head: &LoggedHead, good: bool) -> ArrayVec<u8, MAX_FRONT>
+    ensures { result.items ≡ json_front head.now good }
 {
-    let head = &view.head;
     let mut line = ArrayVec::new();
     append(&mut line, b"{\"channel\":");
     append(
@@ -68,7 +74,19 @@ fn json_head(view: &EntryView) -> ArrayVec<u8, MAX_HEAD>
     append(&mut line, how_name(head.how).as_bytes());
     append(&mut line, b"\",\"errors\":");
     append(&mut line, Buffer::new().format(head.errors).as_bytes());
-    append(&mut line, b",\"moment\":");
+    append(&mut line, b",\"good\":");
+    append(&mut line, truth_name(good).as_bytes());
+    append(&mut line, b",\"identity\":\"");
+    append(&mut line, &head.identity.bytes());
+    line
+}
+
+/// The line from there up to the text.
+fn json_middle(head: &LoggedHead) -> ArrayVec<u8, MAX_MIDDLE>
+    ensures { result.items ≡ json_middle head.now }
+{
+    let mut line = ArrayVec::new();
+    append(&mut line, b"\",\"moment\":");
     append(&mut line, Buffer::new().format(head.moment).as_bytes());
     append(&mut line, b",\"number\":");
     append(
@@ -136,4 +154,11 @@ fn how_name(how: How) -> &'static str
         How::Cut => "cut",
         How::Long => "long",
     }
+}
+
+/// A truth value, as JSON writes it.
+fn truth_name(truth: bool) -> &'static str
+    ensures { result.now ≡ the_truth_name truth }
+{
+    if truth { "true" } else { "false" }
 }

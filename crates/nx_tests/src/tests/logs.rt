@@ -138,14 +138,16 @@ fn lines_of_json(rt: HostRuntime) {
     let cases: [(&[u8], &[u8]); 2] = [
         (
             LOG_OF_EA01,
-            b"{\"channel\":0,\"characters\":5,\"end\":\"full\",\"errors\":0,\"moment\":1735692000,\
-            \"number\":1,\"station\":\"E\",\"subject\":\"A\",\"text\":\"TEST\\n\",\
+            b"{\"channel\":0,\"characters\":5,\"end\":\"full\",\"errors\":0,\"good\":true,\
+            \"identity\":\"EA01\",\"moment\":1735692000,\"number\":1,\
+            \"station\":\"E\",\"subject\":\"A\",\"text\":\"TEST\\n\",\
             \"time\":\"2025-01-01T00:40:00Z\"}\n",
         ),
         (
             LOG_OF_LB02,
-            b"{\"channel\":1,\"characters\":3,\"end\":\"cut\",\"errors\":1,\"moment\":1735706400,\
-            \"number\":2,\"station\":\"L\",\"subject\":\"B\",\"text\":\"A*\\n\",\
+            b"{\"channel\":1,\"characters\":3,\"end\":\"cut\",\"errors\":1,\"good\":false,\
+            \"identity\":\"LB02\",\"moment\":1735706400,\"number\":2,\
+            \"station\":\"L\",\"subject\":\"B\",\"text\":\"A*\\n\",\
             \"time\":\"2025-01-01T04:40:00Z\"}\n",
         ),
     ];

@@ -9,15 +9,19 @@ use Rattle.std.proofs.lemmas.Bool.Decides.{Decides-eqb}
 use Rattle.std.proofs.lemmas.List.{get_or-take, length-take-le, take_more, take-append-drop}
 use Rattle.std.proofs.lemmas.List.Concat.{flat_map-append}
 use Rattle.std.proofs.lemmas.List.Elements.{All-head, All-tail, All-drop, All-from_get_or, All-from_recursion}
-use Rattle.json.specs.Print.{escape, escape_byte, escape_letter, quoted}
+use Rattle.json.specs.Print.{escape, escape_byte, escape_letter, quoted, token_text}
+use Rattle.json.specs.Token.{boolean}
 use Rattle.memchr.specs.Find.{IsFirstByte, is_byte}
 use Rattle.nx_code.specs.Reading.{IsCapital, characters, is_in_code}
 use Rattle.nx_envelope.specs.Copies.{errors_of}
+use Rattle.nx_envelope.specs.Identity.{identity_bytes}
 use Rattle.nx_envelope.specs.Moment.{IsShownAs}
+use Rattle.nx_envelope.specs.declared.identity.Identity.{Identity}
 use Rattle.nx_envelope.specs.declared.found.How.{How}
 use Rattle.nx_envelope.specs.declared.found.How.TheVariants.{Full, Cut, Long}
 use Rattle.nx_fec.specs.air_files.Channels.{channel_number}
 use Rattle.nx_copies.specs.copies.Log.{how_name}
+use Rattle.nx_copies.specs.copies.Printing.{is_good}
 use Rattle.nx_log.proofs.lemmas.texts.Moments.{months_small, year_small}
 use Rattle.nx_log.proofs.lemmas.texts.QueryTexts.{text_low}
 use Rattle.nx_log.specs.Json.{IsJsonLine}
@@ -25,7 +29,7 @@ use Rattle.nx_log.specs.Logged.{is_text_byte}
 use Rattle.nx_log.specs.Times.{joined}
 use Rattle.nx_log.specs.View.{copy_said}
 use Rattle.nx_log.specs.declared.entries.head.LoggedHead.{LoggedHead}
-use Rattle.nx_log.specs.private.JsonParts.{json_head, json_tail}
+use Rattle.nx_log.specs.private.JsonParts.{json_front, json_middle, json_tail, truth_name}
 
 -- a byte that stands in a string as it is
 abbrev is_plain : ℕ → Bool
@@ -238,70 +242,105 @@ time-escaped moment civil s =
     (omega (arith, days.0), omega arith, omega (arith, days.1), omega arith)
     (omega arith, omega arith, omega arith, omega arith, omega arith, omega arith))
 
-in_order : (k1 k2 k3 k4 k5 k6 k7 k8 k9 k10 q z n a b c d e f g h x y : List ℕ)
-    → (k1 ++ (a ++ (k2 ++ (b ++ (k3 ++ ((c ++ q) ++ (k4 ++ (d ++ (k5 ++ (e ++ (k6 ++ (f ++ (k7
-    ++ ((g ++ q)
-    ++ (k8 ++ ((h ++ q) ++ (k9 ++ ((x ++ q) ++ (k10 ++ ((y ++ q) ++ z))))))))))))))))))))
+-- an identity is written in letters and digits
+identity-escaped : (i : Identity) → escape (identity_bytes i) ≡ identity_bytes i
+identity-escaped i =
+    let plain = λ (b : ℕ). is_plain b ≡ true in
+    let few = i.two_digits in
+    let m = i.b1.byte - 65 in
+    let n = i.b2.byte - 65 in
+    let first : 65 + m ≡ i.b1.byte = omega (arith, i.b1.in_range.0) in
+    let second : 65 + n ≡ i.b2.byte = omega (arith, i.b2.in_range.0) in
+    plain-list (identity_bytes i) (
+      subst plain first (plain-letter m (omega (arith, i.b1.in_range.0, i.b1.in_range.1))),
+      (
+        subst plain second (plain-letter n (omega (arith, i.b2.in_range.0, i.b2.in_range.1))),
+        (
+          plain-digit (i.number / 10) (omega arith),
+          (plain-digit (i.number % 10) (omega arith), tt),
+        ),
+      ),
+    )
+
+-- a truth value as it is written
+truth : (b : Bool) → token_text (boolean b) ≡ truth_name b
+truth true = refl
+truth false = refl
+
+in_order : (k1 k2 k3 k4 k5 k6 k7 k8 k9 k10 k11 k12 q z n a b c d v i e f g h x y : List ℕ)
+    → (k1 ++ (a ++ (k2 ++ (b ++ (k3 ++ ((c ++ q) ++ (k4 ++ (d ++ (k5 ++ (v ++ (k6 ++ ((i ++ q)
+    ++ (k7 ++ (e ++ (k8 ++ (f ++ (k9 ++ ((g ++ q)
+    ++ (k10 ++ ((h ++ q) ++ (k11 ++ ((x ++ q) ++ (k12 ++ ((y ++ q) ++ z))))))))))))))))))))))))
     ++ n
-    ≡ (k1 ++ a ++ k2 ++ b ++ k3 ++ c ++ (q ++ k4) ++ d ++ k5 ++ e ++ k6 ++ f ++ k7
-    ++ (g ++ (q ++ k8)) ++ (h ++ (q ++ k9))) ++ (x ++ ((q ++ k10) ++ y ++ (q ++ (z ++ n))))
-in_order k1 k2 k3 k4 k5 k6 k7 k8 k9 k10 q z n a b c d e f g h x y = simp append_assoc
+    ≡ (((k1 ++ a ++ k2 ++ b ++ k3 ++ c ++ (q ++ k4) ++ d ++ k5 ++ v ++ k6 ++ i)
+    ++ ((q ++ k7) ++ e ++ k8 ++ f ++ k9 ++ (g ++ (q ++ k10)) ++ (h ++ (q ++ k11)))) ++ x)
+    ++ ((q ++ k12) ++ y ++ (q ++ (z ++ n)))
+in_order k1 k2 k3 k4 k5 k6 k7 k8 k9 k10 k11 k12 q z n a b c d v i e f g h x y = simp append_assoc
 
 -- a string member of an object, and what stands behind it
 abbrev text_member : List ℕ → List ℕ → List ℕ → List ℕ
 text_member name text more = quoted name ++ 58 ∷ ((34 ∷ (text ++ 34 ∷ [])) ++ more)
 
-abbrev number_member : List ℕ → List ℕ → List ℕ → List ℕ
-number_member name digits more = quoted name ++ 58 ∷ (digits ++ more)
+-- a member that is a number or a truth value
+abbrev plain_member : List ℕ → List ℕ → List ℕ → List ℕ
+plain_member name value more = quoted name ++ 58 ∷ (value ++ more)
 
 -- the object of an entry, and a newline, by the texts of its values
-abbrev object_of : (a b c d e f g h x y : List ℕ) → List ℕ
-object_of a b c d e f g h x y =
-    (123 ∷ number_member (codes "channel") a (44 ∷ number_member (codes "characters") b
-    (44 ∷ text_member (codes "end") c (44 ∷ number_member (codes "errors") d
-    (44 ∷ number_member (codes "moment") e (44 ∷ number_member (codes "number") f
+abbrev object_of : (a b c d v i e f g h x y : List ℕ) → List ℕ
+object_of a b c d v i e f g h x y =
+    (123 ∷ plain_member (codes "channel") a (44 ∷ plain_member (codes "characters") b
+    (44 ∷ text_member (codes "end") c (44 ∷ plain_member (codes "errors") d
+    (44 ∷ plain_member (codes "good") v (44 ∷ text_member (codes "identity") i
+    (44 ∷ plain_member (codes "moment") e (44 ∷ plain_member (codes "number") f
     (44 ∷ text_member (codes "station") g (44 ∷ text_member (codes "subject") h
     (44 ∷ text_member (codes "text") x (44 ∷ text_member (codes "time") y
-    (125 ∷ []))))))))))) ++ 10 ∷ []
+    (125 ∷ []))))))))))))) ++ 10 ∷ []
 
-in_parts : (a b c d e f x y : List ℕ) (s t : ℕ)
-    → object_of a b c d e f (s ∷ []) (t ∷ []) x y
-    ≡ (codes "{\"channel\":" ++ a ++ codes ",\"characters\":" ++ b ++ codes ",\"end\":\"" ++ c
-    ++ codes "\",\"errors\":" ++ d ++ codes ",\"moment\":" ++ e ++ codes ",\"number\":" ++ f
-    ++ codes ",\"station\":\"" ++ s ∷ codes "\",\"subject\":\"" ++ t ∷ codes "\",\"text\":\"")
-    ++ (x ++ (codes "\",\"time\":\"" ++ y ++ codes "\"}\n"))
+in_parts : (a b c d v i e f x y : List ℕ) (s t : ℕ)
+    → object_of a b c d v i e f (s ∷ []) (t ∷ []) x y
+    ≡ (((codes "{\"channel\":" ++ a ++ codes ",\"characters\":" ++ b ++ codes ",\"end\":\"" ++ c
+    ++ codes "\",\"errors\":" ++ d ++ codes ",\"good\":" ++ v ++ codes ",\"identity\":\"" ++ i)
+    ++ (codes "\",\"moment\":" ++ e ++ codes ",\"number\":" ++ f
+    ++ codes ",\"station\":\"" ++ s ∷ codes "\",\"subject\":\"" ++ t ∷ codes "\",\"text\":\""))
+    ++ x) ++ (codes "\",\"time\":\"" ++ y ++ codes "\"}\n")
 unfolding escape_byte
-in_parts a b c d e f x y s t =
+in_parts a b c d v i e f x y s t =
     in_order (codes "{\"channel\":") (codes ",\"characters\":") (codes ",\"end\":\"")
-    (codes ",\"errors\":") (codes ",\"moment\":") (codes ",\"number\":") (codes ",\"station\":\"")
+    (codes ",\"errors\":") (codes ",\"good\":") (codes ",\"identity\":\"")
+    (codes ",\"moment\":") (codes ",\"number\":") (codes ",\"station\":\"")
     (codes ",\"subject\":\"") (codes ",\"text\":\"") (codes ",\"time\":\"") (34 ∷ []) (125 ∷ [])
-    (10 ∷ []) a b c d e f (s ∷ []) (t ∷ []) x y
+    (10 ∷ []) a b c d v i e f (s ∷ []) (t ∷ []) x y
 
 -- the same, each value by what it is
-same_values : (a b c d e f g h x y b' c' d' g' h' y' : List ℕ)
-    → b ≡ b' → c ≡ c' → d ≡ d' → g ≡ g' → h ≡ h' → y ≡ y'
-    → object_of a b c d e f g h x y ≡ object_of a b' c' d' e f g' h' x y'
-same_values a b c d e f g h x y b' c' d' g' h' y' eb ec ed eg eh ey =
-    rw (eb, ec, ed, eg, eh, ey) refl
+same_values : (a b c d v i e f g h x y b' c' d' v' i' g' h' y' : List ℕ)
+    → b ≡ b' → c ≡ c' → d ≡ d' → v ≡ v' → i ≡ i' → g ≡ g' → h ≡ h' → y ≡ y'
+    → object_of a b c d v i e f g h x y ≡ object_of a b' c' d' v' i' e f g' h' x y'
+same_values a b c d v i e f g h x y b' c' d' v' i' g' h' y' eb ec ed ev ei eg eh ey =
+    rw (eb, ec, ed, ev, ei, eg, eh, ey) refl
 
 pub json-line : (head : LoggedHead) (text civil : List ℕ) → head.errors ≡ errors_of text
     → head.characters ≡ length text → IsShownAs head.moment civil
     → IsJsonLine (copy_said head text)
-    (json_head head ++ (escape text ++ json_tail (joined civil ++ codes "Z")))
+    (((json_front head (is_good (copy_said head text).copy) ++ json_middle head) ++ escape text)
+    ++ json_tail (joined civil ++ codes "Z"))
 json-line head text civil e c shown =
     let time = joined civil ++ codes "Z" in
     let i = head.identity in
+    let good = is_good (copy_said head text).copy in
     record {
       civil = civil;
       shown = shown;
       spelled = sym (same_values (decimal (channel_number head.channel)) (decimal (length text))
-          (escape (how_name head.how)) (decimal (errors_of text)) (decimal head.moment)
+          (escape (how_name head.how)) (decimal (errors_of text)) (token_text (boolean good))
+          (escape (identity_bytes i)) (decimal head.moment)
           (decimal i.number) (escape (i.b1.byte ∷ [])) (escape (i.b2.byte ∷ [])) (escape text)
           (escape time) (decimal head.characters) (how_name head.how) (decimal head.errors)
+          (truth_name good) (identity_bytes i)
           (i.b1.byte ∷ []) (i.b2.byte ∷ []) time (ap decimal (sym c))
-          (how-escaped head.how) (ap decimal (sym e)) (letter-escaped i.b1.byte i.b1.in_range)
+          (how-escaped head.how) (ap decimal (sym e)) (truth good) (identity-escaped i)
+          (letter-escaped i.b1.byte i.b1.in_range)
           (letter-escaped i.b2.byte i.b2.in_range) (time-escaped head.moment civil shown)
           ∙ in_parts (decimal (channel_number head.channel)) (decimal head.characters)
-          (how_name head.how) (decimal head.errors) (decimal head.moment)
-          (decimal i.number) (escape text) time i.b1.byte i.b2.byte);
+          (how_name head.how) (decimal head.errors) (truth_name good) (identity_bytes i)
+          (decimal head.moment) (decimal i.number) (escape text) time i.b1.byte i.b2.byte);
     }

@@ -1,12 +1,6 @@
--- What a query asks, and what is written of an entry as JSON.
-use Rattle.std.proofs.Common.{◌≡◌, ℕ, ◌<◌, Bool, true, false, List, [], ◌∷◌, codes, length, refl, ◌∙◌, arith, Some, None}
+-- What a query asks, and which bytes a text has.
+use Rattle.std.proofs.Common.{◌≡◌, ℕ, ◌<◌, Bool, true, false, List, refl, arith, Some, None}
 use Rattle.std.specs.Prelude.{IsTrue, IsAscii, ◌==◌, ◌&&◌, ◌||◌, if◌then◌else◌}
-use Rattle.serde_json.specs.Data.{Data, member, no_members, number, object, string, unsigned}
-use Rattle.nx_envelope.specs.Copies.{errors_of}
-use Rattle.nx_fec.specs.air_files.Channels.{channel_number}
-use Rattle.nx_copies.specs.copies.Log.{how_name}
-use Rattle.nx_copies.specs.copies.Shares.{MarkedCopy}
-use Rattle.nx_log.specs.Json.{entry_data}
 use Rattle.std.specs.List.{All}
 use Rattle.std.proofs.lemmas.Bool.Decides.{Decides-eqb}
 use Rattle.std.proofs.lemmas.List.Elements.{All-weaker}
@@ -43,30 +37,6 @@ kept-some false x e = cc
 pub kept-none : {T : Type 0} (b : Bool) (x : T) → b ≡ false → None ≡ (if b then Some x else None)
 kept-none true x e = cc
 kept-none false x e = refl
-
--- the object of an entry, by what its members are
-pub as-data : (d : Data) (one : MarkedCopy) (time : List ℕ)
-    (channel characters errors moment digits : ℕ) (end station subject text shown : List ℕ)
-    → d ≡ object
-    (member (codes "channel") (number (unsigned channel))
-    (member (codes "characters") (number (unsigned characters))
-    (member (codes "end") (string end)
-    (member (codes "errors") (number (unsigned errors))
-    (member (codes "moment") (number (unsigned moment))
-    (member (codes "number") (number (unsigned digits))
-    (member (codes "station") (string station)
-    (member (codes "subject") (string subject)
-    (member (codes "text") (string text)
-    (member (codes "time") (string shown)
-    no_members))))))))))
-    → channel ≡ channel_number one.channel → characters ≡ length one.copy.text
-    → errors ≡ errors_of one.copy.text → moment ≡ one.copy.moment
-    → digits ≡ one.copy.identity.number → end ≡ how_name one.copy.how
-    → station ≡ one.copy.identity.b1.byte ∷ [] → subject ≡ one.copy.identity.b2.byte ∷ []
-    → text ≡ one.copy.text → shown ≡ time
-    → d ≡ entry_data one time
-as-data d one time channel characters errors moment digits end station subject text shown built
-    a b c e f g h i j k = built ∙ cc
 
 -- a text is ASCII
 either_low : (byte : ℕ) (b : Bool) → is_in_code byte ≡ b → (b || (byte == asterisk)) ≡ true

@@ -1,4 +1,4 @@
-use Rattle.std.proofs.Common.{[], ◌≡◌, ◌++◌, ap, subst, sym, inl, inr, arith, length}
+use Rattle.std.proofs.Common.{[], ◌++◌, ap, subst, sym, inl, inr, arith, length}
 use Rattle.std.specs.Char.{IsAsciiDigit}
 use Rattle.std.specs.Prelude.{All}
 use Rattle.std.proofs.lemmas.Bool.{true≢false}
