@@ -2,7 +2,7 @@
 """A plain reader of a log and of a kept log, to compare the program with. It is written from what a
 log is, not from the program's code, and it holds all bytes at once.
 
-usage: ci/log_reader.py [--kept | --salvage] [--json] < FILE
+usage: ci/log_reader.py [--kept | --salvage] [--last] [--json] < FILE
 
 It prints the entries, as they stand in a log or as JSON, and says on standard error which lines have
 a torn entry. Where the bytes are damaged it says at which line, with status 2. With --salvage it
@@ -42,6 +42,7 @@ from datetime import datetime, timedelta
 MOST_CHARACTERS = 4_100
 LONGEST_ENTRY = 4_146
 MOST_TORN = LONGEST_ENTRY + 1
+LIFETIME = 66 * 3600
 TEXT_BYTES = b"ABCDEFGHIJKLMNOPQRSTUVWXYZ0123456789 -?:().,'=+/*\n"
 NUMBER = rb"(0|[1-9][0-9]{0,3})"
 HEAD = re.compile(
@@ -99,6 +100,22 @@ def json_of(entry):
 def identity_of(entry):
     """Its identity, as EA01."""
     return f"{entry.station}{entry.subject}{entry.number:02}"
+
+
+def replaces(later, entry):
+    """Whether a later entry takes the place of this one: it is of the same message, not numbered 00,
+    comes less than 66 hours later, and this one isn't better."""
+    if entry.number == 0 or (later.channel, identity_of(later)) != (entry.channel, identity_of(entry)):
+        return False
+    if not entry.moment <= later.moment < entry.moment + LIFETIME:
+        return False
+    worth = [(it.end == "full", -it.text.count(b"*")) for it in (later, entry)]
+    return worth[0] >= worth[1]
+
+
+def last_of(entries):
+    """Those that none behind them replaces."""
+    return [it for at, it in enumerate(entries) if not any(replaces(later, it) for later in entries[at + 1 :])]
 
 
 def is_good(entry):
@@ -328,7 +345,7 @@ def kept_of(entries):
 
 def main():
     options = sys.argv[1:]
-    if set(options) - {"--kept", "--json", "--salvage"} or {"--kept", "--salvage"} <= set(options):
+    if set(options) - {"--kept", "--json", "--last", "--salvage"} or {"--kept", "--salvage"} <= set(options):
         sys.exit(__doc__)
     data = sys.stdin.buffer.read()
     if "--kept" in options:
@@ -338,7 +355,7 @@ def main():
     else:
         entries, torn, line = read_all(data)
         told = [(it, False) for it in torn]
-    for it in entries:
+    for it in last_of(entries) if "--last" in options else entries:
         sys.stdout.buffer.write(json_of(it) if "--json" in options else bytes_of(it))
     sys.stdout.flush()
     for it in told:

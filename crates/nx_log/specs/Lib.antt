@@ -1,5 +1,6 @@
 pub mod Entries
 pub mod Json
+pub mod Last
 pub mod LogReader
 pub mod LogReading
 pub mod LogRun

@@ -1,5 +1,5 @@
 -- A run over a log: what it reads, what it writes of it, and what it answers (this profile).
-use Rattle.std.specs.Prelude.{◌≡◌, ◌⊎◌, ◌↔◌, ℕ, ◌-◌, ◌^◌, ◌≤◌, List, [], ◌++◌, length, Some}
+use Rattle.std.specs.Prelude.{◌≡◌, ◌⊎◌, ◌↔◌, ℕ, ◌-◌, ◌^◌, ◌≤◌, Bool, true, false, List, [], ◌++◌, length, Some}
 use Rattle.std.specs.Prelude.{Result, Ok, Err, IsErrOf}
 use Rattle.std.specs.List.{AllZip, concat}
 use Rattle.std.specs.Io.KnownBytes.{Appends, Consumes}
@@ -7,7 +7,7 @@ use Rattle.nx_fec.specs.Transfers.{Contents, Devices, IsReadOut, WroteSome, cont
 use Rattle.nx_copies.specs.copies.Shares.{MarkedCopy}
 use Rattle.nx_log.specs.Json.{IsJsonLine}
 use Rattle.nx_log.specs.Logged.{IsLoggedAs}
-use Rattle.nx_log.specs.Query.{admitted}
+use Rattle.nx_log.specs.Query.{chosen}
 use Rattle.nx_log.specs.Notices.{HaveToldAll, HaveToldTorn, Notice, Notices}
 use Rattle.nx_log.specs.Reading.{HoldEntries, HoldEntriesToEnd, StopAtLine}
 use Rattle.nx_log.specs.Salvage.{Salvage, SalvageToEnd, Stretch, first_line}
@@ -28,11 +28,11 @@ abbrev pub IsInForm : Form → MarkedCopy → List ℕ → Type 0
 IsInForm Log one text = IsLoggedAs one text
 IsInForm Json one text = IsJsonLine one text
 
--- Output of entries: the texts of those that the query admits, in order, and nothing between.
+-- Output of entries: the texts of those that the query chooses, in order, and nothing between.
 pub record IsOutput (query : Query) (form : Form) (entries : List MarkedCopy) (output : List ℕ)
     : Type 0 where
   pub texts : List (List ℕ)
-  pub each : AllZip (IsInForm form) (admitted query entries) texts
+  pub each : AllZip (IsInForm form) (chosen query entries) texts
   pub joined : output ≡ concat texts
 
 -- some first of the bytes hold these entries, whole, and the torn ones on these lines
@@ -72,18 +72,31 @@ module _ {R W : Type 0} (query : Query) (form : Form) (d : Devices R W) (n : Not
   abbrev pub AreAll : List ℕ → Type 0
   AreAll bytes = IsReadOut d ⊎ (length bytes ≡ most_read)
 
+  -- Memory ran out before anything was read, written or told. Where the last entries alone are
+  -- asked for, it may also run out later: nothing was written then, and what was told is that of
+  -- some first of the bytes.
+  abbrev pub RanOutFirst : List ℕ → Type 0
+  RanOutFirst bytes = (bytes ≡ []) × (d.reader_after ≡ d.reader) × (d.writer_after ≡ d.writer)
+      × HaveToldTorn n []
+
+  abbrev pub RanOut : Bool → List ℕ → Type 0
+  RanOut false bytes = RanOutFirst bytes
+  RanOut true bytes =
+      (entries : List MarkedCopy) × (torn : List ℕ) × BeginWithEntries bytes entries torn
+      × Appends (contents_of d).before (contents_of d).after [] × HaveToldTorn n torn
+
   -- What it answers of the bytes that it read, and what it told. Where they are all and a log, it
-  -- is how many of their entries the query admits; the output of all was written, and each torn one
-  -- was told. After a failed read the output of all whole entries of the bytes was written, and
+  -- is how many of their entries the query chooses; the output of all was written, and each torn
+  -- one was told. After a failed read the output of all whole entries of the bytes was written, and
   -- each torn one told, so both come before each further read. A bad log stops being one at this
   -- line; the output of the entries before that was written, and each torn one told. After a failed
   -- write the first bytes were written of the output of entries with which they begin, and what was
-  -- told is that of the same front. Memory runs out before anything is read, written or told.
+  -- told is that of the same front.
   abbrev pub AnswersLogRun : Result ℕ LogFault → List ℕ → Type 0
   AnswersLogRun (Ok count) bytes =
       AreAll bytes × (entries : List MarkedCopy) × (torn : List ℕ)
       × HoldEntriesToEnd bytes entries torn × WroteOutput query form (contents_of d) entries
-      × HaveToldTorn n torn × (count ≡ length (admitted query entries))
+      × HaveToldTorn n torn × (count ≡ length (chosen query entries))
   AnswersLogRun (Err Read) bytes =
       (entries : List MarkedCopy) × (torn : List ℕ) × HoldEntries bytes entries torn
       × WroteOutput query form (contents_of d) entries × HaveToldTorn n torn
@@ -93,9 +106,14 @@ module _ {R W : Type 0} (query : Query) (form : Form) (d : Devices R W) (n : Not
   AnswersLogRun (Err (Write written)) bytes =
       (entries : List MarkedCopy) × (torn : List ℕ) × BeginWithEntries bytes entries torn
       × WrotePart query form (contents_of d) entries written × HaveToldTorn n torn
-  AnswersLogRun (Err (Memory error)) bytes =
-      (bytes ≡ []) × (d.reader_after ≡ d.reader) × (d.writer_after ≡ d.writer)
-      × HaveToldTorn n []
+  AnswersLogRun (Err (Memory error)) bytes = RanOut query.last bytes
+
+  abbrev pub SalvageRanOut : Bool → List ℕ → Type 0
+  SalvageRanOut false bytes = RanOutFirst bytes
+  SalvageRanOut true bytes =
+      (stretches : List Stretch) × (entries : List MarkedCopy) × (told : List Notice)
+      × BeginSalvage stretches bytes entries told
+      × Appends (contents_of d).before (contents_of d).after [] × HaveToldAll n told
 
   -- The same where it passes over what is not of a log. Where the bytes are a log it answers as
   -- above. Else it reads them all, and answers at their end: `BadLog` has the first line that isn't
@@ -116,15 +134,21 @@ module _ {R W : Type 0} (query : Query) (form : Form) (d : Devices R W) (n : Not
       (stretches : List Stretch) × (entries : List MarkedCopy) × (told : List Notice)
       × BeginSalvage stretches bytes entries told
       × WrotePart query form (contents_of d) entries written × HaveToldAll n told
-  AnswersSalvage (Err (Memory error)) bytes = AnswersLogRun (Err (Memory error)) bytes
+  AnswersSalvage (Err (Memory error)) bytes = SalvageRanOut query.last bytes
 
   -- what is not of a log is refused, or passed over
   abbrev pub AnswersRun : Damaged → Result ℕ LogFault → List ℕ → Type 0
   AnswersRun Refused outcome bytes = AnswersLogRun outcome bytes
   AnswersRun PassedOver outcome bytes = AnswersSalvage outcome bytes
 
+-- A read failed in a run with this outcome: the outcome is `Read`. Where the last entries alone are
+-- asked for, they are written behind it, and a write may fail then.
+abbrev pub HasReadFailed : {A : Type 0} → Query → Result A LogFault → Type 0
+HasReadFailed query outcome = IsErrOf outcome Read
+    ⊎ ((query.last ≡ true) × ((written : ℕ) × (outcome ≡ Err (Write written))))
+
 -- A run over a log. It answers so to the bytes that it read, at most 2^63 - 1, however they came. A
--- read failed, at most one, exactly where the outcome is `Read`, and a write of the output where it
+-- read failed, at most one, where the outcome is `Read`, and a write of the output exactly where it
 -- is `Write`.
 pub record RunsOverLog {R W : Type 0} (query : Query) (form : Form) (damaged : Damaged)
     (d : Devices R W) (n : Notices) (outcome : Result ℕ LogFault) : Type 0 where
@@ -132,7 +156,8 @@ pub record RunsOverLog {R W : Type 0} (query : Query) (form : Form) (damaged : D
   pub consumed : Consumes (d.remaining d.reader.inner) (d.remaining d.reader_after.inner) bytes
   pub within : length bytes ≤ most_read
   pub answer : AnswersRun query form d n damaged outcome bytes
-  pub unread : IsErrOf outcome Read ↔ (d.reader_after.failures ≡ 1)
+  pub unread : IsErrOf outcome Read → d.reader_after.failures ≡ 1
+  pub read_failed : d.reader_after.failures ≡ 1 → HasReadFailed query outcome
   pub read_once : d.reader_after.failures ≤ 1
   pub unwritten : ((written : ℕ) × (outcome ≡ Err (Write written)))
       ↔ (d.writer_after.failures ≡ 1)

@@ -1,5 +1,5 @@
--- A query: which logged entries it admits (this profile).
-use Rattle.std.specs.Prelude.{◌≡◌, ℕ, ◌<◌, ◌==◌, nat_le, Bool, true, not, ◌&&◌, ◌||◌}
+-- A query: which logged entries it chooses (this profile).
+use Rattle.std.specs.Prelude.{◌≡◌, ℕ, ◌<◌, ◌==◌, nat_le, Bool, true, false, not, ◌&&◌, ◌||◌}
 use Rattle.std.specs.Prelude.{List, filter, length, Option, None, Some}
 use Rattle.std.specs.FinSet as set
 use Rattle.std.specs.List.{All, list_any}
@@ -7,6 +7,7 @@ use Rattle.std.specs.Ordering.{nat_cmp}
 use Rattle.nx_code.specs.Reading.{IsCapital}
 use Rattle.nx_fec.specs.air_files.Channels.{same_channel}
 use Rattle.nx_fec.specs.declared.air_files.channel.Channel.{Channel}
+use Rattle.nx_log.specs.Last.{last_entries}
 use Rattle.nx_log.specs.declared.queries.query.Query.{Query}
 use Rattle.nx_copies.specs.copies.Printing.{is_good}
 use Rattle.nx_copies.specs.copies.Shares.{MarkedCopy}
@@ -55,3 +56,12 @@ admits query one =
 -- of entries those that the query admits, in order
 abbrev pub admitted : Query → List MarkedCopy → List MarkedCopy
 admitted query entries = filter (admits query) entries
+
+-- Chosen: those that the query admits; and where the last of each message alone is asked for, of
+-- these the last ones.
+abbrev pub chosen_so : Bool → List MarkedCopy → List MarkedCopy
+chosen_so true entries = last_entries entries
+chosen_so false entries = entries
+
+abbrev pub chosen : Query → List MarkedCopy → List MarkedCopy
+chosen query entries = chosen_so query.last (admitted query entries)

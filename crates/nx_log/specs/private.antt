@@ -1,4 +1,5 @@
 pub mod Heads
+pub mod Held
 pub mod JsonParts
 pub mod LogRunning
 pub mod Stages

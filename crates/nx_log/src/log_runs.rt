@@ -5,10 +5,10 @@ ghost use Rattle.std.specs.List.{All};
 ghost use Rattle.std.specs.Io.KnownBytes.{Consumes, IsAtEnd};
 ghost use Rattle.nx_fec.specs.Transfers.{Writes, devices};
 ghost use Rattle.nx_log.specs.LogReader.{IsAt, most_lines};
-ghost use Rattle.nx_log.specs.LogRun.{RunsOverLog, most_read};
-ghost use Rattle.nx_log.specs.Notices.{HaveToldAll, Notice, damaged_at, notices_of};
+ghost use Rattle.nx_log.specs.LogRun.{HasReadFailed, RunsOverLog, WroteOutput, most_read};
+ghost use Rattle.nx_log.specs.Notices.{HaveToldAll, Notice, Notices as TheNotices, damaged_at, notices_of};
 ghost use Rattle.nx_log.specs.Reading.{IsNoBracket};
-ghost use Rattle.nx_log.specs.Salvage.{BeginsAnew, Stretch, bytes_in, first_of, lines_in, told_of};
+ghost use Rattle.nx_log.specs.Salvage.{BeginsAnew, Stretch, bytes_in, entries_in, first_of, lines_in, told_of};
 ghost use Rattle.nx_copies.specs.copies.Shares.{MarkedCopy};
 ghost use Rattle.nx_log.specs.private.LogRunning.{EndsAll, EndsRun, EndsTold, IsReading, IsRunning};
 ghost use Rattle.nx_log.specs.declared.damage.Damaged.{Damaged as WithDamaged};
@@ -34,7 +34,7 @@ use std::io::{Read, Write};
 const MAX_READ: u64 = 9_223_372_036_854_775_807;
 
 /// Reads a log to its end, and writes those of its entries that the query admits, in order, each in
-/// this form, those of all bytes so far before each further read. Answers how many there are. It
+/// this form, those of all bytes so far before each further read. Answers how many it wrote. It
 /// stops after 2^63 - 1 bytes, as at an end. What is read may be the log of a run that listens, a
 /// kept log, also one that was torn, or what is shown of one that grows.
 ///
@@ -46,6 +46,11 @@ const MAX_READ: u64 = 9_223_372_036_854_775_807;
 /// called. `Memory` comes before the first read. That each entry is written before the next read is
 /// said by the answer `Read`. A run can't know which read will fail, and after each that fails all
 /// whole entries of what was read are written.
+///
+/// Where the query asks for the last entry of each message alone, these are held, and written at
+/// the end, or before `BadLog` or `Read` is answered; the time that this takes grows with the
+/// number of entries, times that of messages. `Memory` may then come later too, and nothing was
+/// written.
 ///
 /// With `Damaged::PassedOver` the run goes on where the bytes stop being a log: they are passed
 /// over up to the next bracket, and told by that line, as torn entries are. Then `BadLog`, with the
@@ -67,8 +72,8 @@ pub fn log_run<R: Read, W: Write, N: Write>(
         (notices_of (N.contents notices.old.inner) (N.contents notices.new.inner)
         notices.new.failures) result }
 {
+    let mut run = LogRun::new(alloc, damaged);
     let mut buffer = vec![in alloc; 0; CHUNK]?;
-    let mut run = LogRun::new(damaged);
     run.read_log(reader, writer, notices, query, form, &mut buffer)?;
     run.end(writer, notices)
 }
@@ -87,11 +92,13 @@ struct LogRun {
     /// The first line that is not of a log.
     first_bad: Option<u64>,
     output: Output,
+    /// From which memory is taken for entries that are held.
+    alloc: Global,
 }
 
 impl LogRun {
     /// A run that read nothing yet.
-    fn new(damaged: Damaged) -> LogRun
+    fn new(alloc: Global, damaged: Damaged) -> LogRun
         ensures running { (query : TheQuery) (form : TheForm) (old told : Option (List ℕ))
             (failures : ℕ) → failures ≡ 0
             → IsRunning query form damaged old result old (notices_of told told failures) [] }
@@ -104,7 +111,8 @@ impl LogRun {
             ended: 0,
             is_passing: false,
             first_bad: None,
-            output: Output::new(),
+            output: Output::new(alloc),
+            alloc,
         }
     }
 
@@ -135,7 +143,8 @@ impl LogRun {
             (λ fault. EndsRun query.now form damaged
             (record { before = old; after = W.contents writer.new.inner })
             (notices_of told (N.contents notices.new.inner) notices.new.failures) bytes fault) }
-        ensures unread { IsErrOf result ReadFailed ↔ (reader.new.failures ≡ 1) }
+        ensures unread { IsErrOf result ReadFailed → reader.new.failures ≡ 1 }
+        ensures read_failed { reader.new.failures ≡ 1 → HasReadFailed query.now result }
         ensures once { reader.new.failures ≤ 1 }
         ensures writes { Writes writer.new LogFault.Write result }
     {
@@ -146,12 +155,40 @@ impl LogRun {
             let count = match next_piece(reader, &mut buffer[..most]) {
                 Piece::Bytes(count) => count,
                 Piece::End => return Ok(()),
-                Piece::Failed => return Err(LogFault::Read),
+                Piece::Failed => return Err(self.unread(writer, query)),
             };
             self.take_piece(&buffer[..count], writer, notices, query, form)?;
             room -= count as u64;
         }
         Ok(())
+    }
+
+    /// What is answered where a read failed: that, after all that was held was written, or that a
+    /// write of this failed.
+    fn unread<W: Write>(&mut self, writer: &mut Counting<W>, query: &Query) -> LogFault
+        requires writer { writer.old.failures ≡ 0 }
+        ensures ended { (form : TheForm) (damaged : WithDamaged) (old : Option (List ℕ))
+            (n : TheNotices) (bytes : List ℕ)
+            → (h : IsRunning query.now form damaged old self.old (W.contents writer.old.inner) n
+            bytes)
+            → (query.now.last ≡ false → WroteOutput query.now form
+            (record { before = old; after = W.contents writer.old.inner })
+            (entries_in h.stretches ++ h.last))
+            → EndsRun query.now form damaged
+            (record { before = old; after = W.contents writer.new.inner }) n bytes result }
+        ensures unread { (result ≡ ReadFailed)
+            ⊎ ((query.now.last ≡ true) × ((written : ℕ) × (result ≡ LogFault.Write written))) }
+        ensures failed { ((written : ℕ) × (result ≡ LogFault.Write written))
+            ↔ (writer.new.failures ≡ 1) }
+        ensures once { writer.new.failures ≤ 1 }
+    {
+        if !query.last {
+            return LogFault::Read;
+        }
+        match self.output.finish(writer) {
+            Ok(()) => LogFault::Read,
+            Err(fault) => LogFault::from(fault),
+        }
     }
 
     /// Takes a piece, gives the entries that end in it, and tells of the torn ones, and of what is
@@ -301,7 +338,7 @@ impl LogRun {
         match self.log.push(part) {
             Pushed::Entry { taken } => {
                 self.output
-                    .give(self.log.entry_bytes(), query, form, writer)?;
+                    .give(self.alloc, self.log.entry_bytes(), query, form, writer)?;
                 Ok(taken)
             }
             Pushed::Torn { taken, at } => {
@@ -311,7 +348,7 @@ impl LogRun {
             Pushed::All => Ok(part.len()),
             Pushed::Bad(BadLine { line }) => match self.damaged {
                 Damaged::Refused => {
-                    self.output.send(writer)?;
+                    self.output.finish(writer)?;
                     Err(LogFault::BadLog { line })
                 }
                 Damaged::PassedOver => {
@@ -352,8 +389,8 @@ impl LogRun {
         self.is_passing = true;
     }
 
-    /// Ends the input: writes what waits, tells of a torn entry at the end, and answers how many
-    /// entries were admitted, or which line is the first that is not of a log.
+    /// Ends the input: writes what waits or is held, tells of a torn entry at the end, and answers
+    /// how many entries were written, or which line is the first that is not of a log.
     fn end<W: Write, N: Write>(
         &mut self,
         writer: &mut Counting<W>,
@@ -371,11 +408,11 @@ impl LogRun {
         ensures unread { IsErrOf result ReadFailed → ⊥ }
         ensures writes { Writes writer.new LogFault.Write result }
     {
-        self.output.send(writer)?;
+        self.output.finish(writer)?;
         self.tell_last(notices);
         match self.first_bad {
             Some(line) => Err(LogFault::BadLog { line }),
-            None => Ok(self.output.admitted()),
+            None => Ok(self.output.count()),
         }
     }
 

@@ -2,4 +2,5 @@
 
 pub(crate) mod letters;
 pub(crate) mod query;
+pub(crate) mod replacing;
 pub(crate) mod time;

@@ -2,5 +2,6 @@
 
 pub(crate) mod form;
 pub(crate) mod json_text;
+pub(crate) mod last_entries;
 pub(crate) mod notices;
 pub(crate) mod output;

@@ -69,7 +69,8 @@ log_tree name =
     let with_since = with_rule with_channel (option_rule Since) in
     let with_until = with_rule with_since (option_rule Until) in
     let with_good = with_rule with_until (flag_rule (codes "good")) in
-    let with_json = with_rule with_good (flag_rule (codes "json")) in
+    let with_last = with_rule with_good (flag_rule (codes "last")) in
+    let with_json = with_rule with_last (flag_rule (codes "json")) in
     with_rule with_json (flag_rule (codes "salvage"))
 
 -- the text names these letters and no others
@@ -104,6 +105,7 @@ all_entries = record {
   since = None;
   until = None;
   good = false;
+  last = false;
 }
 
 -- The options ask for this query: for all that they name, and for nothing else.
@@ -114,6 +116,7 @@ pub record IsQuery (values : List Row) (query : Query) : Type 0 where
   pub since : Asks IsSince (given_to Since values) query.since
   pub until : Asks IsUntil (given_to Until values) query.until
   pub good : query.good ≡ has_flag (codes "good") values
+  pub last : query.last ≡ has_flag (codes "last") values
 
 -- the form that they ask for
 abbrev pub form_of : Bool → Form

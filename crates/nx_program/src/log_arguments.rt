@@ -208,6 +208,7 @@ pub fn query_in(values: &ArgMatches) -> Result<Query, LogOption>
         since: since_in(values)?,
         until: until_in(values)?,
         good: is_flagged(values, "good"),
+        last: is_flagged(values, "last"),
     })
 }
 

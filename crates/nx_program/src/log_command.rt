@@ -44,6 +44,12 @@ With --json each entry is one line, an object with the keys channel, characters,
 end (full, cut or long), errors, good, identity, moment, number, station,
 subject, text and time.
 
+With --last an entry is left out where one behind it, of those that the other
+options choose, has its identity and channel, comes less than 66 hours later, and
+isn't worse: an entry is worse where it isn't full and the other is, or else
+where it has more errors. All numbered 00 stay. Then nothing is written before
+the log ends, and memory is taken for what is held.
+
 Where the bytes stop being a log, the entries before were written, and the line
 is told. With --salvage they are passed over up to the next [, and it goes on
 there: each such place is told by its line, at once, and the first one again at
@@ -59,6 +65,9 @@ pub const LOG_EXAMPLE: &str = "Example:
   $ navtex log --until 2024-12-31 < ea.log
   $ navtex log --json < ea.log | cut -c1-41
   {\"channel\":0,\"characters\":5,\"end\":\"full\",";
+
+/// What help says of `--last`.
+const LAST_HELP: &str = "The last entry of each message alone";
 
 /// What help says of `--salvage`.
 const SALVAGE_HELP: &str = "Pass over what is not of a log, and go on behind it";
@@ -109,6 +118,7 @@ pub fn log_command<'a>(alloc: Global, name: &'a str) -> Result<Command<'a>, Allo
     let with_since = with_option(alloc, with_channel, LogOption::Since)?;
     let with_until = with_option(alloc, with_since, LogOption::Until)?;
     let with_good = with_flag(alloc, with_until, "good", "Good entries alone")?;
-    let with_json = with_flag(alloc, with_good, "json", "Each entry as a line of JSON")?;
+    let with_last = with_flag(alloc, with_good, "last", LAST_HELP)?;
+    let with_json = with_flag(alloc, with_last, "json", "Each entry as a line of JSON")?;
     with_flag(alloc, with_json, "salvage", SALVAGE_HELP)
 }

@@ -17,6 +17,9 @@ pub fn log_in_examples()
     ensures flags { (program : Text)
         → Names (program ∷ codes "log" ∷ codes "--json" ∷ codes "--good" ∷ [])
         (Log (record all_entries { good = true }) form.Json damage.Refused) }
+    ensures last { (program : Text)
+        → Names (program ∷ codes "log" ∷ codes "--last" ∷ [])
+        (Log (record all_entries { last = true }) form.Log damage.Refused) }
     ensures salvage { (program : Text)
         → Names (program ∷ codes "log" ∷ codes "--salvage" ∷ [])
         (Log all_entries form.Log damage.PassedOver) }

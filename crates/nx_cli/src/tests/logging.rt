@@ -56,6 +56,47 @@ fn selects_entries(rt: HostRuntime) {
     }
 }
 
+/// Of a message with a lost letter, the same whole four hours later, and again.
+const WORSE: &[u8] = b"[EA01 2025-01-01 00:40:00 full 1/5]\nTE*T\n\n";
+
+const BETTER: &[u8] = b"[EA01 2025-01-01 04:40:00 full 0/5]\nTEST\n\n";
+
+const AGAIN: &[u8] = b"[EA01 2025-01-01 08:40:00 full 0/5]\nTEST\n\n";
+
+#[test]
+fn gives_the_last_entries(rt: HostRuntime) {
+    let below_66_hours: &[u8] = b"[EA01 2025-01-03 22:39:59 full 0/5]\nTEST\n\n";
+    let at_66_hours: &[u8] = b"[EA01 2025-01-03 22:40:00 full 0/5]\nTEST\n\n";
+    let urgent: &[u8] = b"[ED00 2025-01-01 00:40:00 full 0/5]\nTEST\n\n";
+    let on_channel_1: &[u8] = b"[EA01/1 2025-01-01 08:40:00 full 0/5]\nTEST\n\n";
+    let cut: &[u8] = b"[EA01 2025-01-01 08:40:00 cut 0/5]\nTEST\n\n";
+    let rows: [(&str, &[&[u8]], &[&[u8]]); 9] = [
+        ("better, and as good", &[WORSE, BETTER, AGAIN], &[AGAIN]),
+        ("worse behind", &[BETTER, WORSE], &[BETTER, WORSE]),
+        ("earlier", &[AGAIN, BETTER], &[AGAIN, BETTER]),
+        (
+            "below 66 hours",
+            &[BETTER, below_66_hours],
+            &[below_66_hours],
+        ),
+        ("66 hours", &[BETTER, at_66_hours], &[BETTER, at_66_hours]),
+        ("numbered 00", &[urgent, urgent], &[urgent, urgent]),
+        (
+            "another channel",
+            &[WORSE, on_channel_1],
+            &[WORSE, on_channel_1],
+        ),
+        ("cut behind full", &[WORSE, cut], &[WORSE, cut]),
+        ("another between", &[WORSE, SECOND, AGAIN], &[SECOND, AGAIN]),
+    ];
+    for (row, log, wanted) in rows {
+        let log = join(&rt, rt.alloc(), log);
+        let wanted = join(&rt, rt.alloc(), wanted);
+        let arguments = ["navtex", "log", "--last"];
+        expect_output(&rt, rt.alloc(), row, &arguments, &log, &wanted);
+    }
+}
+
 #[test]
 fn refuses_values_and_bytes(rt: HostRuntime) {
     static ROWS: [(&[&str], u8, &str); 7] = [

@@ -1,5 +1,7 @@
 -- What runs wrote, remembered and told.
 pub mod LogRuns
+pub mod Outputs
 pub mod Remembering
+pub mod Replacing
 pub mod Stretches
 pub mod Telling

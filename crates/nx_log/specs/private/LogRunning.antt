@@ -1,22 +1,25 @@
 -- How a run over a log stands, and how it ends.
 use Rattle.std.specs.Prelude.{◌≡◌, ◌≢◌, ⊤, ℕ, ◌-◌, ◌^◌, Bool, true, false, List, [], ◌++◌, length, min, Option, None, Some}
 use Rattle.std.specs.Prelude.{Result, Ok, Err}
+use Rattle.std.specs.List.{AllZip, concat}
+use Rattle.std.specs.Io.KnownBytes.{Appends}
 use Rattle.nx_fec.specs.Transfers.{Contents}
 use Rattle.nx_fec.specs.air_files.LineRuns.{HasGiven}
 use Rattle.nx_copies.specs.copies.Shares.{MarkedCopy}
 use Rattle.nx_log.specs.LogReading.{LogReading}
 use Rattle.nx_log.specs.LogReader.{IsAt, StopAt}
-use Rattle.nx_log.specs.LogRun.{BeginSalvage, IsOutput, WroteOutput, WrotePart}
+use Rattle.nx_log.specs.LogRun.{BeginSalvage, IsInForm, WroteOutput, WrotePart}
 use Rattle.nx_log.specs.Notices.{HaveToldAll, HaveToldTorn, Notice, Notices}
-use Rattle.nx_log.specs.Query.{admitted}
+use Rattle.nx_log.specs.Query.{chosen}
 use Rattle.nx_log.specs.Reading.{HoldEntriesToEnd}
 use Rattle.nx_log.specs.Salvage.{AreCut, BeginsBehind, Salvage, SalvageToEnd, Stretch, bytes_in, entries_in, first_line, lines_in, told_of}
+use Rattle.nx_log.specs.private.Held.{AreHeld}
 use Rattle.nx_log.specs.declared.damage.Damaged.{Damaged}
 use Rattle.nx_log.specs.declared.damage.Damaged.TheVariants.{PassedOver, Refused}
 use Rattle.nx_log.specs.declared.log_runs.LogRun.{LogRun}
 use Rattle.nx_log.specs.declared.writing.form.Form.{Form}
 use Rattle.nx_log.specs.declared.log_fault.LogFault.{LogFault}
-use Rattle.nx_log.specs.declared.log_fault.LogFault.TheVariants.{Read, Write, BadLog}
+use Rattle.nx_log.specs.declared.log_fault.LogFault.TheVariants.{Read, Write, BadLog, Memory}
 use Rattle.nx_log.specs.declared.writing.output.Output.{Output}
 use Rattle.nx_log.specs.declared.queries.query.Query.{Query}
 
@@ -25,15 +28,36 @@ abbrev pub IsReading : LogReading → Type 0
 IsReading log = (bytes : List ℕ) × (entries : List MarkedCopy) × (torn : List ℕ)
     × IsAt log bytes entries torn
 
--- The output of these entries was given: the first of it is written, and the rest waits. The
--- entries that the query admits are counted.
+-- where the last entries alone are asked for, all are held, and else none is
+abbrev pub IsDivided : Bool → List MarkedCopy → List MarkedCopy → Type 0
+IsDivided true given held = given ≡ []
+IsDivided false given held = held ≡ []
+
+-- Of what a query chooses of these entries some were given: the first of their texts is written,
+-- and the rest waits. They are counted. The others are held.
 pub record HasGivenOutput (query : Query) (form : Form) (old new : Option (List ℕ))
-    (output : Output)
-    (entries : List MarkedCopy) : Type 0 where
-  pub bytes : List ℕ
-  pub is_output : IsOutput query form entries bytes
-  pub given : HasGiven old new output.batch bytes
-  pub counted : output.admitted ≡ min (length (admitted query entries)) (2 ^ 64 - 1)
+    (output : Output) (entries : List MarkedCopy) : Type 0 where
+  pub passed : List MarkedCopy
+  pub held : List MarkedCopy
+  pub split : chosen query entries ≡ passed ++ held
+  pub divided : IsDivided query.last passed held
+  pub texts : List (List ℕ)
+  pub each : AllZip (IsInForm form) passed texts
+  pub given : HasGiven old new output.batch (concat texts)
+  pub counted : output.passed ≡ min (length passed) (2 ^ 64 - 1)
+  pub are_held : AreHeld form held output.held.entries.items
+
+-- nothing was written, where the last entries alone are asked for
+pub record WroteNothing (query : Query) (contents : Contents) : Type 0 where
+  pub last : query.last ≡ true
+  pub nothing : Appends contents.before contents.after []
+
+-- an entry could not be given, which is the last of these
+abbrev pub FailsGiving : Query → Form → Contents → List MarkedCopy → LogFault → Type 0
+FailsGiving query form contents entries (Write written) =
+    WrotePart query form contents entries written
+FailsGiving query form contents entries (Memory error) = WroteNothing query contents
+FailsGiving query form contents entries fault = ⊥
 
 -- Where what is not of a log is refused, none of it stands before.
 abbrev pub StandsIn : Damaged → List Stretch → Type 0
@@ -85,6 +109,17 @@ pub record HasWrittenPart (query : Query) (form : Form) (damaged : Damaged) (con
   pub was_told : HaveToldAll n told
   pub stands : StandsIn damaged stretches
 
+-- memory ran out behind a front of the bytes, and nothing was written
+pub record HasRunOut (query : Query) (damaged : Damaged) (contents : Contents) (n : Notices)
+    (bytes : List ℕ) : Type 0 where
+  pub stretches : List Stretch
+  pub entries : List MarkedCopy
+  pub told : List Notice
+  pub salvage : BeginSalvage stretches bytes entries told
+  pub wrote : WroteNothing query contents
+  pub was_told : HaveToldAll n told
+  pub stands : StandsIn damaged stretches
+
 -- the bytes stop being a log at this line, where that is refused
 pub record StopsRun (query : Query) (form : Form) (damaged : Damaged) (contents : Contents)
     (n : Notices) (bytes : List ℕ) (line : ℕ) : Type 0 where
@@ -102,7 +137,8 @@ EndsRun query form damaged contents n bytes (Write written) =
     HasWrittenPart query form damaged contents n bytes written
 EndsRun query form damaged contents n bytes (BadLog line) =
     StopsRun query form damaged contents n bytes line
-EndsRun query form damaged contents n bytes fault = ⊥
+EndsRun query form damaged contents n bytes (Memory error) =
+    HasRunOut query damaged contents n bytes
 
 -- the bytes are all, and what is to be told of them was told
 pub record EndsTold (n : Notices) (stretches : List Stretch) (rest : List ℕ)
@@ -129,7 +165,7 @@ abbrev pub EndsAll : Query → Form → Damaged → Contents → Notices → Lis
     → Type 0
 EndsAll query form damaged contents n bytes (Ok count) =
     (entries : List MarkedCopy) × HasRunOver query form damaged contents n bytes entries None
-    × (count ≡ min (length (admitted query entries)) (2 ^ 64 - 1))
+    × (count ≡ min (length (chosen query entries)) (2 ^ 64 - 1))
 EndsAll query form damaged contents n bytes (Err (BadLog line)) =
     (entries : List MarkedCopy)
     × HasRunOver query form damaged contents n bytes entries (Some line)

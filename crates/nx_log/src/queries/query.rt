@@ -26,6 +26,10 @@ pub struct Query {
     /// Whether good ones alone are asked for: full, and 25 times their errors less than the larger
     /// of 1 and their characters.
     pub good: bool,
+    /// Whether of these entries the last one of each message alone is asked for: none that an entry
+    /// behind it replaces, which is of its identity and channel, less than 66 hours later, and not
+    /// worse.
+    pub last: bool,
 }
 
 impl Query {
@@ -37,6 +41,7 @@ impl Query {
         ensures since { result.since ≡ None }
         ensures until { result.until ≡ None }
         ensures good { result.good ≡ false }
+        ensures last { result.last ≡ false }
     {
         Query {
             stations: None,
@@ -45,10 +50,11 @@ impl Query {
             since: None,
             until: None,
             good: false,
+            last: false,
         }
     }
 
-    /// Whether it admits the entry that this heads.
+    /// Whether it admits the entry that this heads, whatever stands behind it.
     pub fn admits(&self, head: &LoggedHead) -> bool
         ensures { (text : List ℕ) → head.now.errors ≡ errors_of text
             → head.now.characters ≡ length text

@@ -1,58 +1,69 @@
 //! The entries of a log that are written.
 
-ghost use Rattle.std.specs.Prelude.{◌≡◌, ℕ, List, [], ◌∷◌, ◌++◌, Option, MatchResult, OnOk};
-ghost use Rattle.nx_fec.specs.air_files.LineRuns.{HasGiven};
-ghost use Rattle.nx_fec.specs.Transfers.{FailsOnce};
+ghost use Rattle.std.specs.Prelude.{◌≡◌, ◌+◌, ◌-◌, ◌^◌, true, false, ℕ, List, [], ◌∷◌, ◌++◌, length, min, Option, IsErrOf, MatchResult, OnOk};
+ghost use Rattle.nx_fec.specs.Transfers.{FailsOnce, Writes};
 ghost use Rattle.nx_log.specs.Entries.{IsWholeEntry};
-ghost use Rattle.nx_log.specs.LogRun.{WroteOutput, WrotePart};
+ghost use Rattle.nx_log.specs.LogRun.{IsInForm, WroteOutput, WrotePart};
 ghost use Rattle.nx_log.specs.Logged.{IsLoggedAs};
-ghost use Rattle.nx_log.specs.private.LogRunning.{HasGivenOutput};
+ghost use Rattle.nx_log.specs.Query.{admits, chosen};
+ghost use Rattle.nx_log.specs.private.Held.{SaysHead};
+ghost use Rattle.nx_log.specs.private.LogRunning.{FailsGiving, HasGivenOutput};
+ghost use Rattle.nx_log.specs.declared.log_fault.LogFault.TheVariants.{Read as ReadFailed};
 ghost use Rattle.nx_log.specs.declared.writing.form.Form.{Form as TheForm};
 ghost use Rattle.nx_log.specs.declared.queries.query.Query.{Query as TheQuery};
 ghost use Rattle.nx_copies.specs.copies.Shares.{MarkedCopy};
 
 use crate::entries::entry::whole_entry;
+use crate::entries::head::LoggedHead;
+use crate::log_fault::LogFault;
 use crate::queries::query::Query;
 use crate::writing::form::Form;
 use crate::writing::json_text::json_line;
+use crate::writing::last_entries::LastEntries;
 use nx_fec::{Batch, Counting, WriteFault};
+use std::alloc::Global;
 use std::io::Write;
 
-/// What is given of a log to a writer, and how many of its entries a query admitted, at most the
-/// greatest u64.
+/// What is given of a log to a writer, with a count of its entries, at most the greatest u64; and
+/// what is held until it ends. Where the last entry of each message alone is asked for, all are
+/// held, and else none is.
 #[derive(Drop)]
 pub(crate) struct Output {
     batch: Batch,
-    admitted: u64,
+    passed: u64,
+    held: LastEntries,
 }
 
 impl Output {
     /// Nothing was given.
-    pub(crate) fn new() -> Output
+    pub(crate) fn new(alloc: Global) -> Output
         ensures given { (query : TheQuery) (form : TheForm) (old : Option (List ℕ))
             → HasGivenOutput query form old old result [] }
     {
         Output {
             batch: Batch::new(),
-            admitted: 0,
+            passed: 0,
+            held: LastEntries::new(alloc),
         }
     }
 
-    /// How many entries a query admitted.
-    pub(crate) fn admitted(&self) -> u64
-        ensures { result ≡ self.now.admitted }
+    /// How many entries were given or are held.
+    pub(crate) fn count(&self) -> u64
+        ensures { result ≡ min (self.now.passed + length self.now.held.entries.items)
+            (2 ^ 64 - 1) }
     {
-        self.admitted
+        self.passed.saturating_add(self.held.len() as u64)
     }
 
-    /// Gives the entry that these bytes are, in this form, where the query admits it.
+    /// Gives the entry that these bytes are, in this form, where the query admits it, or holds it.
     pub(crate) fn give<W: Write>(
         &mut self,
+        alloc: Global,
         bytes: &[u8],
         query: &Query,
         form: Form,
         writer: &mut Counting<W>,
-    ) -> Result<(), WriteFault>
+    ) -> Result<(), LogFault>
         requires unused { writer.old.failures ≡ 0 }
         requires whole { IsWholeEntry bytes.now }
         ensures given { (one : MarkedCopy) (old : Option (List ℕ)) (entries : List MarkedCopy)
@@ -61,20 +72,52 @@ impl Output {
             → MatchResult result
             (λ _. HasGivenOutput query.now form old (W.contents writer.new.inner) self.new
             (entries ++ one ∷ []))
-            (λ fault. WrotePart query.now form
+            (FailsGiving query.now form
             (record { before = old; after = W.contents writer.new.inner })
-            (entries ++ one ∷ []) fault.written) }
-        ensures counts { FailsOnce writer.new result }
+            (entries ++ one ∷ [])) }
+        ensures unread { IsErrOf result ReadFailed → ⊥ }
+        ensures writes { Writes writer.new LogFault.Write result }
     {
         let view = whole_entry(bytes);
         if !query.admits(&view.head) {
             return Ok(());
         }
-        self.admitted = self.admitted.saturating_add(1);
         match form {
-            Form::Log => self.batch.give(writer, bytes),
-            Form::Json => self.batch.give(writer, json_line(&view).as_slice()),
+            Form::Log => self.take(alloc, view.head, bytes, query, writer),
+            Form::Json => self.take(alloc, view.head, json_line(&view).as_slice(), query, writer),
         }
+    }
+
+    /// Gives an entry that the query admits, which has this head and this text, or holds it.
+    fn take<W: Write>(
+        &mut self,
+        alloc: Global,
+        head: LoggedHead,
+        text: &[u8],
+        query: &Query,
+        writer: &mut Counting<W>,
+    ) -> Result<(), LogFault>
+        requires unused { writer.old.failures ≡ 0 }
+        ensures given { (form : TheForm) (one : MarkedCopy) (old : Option (List ℕ))
+            (entries : List MarkedCopy) → SaysHead head one → IsInForm form one text.now
+            → admits query.now one ≡ true
+            → HasGivenOutput query.now form old (W.contents writer.old.inner) self.old entries
+            → MatchResult result
+            (λ _. HasGivenOutput query.now form old (W.contents writer.new.inner) self.new
+            (entries ++ one ∷ []))
+            (FailsGiving query.now form
+            (record { before = old; after = W.contents writer.new.inner })
+            (entries ++ one ∷ [])) }
+        ensures unread { IsErrOf result ReadFailed → ⊥ }
+        ensures writes { Writes writer.new LogFault.Write result }
+    {
+        if query.last {
+            self.held.take(alloc, head, text)?;
+        } else {
+            self.passed = self.passed.saturating_add(1);
+            self.batch.give(writer, text)?;
+        }
+        Ok(())
     }
 
     /// Writes what waits.
@@ -85,13 +128,37 @@ impl Output {
             → HasGivenOutput query form old (W.contents writer.old.inner) self.old entries
             → MatchResult result
             (λ _. HasGivenOutput query form old (W.contents writer.new.inner) self.new entries
-            × WroteOutput query form
-            (record { before = old; after = W.contents writer.new.inner }) entries)
+            × (query.last ≡ false → WroteOutput query form
+            (record { before = old; after = W.contents writer.new.inner }) entries))
             (λ fault. WrotePart query form
             (record { before = old; after = W.contents writer.new.inner }) entries
             fault.written) }
         ensures counts { FailsOnce writer.new result }
     {
         self.batch.send(writer)
+    }
+
+    /// Writes all that waits or is held, where no entry comes any more.
+    pub(crate) fn finish<W: Write>(&mut self, writer: &mut Counting<W>) -> Result<(), WriteFault>
+        requires unused { writer.old.failures ≡ 0 }
+        ensures written { (query : TheQuery) (form : TheForm) (old : Option (List ℕ))
+            (entries : List MarkedCopy)
+            → HasGivenOutput query form old (W.contents writer.old.inner) self.old entries
+            → MatchResult result
+            (λ _. WroteOutput query form
+            (record { before = old; after = W.contents writer.new.inner }) entries)
+            (λ fault. WrotePart query form
+            (record { before = old; after = W.contents writer.new.inner }) entries
+            fault.written) }
+        ensures same { (query : TheQuery) (form : TheForm) (old : Option (List ℕ))
+            (entries : List MarkedCopy)
+            → HasGivenOutput query form old (W.contents writer.old.inner) self.old entries
+            → min (self.new.passed + length self.new.held.entries.items) (2 ^ 64 - 1)
+            ≡ min (length (chosen query entries)) (2 ^ 64 - 1) }
+        ensures counts { FailsOnce writer.new result }
+    {
+        let batch = &mut self.batch;
+        self.held.give_to(batch, writer)?;
+        batch.send(writer)
     }
 }

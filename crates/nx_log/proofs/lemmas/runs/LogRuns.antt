@@ -1,25 +1,22 @@
 -- A run over a log, step by step.
-use Rattle.std.proofs.Common.{◌≡◌, ℕ, zero, suc, ◌+◌, ◌-◌, ◌^◌, ◌≤◌, ◌<◌, Bool, true, false, cond, min, List, [], ◌∷◌, ◌++◌, length, take, drop}
+use Rattle.std.specs.declared.alloc.AllocError.{AllocError}
+use Rattle.std.proofs.Common.{◌≡◌, ℕ, zero, suc, ◌+◌, ◌-◌, ◌^◌, ◌≤◌, ◌<◌, Bool, true, false, min, List, [], ◌∷◌, ◌++◌, length, take, drop}
 use Rattle.std.proofs.Common.{refl, sym, ap, ◌∙◌, subst, arith, append_assoc, append-nil, length-append, take-append-drop, Option, None, Some, Result, Ok, Err, inl}
-use Rattle.std.specs.Prelude.{IfOk, IsErrOf, MatchResult, OnOk, ◌==◌}
-use Rattle.std.specs.List.{All, AllZip, concat}
+use Rattle.std.specs.Prelude.{IfOk, IsErrOf, MatchResult, ◌==◌}
+use Rattle.std.specs.List.{All}
 use Rattle.std.proofs.lemmas.List.{length-take-le, take-take}
 use Rattle.std.proofs.lemmas.List.Elements.{All-append, All-cons, All-nil, All-weaker}
 use Rattle.std.specs.Io.KnownBytes.{Appends}
 use Rattle.std.proofs.KnownBytes.{Appends-nil}
-use Rattle.std.proofs.lemmas.List.Elements.{filter-append}
-use Rattle.std.proofs.lemmas.List.Folds.{concat-append}
-use Rattle.std.proofs.lemmas.List.Sums.{count_by-le-length, length-filter}
-use Rattle.nx_fec.specs.air_files.LineRuns.{HasGiven}
+use Rattle.std.proofs.lemmas.List.Sums.{count_by-le-length}
 use Rattle.nx_code.specs.Reading.{newline}
-use Rattle.nx_fec.specs.Transfers.{Contents, Devices, WroteSome, contents_of}
-use Rattle.nx_fec.specs.declared.fault.WriteFault.{WriteFault}
+use Rattle.nx_fec.specs.Transfers.{Contents, Devices, contents_of}
 use Rattle.nx_copies.specs.copies.Shares.{MarkedCopy}
 use Rattle.nx_log.specs.LogReading.{LogReading}
 use Rattle.nx_log.specs.LogReader.{IsAt, StopAt, Takes, most_lines}
-use Rattle.nx_log.specs.LogRun.{AnswersLogRun, AnswersRun, AreAll, BeginSalvage, IsInForm, IsOutput, WroteOutput, WrotePart, most_read}
+use Rattle.nx_log.specs.LogRun.{AnswersLogRun, AnswersRun, AreAll, BeginSalvage, RanOut, SalvageRanOut, WroteOutput, WrotePart, most_read}
 use Rattle.nx_log.specs.Logged.{IsLoggedAs}
-use Rattle.nx_log.specs.Query.{admits, admitted}
+use Rattle.nx_log.specs.Query.{chosen}
 use Rattle.nx_log.specs.Notices.{HaveTold, HaveToldAll, HaveToldTorn, Notice, Notices, damaged_at, notice_texts, notices_of, torn_notice, torn_notices}
 use Rattle.nx_log.specs.Reading.{AreRead, Head, HoldEntries, HoldEntriesToEnd, IsHead, IsNoBracket, IsTail, LogRead, StopAtLine, begun, entries_of, is_begun, is_first, line_behind, nothing, torn_line, whole}
 use Rattle.nx_log.specs.Salvage.{AreCut, BeginsBehind, IsPassedOver, Salvage, SalvageToEnd, Stretch, bytes_in, entries_in, first_line, first_of, lines_in, told_of, told_torn}
@@ -32,77 +29,16 @@ use Rattle.nx_log.specs.declared.log_runs.LogRun.{LogRun}
 use Rattle.nx_log.specs.declared.writing.form.Form.{Form}
 use Rattle.nx_log.specs.declared.log_fault.LogFault.{LogFault}
 use Rattle.nx_log.specs.declared.log_fault.LogFault.TheVariants.{Read, Write, BadLog, Memory}
-use Rattle.nx_log.specs.declared.writing.output.Output.{Output}
 use Rattle.nx_log.specs.declared.queries.query.Query.{Query}
 use Rattle.nx_log.specs.declared.entries.reader.Pushed.TheVariants.{Entry, Torn}
 use Rattle.nx_log.specs.declared.entries.reader.TornLine.{TornLine}
-use Rattle.nx_log.specs.private.LogRunning.{EndsAll, EndsRun, HasGivenOutput, HasRunOver, HasSalvaged, HasWrittenPart, IsPassing, IsRunning, StandsIn, StopsRun}
+use Rattle.nx_log.specs.private.LogRunning.{EndsAll, EndsRun, FailsGiving, HasGivenOutput, HasRunOut, HasRunOver, HasSalvaged, HasWrittenPart, IsPassing, IsRunning, StandsIn, StopsRun, WroteNothing}
 use Rattle.nx_log.proofs.lemmas.reader.Steps.{holds_at}
 use Rattle.nx_log.proofs.lemmas.reader.Tails.{all_front, all_last}
 use Rattle.nx_log.proofs.lemmas.reading.Reads.{hold_is_log, same_held}
 use Rattle.nx_log.proofs.lemmas.runs.Stretches.{cut_longer, cut_off, cut_on, lines_few, lines_more, longer, none_behind, stop_on, told_over}
 use Rattle.nx_log.proofs.lemmas.reading.Entries.{entry_is_some, one_entry}
-
-pub match-map : {A E : Type 0} (r : Result A E) (P P' : A → Type 0) (Q Q' : E → Type 0)
-    → ((a : A) → P a → P' a) → ((e : E) → Q e → Q' e) → MatchResult r P Q → MatchResult r P' Q'
-match-map (Ok a) P P' Q Q' f g h = f a h
-match-map (Err e) P P' Q Q' f g h = g e h
-
--- ---- the output of one entry more
-
-AllZip-append : {A B : Type 0} (R : A → B → Type 0) (xs zs : List A) (ys ws : List B)
-    → AllZip R xs ys → AllZip R zs ws → AllZip R (xs ++ zs) (ys ++ ws)
-AllZip-append R [] zs [] ws h k = k
-AllZip-append R [] zs (y ∷ ys) ws h k = absurd h
-AllZip-append R (x ∷ xs) zs [] ws h k = absurd h
-AllZip-append R (x ∷ xs) zs (y ∷ ys) ws h k = (h.0, AllZip-append R xs zs ys ws h.1 k)
-
-one-kept : (b : Bool) (one : MarkedCopy) → b ≡ true → cond b (one ∷ []) [] ≡ one ∷ []
-one-kept true one e = refl
-one-kept false one e = cc
-
-none-kept : (b : Bool) (one : MarkedCopy) → b ≡ false
-    → ◌≡◌ {A = List MarkedCopy} (cond b (one ∷ []) []) []
-none-kept true one e = cc
-none-kept false one e = refl
-
-pub admitted-more : (query : Query) (entries : List MarkedCopy) (one : MarkedCopy)
-    → admits query one ≡ true → admitted query (entries ++ one ∷ []) ≡ admitted query entries ++ one
-    ∷ []
-admitted-more query entries one sure =
-    filter-append (admits query) entries (one ∷ [])
-    ∙ ap (λ l. admitted query entries ++ l) (one-kept (admits query one) one sure)
-
-pub admitted-same : (query : Query) (entries : List MarkedCopy) (one : MarkedCopy)
-    → admits query one ≡ false → admitted query (entries ++ one ∷ []) ≡ admitted query entries
-admitted-same query entries one never =
-    filter-append (admits query) entries (one ∷ [])
-    ∙ ap (λ l. admitted query entries ++ l) (none-kept (admits query one) one never)
-    ∙ append-nil (admitted query entries)
-
-pub output-more : (query : Query) (form : Form) (entries : List MarkedCopy) (one : MarkedCopy)
-    (output text : List ℕ) → IsOutput query form entries output → admits query one ≡ true
-    → IsInForm form one text → IsOutput query form (entries ++ one ∷ []) (output ++ text)
-output-more query form entries one output text h sure is = record {
-  texts = h.texts ++ text ∷ [];
-  each = subst (λ l. AllZip (IsInForm form) l (h.texts ++ text ∷ []))
-      (sym (admitted-more query entries one sure))
-      (AllZip-append (IsInForm form) (admitted query entries) (one ∷ []) h.texts (text ∷ []) h.each
-      (is, tt));
-  joined = ap (λ l. l ++ text) h.joined
-      ∙ ap (λ l. concat h.texts ++ l) (sym (append-nil text))
-      ∙ sym (concat-append h.texts (text ∷ []));
-}
-
-pub output-same : (query : Query) (form : Form) (entries : List MarkedCopy) (one : MarkedCopy)
-    (output : List ℕ) → IsOutput query form entries output → admits query one ≡ false
-    → IsOutput query form (entries ++ one ∷ []) output
-output-same query form entries one output h never = record {
-  texts = h.texts;
-  each = subst (λ l. AllZip (IsInForm form) l h.texts) (sym (admitted-same query entries one never))
-      h.each;
-  joined = h.joined;
-}
+use Rattle.nx_log.proofs.lemmas.runs.Outputs.{chosen-few}
 
 -- what is seen of bytes that are an entry is this entry
 pub view-is : (one : MarkedCopy) (bytes : List ℕ) (view : EntryView) → IsLoggedAs one bytes
@@ -111,73 +47,6 @@ view-is one bytes view l v =
     sym (one_entry one (copy_said view.head view.text.now) bytes (take view.len bytes) []
     (drop view.len bytes) l v.entry
     (append-nil bytes ∙ sym (take-append-drop view.len bytes))).entry
-
--- an entry that isn't admitted is given no bytes
-pub given-same : (query : Query) (form : Form) (old new : Option (List ℕ)) (output : Output)
-    (entries : List MarkedCopy) (one : MarkedCopy)
-    → HasGivenOutput query form old new output entries
-    → admits query one ≡ false → HasGivenOutput query form old new output (entries ++ one ∷ [])
-given-same query form old new output entries one h never = record {
-  bytes = h.bytes;
-  is_output = output-same query form entries one h.bytes h.is_output never;
-  given = h.given;
-  counted = h.counted
-      ∙ ap (λ l. min (length l) (2 ^ 64 - 1)) (sym (admitted-same query entries one never));
-}
-
--- one that is admitted is given its text
-pub given-more : {R : Type 0} (r : Result R WriteFault) (query : Query) (form : Form)
-    (old now new : Option (List ℕ)) (before after : Output) (entries : List MarkedCopy)
-    (one : MarkedCopy) (text : List ℕ) → (h : HasGivenOutput query form old now before entries)
-    → admits query one ≡ true → IsInForm form one text
-    → after.admitted ≡ min (before.admitted + 1) (2 ^ 64 - 1)
-    → MatchResult r (λ _. HasGiven old new after.batch (h.bytes ++ text))
-    (λ fault. WroteSome old new (h.bytes ++ text) fault.written)
-    → MatchResult r (λ _. HasGivenOutput query form old new after (entries ++ one ∷ []))
-    (λ fault. WrotePart query form (record { before = old; after = new }) (entries ++ one ∷ [])
-    fault.written)
-given-more r query form old now new before after entries one text h sure is count gave =
-    let all = output-more query form entries one h.bytes text h.is_output sure is in
-    let longer : length (admitted query (entries ++ one ∷ [])) ≡ length (admitted query entries)
-    + 1 =
-    ap length (admitted-more query entries one sure)
-    ∙ length-append (admitted query entries) (one ∷ []) in
-    match-map r (λ _. HasGiven old new after.batch (h.bytes ++ text))
-    (λ _. HasGivenOutput query form old new after (entries ++ one ∷ []))
-    (λ fault. WroteSome old new (h.bytes ++ text) fault.written)
-    (λ fault. WrotePart query form (record { before = old; after = new }) (entries ++ one ∷ [])
-    fault.written)
-    (λ a k. record {
-      bytes = h.bytes ++ text;
-      is_output = all;
-      given = k;
-      counted = omega (arith, count, h.counted, longer);
-    })
-    (λ fault k. record { output = h.bytes ++ text; is_output = all; part = k })
-    gave
-
--- what waited was written
-pub given-sent : {R : Type 0} (r : Result R WriteFault) (query : Query) (form : Form)
-    (old now new : Option (List ℕ)) (before after : Output) (entries : List MarkedCopy)
-    → (h : HasGivenOutput query form old now before entries) → after.admitted ≡ before.admitted
-    → MatchResult r (λ _. HasGiven old new after.batch h.bytes)
-    (λ fault. WroteSome old new h.bytes fault.written)
-    → OnOk r (after.batch.bytes ≡ [])
-    → MatchResult r
-    (λ _. HasGivenOutput query form old new after entries
-    × WroteOutput query form (record { before = old; after = new }) entries)
-    (λ fault. WrotePart query form (record { before = old; after = new }) entries fault.written)
-given-sent (Ok a) query form old now new before after entries h count k none =
-    let same : k.done ≡ h.bytes = sym (k.whole ∙ ap (λ l. k.done ++ l) none ∙ append-nil k.done) in (
-      record { bytes = h.bytes; is_output = h.is_output; given = k; counted = count ∙ h.counted },
-      record {
-        output = h.bytes;
-        is_output = h.is_output;
-        written = subst (Appends old new) same k.written.appended;
-      },
-    )
-given-sent (Err fault) query form old now new before after entries h count k none =
-    record { output = h.bytes; is_output = h.is_output; part = k }
 
 -- ---- a piece
 
@@ -367,8 +236,8 @@ stop-line bytes entries torn line within h =
 
 count-exact : (query : Query) (entries : List MarkedCopy) (torn bytes : List ℕ) (count : ℕ)
     → length bytes ≤ most_read → HoldEntriesToEnd bytes entries torn
-    → count ≡ min (length (admitted query entries)) (2 ^ 64 - 1)
-    → count ≡ length (admitted query entries)
+    → count ≡ min (length (chosen query entries)) (2 ^ 64 - 1)
+    → count ≡ length (chosen query entries)
 count-exact query entries torn bytes count within h is =
     omega (
       arith,
@@ -377,8 +246,7 @@ count-exact query entries torn bytes count within h is =
       few-entries (h.is.part ∷ h.is.earlier) h.read h.is.are,
       ap length h.is.all,
       ap length h.are_entries,
-      length-filter (admits query) entries,
-      count_by-le-length (admits query) entries,
+      chosen-few query entries,
     )
 
 -- nothing is told yet
@@ -485,6 +353,35 @@ module _ (query : Query) (form : Form) (damaged : Damaged) (old : Option (List �
       was_told = h.told;
       stands = h.stands;
     }
+
+    -- an entry more could not be held, for which memory ran out
+    pub runs-out : (more : List ℕ) (after : Option (List ℕ))
+        → WroteNothing query (record { before = old; after = after })
+        → HasRunOut query damaged (record { before = old; after = after }) n (bytes ++ more)
+    runs-out more after wrote = record {
+      stretches = h.stretches;
+      entries = entries_in h.stretches ++ h.last;
+      told = told_of h.stretches h.torn;
+      salvage = record { front = bytes; more = more; split = refl; salvage = salvage-at };
+      wrote = wrote;
+      was_told = h.told;
+      stands = h.stands;
+    }
+
+    -- an entry more could not be given
+    pub fails-entry : (reader : LogReading) (part : List ℕ) (taken : ℕ) (one : MarkedCopy)
+        (after : Option (List ℕ)) (fault : LogFault)
+        → BeginsBehind h.stretches (h.rest ++ take taken part)
+        → IsAt reader (h.rest ++ take taken part) (h.last ++ one ∷ []) h.torn
+        → FailsGiving query form (record { before = old; after = after })
+        ((entries_in h.stretches ++ h.last) ++ one ∷ []) fault
+        → EndsRun query form damaged (record { before = old; after = after }) n (bytes ++ part)
+        fault
+    fails-entry reader part taken one after Read begins at f = absurd f
+    fails-entry reader part taken one after (Write written) begins at f =
+        part-entry reader part taken one after written begins at f
+    fails-entry reader part taken one after (BadLog line) begins at f = absurd f
+    fails-entry reader part taken one after (Memory error) begins at f = runs-out part after f
 
     -- the bytes stop being a log, which is refused
     pub stops : (part : List ℕ) (line : ℕ) (after : Option (List ℕ)) → run.damaged ≡ Refused
@@ -683,7 +580,21 @@ ends-more query form damaged contents n front more (BadLog line) not_read h = re
   told = h.told;
   refused = h.refused;
 }
-ends-more query form damaged contents n front more (Memory error) not_read h = absurd h
+ends-more query form damaged contents n front more (Memory error) not_read h = record {
+  stretches = h.stretches;
+  entries = h.entries;
+  told = h.told;
+  salvage = record {
+    front = h.salvage.front;
+    more = h.salvage.more ++ more;
+    split = ap (λ l. l ++ more) h.salvage.split
+        ∙ append_assoc h.salvage.front h.salvage.more more;
+    salvage = h.salvage.salvage;
+  };
+  wrote = h.wrote;
+  was_told = h.was_told;
+  stands = h.stands;
+}
 
 -- what is answered of a front of a piece
 pub front-answer : (query : Query) (form : Form) (damaged : Damaged) (contents : Contents)
@@ -759,6 +670,23 @@ module _ {R W : Type 0} (query : Query) (form : Form) (d : Devices R W) (n : Not
         all-torn n s.torn (subst (HaveToldAll n) s.is_told h.was_told),
       )
 
+  memory-refused : HasRunOut query Refused (contents_of d) n bytes
+      → RanOut query form d n true bytes
+  memory-refused h =
+      let b = subst (λ ss. BeginSalvage ss bytes h.entries h.told) h.stands h.salvage in
+      let s = b.salvage in (
+        h.entries,
+        s.torn,
+        record {
+          front = b.front;
+          more = b.more;
+          split = b.split;
+          hold = held-salvage b.front h.entries h.told s;
+        },
+        h.wrote.nothing,
+        all-torn n s.torn (subst (HaveToldAll n) s.is_told h.was_told),
+      )
+
   pub ends-answer : (damaged : Damaged) (fault : LogFault)
       → EndsRun query form damaged (contents_of d) n bytes fault
       → AnswersRun query form d n damaged (Err fault) bytes
@@ -766,18 +694,21 @@ module _ {R W : Type 0} (query : Query) (form : Form) (d : Devices R W) (n : Not
   ends-answer Refused (Write written) h = write-refused written h
   ends-answer Refused (BadLog line) h =
       (h.entries, h.torn, stop-line bytes h.entries h.torn line within h.stop, h.wrote, h.told)
-  ends-answer Refused (Memory error) h = absurd h
+  ends-answer Refused (Memory error) h =
+      subst (λ b. RanOut query form d n b bytes) (sym h.wrote.last) (memory-refused h)
   ends-answer PassedOver Read h =
       (h.stretches, h.entries, h.told, h.salvage, h.wrote, h.was_told)
   ends-answer PassedOver (Write written) h =
       (h.stretches, h.entries, h.told, h.salvage, h.wrote, h.was_told)
   ends-answer PassedOver (BadLog line) h = let never = h.refused in cc
-  ends-answer PassedOver (Memory error) h = absurd h
+  ends-answer PassedOver (Memory error) h =
+      subst (λ b. SalvageRanOut query form d n b bytes) (sym h.wrote.last)
+      (h.stretches, h.entries, h.told, h.salvage, h.wrote.nothing, h.was_told)
 
   all-answer : (entries : List MarkedCopy) (count : ℕ) (damaged : Damaged)
       → AreAll query form d n bytes
       → HasRunOver query form damaged (contents_of d) n bytes entries None
-      → count ≡ min (length (admitted query entries)) (2 ^ 64 - 1)
+      → count ≡ min (length (chosen query entries)) (2 ^ 64 - 1)
       → AnswersLogRun query form d n (Ok count) bytes
   all-answer entries count damaged all h counted =
       let s = subst (λ ss. SalvageToEnd ss bytes entries h.told) (no-stretch h.stretches h.first)
@@ -815,3 +746,37 @@ module _ {R W : Type 0} (query : Query) (form : Form) (d : Devices R W) (n : Not
   finished-answer damaged (Err (Write written)) all h = ends-answer damaged (Write written) h
   finished-answer damaged (Err Read) all h = absurd h
   finished-answer damaged (Err (Memory error)) all h = absurd h
+
+-- memory runs out before anything is read
+module _ {R W : Type 0} (query : Query) (form : Form) (d : Devices R W) (n : Notices)
+    (run : LogRun) (error : AllocError) where
+  pub ran-out-first : (damaged : Damaged) → d.reader_after ≡ d.reader
+      → d.writer_after ≡ d.writer → HaveToldTorn n []
+      → IsRunning query form damaged (contents_of d).before run (contents_of d).after n []
+      → Appends (contents_of d).before (contents_of d).after []
+      → AnswersRun query form d n damaged (Err (Memory error)) []
+  ran-out-first damaged reader writer told h none = of query.last refl damaged h
+    where
+      of : (b : Bool) → query.last ≡ b → (damaged : Damaged)
+          → IsRunning query form damaged (contents_of d).before run (contents_of d).after n []
+          → AnswersRun query form d n damaged (Err (Memory error)) []
+      of true at_last damaged h =
+          ends-answer query form d n [] (omega arith) damaged (Memory error)
+          (runs-out query form damaged (contents_of d).before run (contents_of d).after n [] h []
+          (contents_of d).after (record { last = at_last; nothing = none }))
+      of false at_once Refused h =
+          subst (λ b. RanOut query form d n b []) (sym at_once) (refl, reader, writer, told)
+      of false at_once PassedOver h =
+          subst (λ b. SalvageRanOut query form d n b []) (sym at_once) (refl, reader, writer, told)
+
+-- faults
+pub fault-of : {A : Type 0} (x y : LogFault) → ◌≡◌ {A = Result A LogFault} (Err x) (Err y) → x ≡ y
+fault-of x y e = cc
+
+pub memory-not-read : {A : Type 0} (error : AllocError)
+    → ◌≡◌ {A = Result A LogFault} (Err (Memory error)) (Err Read) → ⊥
+memory-not-read error e = cc
+
+pub memory-not-write : {A : Type 0} (error : AllocError) (written : ℕ)
+    → ◌≡◌ {A = Result A LogFault} (Err (Memory error)) (Err (Write written)) → ⊥
+memory-not-write error written e = cc

@@ -26,7 +26,7 @@ use Rattle.nx_watch.specs.declared.lines.line_effects.StartMoments.{StartMoments
 use Rattle.nx_program.specs.declared.fault.Fault.{Fault}
 use Rattle.nx_program.specs.declared.fault.Fault.TheVariants as fault
 use Rattle.nx_program.specs.FaultText.{call_fault_line, call_text, open_reason}
-use Rattle.nx_log.specs.LogRun.{AnswersLogRun, AnswersRun}
+use Rattle.nx_log.specs.LogRun.{AnswersLogRun, AnswersRun, RanOut, SalvageRanOut}
 use Rattle.nx_log.specs.Notices.{HaveTold, HaveToldAll, HaveToldTorn, Notice, Notices, damaged_at, notice_text, notice_texts, torn_at, torn_notice, torn_notices}
 use Rattle.nx_log.specs.declared.damage.Damaged.{Damaged}
 use Rattle.nx_log.specs.declared.damage.Damaged.TheVariants.{PassedOver, Refused}
@@ -354,6 +354,17 @@ all-leads : (n : Notices) (notices : List Notice) → HaveToldAll n notices → 
 all-leads n notices told =
     record { text = notice_texts notices; leads = behind-all notices; told = told }
 
+-- where memory ran out nothing was told, or of some torn entries
+ran-out-told : {R W : Type 0} (query : Query) (form : Form) (d : Devices R W) (n : Notices)
+    (last : Bool) (bytes : List ℕ) → RanOut query form d n last bytes → ToldLeads n
+ran-out-told query form d n false bytes answer = torn-leads n [] answer.3
+ran-out-told query form d n true bytes answer = torn-leads n answer.1 answer.4
+
+salvage-out-told : {R W : Type 0} (query : Query) (form : Form) (d : Devices R W) (n : Notices)
+    (last : Bool) (bytes : List ℕ) → SalvageRanOut query form d n last bytes → ToldLeads n
+salvage-out-told query form d n false bytes answer = torn-leads n [] answer.3
+salvage-out-told query form d n true bytes answer = all-leads n answer.2 answer.5
+
 -- a run over a log told of some torn entries
 log-answer-told : {R W : Type 0} (query : Query) (form : Form) (d : Devices R W) (n : Notices)
     (own : Result ℕ LogFault) (bytes : List ℕ) → AnswersLogRun query form d n own bytes
@@ -364,7 +375,8 @@ log-answer-told query form d n (Err (log.BadLog line)) bytes answer =
     torn-leads n answer.1 answer.4
 log-answer-told query form d n (Err (log.Write written)) bytes answer =
     torn-leads n answer.1 answer.4
-log-answer-told query form d n (Err (log.Memory want)) bytes answer = torn-leads n [] answer.3
+log-answer-told query form d n (Err (log.Memory want)) bytes answer =
+    ran-out-told query form d n query.last bytes answer
 
 -- also one that passes over what is not of a log
 run-answer-told : {R W : Type 0} (query : Query) (form : Form) (damaged : Damaged)
@@ -381,7 +393,7 @@ run-answer-told query form PassedOver d n (Err (log.BadLog line)) bytes answer =
 run-answer-told query form PassedOver d n (Err (log.Write written)) bytes answer =
     all-leads n answer.2 answer.5
 run-answer-told query form PassedOver d n (Err (log.Memory want)) bytes answer =
-    log-answer-told query form d n (Err (log.Memory want)) bytes answer
+    salvage-out-told query form d n query.last bytes answer
 
 log-told : {R W F D E : Type 0} (query : Query) (form : Form) (damaged : Damaged)
     (d : Devices R W) (b : Beside F D W E) (outcome : Result (Unit {0}) Fault)

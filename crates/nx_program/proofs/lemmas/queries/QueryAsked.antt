@@ -121,25 +121,26 @@ module _ {T : Type 0} (Means : Text → T → Type 0) where
 -- the query
 abbrev make_query : Option (set.FinSet nat_cmp) → Option (set.FinSet nat_cmp) → Option Channel
     → Option ℕ
-    → Option ℕ → Bool → Query
-make_query stations subjects channel since until good = record {
+    → Option ℕ → Bool → Bool → Query
+make_query stations subjects channel since until good last = record {
   stations = stations;
   subjects = subjects;
   channel = channel;
   since = since;
   until = until;
   good = good;
+  last = last;
 }
 
 same_parts : (s t u v : Option (set.FinSet nat_cmp)) (c d : Option Channel) (f g l m : Option ℕ)
-    (x y : Bool) → s ≡ t → u ≡ v → c ≡ d → f ≡ g → l ≡ m → x ≡ y
-    → make_query s u c f l x ≡ make_query t v d g m y
-same_parts s t u v c d f g l m x y a b e h i j = cc
+    (x y p q : Bool) → s ≡ t → u ≡ v → c ≡ d → f ≡ g → l ≡ m → x ≡ y → p ≡ q
+    → make_query s u c f l x p ≡ make_query t v d g m y q
+same_parts s t u v c d f g l m x y p q a b e h i j k = cc
 
 query_once : (rows : List Row) (a b : Query) → IsQuery rows a → IsQuery rows b → a ≡ b
 query_once rows a b one other =
     same_parts a.stations b.stations a.subjects b.subjects a.channel b.channel a.since b.since
-    a.until b.until a.good b.good
+    a.until b.until a.good b.good a.last b.last
     (asks-once NamesLetters letters_once _ _ _ one.stations other.stations)
     (asks-once NamesLetters letters_once _ _ _ one.subjects other.subjects)
     (asks-once NamesChannel channel_once _ _ _ one.channel other.channel)
@@ -147,7 +148,7 @@ query_once rows a b one other =
     one.since other.since)
     (asks-once IsUntil (λ t. time_once (codes " 23:59:59") (codes ":59") t refl refl) _ _ _
     one.until other.until)
-    (one.good ∙ sym other.good)
+    (one.good ∙ sym other.good) (one.last ∙ sym other.last)
 
 -- some option was given a text that names nothing
 abbrev pub IsAnyUnfit : List Row → Type 0
@@ -171,7 +172,7 @@ query_or_unfit rows = elim (asked NamesLetters letters_known (given_to option.St
                   | inr n ↦ inr (option.Until, n.0, record { given = n.1; nothing = n.2 })
                   | inl until ↦ inl (
                     make_query stations.0 subjects.0 channel.0 since.0 until.0
-                        (has_flag (codes "good") rows),
+                        (has_flag (codes "good") rows) (has_flag (codes "last") rows),
                     record {
                       stations = stations.1;
                       subjects = subjects.1;
@@ -179,6 +180,7 @@ query_or_unfit rows = elim (asked NamesLetters letters_known (given_to option.St
                       since = since.1;
                       until = until.1;
                       good = refl;
+                      last = refl;
                     },
                   )
                 ]

@@ -32,7 +32,7 @@ off name = record {
 }
 
 abbrev all_off : List Row
-all_off = off (codes "good") ∷ off (codes "json") ∷ off (codes "salvage") ∷ []
+all_off = off (codes "good") ∷ off (codes "last") ∷ off (codes "json") ∷ off (codes "salvage") ∷ []
 
 first_second : IsShownAs 1735689600 (codes "2025-01-01 00:00:00")
 first_second = record {
@@ -132,7 +132,15 @@ returns c = record {
     values = all_off;
     command = refl;
     given = (
-      record { stations = tt; subjects = tt; channel = tt; since = tt; until = tt; good = refl },
+      record {
+        stations = tt;
+        subjects = tt;
+        channel = tt;
+        since = tt;
+        until = tt;
+        good = refl;
+        last = refl;
+      },
       refl,
       refl,
     );
@@ -140,20 +148,56 @@ returns c = record {
   flags = λ program. record {
     taken = refl;
     values = given (codes "json") (codes "true") ∷ given (codes "good") (codes "true")
+        ∷ off (codes "last") ∷ off (codes "salvage") ∷ [];
+    command = refl;
+    given = (
+      record {
+        stations = tt;
+        subjects = tt;
+        channel = tt;
+        since = tt;
+        until = tt;
+        good = refl;
+        last = refl;
+      },
+      refl,
+      refl,
+    );
+  };
+  last = λ program. record {
+    taken = refl;
+    values = given (codes "last") (codes "true") ∷ off (codes "good") ∷ off (codes "json")
         ∷ off (codes "salvage") ∷ [];
     command = refl;
     given = (
-      record { stations = tt; subjects = tt; channel = tt; since = tt; until = tt; good = refl },
+      record {
+        stations = tt;
+        subjects = tt;
+        channel = tt;
+        since = tt;
+        until = tt;
+        good = refl;
+        last = refl;
+      },
       refl,
       refl,
     );
   };
   salvage = λ program. record {
     taken = refl;
-    values = given (codes "salvage") (codes "true") ∷ off (codes "good") ∷ off (codes "json") ∷ [];
+    values = given (codes "salvage") (codes "true") ∷ off (codes "good") ∷ off (codes "last")
+        ∷ off (codes "json") ∷ [];
     command = refl;
     given = (
-      record { stations = tt; subjects = tt; channel = tt; since = tt; until = tt; good = refl },
+      record {
+        stations = tt;
+        subjects = tt;
+        channel = tt;
+        since = tt;
+        until = tt;
+        good = refl;
+        last = refl;
+      },
       refl,
       refl,
     );
@@ -163,7 +207,15 @@ returns c = record {
     values = given (codes "channel") (codes "1") ∷ all_off;
     command = refl;
     given = (
-      record { stations = tt; subjects = tt; channel = refl; since = tt; until = tt; good = refl },
+      record {
+        stations = tt;
+        subjects = tt;
+        channel = refl;
+        since = tt;
+        until = tt;
+        good = refl;
+        last = refl;
+      },
       refl,
       refl,
     );
@@ -180,6 +232,7 @@ returns c = record {
         since = (search rules, inr (inr (inr first_second)));
         until = tt;
         good = refl;
+        last = refl;
       },
       refl,
       refl,
@@ -197,6 +250,7 @@ returns c = record {
         since = tt;
         until = (search rules, inr (inr (inr last_second)));
         good = refl;
+        last = refl;
       },
       refl,
       refl,
@@ -214,6 +268,7 @@ returns c = record {
         since = tt;
         until = (search rules, inr (inr (inl the_minute)));
         good = refl;
+        last = refl;
       },
       refl,
       refl,

@@ -5,16 +5,16 @@ use Rattle.nx_log.specs.Salvage.{entries_in, told_of}
 use Rattle.nx_log.proofs.lemmas.runs.LogRuns.{part-all}
 use Rattle.nx_log.proofs.log_runs.LogRun.end.Goals as goal
 
-pub returns-in_err-send-clause-ended : goal.returns-in_err-send-clause-ended
-returns-in_err-send-clause-ended g c = λ query form damaged old told bytes within h.
+pub returns-in_err-finish-clause-ended : goal.returns-in_err-finish-clause-ended
+returns-in_err-finish-clause-ended g c = λ query form damaged old told bytes within h.
     let p = err_from_is_err_and c.from_residual.result c.from_residual.ensures.1 in
     rw p.1 (rw p.2 (part-all query form damaged old c.args.self.now _ _ bytes h _ _
-    (c.in_err-send.ensures.given query form old (entries_in h.stretches ++ h.last) h.given)))
+    (c.in_err-finish.ensures.written query form old (entries_in h.stretches ++ h.last) h.given)))
 
 pub returns-in-Some-clause-ended : goal.returns-in-Some-clause-ended
 returns-in-Some-clause-ended g c = λ query form damaged old told bytes within h.
-    let sent = c.in_ok-send.ensures.given query form old (entries_in h.stretches ++ h.last) h.given
-    in
+    let entries = entries_in h.stretches ++ h.last in
+    let wrote = c.in_ok-finish.ensures.written query form old entries h.given in
     let last = c.tell_last.ensures told h.stretches h.rest h.last h.torn
     (subst (λ l. length l ≤ most_read) h.cut.split within) h.ended h.at h.told in (
       entries_in h.stretches ++ h.last,
@@ -30,7 +30,7 @@ returns-in-Some-clause-ended g c = λ query form damaged old told bytes within h
           are_entries = refl;
           is_told = refl;
         };
-        wrote = sent.1;
+        wrote = wrote;
         was_told = last.told;
         first = h.first ∙ c.in-Some.is;
         stands = h.stands;
@@ -39,8 +39,8 @@ returns-in-Some-clause-ended g c = λ query form damaged old told bytes within h
 
 pub returns-in-None-clause-ended : goal.returns-in-None-clause-ended
 returns-in-None-clause-ended g c = λ query form damaged old told bytes within h.
-    let sent = c.in_ok-send.ensures.given query form old (entries_in h.stretches ++ h.last) h.given
-    in
+    let entries = entries_in h.stretches ++ h.last in
+    let wrote = c.in_ok-finish.ensures.written query form old entries h.given in
     let last = c.tell_last.ensures told h.stretches h.rest h.last h.torn
     (subst (λ l. length l ≤ most_read) h.cut.split within) h.ended h.at h.told in (
       entries_in h.stretches ++ h.last,
@@ -56,10 +56,10 @@ returns-in-None-clause-ended g c = λ query form damaged old told bytes within h
           are_entries = refl;
           is_told = refl;
         };
-        wrote = sent.1;
+        wrote = wrote;
         was_told = last.told;
         first = h.first ∙ c.in-None.is;
         stands = h.stands;
       },
-      c.admitted.ensures ∙ sent.0.counted,
+      c.count.ensures ∙ c.in_ok-finish.ensures.same query form old entries h.given,
     )

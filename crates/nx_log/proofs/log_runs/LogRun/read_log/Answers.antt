@@ -6,7 +6,7 @@ use Rattle.std.proofs.lemmas.Result.{err_from_is_err_and}
 use Rattle.std.specs.Io.KnownBytes.{Consumes}
 use Rattle.nx_fec.proofs.lemmas.devices.TransferLaws.{Ok-not_err, Writes-sound}
 use Rattle.nx_log.specs.Salvage.{entries_in}
-use Rattle.nx_log.proofs.lemmas.runs.LogRuns.{part-all, salvaged}
+use Rattle.nx_log.proofs.lemmas.runs.LogRuns.{fault-of, part-all}
 use Rattle.nx_log.proofs.log_runs.LogRun.read_log.Goals as goal
 
 pub returns-in_err-send-clause-read : goal.returns-in_err-send-clause-read
@@ -77,8 +77,37 @@ returns-in-Failed-clause-read g c = λ damaged old told h.
       r.0,
       Consumes-kept _ _ _ r.0 r.1 c.in-Failed.ensures.0,
       omega (arith, r.2),
-      salvaged c.args.query.now c.args.form damaged old c.loop-room.self _ _ r.0 run _ sent.1,
+      c.unread.ensures.ended c.args.form damaged old _ r.0 (record {
+        stretches = run.stretches;
+        rest = run.rest;
+        last = run.last;
+        torn = run.torn;
+        cut = run.cut;
+        at = run.at;
+        given = sent.0;
+        told = run.told;
+        ended = run.ended;
+        first = run.first;
+        passing = run.passing;
+        mode = run.mode;
+        stands = run.stands;
+      }) sent.1,
     )
+
+pub returns-in-Failed-clause-read_failed : goal.returns-in-Failed-clause-read_failed
+returns-in-Failed-clause-read_failed g c = λ one. elim c.unread.ensures.unread [
+  | inl read ↦ inl (ap Err read)
+  | inr w ↦ inr (w.0, (w.1.0, ap Err w.1.1))
+]
+
+pub returns-in-Failed-clause-writes : goal.returns-in-Failed-clause-writes
+returns-in-Failed-clause-writes g c = record {
+  failed = (
+    λ w. c.unread.ensures.failed.0 (w.0, fault-of _ _ w.1),
+    λ one. let w = c.unread.ensures.failed.1 one in (w.0, ap Err w.1),
+  );
+  once = c.unread.ensures.once;
+}
 
 pub returns-in_err-take_piece-clause-read : goal.returns-in_err-take_piece-clause-read
 returns-in_err-take_piece-clause-read g c = λ damaged old told h.

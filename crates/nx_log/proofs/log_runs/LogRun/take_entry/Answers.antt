@@ -6,7 +6,7 @@ use Rattle.nx_log.specs.LogRun.{most_read}
 use Rattle.nx_log.specs.Notices.{HaveToldAll, notices_of, torn_at}
 use Rattle.nx_log.specs.Salvage.{BeginsBehind, bytes_in, entries_in, told_of}
 use Rattle.nx_log.specs.private.LogRunning.{HasGivenOutput, IsRunning}
-use Rattle.nx_log.proofs.lemmas.runs.LogRuns.{exact-line, part-at, part-entry, passes-over, stops, taken-some, torn-bound, torn-some}
+use Rattle.nx_log.proofs.lemmas.runs.LogRuns.{exact-line, fails-entry, part-at, passes-over, stops, taken-some, torn-bound, torn-some}
 use Rattle.nx_log.proofs.lemmas.runs.Stretches.{begins_behind, cut_on, told_more}
 use Rattle.nx_log.proofs.log_runs.LogRun.take_entry.Goals as goal
 
@@ -37,8 +37,8 @@ returns-in_err-give-in-Entry-clause-taken g c = λ damaged old told bytes within
     let begins = begins_behind c.args.self.now.is_passing h.stretches h.rest h.torn part
     c.in-Entry.taken h.passing c.requires.begins some in
     let p = err_from_is_err_and c.from_residual.result c.from_residual.ensures.1 in
-    rw p.1 (rw p.2 (part-entry c.args.query.now c.args.form damaged old c.args.self.now _ _ bytes h
-    c.push.new.self part c.in-Entry.taken t.1.0 _ _ begins t.1.2
+    rw p.1 (rw p.2 (fails-entry c.args.query.now c.args.form damaged old c.args.self.now _ _ bytes
+    h c.push.new.self part c.in-Entry.taken t.1.0 _ _ begins t.1.2
     (c.in_err-give-in-Entry.ensures.given t.1.0 old (entries_in h.stretches ++ h.last)
     (c.entry_bytes.ensures t.1.0 t.1.1) h.given)))
 
@@ -170,23 +170,23 @@ returns-in-All-clause-reading g c =
     let r = c.requires.reading in
     (r.0 ++ c.args.part.now, r.1, r.2, c.in-All.ensures r.0 r.1 r.2 r.3)
 
-pub returns-in_err-send-in-Refused-clause-taken
-    : goal.returns-in_err-send-in-Refused-clause-taken
-returns-in_err-send-in-Refused-clause-taken g c = λ damaged old told bytes within h.
-    let p = err_from_is_err_and c.from_residual-in_err-send-in-Refused.result
-    c.from_residual-in_err-send-in-Refused.ensures.1 in
+pub returns-in_err-finish-in-Refused-clause-taken
+    : goal.returns-in_err-finish-in-Refused-clause-taken
+returns-in_err-finish-in-Refused-clause-taken g c = λ damaged old told bytes within h.
+    let p = err_from_is_err_and c.from_residual-in_err-finish-in-Refused.result
+    c.from_residual-in_err-finish-in-Refused.ensures.1 in
     rw p.1 (rw p.2 (part-at c.args.query.now c.args.form damaged old c.args.self.now _ _ bytes h
     c.args.part.now _ _
-    (c.in_err-send-in-Refused.ensures.given c.args.query.now c.args.form old
+    (c.in_err-finish-in-Refused.ensures.written c.args.query.now c.args.form old
     (entries_in h.stretches ++ h.last) h.given)))
 
-pub returns-in_ok-send-in-Refused-clause-taken
-    : goal.returns-in_ok-send-in-Refused-clause-taken
-returns-in_ok-send-in-Refused-clause-taken g c = λ damaged old told bytes within h.
+pub returns-in_ok-finish-in-Refused-clause-taken
+    : goal.returns-in_ok-finish-in-Refused-clause-taken
+returns-in_ok-finish-in-Refused-clause-taken g c = λ damaged old told bytes within h.
     stops c.args.query.now c.args.form damaged old c.args.self.now _ _ bytes h c.args.part.now
     c.in-Bad.field-0.line _ c.in-Refused.is (c.in-Bad.ensures h.rest h.last h.torn h.at)
-    (c.in_ok-send-in-Refused.ensures.given c.args.query.now c.args.form old
-    (entries_in h.stretches ++ h.last) h.given).1
+    (c.in_ok-finish-in-Refused.ensures.written c.args.query.now c.args.form old
+    (entries_in h.stretches ++ h.last) h.given)
 
 pub returns-in-PassedOver-clause-taken : goal.returns-in-PassedOver-clause-taken
 returns-in-PassedOver-clause-taken g c = λ damaged old told bytes within h.

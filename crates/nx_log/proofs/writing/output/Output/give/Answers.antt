@@ -2,7 +2,8 @@ use Rattle.std.proofs.Common.{sym, ap, ◌∙◌, subst}
 use Rattle.nx_log.specs.Query.{admits}
 use Rattle.nx_log.specs.Json.{IsJsonLine}
 use Rattle.nx_log.specs.LogRun.{IsInForm}
-use Rattle.nx_log.proofs.lemmas.runs.LogRuns.{given-more, given-same, view-is}
+use Rattle.nx_log.proofs.lemmas.runs.LogRuns.{view-is}
+use Rattle.nx_log.proofs.lemmas.runs.Outputs.{given-same, head-said}
 use Rattle.nx_log.proofs.writing.output.Output.give.Goals as goal
 
 pub returns-then-not-admits-clause-given : goal.returns-then-not-admits-clause-given
@@ -11,7 +12,7 @@ returns-then-not-admits-clause-given g c = λ one old entries is h.
     let v = c.whole_entry-view.ensures in
     let same = view-is one c.args.bytes.now view is v in
     given-same c.args.query.now c.args.form old (g.W.Write.contents c.args.writer.now.inner)
-    c.args.self.now entries one h
+    c.args.self.now entries h one
     (ap (admits c.args.query.now) (sym same)
     ∙ sym (c.admits.ensures view.text.now v.errors v.characters)
     ∙ c.if-not-admits.true)
@@ -21,16 +22,11 @@ returns-in-Log-clause-given g c = λ one old entries is h.
     let view = c.whole_entry-view.result in
     let v = c.whole_entry-view.ensures in
     let same = view-is one c.args.bytes.now view is v in
-    given-more c.give.result c.args.query.now c.args.form old
-    (g.W.Write.contents c.args.writer.now.inner) (g.W.Write.contents c.give.new.writer.inner)
-    c.args.self.now (record { batch = c.give.new.self; admitted = c.saturating_add-self.result })
-    entries one c.args.bytes.now h
+    c.take.ensures.given c.args.form one old entries (head-said view one same v.errors)
+    (subst (λ f. IsInForm f one c.args.bytes.now) (sym c.in-Log.is) is)
     (ap (admits c.args.query.now) (sym same)
     ∙ sym (c.admits.ensures view.text.now v.errors v.characters)
-    ∙ c.if-not-admits.false)
-    (subst (λ f. IsInForm f one c.args.bytes.now) (sym c.in-Log.is) is)
-    c.saturating_add-self.ensures
-    (c.give.ensures.bytes old h.bytes h.given)
+    ∙ c.if-not-admits.false) h
 
 pub returns-in-Json-clause-given : goal.returns-in-Json-clause-given
 returns-in-Json-clause-given g c = λ one old entries is h.
@@ -40,15 +36,8 @@ returns-in-Json-clause-given g c = λ one old entries is h.
     let line = c.as_slice.result.now in
     let spelled = subst (IsJsonLine one) (sym c.as_slice.ensures.value)
     (subst (λ o. IsJsonLine o c.json_line.result.items) same c.json_line.ensures) in
-    given-more c.give-in-Json.result c.args.query.now c.args.form old
-    (g.W.Write.contents c.args.writer.now.inner)
-    (g.W.Write.contents c.give-in-Json.new.writer.inner)
-    c.args.self.now
-    (record { batch = c.give-in-Json.new.self; admitted = c.saturating_add-self.result })
-    entries one line h
+    c.take-in-Json.ensures.given c.args.form one old entries (head-said view one same v.errors)
+    (subst (λ f. IsInForm f one line) (sym c.in-Json.is) spelled)
     (ap (admits c.args.query.now) (sym same)
     ∙ sym (c.admits.ensures view.text.now v.errors v.characters)
-    ∙ c.if-not-admits.false)
-    (subst (λ f. IsInForm f one line) (sym c.in-Json.is) spelled)
-    c.saturating_add-self.ensures
-    (c.give-in-Json.ensures.bytes old h.bytes h.given)
+    ∙ c.if-not-admits.false) h
