@@ -5,8 +5,11 @@
  *                  counted together
  *   POWER_HOW      `fail`: it is answered by EIO; `before`, `half`, `after`: the process is killed
  *                  before it, behind the first half of what it writes, or behind it; `short`: it
- *                  writes the first half and answers so, which is no fault
+ *                  writes the first half and answers so, which is no fault; `part`: so too, and
+ *                  the write of the rest is answered by EIO, as any other call is at once
  *   POWER_MET      a file that is made where the fault is met
+ *   POWER_READS    how many bytes each read at a place gives at most, which is no fault; `fail`:
+ *                  each is answered by EIO
  *   POWER_RECORD   a file into which each call is written as it is answered, one on a line: its
  *                  name, and its numbers; a path and what was written in hexadecimal
  */
@@ -94,16 +97,24 @@ static const char *fault_now(void) {
 
 static int is(const char *how, const char *name) { return strcmp(how, name) == 0; }
 
+/* Whether the next write is of the rest of one that was made in part. */
+static int rest_fails;
+
+/* Whether a call that changes no bytes, or is whole or not at all, is answered by EIO. */
+static int fails(const char *how) { return is(how, "fail") || is(how, "part"); }
+
 /* The calls that change a file. */
 
 ssize_t pwrite64(int file, const void *bytes, size_t count, off64_t at) {
     NEXT(pwrite64);
     const char *how = fault_now();
-    if (is(how, "fail")) {
+    if (rest_fails || is(how, "fail") || (is(how, "part") && count < 2)) {
+        rest_fails = 0;
         errno = EIO;
         return -1;
     }
-    if ((is(how, "half") || is(how, "short")) && count > 1) count /= 2;
+    rest_fails = is(how, "part");
+    if ((is(how, "half") || is(how, "short") || rest_fails) && count > 1) count /= 2;
     ssize_t answer = next(file, bytes, count, at);
     if (is(how, "half") || is(how, "after")) kill(getpid(), SIGKILL);
     note("pwrite %d %lld ", file, (long long)at);
@@ -139,7 +150,7 @@ ssize_t writev(int file, const struct iovec *pieces, int count) {
 int ftruncate64(int file, off64_t size) {
     NEXT(ftruncate64);
     const char *how = fault_now();
-    if (is(how, "fail")) {
+    if (fails(how)) {
         errno = EIO;
         return -1;
     }
@@ -153,7 +164,7 @@ int ftruncate(int file, off_t size) { return ftruncate64(file, size); }
 
 static int sync_by(int (*next)(int), int file) {
     const char *how = fault_now();
-    if (is(how, "fail")) {
+    if (fails(how)) {
         errno = EIO;
         return -1;
     }
@@ -184,6 +195,12 @@ ssize_t read(int file, void *room, size_t count) {
 
 ssize_t pread64(int file, void *room, size_t count, off64_t at) {
     NEXT(pread64);
+    const char *reads = getenv("POWER_READS");
+    if (reads != NULL && is(reads, "fail")) {
+        errno = EIO;
+        return -1;
+    }
+    if (reads != NULL && count > strtoul(reads, NULL, 10)) count = strtoul(reads, NULL, 10);
     ssize_t answer = next(file, room, count, at);
     note("pread %d %lld %zd\n", file, (long long)at, answer);
     return answer;

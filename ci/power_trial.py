@@ -113,11 +113,14 @@ class Trial:
             signal.signal(signal.SIGXFSZ, signal.SIG_IGN)
             resource.setrlimit(resource.RLIMIT_FSIZE, (limit, limit))
 
-        ran = subprocess.run(
-            [self.program, "watch", path, str(moment)], input=given, stdout=subprocess.PIPE,
-            stderr=subprocess.PIPE, env={**os.environ, **(env or {})}, timeout=120,
-            preexec_fn=None if limit is None else prepare,
-        )
+        try:
+            ran = subprocess.run(
+                [self.program, "watch", path, str(moment)], input=given, stdout=subprocess.PIPE,
+                stderr=subprocess.PIPE, env={**os.environ, **(env or {})}, timeout=120,
+                preexec_fn=None if limit is None else prepare,
+            )
+        except subprocess.TimeoutExpired:
+            raise Wrong("a watch whose input ended doesn't end") from None
         return ran.returncode, ran.stdout, ran.stderr.decode().splitlines()
 
 
