@@ -4,7 +4,7 @@ PROGRAM = crates/nx_cli/out/nx_cli
 CRATE =
 MODULE = out/live/navtex32.wasm
 
-.PHONY: help check test ci bench live page install install-lib uninstall deb deb-lib clean
+.PHONY: help check test ci bench live page install install-lib uninstall deb deb-arm64 deb-lib clean
 
 help:
 	@echo 'make check CRATE=nx_sync  prove one crate, and those below it that have changed'
@@ -16,6 +16,7 @@ help:
 	@echo 'make install-lib          put the built library for C, its header and navtex.pc there'
 	@echo 'make uninstall            take them all away, but for the settings in /etc/default'
 	@echo 'make deb                  a Debian package of a static program, out/navtex_VERSION_amd64.deb; it installs nothing'
+	@echo 'make deb-arm64            the same for arm64, a Raspberry Pi among them; it proves and builds the program for it first'
 	@echo 'make deb-lib              the same of the library for C, out/libnavtex-dev_VERSION_amd64.deb'
 	@echo 'make live                 the receiver without a heap for many machines, in out/live/; ci/live --check tries it'
 	@echo 'make clean                remove what rt keeps and makes in out/'
@@ -62,6 +63,10 @@ uninstall:
 
 deb:
 	package/deb
+
+deb-arm64:
+	package/arm64-object
+	package/deb arm64
 
 deb-lib:
 	package/deb-library
