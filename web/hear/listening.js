@@ -7,7 +7,10 @@ import { clock, Sound } from './sound.js';
 
 const ROWS = 10;      // rows of the waterfall in a second
 const SILENT = 5000;  // milliseconds in which an input has to give something
+const ENDING = 20000; // milliseconds in which what waits is heard, where it is stopped
 const LATE = 2;       // seconds that the demodulator may be late before it is said
+
+const lower = (name) => name.replace(/^./, (letter) => letter.toLowerCase());
 
 export class Listening extends Sound {
     #inputs;
@@ -16,6 +19,7 @@ export class Listening extends Sound {
     #besides = new Map(); // of each channel
     #behind = new Map();  // of each channel how many seconds its demodulator is late, and are lost
     #hasHeard = false;
+    #isEnding = false;
     #fail;                // ends it with a fault
 
     /** `inputs` have each a channel, a side, and the number of an input, or a stream. `given` has the
@@ -46,7 +50,7 @@ export class Listening extends Sound {
     }
 
     async hear(signal) {
-        this.show.source(`Asking for ${this.name.replace(/^./, (letter) => letter.toLowerCase())}.`);
+        this.show.source(`Asking for ${lower(this.name)}.`);
         try {
             const failed = new Promise((_, reject) => { this.#fail = reject; });
             failed.catch(() => {});
@@ -68,7 +72,7 @@ export class Listening extends Sound {
         this.#showSource();
         this.show.live();
         const silent = setTimeout(() => {
-            if (!this.#hasHeard) this.show.fault(new SoundFault(`No sound comes from ${this.name.toLowerCase()}. `
+            if (!this.#hasHeard) this.show.fault(new SoundFault(`No sound comes from ${lower(this.name)}. `
                 + 'Does the computer have a sound card in use?'));
         }, SILENT);
         try {
@@ -104,11 +108,12 @@ export class Listening extends Sound {
     }
 
     #showSource() {
+        if (this.#isEnding) return;
         const { saidOf } = this.#given;
         const all = [...this.#behind.values()];
         const behind = Math.max(0, ...all.map((one) => one.behind));
         const lost = Math.max(0, ...all.map((one) => one.lost));
-        this.show.source(`Hearing ${this.name.replace(/^./, (letter) => letter.toLowerCase())}, on `
+        this.show.source(`Hearing ${lower(this.name)}, on `
             + `${this.channels.map(saidOf).join(' and ')}.`
             + (behind > LATE ? ` The demodulator is ${behind.toFixed(0)} s late.` : '')
             + (lost > 0 ? ` ${lost.toFixed(0)} s of sound were lost: this computer is too slow.` : ''));
@@ -116,12 +121,17 @@ export class Listening extends Sound {
 
     /** The microphone is let go at once; then what was held back is heard. */
     async #finish() {
+        this.#isEnding = true;
+        this.show.source(`Ending ${lower(this.name)}..`);
         await Promise.all(this.#captures.map((capture) => capture.close()));
         const said = [];
         for (const [channel, beside] of this.#besides) {
-            said.push(await this.finish(channel, beside));
+            const told = await this.heldBack(beside, ENDING);
+            if (told === null) continue;
+            this.take(channel, told);
+            said.push(told.said);
         }
-        return said.filter((words) => words !== '').join(', and on the second frequency ');
+        return said.join(', and on the second frequency ');
     }
 
     async #close() {

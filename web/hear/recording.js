@@ -10,6 +10,7 @@ import { layoutOf } from './wave.js';
 
 const PIECE = 2;                // seconds of a recording that are heard at a time
 const LONG = 300;               // seconds: of a longer recording one row a second is shown
+const ENDING = 2000;            // milliseconds that a stopped one has to tell what was held back
 const ROWS = 10;                // rows a second of a shorter one
 const RATES = [6000, 192000];   // samples a second that the demodulator takes; others the browser changes
 
@@ -97,11 +98,14 @@ export class Recording extends Sound {
                 take(await unlessStopped(signal, this.#beside.hear(piece), take));
                 this.#showProgress(second / source.seconds);
             }
+            const last = await unlessStopped(signal, this.#beside.finish());
+            take(last);
+            return last.said;
         } catch (fault) {
-            if (fault instanceof Stopped) await this.finish(channel, this.#beside, stamp);
+            const last = fault instanceof Stopped ? await this.heldBack(this.#beside, ENDING) : null;
+            if (last !== null) take(last);
             throw fault;
         }
-        return this.finish(channel, this.#beside, stamp);
     }
 
     /** The sound: a WAV file in slices, any other one as the browser decodes it. */

@@ -4,7 +4,6 @@ import { Stopped } from './queue.js';
 const BAUD = 100;
 const LINE = 100;      // elements of a line, so that its moment is true to a second
 const BUSY = 40;       // milliseconds after which the page may do something else
-const ENDING = 3000;   // milliseconds that a stopped sound has to tell what was held back
 
 export const clock = () => Date.now() / 1000;
 
@@ -83,15 +82,13 @@ export class Sound {
         this.#rested = performance.now();
     }
 
-    /** What a worker held back, and in words what it heard; one that doesn't answer is left. */
-    async finish(channel, beside, stamp = (told) => told) {
+    /** What the worker of a stopped sound held back, if it comes within so many milliseconds, or null. */
+    async heldBack(beside, patience) {
         let late;
-        const patience = new Promise((resolve) => { late = setTimeout(resolve, ENDING, null); });
-        const told = await Promise.race([beside.finish(), patience]);
+        const tooLate = new Promise((resolve) => { late = setTimeout(resolve, patience, null); });
+        const told = await Promise.race([beside.finish(), tooLate]);
         clearTimeout(late);
-        if (told === null) return '';
-        this.take(channel, stamp(told));
-        return told.said;
+        return told;
     }
 
     #setMoment(exact) {

@@ -3,11 +3,31 @@
 // windows only say early what the store says in the end.
 
 const NAME = 'navtex';
+const LAST = 'navtex.window'; // where a window that is loaded again finds what it was called
 const PATIENCE = 2000; // milliseconds in which a window that is there answers
 
 /** A name for this window that no other has. */
 export function newWindow() {
     return [...crypto.getRandomValues(new Uint8Array(16))].map((byte) => byte.toString(16).padStart(2, '0')).join('');
+}
+
+/** What this window was called before it was loaded again, or null; asked once. */
+function nameBefore() {
+    try {
+        const name = sessionStorage.getItem(LAST);
+        sessionStorage.removeItem(LAST); // or a copy of this window would have it too
+        return name;
+    } catch {
+        return null;
+    }
+}
+
+function keepName(name) {
+    try {
+        sessionStorage.setItem(LAST, name);
+    } catch {
+        // then the next page asks who is there
+    }
 }
 
 export class Windows {
@@ -16,6 +36,7 @@ export class Windows {
     #on;
     #others;
     #answers = new Map();
+    #before = nameBefore();
     owns = false;
 
     /** `on` is told `lost`, where another window took over; `free`, where the one that received is
@@ -32,7 +53,8 @@ export class Windows {
     /** Whether this window receives from here on: where no other one that is there does. */
     async claim() {
         const owner = await this.#store.owner();
-        if (owner !== undefined && owner !== this.#window && await this.#isThere(owner)) return false;
+        const isOurs = owner === undefined || owner === this.#window || owner === this.#before;
+        if (!isOurs && await this.#isThere(owner)) return false;
         this.owns = await this.#store.own(owner, this.#window);
         return this.owns;
     }
@@ -52,6 +74,7 @@ export class Windows {
     leave() {
         if (!this.owns) return;
         this.owns = false;
+        keepName(this.#window);
         this.#store.own(this.#window, undefined).catch(() => {});
         this.#tell({ left: this.#window });
     }

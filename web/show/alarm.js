@@ -126,9 +126,9 @@ export class Alarm {
     }
 
     #words() {
-        const newest = this.#ringing.slice(-NAMED).reverse().map(identityOf);
-        const more = this.#ringing.length > NAMED ? ' and older ones' : '';
-        return this.#ringing.length === 0 ? '' : `Alarm: ${newest.join(', ')}${more}. It rings until marked as read.`;
+        const all = [...new Set(this.#ringing.map(identityOf).reverse())];
+        const more = all.length > NAMED ? ' and older ones' : '';
+        return all.length === 0 ? '' : `Alarm: ${all.slice(0, NAMED).join(', ')}${more}. It rings until marked as read.`;
     }
 
     #ring(isOn) {

@@ -1,6 +1,6 @@
 // The waterfall: the loudness of each pitch, newest at the top, and two lines where the tones are
 // expected. The lines are moved by dragging, by the arrow keys, or by the number beside them.
-import { HIGHEST, LOWEST } from '../hear/spectrum.js';
+import { HIGHEST, LOWEST } from '../worker/spectrum.js';
 
 const SHIFT = 170;
 const RANGE = 35;     // dB from dark to bright

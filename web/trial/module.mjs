@@ -5,7 +5,7 @@ import { spawnSync } from 'node:child_process';
 import { readFileSync, readdirSync } from 'node:fs';
 import { kindOf, linesOf, logOf } from '../hear/files.js';
 import { Look } from '../hear/look.js';
-import { Ring } from '../hear/ring.js';
+import { Ring } from '../worker/ring.js';
 import { layoutOf, samplesOf } from '../hear/wave.js';
 import { choicesOf, USUAL_TUNING } from '../keep/choices.js';
 import { KeptReceiver } from '../keep/kept.js';

@@ -2,7 +2,7 @@
 // chromium.mjs and firefox.mjs.
 import { setTimeout as pause } from 'node:timers/promises';
 
-export const PATIENCE = 60000; // milliseconds
+export const PATIENCE = 180000; // milliseconds, since the machine may do other things too
 
 export class Tab {
     errors = [];   // what the page told of errors

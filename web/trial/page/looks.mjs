@@ -119,22 +119,25 @@ async function triesPrint({ tab }) {
 async function keepsPictures({ tab, room, pictures }) {
     if (!pictures) return;
     mkdirSync(pictures, { recursive: true });
-    const keep = async (name, ...size) => writeFileSync(`${pictures}/${name}.png`, await tab.picture(...size));
+    const keep = async (name, ...size) => {
+        await tab.value('window.scrollTo(0, 0)');
+        writeFileSync(`${pictures}/${name}.png`, await tab.picture(...size));
+    };
     writeWave(`${room}/pictured.wav`, 'slip.air', { rate: 8000 });
     await tab.hear(`${room}/pictured.wav`);
     await tab.forgetFaults();
     await tab.press("#stations input[value='Q']");
     await tab.set('channel', '0');
-    await keep('day', 1000, 1100, false);
+    await keep('day', 1280, 1000, false);
     await keep('phone', 390, 844, true);
     await tab.press('#night');
-    await keep('night', 1000, 1100, false);
+    await keep('night', 1280, 1000, false);
     await tab.press('#large');
     await keep('large', 390, 844, true);
     await tab.press('#large');
     await tab.press('#night');
     await tab.call('Emulation.setEmulatedMedia', { features: [{ name: 'prefers-color-scheme', value: 'dark' }] });
-    await keep('dark', 1000, 1100, false);
+    await keep('dark', 1280, 1000, false);
 }
 
 export const trials = (kind) => (kind === 'chromium'

@@ -60,9 +60,13 @@ async function expectTracksEnded(tab, what) {
     assert.ok(states.every((state) => state === 'ended'), `${what}: a track is ${states}`);
 }
 
-async function triesPairs({ browser, tab, room }) {
+/** From here on the tracks of the microphone are looked at. */
+async function triesWatching({ browser, tab }) {
     await browser.allow('microphone');
     await tab.value(WATCHED);
+}
+
+async function triesPairs({ tab, room }) {
     const sounds = Object.entries(soundsIn(room));
     for (const [one, first] of sounds) {
         for (const [other, second] of sounds) {
@@ -156,4 +160,7 @@ async function triesWaiting({ tab, room }) {
 }
 
 export const options = () => ['--use-fake-device-for-media-stream'];
-export const trials = () => [triesPairs, triesStop, triesOrder, triesWaiting];
+
+/** All pairs take Firefox a quarter of an hour; it is tried with Stop, the order, and what waits. */
+export const trials = (kind) => (kind === 'chromium' ? [triesWatching, triesPairs, triesStop, triesOrder, triesWaiting]
+    : [triesWatching, triesOrder, triesWaiting, triesStop]);

@@ -2,7 +2,7 @@
 // runs beside the page, in a worker.
 import { Demodulator } from '../demodulator.js';
 import { judged } from '../sound/said.js';
-import { Look } from './look.js';
+import { Look } from '../hear/look.js';
 import { Spectrum } from './spectrum.js';
 
 const SILENCE = -100; // dB

@@ -1,8 +1,8 @@
 // What runs beside the page, so that the page answers while sound is heard: it takes a recording in
 // pieces, or live sound from what captures it, and tells what Hearing hears.
-import { Hearing } from './hear/hearing.js';
-import { Live } from './hear/live.js';
-import { samplesOf } from './hear/wave.js';
+import { Hearing } from './hearing.js';
+import { Live } from './live.js';
+import { samplesOf } from '../hear/wave.js';
 
 let begun;           // what it begins with
 let hearing = null;  // of a recording
