@@ -72,8 +72,8 @@ export class Listening extends Sound {
         this.#showSource();
         this.show.live();
         const silent = setTimeout(() => {
-            if (!this.#hasHeard) this.show.fault(new SoundFault(`No sound comes from ${lower(this.name)}. `
-                + 'Does the computer have a sound card in use?'));
+            if (!this.#hasHeard) this.show.warn(`No sound comes from ${lower(this.name)}. `
+                + 'Does the computer have a sound card in use?');
         }, SILENT);
         try {
             await unlessStopped(signal, failed);

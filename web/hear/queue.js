@@ -23,7 +23,8 @@ export function unlessStopped(signal, promise, late = () => {}) {
 export class Queue {
     #waiting = [];
     #current = null;
-    #stopping = null;
+    #stopping = null;          // what stops it
+    #over = Promise.resolve(); // when it is over
     #on;
 
     /** `on` is told `changed`, where a sound comes, begins or goes; and `fault`. */
@@ -77,8 +78,6 @@ export class Queue {
         this.stop();
         while (this.#current !== null) await this.#over;
     }
-
-    #over = Promise.resolve();
 
     #next() {
         this.#current = this.#waiting.shift() ?? null;

@@ -1,5 +1,4 @@
-// The part of the page in which sounds are chosen and heard: files, live sound, the queue, and what is
-// shown of the sound that is heard.
+// The part of the page in which sounds are chosen: files, live sound, and the queue of them.
 import { USUAL_TUNING } from '../keep/choices.js';
 import { PageFault } from '../show/faults.js';
 import { button, FREQUENCIES, made } from '../show/messages.js';
@@ -8,11 +7,8 @@ import { momentSaid } from './files.js';
 import { Listening } from './listening.js';
 import { Queue } from './queue.js';
 import { Recording } from './recording.js';
+import { Shown } from './shown.js';
 import { clock } from './sound.js';
-
-const IDLE = 'Nothing is being heard.';
-const LOOKED_AT = 2000; // characters of the text as it arrives
-const ENDED = 50;       // sounds that are over and still named
 
 const find = (id) => document.getElementById(id);
 
@@ -21,19 +17,29 @@ export class ListenSection {
     #tones;
     #script; // of the worker
     #on;
+    #shown;
     #kept = null;
     #wake = null; // what keeps the screen on
     #queue = new Queue({
         changed: () => this.#showQueue(),
-        fault: (fault) => this.#on.fault(fault, this.#queue.current),
+        fault: (fault) => this.#shown.fault(fault, this.#queue.current),
     });
 
-    /** `on` is told `changed`, where a sound begins or is over; `log`, of a log among the files. */
+    /** `on` is told `changed`, where a sound begins or is over, or may refuse others; and `log`, of a log
+     *  among the files. */
     constructor(faults, tones, script, on) {
         this.#faults = faults;
         this.#tones = tones;
         this.#script = script;
-        this.#on = { ...on, fault: (fault, sound) => this.#tellFault(fault, sound) };
+        this.#on = on;
+        this.#shown = new Shown(faults, tones, {
+            changed: on.changed,
+            log: on.log,
+            live: () => {
+                this.#showInputs(); // they have names, now that leave was given
+                this.#keepAwake();
+            },
+        });
         this.#join();
         this.#joinDrops();
         this.#showInputs();
@@ -70,7 +76,7 @@ export class ListenSection {
 
     /** Says of a log what was loaded of it. */
     showLoaded(words) {
-        this.#showEnded(words);
+        this.#shown.line(words);
     }
 
     /** Stops what is heard and what waits. */
@@ -87,7 +93,7 @@ export class ListenSection {
             this.#faults.try(() => this.#addFiles(files));
         });
         find('channel').addEventListener('change', () => {
-            if (this.#queue.current === null) this.#showTones(this.channel);
+            if (this.#queue.current === null) this.#shown.showTones(this.channel);
             this.#on.changed();
         });
         find('side').addEventListener('change', () => this.#setSide(this.#liveChannels()[0], find('side').value));
@@ -131,7 +137,7 @@ export class ListenSection {
             side: find('side').value,
             began: at === 0 ? began : null,
             ends: this.ends === 'now' ? clock() : Math.min(file.lastModified / 1000, clock()),
-        }, this.#kept, this.#show())));
+        }, this.#kept, this.#shown)));
     }
 
     async #addLive() {
@@ -143,7 +149,7 @@ export class ListenSection {
             first.stream = await askForTab();
             name = all.length > 1 ? 'The other tab and the microphone' : 'The other tab';
         }
-        this.#queue.add(new Listening(name, all, this.#given(), this.#kept, this.#show()));
+        this.#queue.add(new Listening(name, all, this.#given(), this.#kept, this.#shown));
     }
 
     #secondInput(channel) {
@@ -190,28 +196,6 @@ export class ListenSection {
         }
     }
 
-    // What is shown of the sound that is heard.
-
-    #show() {
-        return {
-            source: (text) => this.#showSource(text),
-            text: (channel, text) => this.#showText(channel, text),
-            row: (channel, row) => this.#tones.add(channel, row),
-            status: (channel, status) => this.#tones.showStatus(channel, status),
-            progress: (part, left) => {
-                this.#showProgress(part, left);
-                this.#on.changed(); // a file may refuse too
-            },
-            ended: (words, run) => this.#showEnded(words, run),
-            live: () => {
-                this.#showInputs(); // they have names, now that leave was given
-                this.#keepAwake();
-            },
-            log: (text, name) => this.#on.log(text, name),
-            fault: (fault) => this.#faults.tell(fault),
-        };
-    }
-
     #showQueue() {
         const { current, waiting } = this.#queue;
         find('stop').disabled = current === null || this.#queue.isStopping;
@@ -219,74 +203,15 @@ export class ListenSection {
             || [current, ...waiting].some((sound) => sound instanceof Listening);
         find('queue').replaceChildren(...waiting.map((sound) => this.#waitingItem(sound)));
         find('queue').hidden = waiting.length === 0;
-        if (current !== this.#shownSound) this.#showSound(current);
+        this.#shown.show(current, this.channel);
+        if (current === null) this.#letSleep();
         this.#on.changed();
-    }
-
-    #shownSound = null;
-
-    /** Another sound is heard, or none. */
-    #showSound(sound) {
-        this.#shownSound = sound;
-        find('progress-row').hidden = true;
-        this.#tones.end();
-        this.#showSource(sound === null ? IDLE : `${sound.name} begins.`);
-        if (sound !== null) find('look').textContent = '';
-        this.#showShown(sound?.channels ?? []);
-        this.#showTones(sound?.channels[0] ?? this.channel);
-        if (sound === null) this.#letSleep();
-    }
-
-    /** Of two frequencies that are heard one is shown. */
-    #showShown(channels) {
-        find('shown').hidden = channels.length < 2;
-        find('shown').replaceChildren(...channels.map((channel) =>
-            button(`Show ${FREQUENCIES[channel]}`, () => this.#showTones(channel))));
-    }
-
-    #showTones(channel) {
-        this.#tones.show(channel);
-        find('tones-of').textContent = FREQUENCIES[channel];
     }
 
     #waitingItem(sound) {
         const remove = button('Take out', () => this.#queue.remove(sound));
         remove.setAttribute('aria-label', `Take ${sound.name} out`);
         return made('li', 'row', made('span', '', `${sound.name} waits.`), remove);
-    }
-
-    #showSource(text) {
-        if (find('source').textContent !== text) find('source').textContent = text;
-    }
-
-    #showProgress(part, left) {
-        find('progress-row').hidden = false;
-        find('progress').value = part;
-        const some = left < 90 ? `${Math.ceil(left)} s` : `${Math.ceil(left / 60)} min`;
-        find('left').textContent = `${Math.floor(100 * part)} %${left === null ? '' : `, some ${some} left`}`;
-    }
-
-    #showText(channel, text) {
-        if (text === '' || channel !== this.#tones.shown) return;
-        const look = find('look');
-        look.textContent = (look.textContent + text).replace(/^\n+/, '').slice(-LOOKED_AT);
-        look.scrollTop = look.scrollHeight;
-    }
-
-    #showEnded(words, run = null) {
-        find('ended').prepend(made('li', '', words));
-        find('ended').hidden = false;
-        while (find('ended').childElementCount > ENDED) find('ended').lastElementChild.remove();
-        if (run === null || run.withoutEffect === 0) return;
-        const { withoutEffect, first: { line, why } } = run;
-        this.#faults.show(this.#queue.current?.isAir
-            ? `Lines without effect: ${withoutEffect}. The first is line ${line}: ${why}.`
-            : `The time of this sound had no effect: ${why}. Its messages have the time in force.`);
-    }
-
-    #tellFault(fault, sound) {
-        if (sound !== null && !sound.wasHeard) this.#showEnded(`${sound.name}: not heard.`);
-        this.#faults.tell(fault);
     }
 
     /** Keeps the screen of a phone on; a browser ends that where another page is looked at. */

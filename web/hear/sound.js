@@ -29,7 +29,7 @@ export class Sound {
     #lastMoment = null;
     #rested = 0;
 
-    /** `kept` is the receiver, `show` is told what is heard: source, text, row, status, progress, ended. */
+    /** `kept` is the receiver; `show` shows what is heard. */
     constructor(name, kept, show) {
         this.name = name;
         this.kept = kept;
@@ -57,8 +57,9 @@ export class Sound {
         } finally {
             await this.kept.endOfSound(Math.floor(clock()));
             this.wasHeard = true;
+            const name = `${this.name}${isStopped ? ', stopped' : ''}`;
             const words = said === '' ? '' : ` The demodulator ${said}.`;
-            this.show.ended(`${this.name}${isStopped ? ', stopped' : ''}: ${countsSaid(run.counts)}.${words}`, run);
+            this.show.ended(this, `${name}: ${countsSaid(run.counts)}.${words}`, run);
         }
     }
 

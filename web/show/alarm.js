@@ -127,8 +127,9 @@ export class Alarm {
 
     #words() {
         const all = [...new Set(this.#ringing.map(identityOf).reverse())];
+        if (all.length === 0) return '';
         const more = all.length > NAMED ? ' and older ones' : '';
-        return all.length === 0 ? '' : `Alarm: ${all.slice(0, NAMED).join(', ')}${more}. It rings until marked as read.`;
+        return `Alarm: ${all.slice(0, NAMED).join(', ')}${more}. It rings until marked as read.`;
     }
 
     #ring(isOn) {

@@ -37,7 +37,8 @@ export class Firefox {
         browser.#process = spawn(program, ['--headless', '--marionette', '--no-remote', '--profile', folder],
             { stdio: 'ignore', env: { ...process.env, HOME: folder } });
         await browser.#connect(`${folder}/MarionetteActivePort`);
-        await browser.send('WebDriver:NewSession', { capabilities: { alwaysMatch: { unhandledPromptBehavior: 'accept' } } });
+        const alwaysMatch = { unhandledPromptBehavior: 'accept' };
+        await browser.send('WebDriver:NewSession', { capabilities: { alwaysMatch } });
         return browser;
     }
 
@@ -141,7 +142,8 @@ class FirefoxTab extends Tab {
 
     async value(expression) {
         const script = `const [done] = [...arguments].slice(-1);
-            (async () => (${expression}))().then((value) => done({ value }), (fault) => done({ fault: String(fault) }));`;
+            (async () => (${expression}))()
+                .then((value) => done({ value }), (fault) => done({ fault: String(fault) }));`;
         const { value: { value, fault } } = await this.call('WebDriver:ExecuteAsyncScript', { script, args: [] });
         if (fault !== undefined) throw new Error(`${expression}: ${fault}`);
         return value;

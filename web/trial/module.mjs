@@ -210,11 +210,12 @@ async function triesKeeping() {
         { log: '', heard: 1, added: 0, known: 1, refused: 0, notWhole: 0 });
     const badly = await keptOver(storeOf());
     assert.equal((await printed(badly, example('heard-badly.air'))).log, example('heard-badly.log'));
-    assert.equal((await printed(badly, example('ea01.air'))).log, '', 'a moment that goes back leaves the one in force');
+    assert.equal((await printed(badly, example('ea01.air'))).log, '',
+        'a moment that goes back leaves the one in force');
     const other = await keptOver(storeOf());
-    const breathe = async () => {};
-    assert.deepEqual(await other.kept.load(` \n${example("ea01.log")} `, NOW, breathe), { found: 1, added: 1, stray: null });
-    assert.deepEqual(await other.kept.load(`x\n${example("ea01.log")}`, NOW, breathe), { found: 1, added: 0, stray: 1 });
+    const load = (text) => other.kept.load(text, NOW, async () => {});
+    assert.deepEqual(await load(` \n${example("ea01.log")} `), { found: 1, added: 1, stray: null });
+    assert.deepEqual(await load(`x\n${example("ea01.log")}`), { found: 1, added: 0, stray: 1 });
     assert.equal((await printed(other, example('ea01.air'))).log, '');
     await other.kept.beginAnew(NOW);
     assert.equal((await printed(other, example('cut.air'))).log, example('cut.log'));
@@ -267,8 +268,8 @@ async function triesOddStores() {
 /** Choices that may be anything. */
 function triesChoices() {
     const usual = choicesOf(null);
-    assert.deepEqual(usual, { view: [], tunings: Array(3).fill({ ...USUAL_TUNING }), rings: ['D', '00'], notifies: false,
-        names: {}, ends: 'changed' });
+    assert.deepEqual(usual, { view: [], tunings: Array(3).fill({ ...USUAL_TUNING }), rings: ['D', '00'],
+        notifies: false, names: {}, ends: 'changed' });
     for (const odd of [7, 'x', [], { view: 7, tunings: { centre: 'x' }, rings: 'D', names: [1], notifies: 'yes' },
         { tunings: [{ centre: 1e9, search: 'no' }, null, 5], names: { e: 'x', E: 7, F: ' ' } }]) {
         assert.deepEqual(choicesOf(odd), usual);

@@ -46,8 +46,8 @@ for (const [name, { options, trials }] of Object.entries(TRIALS)) {
             }
         }
         assert.deepEqual(tab.errors, []);
-        console.log(`ci/web: ${kind}: ${name}: ${trials(kind).map((trial) => trial.name.replace(/^tries/, '')).join(', ')}; `
-            + `${((performance.now() - begun) / 1000).toFixed(0)} s`);
+        const tried = trials(kind).map((trial) => trial.name.replace(/^tries/, '')).join(', ');
+        console.log(`ci/web: ${kind}: ${name}: ${tried}; ${((performance.now() - begun) / 1000).toFixed(0)} s`);
     } finally {
         await browser.stop();
     }

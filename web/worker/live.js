@@ -107,6 +107,7 @@ export class Live {
         const behind = this.#ring === undefined ? 0 : this.#ring.count / this.#rate;
         const lost = this.#ring === undefined ? 0 : this.#ring.lost / this.#rate;
         const momentAt = (second) => this.#newest - behind - (this.#hearing.heard - second);
-        return { ...told, told: told.told.map(({ second, bits }) => ({ moment: momentAt(second), bits })), behind, lost };
+        return { ...told, behind, lost,
+            told: told.told.map(({ second, bits }) => ({ moment: momentAt(second), bits })) };
     }
 }

@@ -16,7 +16,8 @@ async function triesLacking({ tab, room }) {
     writeWave(`${room}/slices.wav`, 'slip.air');
     writeWave(`${room}/decoded.wav`, 'slip.air', { rate: 5000 });
     const give = (file) => tab.giveFiles('#file', file);
-    await tab.loadWith('delete window.WebAssembly', () => shown(/lacks WebAssembly, without which there is no receiver/));
+    await tab.loadWith('delete window.WebAssembly', () =>
+        shown(/lacks WebAssembly, without which there is no receiver/));
     await tab.loadWith('delete window.OfflineAudioContext', () =>
         expect(/can't decode sound/, () => give(`${room}/decoded.wav`)));
     await tab.loadWith('delete window.Worker', () =>
@@ -36,7 +37,9 @@ async function triesLacking({ tab, room }) {
         () => shown(/^This browser keeps nothing for this page/));
     await tab.loadWith("Object.defineProperty(window, 'localStorage', { get() { throw new Error('none'); } })",
         () => tab.ready());
-    await tab.loadWith("MediaDevices.prototype.getUserMedia = async () => { throw new DOMException('', 'NotFoundError'); }",
+    await tab.loadWith(`MediaDevices.prototype.getUserMedia = async () => {
+            throw new DOMException('', 'NotFoundError');
+        }`,
         () => expect(/^No microphone was found/, () => tab.press('#microphone')));
     await tab.loadWith('delete window.BroadcastChannel; delete window.Notification', async () => {
         await tab.ready();

@@ -62,7 +62,8 @@ async function triesTwo({ tab }) {
 
 /** Another tab, as one with a receiver on the web. */
 async function triesTab({ browser, tab, room }) {
-    writeFileSync(`${room}/sounds.html`, '<!doctype html><title>Tab that sounds</title><audio src="sounds.wav" loop autoplay>');
+    writeFileSync(`${room}/sounds.html`,
+        '<!doctype html><title>Tab that sounds</title><audio src="sounds.wav" loop autoplay>');
     writeFileSync(`${room}/sounds.wav`, waveOf([tonesOf(bitsOf(example('slip.air')))]));
     const other = await browser.tab();
     await other.open(`file://${room}/sounds.html`);

@@ -93,7 +93,8 @@ async function dragTo(tab, part) {
 
 /** Each thing that can be used has a name that a screen reader says. */
 async function triesNames({ tab }) {
-    const used = new Set(['button', 'checkbox', 'combobox', 'slider', 'spinbutton', 'textbox', 'link', 'meter', 'searchbox']);
+    const used = new Set(['button', 'checkbox', 'combobox', 'slider', 'spinbutton', 'textbox', 'link', 'meter',
+        'searchbox']);
     const { nodes } = await tab.call('Accessibility.getFullAXTree');
     const found = nodes.filter(({ ignored, role }) => !ignored && used.has(role?.value));
     assert.ok(found.length > 10);

@@ -3,7 +3,7 @@ import assert from 'node:assert/strict';
 import { setTimeout as pause } from 'node:timers/promises';
 import { path, writeWave } from '../waves.mjs';
 
-const AT_ONCE = 1000; // milliseconds in which Stop has an effect, on a machine that does other things too
+const AT_ONCE = 2000; // milliseconds in which Stop has an effect, on a machine that does other things too
 const WATCHED = `
     window.tracks = [];
     const ask = navigator.mediaDevices.getUserMedia.bind(navigator.mediaDevices);

@@ -3,6 +3,7 @@
 import assert from 'node:assert/strict';
 import { readFileSync } from 'node:fs';
 import { createServer } from 'node:http';
+import { networkInterfaces } from 'node:os';
 import { setTimeout as pause } from 'node:timers/promises';
 import { example, path } from '../waves.mjs';
 
@@ -23,6 +24,9 @@ const inStore = (body) => `new Promise((resolve, reject) => {
         ${body}
     };
 })`;
+
+/** How many messages the store has. */
+const COUNT = inStore('messages.count().onsuccess = ({ target }) => { answer = target.result; };');
 
 /** Loads the page again at many moments of a file: in the end each message is there once. */
 async function triesReloads({ tab }) {
@@ -109,7 +113,9 @@ async function triesFull({ tab }) {
 
 /** Odd values in the store never stop the page, and stay there. */
 async function triesOddValues({ tab }) {
-    await tab.value(inStore("messages.put({ id: 900, text: 7 }); messages.put({ id: 901 }); rest.put('STATE 9', 'state');"));
+    await tab.value(inStore(`messages.put({ id: 900, text: 7 });
+        messages.put({ id: 901 });
+        rest.put('STATE 9', 'state');`));
     await tab.value("localStorage.setItem('navtex.choices', '{\"view\":7,\"tunings\":[{\"centre\":\"x\"}]}')");
     await tab.loadAgain();
     const told = (await tab.faults()).join('\n');
@@ -117,8 +123,7 @@ async function triesOddValues({ tab }) {
     assert.match(told, /What this browser kept of the receiver is put aside/);
     await tab.forgetFaults();
     assert.match((await tab.hear(path('refused.air')))[0], /0 new, 1 known/, 'the messages tell what is remembered');
-    const kept = await tab.value(inStore('messages.count().onsuccess = ({ target }) => { answer = target.result; };'));
-    assert.equal(kept, 3);
+    assert.equal(await tab.value(COUNT), 3);
     const aside = inStore(`rest.getAllKeys().onsuccess = ({ target }) => {
         const key = target.result.find((one) => one.startsWith('aside'));
         rest.get(key).onsuccess = (got) => { answer = got.target.result; };
@@ -162,31 +167,38 @@ async function triesTwoWindows({ browser, tab, address }) {
 /** A window that was taken over unseen, as one that slept, writes nothing over what another kept. */
 async function triesLost({ tab }) {
     await tab.value(inStore("rest.put('another', 'owner');"));
-    const count = (await tab.value(inStore('messages.count().onsuccess = ({ target }) => { answer = target.result; };')));
+    const count = await tab.value(COUNT);
     await tab.giveFiles('#file', path('number-00.air'));
     await tab.until("!document.getElementById('looking').hidden");
-    assert.equal(await tab.value(inStore('messages.count().onsuccess = ({ target }) => { answer = target.result; };')), count);
+    assert.equal(await tab.value(COUNT), count);
     await tab.press('#take-over');
     await tab.until("document.getElementById('looking').hidden");
     await tab.forgetFaults();
 }
 
+/** An address of this computer that a browser doesn't take for its own, so that it gives it less. */
+function foreignAddress() {
+    const addresses = Object.values(networkInterfaces()).flat();
+    return addresses.find(({ internal, family }) => !internal && family === 'IPv4')?.address ?? '127.0.0.1';
+}
+
 /** From a web server without https it is the same page, with the same lock. */
-async function triesServer({ browser, room, kind }) {
+async function triesServer({ browser, room }) {
     const server = createServer((_, answer) => {
         answer.setHeader('Content-Type', 'text/html');
         answer.end(readFileSync(`${room}/navtex.html`));
     });
     await new Promise((resolve) => server.listen(0, '0.0.0.0', resolve));
-    const address = `http://navtex.localhost.localdomain:${server.address().port}/navtex.html`;
-    const plain = kind === 'chromium' ? `http://127.0.0.2:${server.address().port}/navtex.html` : address;
+    const host = foreignAddress();
+    const address = `http://${host}:${server.address().port}/navtex.html`;
     try {
         const first = await browser.tab();
-        await first.openPage(plain.replace('navtex.localhost.localdomain', '127.0.0.1'));
+        await first.openPage(address);
+        assert.equal(await first.value('isSecureContext'), host === '127.0.0.1');
         await first.hear(path('refused.air'));
         assert.equal((await first.titles()).length, 1);
         const second = await browser.tab();
-        await second.openPage(plain.replace('navtex.localhost.localdomain', '127.0.0.1'));
+        await second.openPage(address);
         assert.equal(await second.value("document.getElementById('looking').hidden"), false);
         await first.close();
         await second.until("document.getElementById('looking').hidden");
@@ -253,5 +265,5 @@ function emptied(tab) {
     })`);
 }
 
-export const trials = () => [triesReloads, triesMany, triesFull, triesOddValues, triesTwoWindows, triesLost, triesServer,
-    triesOlder, triesNewer];
+export const trials = () => [triesReloads, triesMany, triesFull, triesOddValues, triesTwoWindows, triesLost,
+    triesServer, triesOlder, triesNewer];
