@@ -1,12 +1,13 @@
 -- The fault of a run that stands for the fault of a part of it (this profile).
 use Rattle.nx_envelope.specs.declared.message.MessageFault.{MessageFault}
 use Rattle.nx_envelope.specs.declared.message.MessageFault.TheVariants as message
-use Rattle.nx_fec.specs.declared.fault.LineFault.{LineFault}
+use Rattle.nx_fec.specs.declared.fault.AirFault.{AirFault}
+use Rattle.nx_fec.specs.declared.fault.AirFault.TheVariants as air
 use Rattle.nx_fec.specs.declared.fault.LineFault.TheVariants as file
 use Rattle.nx_fec.specs.declared.fault.ReadFault.{ReadFault}
 use Rattle.nx_fec.specs.declared.fault.ReadFault.TheVariants as read
 use Rattle.nx_station.specs.declared.fault.DamageFault.{DamageFault}
-use Rattle.nx_station.specs.declared.fault.DamageFault.TheVariants.{AirTooLong, LineLong, LineCut, BadLine}
+use Rattle.nx_station.specs.declared.fault.DamageFault.TheVariants as damage
 use Rattle.nx_station.specs.declared.fault.EmissionFault.{EmissionFault}
 use Rattle.nx_station.specs.declared.fault.EmissionFault.TheVariants as reading
 use Rattle.nx_station.specs.declared.fault.SendFault.{SendFault}
@@ -35,9 +36,10 @@ abbrev pub unmade_fault : MessageFault → EmissionFault
 unmade_fault (message.Memory error) = reading.Memory error
 unmade_fault _ = reading.BadEnvelope
 
--- for the fault of an air file that is damaged
-abbrev pub line_fault : LineFault → DamageFault
-line_fault file.TooLong = AirTooLong
-line_fault (file.LineLong line) = LineLong line
-line_fault (file.LineCut line) = LineCut line
-line_fault (file.BadLine line) = BadLine line
+-- for the fault of the lines of an air file that is damaged
+abbrev pub air_fault : AirFault → DamageFault
+air_fault air.Read = damage.Read
+air_fault (air.Line file.TooLong) = damage.AirTooLong
+air_fault (air.Line (file.LineLong line)) = damage.LineLong line
+air_fault (air.Line (file.LineCut line)) = damage.LineCut line
+air_fault (air.Line (file.BadLine line)) = damage.BadLine line

@@ -1,25 +1,22 @@
 //! Damage of an air file on purpose: the first element of each word that is named is inverted.
-ghost use Rattle.std.specs.Prelude.{◌≡◌, ◌≢◌, ◌+◌, ◌-◌, ◌*◌, ◌^◌, ◌<◌, ◌≤◌, ◌↔◌, ◌⊎◌, ◌++◌, ◌∷◌, [], ℕ, Bool, List, Option, IfNone, IfOk, IfSome, IsSomeAnd, IsTrue, MatchResult, OnOk, Some, length, map, min, take};
-ghost use Rattle.std.specs.Io.KnownBytes.{Appends};
-ghost use Rattle.nx_fec.specs.Transfers.{FailsOnce, Writes, devices};
-ghost use Rattle.nx_fec.specs.air_files.AirFile.{IsLine, Line, element_digit};
+ghost use Rattle.std.specs.Prelude.{◌≡◌, ◌≢◌, ◌+◌, ◌-◌, ◌*◌, ◌^◌, ◌<◌, ◌≤◌, ◌↔◌, ◌⊎◌, ◌++◌, ◌∷◌, [], ℕ, Bool, List, Option, IfNone, IfSome, IsTrue, MatchResult, length, map, min};
+ghost use Rattle.nx_fec.specs.Transfers.{FailsOnce, WroteSome, devices};
+ghost use Rattle.nx_fec.specs.air_files.AirFile.{Line, element_digit, spelling};
 ghost use Rattle.nx_fec.specs.air_files.Channels.{channel_of};
-ghost use Rattle.nx_fec.specs.air_files.LineRuns.{ExplainsLines, HasGiven, HasTaken, HasTakenSome, line_run};
 ghost use Rattle.nx_fec.specs.air_files.Lines.{elements_on, line_bytes};
+ghost use Rattle.nx_fec.specs.air_files.Scanner.{kind_of};
 ghost use Rattle.nx_fec.specs.declared.air_files.lines.LineKind.TheVariants.{Elements};
 ghost use Rattle.nx_fec.specs.declared.air_files.channel.Channel.{Channel};
 ghost use Rattle.nx_fec.specs.declared.air_files.channel.Channel.TheVariants.{Zero};
-ghost use Rattle.nx_fec.specs.private.LineTaking.{IsTaking, inside};
-ghost use Rattle.nx_station.specs.Damage.{Damage, Damages, damaged_elements, damaged_line, inverted_count, inverts};
-ghost use Rattle.nx_station.specs.private.DamageTaker.{AreNamed, Damager, HasDigitsFrom, IsAmong, IsAt, StandsFrom, damage_taker, first_for, lines_fault};
+ghost use Rattle.nx_station.specs.Damage.{Damage, Damages, damaged_elements, damaged_file, damaged_line, inverted_count, inverts};
+ghost use Rattle.nx_station.specs.private.DamageTaker.{AreNamed, HasDigitsFrom, IsAmong, IsAt, IsDamaging, IsText, first_for};
 ghost use Rattle.nx_station.specs.private.DamageWalk.{IsOnWalk, front, front_count};
 
 use crate::fault::DamageFault;
 use arrayvec::ArrayVec;
 use nx_code::ELEMENTS;
 use nx_fec::{
-    AIR_LIMIT, Batch, CHUNK, Channel, Counting, LineKind, MAX_ELEMENTS, Piece, Scanner, WriteFault,
-    next_piece,
+    AIR_LIMIT, Batch, Channel, Counting, LineKind, LineReader, MAX_ELEMENTS, NextLine, WriteFault,
 };
 use std::io::{Read, Write};
 use std::marker::Model;
@@ -114,41 +111,20 @@ pub fn damage<R: Read, W: Write>(
         (devices R.remaining W.contents reader.old reader.new writer.old writer.new) result }
 {
     let mut damaging = Damaging::new(kind, from, count);
-    let mut buffer = [0; CHUNK];
-    let mut scanner = Scanner::new(AIR_LIMIT);
+    let mut lines = LineReader::new(reader, AIR_LIMIT);
     let mut batch = Batch::new();
     loop {
-        batch.send(writer)?;
-        let end = match next_piece(reader, &mut buffer) {
-            Piece::Bytes(end) => end,
-            Piece::End => break,
-            Piece::Failed => return Err(DamageFault::Read),
-        };
-        if let Err(fault) = damaging.take_piece(&buffer[..end], &mut scanner, writer, &mut batch) {
-            return Err(settle(fault, writer, &mut batch));
+        match lines.next() {
+            Ok(NextLine::Line(kind)) => {
+                damaging.give_line(kind, lines.text(), writer, &mut batch)?
+            }
+            Ok(NextLine::PieceOver) => batch.send(writer)?,
+            Ok(NextLine::End) => return Ok(damaging.inverted),
+            Err(fault) => {
+                batch.send(writer)?;
+                return Err(DamageFault::from(fault));
+            }
         }
-    }
-    scanner.end()?;
-    Ok(damaging.inverted)
-}
-
-/// Writes what the lines before a fault gave, unless it is that of a write. Answers the fault of
-/// the run.
-fn settle<W: Write>(fault: DamageFault, writer: &mut Counting<W>, batch: &mut Batch) -> DamageFault
-    requires { Writes {N = Unit {0}} writer.old DamageFault.Write (Err fault) }
-    ensures settled { (first now : Damager) (old : Option (List ℕ)) (bytes : List ℕ)
-        → ExplainsLines (line_run damage_taker first now old (W.contents writer.old.inner)) inside
-        (HasGiven old (W.contents writer.old.inner) batch.old) bytes (lines_fault fault)
-        → ExplainsLines (line_run damage_taker first now old (W.contents writer.new.inner)) inside
-        (Appends old (W.contents writer.new.inner)) bytes (lines_fault result) }
-    ensures writes { Writes {N = Unit {0}} writer.new DamageFault.Write (Err result) }
-{
-    if let DamageFault::Write { .. } = fault {
-        return fault;
-    }
-    match batch.send(writer) {
-        Ok(()) => fault,
-        Err(lost) => DamageFault::from(lost),
     }
 }
 
@@ -163,14 +139,14 @@ fn copy_line(text: &[u8], bytes: &mut ArrayVec<u8, LINE_BYTES>)
 }
 
 /// Where the digits begin of a line that says this, if it has elements on channel 0.
-fn digits_start(kind: Option<LineKind>) -> Option<usize>
+fn digits_start(kind: LineKind) -> Option<usize>
     ensures found { IfSome result (HasDigitsFrom kind) }
     ensures none { IfNone result
-        ((mark : Option Channel) → channel_of mark ≡ Zero → kind ≢ Some (Elements mark)) }
+        ((mark : Option Channel) → channel_of mark ≡ Zero → kind ≢ Elements mark) }
 {
     match kind {
-        Some(LineKind::Elements(None)) => Some(FRONT_BYTES),
-        Some(LineKind::Elements(Some(Channel::Zero))) => Some(FRONT_BYTES + 1),
+        LineKind::Elements(None) => Some(FRONT_BYTES),
+        LineKind::Elements(Some(Channel::Zero)) => Some(FRONT_BYTES + 1),
         _ => None,
     }
 }
@@ -190,113 +166,49 @@ impl Damaging {
         }
     }
 
-    /// Takes the lines that a piece of the file ends, one after the other.
-    fn take_piece<W: Write>(
-        &mut self,
-        piece: &[u8],
-        scanner: &mut Scanner,
-        writer: &mut Counting<W>,
-        batch: &mut Batch,
-    ) -> Result<(), DamageFault>
-        requires { writer.old.failures ≡ 0 }
-        ensures taken { (first : Damager) (old : Option (List ℕ)) (bytes : List ℕ)
-            → IsTaking StandsFrom first self.old scanner.old old
-            (W.contents writer.old.inner) batch.old bytes
-            → MatchResult result
-            (λ _. IsTaking StandsFrom first self.new scanner.new old
-            (W.contents writer.new.inner) batch.new (bytes ++ piece.now))
-            (λ fault. (more : List ℕ)
-            → ExplainsLines (line_run damage_taker first self.new old
-            (W.contents writer.new.inner)) inside
-            (HasGiven old (W.contents writer.new.inner) batch.new)
-            ((bytes ++ piece.now) ++ more) (lines_fault fault)) }
-        ensures room { OnOk result (scanner.new.room + length piece.now ≡ scanner.old.room) }
-        ensures writes { Writes writer.new DamageFault.Write result }
-    {
-        let mut at = 0;
-        while at < piece.len() {
-            at += self.take_line(&piece[at..], scanner, writer, batch)?;
-        }
-        Ok(())
-    }
-
-    /// Scans the bytes of a piece up to and with its first line feed, and takes the line that it
-    /// ends. Answers how many bytes there were.
-    fn take_line<W: Write>(
-        &mut self,
-        piece: &[u8],
-        scanner: &mut Scanner,
-        writer: &mut Counting<W>,
-        batch: &mut Batch,
-    ) -> Result<usize, DamageFault>
-        requires some { 0 < length piece.now }
-        requires writer { writer.old.failures ≡ 0 }
-        ensures taken { (first : Damager) (old : Option (List ℕ)) (bytes : List ℕ)
-            → IsTaking StandsFrom first self.old scanner.old old
-            (W.contents writer.old.inner) batch.old bytes
-            → MatchResult result
-            (λ count. IsTaking StandsFrom first self.new scanner.new old
-            (W.contents writer.new.inner) batch.new (bytes ++ take count piece.now))
-            (λ fault. (more : List ℕ)
-            → ExplainsLines (line_run damage_taker first self.new old
-            (W.contents writer.new.inner)) inside
-            (HasGiven old (W.contents writer.new.inner) batch.new)
-            ((bytes ++ piece.now) ++ more) (lines_fault fault)) }
-        ensures some { IfOk result (λ count. (0 < count) × (count ≤ length piece.now)
-            × (scanner.new.room + count ≡ scanner.old.room)) }
-        ensures writes { Writes writer.new DamageFault.Write result }
-    {
-        let count = scanner.push_line(piece)?;
-        if scanner.latest().is_none() {
-            return Ok(count);
-        }
-        self.give_line(scanner, writer, batch)?;
-        Ok(count)
-    }
-
-    /// Gives the batch the bytes, after the damage, of the line that the scanner's last byte ended.
+    /// Gives the batch the bytes, after the damage, of a line that says this and has this text.
     fn give_line<W: Write>(
         &mut self,
-        scanner: &Scanner,
+        kind: LineKind,
+        text: &[u8],
         writer: &mut Counting<W>,
         batch: &mut Batch,
     ) -> Result<(), WriteFault>
-        requires line { IsSomeAnd scanner.now.latest IsLine }
+        requires line { IsText kind text.now }
         requires none { writer.old.failures ≡ 0 }
-        ensures given { (first : Damager) (old : Option (List ℕ)) (lines : List Line) (line : Line)
-            → scanner.now.latest ≡ Some line
-            → HasTaken StandsFrom first self.old lines
-            (HasGiven old (W.contents writer.old.inner) batch.old)
+        ensures given { (damage : Damage) (old : Option (List ℕ)) (lines : List Line) (line : Line)
+            → text.now ≡ spelling line → kind ≡ kind_of line
+            → IsDamaging damage self.old old (W.contents writer.old.inner) batch.old lines
             → MatchResult result
-            (λ _. HasTaken StandsFrom first self.new (lines ++ line ∷ [])
-            (HasGiven old (W.contents writer.new.inner) batch.new))
-            (λ fault. HasTakenSome (line_run damage_taker first self.new old
-            (W.contents writer.new.inner)) (lines ++ line ∷ []) fault.written) }
+            (λ _. IsDamaging damage self.new old (W.contents writer.new.inner) batch.new
+            (lines ++ line ∷ []))
+            (λ fault. WroteSome old (W.contents writer.new.inner)
+            (damaged_file damage (lines ++ line ∷ [])) fault.written) }
         ensures counts { FailsOnce writer.new result }
     {
         let mut bytes = ArrayVec::new();
-        self.write_line(scanner, &mut bytes);
+        self.write_line(kind, text, &mut bytes);
         batch.give(writer, &bytes)
     }
 
-    /// Writes the bytes, after the damage, of the line that a scanner's last byte ended.
-    fn write_line(&mut self, scanner: &Scanner, bytes: &mut ArrayVec<u8, LINE_BYTES>)
-        requires line { IsSomeAnd scanner.now.latest IsLine }
+    /// Writes the bytes, after the damage, of a line that says this and has this text.
+    fn write_line(&mut self, kind: LineKind, text: &[u8], bytes: &mut ArrayVec<u8, LINE_BYTES>)
+        requires line { IsText kind text.now }
         requires empty { bytes.old.items ≡ [] }
         ensures bytes { (damage : Damage) (place : ℕ) (line : Line)
-            → scanner.now.latest ≡ Some line → IsAt damage self.old place
+            → text.now ≡ spelling line → kind ≡ kind_of line → IsAt damage self.old place
             → bytes.new.items ≡ line_bytes (damaged_line damage place line) }
         ensures at { (damage : Damage) (place : ℕ) (line : Line)
-            → scanner.now.latest ≡ Some line → IsAt damage self.old place
+            → text.now ≡ spelling line → kind ≡ kind_of line → IsAt damage self.old place
             → IsAt damage self.new (place + length (elements_on Zero line)) }
         ensures counted { (damage : Damage) (place total : ℕ) (line : Line)
-            → scanner.now.latest ≡ Some line → IsAt damage self.old place
+            → text.now ≡ spelling line → kind ≡ kind_of line → IsAt damage self.old place
             → self.old.inverted ≡ min total (2 ^ 64 - 1)
             → self.new.inverted
             ≡ min (total + inverted_count damage place (elements_on Zero line)) (2 ^ 64 - 1) }
     {
-        copy_line(scanner.line().unwrap(), bytes);
-        if let Some(start) = digits_start(scanner.latest()) {
+        copy_line(text, bytes);
+        if let Some(start) = digits_start(kind) {
             let end = bytes.len() - 1;
             self.pass(&mut bytes[start..end]);
         }

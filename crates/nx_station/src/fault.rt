@@ -1,6 +1,6 @@
 //! Why messages are not sent, an emission is not read, and an air file is not checked or damaged.
 use nx_envelope::MessageFault;
-use nx_fec::{LineFault, ReadFault, RunFault, WriteFault};
+use nx_fec::{AirFault, LineFault, ReadFault, RunFault, WriteFault};
 use std::alloc::AllocError;
 use thiserror::Error;
 
@@ -252,18 +252,19 @@ impl From<WriteFault> for CheckFault {
     }
 }
 
-impl From<LineFault> for DamageFault {
+impl From<AirFault> for DamageFault {
     ghost use Rattle.std.specs.Prelude.{◌≡◌};
-    ghost use Rattle.nx_station.specs.Faults.{line_fault};
+    ghost use Rattle.nx_station.specs.Faults.{air_fault};
 
-    ghost from_gives = { λ fault made. made ≡ line_fault fault };
+    ghost from_gives = { λ fault made. made ≡ air_fault fault };
 
-    fn from(fault: LineFault) -> DamageFault {
+    fn from(fault: AirFault) -> DamageFault {
         match fault {
-            LineFault::TooLong => DamageFault::AirTooLong,
-            LineFault::LineLong { line } => DamageFault::LineLong { line },
-            LineFault::LineCut { line } => DamageFault::LineCut { line },
-            LineFault::BadLine { line } => DamageFault::BadLine { line },
+            AirFault::Read => DamageFault::Read,
+            AirFault::Line(LineFault::TooLong) => DamageFault::AirTooLong,
+            AirFault::Line(LineFault::LineLong { line }) => DamageFault::LineLong { line },
+            AirFault::Line(LineFault::LineCut { line }) => DamageFault::LineCut { line },
+            AirFault::Line(LineFault::BadLine { line }) => DamageFault::BadLine { line },
         }
     }
 }

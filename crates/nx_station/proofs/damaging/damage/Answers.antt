@@ -1,174 +1,108 @@
-use Rattle.std.proofs.Common.{◌++◌, [], length, take, ap, subst, refl, append-nil, arith}
-use Rattle.std.specs.Io.KnownBytes.{Appends}
-use Rattle.std.proofs.KnownBytes.{Consumes-trans, Consumes-kept}
+use Rattle.std.proofs.Common.{rules, ◌≡◌, ◌∙◌, ◌++◌, ◌∷◌, [], true, false, Err, refl, sym, ap, subst}
 use Rattle.std.proofs.lemmas.Result.{err_from_is_err_and}
-use Rattle.nx_fec.specs.air_files.Lines.{IsCause}
-use Rattle.nx_fec.specs.air_files.LineRuns.{ExplainsLines, HasGiven, HasTakenSome, line_run}
-use Rattle.nx_fec.specs.private.LineTaking.{inside}
-use Rattle.nx_fec.proofs.lemmas.devices.TransferLaws.{Ok-not_err, Writes-none, Writes-sound}
-use Rattle.nx_fec.proofs.lemmas.devices.TransferLaws.{read_failed-none}
-use Rattle.nx_fec.proofs.lemmas.line_runs.LineRun.{ExplainsLines-not_read, ExplainsLines-piece}
-use Rattle.nx_fec.proofs.lemmas.line_runs.LineRun.{HasGiven-empty, HasGiven-written, HasTaken-map}
-use Rattle.nx_fec.proofs.lemmas.line_runs.LineRun.{IsPlaced-end, IsTaking-sent, Line-read, Line-write}
-use Rattle.nx_fec.proofs.lemmas.line_runs.LineRun.{Read-other, RunsLines-of, StopsAt-end, Write-other}
-use Rattle.nx_fec.proofs.lemmas.line_runs.LineRun.{scanned-within, taken-some}
-use Rattle.nx_fec.specs.declared.air_files.line_runs.LinesRead.{LinesRead}
-use Rattle.nx_station.specs.Damage.{Damage}
-use Rattle.nx_station.specs.private.DamageTaker.{BeginsFrom, RefusesFrom, StandsFrom, damage_taker}
-use Rattle.nx_station.specs.private.DamageTaker.{first_for, lines_fault}
-use Rattle.nx_station.specs.declared.fault.DamageFault.TheVariants.{Read, Write}
-use Rattle.nx_station.proofs.lemmas.damage.DamageLaws.{fault-of, line-of, lines-writes, ok-of}
+use Rattle.nx_fec.specs.air_files.LineReading.{GivesNext, SaysOver}
+use Rattle.nx_fec.specs.declared.air_files.line_reader.NextLine.TheVariants as line
+use Rattle.nx_fec.proofs.lemmas.line_runs.LineReading.{Given-not_read, asked-read, next-line, unfailed}
+use Rattle.nx_fec.proofs.lemmas.line_runs.LineRun.{HasGiven-empty}
+use Rattle.nx_station.specs.Damage.{Damage, damaged_file}
+use Rattle.nx_station.proofs.lemmas.damage.DamageLaws.{damaged-all, damaged-early, damaged-lost}
+use Rattle.nx_station.proofs.lemmas.damage.DamageLaws.{damaged-lost-early}
 use Rattle.nx_station.proofs.damaging.damage.Goals as goal
 
-pub returns-in_err-send : goal.returns-in_err-send
-returns-in_err-send g c =
+pub loop-kind-preserved-in-Continue-1 : goal.loop-kind-preserved-in-Continue-1
+loop-kind-preserved-in-Continue-1 g c =
     let damage : Damage = record { kind = c.args.kind; from = c.args.from; count = c.args.count } in
-    let first = first_for damage in
-    let now = c.loop-reader.damaging in
-    let r = c.loop-reader.invariant.taken in
-    let old = g.W.Write.contents c.args.writer.now.inner in
-    let new = g.W.Write.contents c.send.new.writer.inner in
-    let lost = c.in_err-send.field-0.0.written in
-    let p = err_from_is_err_and c.from_residual.result c.from_residual.ensures.1 in
-    rw p.1 (rw p.2 (fault-of damage _ now (Write lost)
-    (RunsLines-of StandsFrom BeginsFrom RefusesFrom first now _ _ r.0 r.1
-    (StopsAt-end 268435456 c.loop-reader.scanner r.0 r.2.lines
-    (λ lines rest more. HasTakenSome (line_run damage_taker first now old new) lines lost)
-    r.2.scans
-    (taken-some StandsFrom BeginsFrom RefusesFrom first now old new
-    (HasGiven old (g.W.Write.contents c.loop-reader.writer.inner) c.loop-reader.batch) r.2.lines
-    lost
-    (λ lines given k. k.whole) (λ given k. c.in_err-send.ensures.bytes old given k) r.2.taken))
-    (read_failed-none _ _ _ (Write-other _) c.loop-reader.invariant.reader)
-    (omega (arith, c.loop-reader.invariant.reader))
-    (record {
-      failed = (
-        λ w. c.in_err-send.ensures.counts.failed.0 refl,
-        λ one.
-            (lost, refl),
+    let r = c.loop-kind.invariant.damaged in
+    let next = c.in-Ok-Line.ensures in
+    let is : c.in-Ok-Line.field-0 ≡ line.Line c.in-Ok-Line.kind = search rules in
+    let n = next-line g.R.Read.remaining 268435456 _ c.next.new.self r.0 c.in-Ok-Line.kind
+    c.in-Ok-Line.field-0 is (next.gives 268435456 _ r.0 r.1) next.line in
+    record {
+      same = next.same ∙ c.loop-kind.invariant.same;
+      reader = unfailed _ _ (Given-not_read _) next.failed next.once;
+      writer = c.in_ok-give_line-in-Ok-Line.ensures.counts.none;
+      damaged = (
+        r.0 ++ n.line ∷ [],
+        n.given,
+        c.in_ok-give_line-in-Ok-Line.ensures.given damage _ r.0 n.line
+            (c.text.ensures n.line n.latest) n.kind_is r.2,
       );
-      once = c.in_err-send.ensures.counts.once;
-    }))))
+      sent = λ over.
+          let no : false ≡ true = sym (subst (SaysOver _ _) is next.over) ∙ over in
+          absurd (cc);
+    }
 
-pub returns-in-Failed : goal.returns-in-Failed
-returns-in-Failed g c =
+pub returns-in_err-give_line-in-Ok-Line : goal.returns-in_err-give_line-in-Ok-Line
+returns-in_err-give_line-in-Ok-Line g c =
     let damage : Damage = record { kind = c.args.kind; from = c.args.from; count = c.args.count } in
-    let first = first_for damage in
-    let now = c.loop-reader.damaging in
-    let r = c.loop-reader.invariant.taken in
-    let old = g.W.Write.contents c.args.writer.now.inner in
-    let new = g.W.Write.contents c.send.new.writer.inner in
-    fault-of damage _ now Read
-    (RunsLines-of StandsFrom BeginsFrom RefusesFrom first now _ _ r.0
-    (Consumes-kept _ _ _ r.0 r.1 c.in-Failed.ensures.0)
-    (StopsAt-end 268435456 c.loop-reader.scanner r.0 r.2.lines _ r.2.scans (
-      scanned-within 268435456 c.loop-reader.scanner r.0 r.2.lines r.2.scans,
-      refl,
-      HasTaken-map StandsFrom first now r.2.lines
-          (HasGiven old (g.W.Write.contents c.loop-reader.writer.inner) c.loop-reader.batch)
-          (Appends old new)
-          (λ given k. HasGiven-empty old new c.send.new.self given c.in_ok-send.ensures.empty
-          (c.in_ok-send.ensures.bytes old given k)) r.2.taken,
-    ))
-    (λ e. c.in-Failed.ensures.1, λ one. refl) (omega (arith, c.in-Failed.ensures.1))
-    (Writes-none _ _ _ Read-other c.in_ok-send.ensures.counts.none))
+    let r = c.loop-kind.invariant.damaged in
+    let next = c.in-Ok-Line.ensures in
+    let is : c.in-Ok-Line.field-0 ≡ line.Line c.in-Ok-Line.kind = search rules in
+    let n = next-line g.R.Read.remaining 268435456 _ c.next.new.self r.0 c.in-Ok-Line.kind
+    c.in-Ok-Line.field-0 is (next.gives 268435456 _ r.0 r.1) next.line in
+    let lost = c.in_err-give_line-in-Ok-Line in
+    let p = err_from_is_err_and c.from_residual.result c.from_residual.ensures.1 in
+    rw p.1 (rw p.2 (damaged-lost damage _ c.next.new.self (search rules) (r.0 ++ n.line ∷ [])
+    lost.field-0.0.written n.given (unfailed _ _ (Given-not_read _) next.failed next.once)
+    (lost.ensures.given damage _ r.0 n.line (c.text.ensures n.line n.latest) n.kind_is r.2)
+    (lost.ensures.counts.failed.0 refl)))
+
+pub returns-in_err-send-in-Ok-PieceOver : goal.returns-in_err-send-in-Ok-PieceOver
+returns-in_err-send-in-Ok-PieceOver g c =
+    let damage : Damage = record { kind = c.args.kind; from = c.args.from; count = c.args.count } in
+    let r = c.loop-kind.invariant.damaged in
+    let next = c.in-Ok-PieceOver.ensures in
+    let is : c.in-Ok-PieceOver.field-0 ≡ line.PieceOver = search rules in
+    let lost = c.in_err-send-in-Ok-PieceOver in
+    let p = err_from_is_err_and c.from_residual-in_err-send-in-Ok-PieceOver.result
+    c.from_residual-in_err-send-in-Ok-PieceOver.ensures.1 in
+    rw p.1 (rw p.2 (damaged-lost damage _ c.next.new.self (search rules) r.0
+    lost.field-0.0.written
+    (subst (GivesNext g.R.Read.remaining 268435456 (g.R.Read.remaining c.args.reader.now.inner)
+    c.next.new.self r.0) is (next.gives 268435456 _ r.0 r.1))
+    (unfailed _ _ (Given-not_read _) next.failed next.once)
+    (lost.ensures.bytes _ (damaged_file damage r.0) r.2.given)
+    (lost.ensures.counts.failed.0 refl)))
+
+pub returns-in-Ok-End : goal.returns-in-Ok-End
+returns-in-Ok-End g c =
+    let damage : Damage = record { kind = c.args.kind; from = c.args.from; count = c.args.count } in
+    let r = c.loop-kind.invariant.damaged in
+    let next = c.in-Ok-End.ensures in
+    let is : c.in-Ok-End.field-0 ≡ line.End = search rules in
+    rw (ap (λ v. v.inverted) c.damaging.view_is) (
+    damaged-all damage _ c.next.new.self (search rules) r.0 c.loop-kind.damaging
+    (subst (GivesNext g.R.Read.remaining 268435456 (g.R.Read.remaining c.args.reader.now.inner)
+    c.next.new.self r.0) is (next.gives 268435456 _ r.0 r.1))
+    (unfailed _ _ (Given-not_read _) next.failed next.once)
+    r.2.stands (HasGiven-empty _ _ c.loop-kind.batch _
+    (c.loop-kind.invariant.sent (subst (SaysOver _ _) is next.over)) r.2.given)
+    c.loop-kind.invariant.writer)
+
+pub returns-in_err-send-in-Err : goal.returns-in_err-send-in-Err
+returns-in_err-send-in-Err g c =
+    let damage : Damage = record { kind = c.args.kind; from = c.args.from; count = c.args.count } in
+    let r = c.loop-kind.invariant.damaged in
+    let next = c.in-Err.ensures in
+    let lost = c.in_err-send-in-Err in
+    let p = err_from_is_err_and c.from_residual-in_err-send-in-Err.result
+    c.from_residual-in_err-send-in-Err.ensures.1 in
+    rw p.1 (rw p.2 (damaged-lost-early damage _ c.next.new.self (search rules) r.0 c.in-Err.fault
+    lost.field-0.0.written (next.gives 268435456 _ r.0 r.1) next.failed next.once
+    (λ is. let over = asked-read c.loop-kind.lines c.next.new.self next.unread
+    c.loop-kind.invariant.reader (next.failed.0 (ap Err is)) in
+    let sent = (lost.ensures.idle (c.loop-kind.invariant.sent over)).0 in cc)
+    (lost.ensures.bytes _ (damaged_file damage r.0) r.2.given)
+    (lost.ensures.counts.failed.0 refl)))
 
 pub returns-in-Err : goal.returns-in-Err
 returns-in-Err g c =
     let damage : Damage = record { kind = c.args.kind; from = c.args.from; count = c.args.count } in
-    let first = first_for damage in
-    let now = c.take_piece.new.self in
-    let r = c.loop-reader.invariant.taken in
-    let old = g.W.Write.contents c.args.writer.now.inner in
-    let piece = take c.in-Bytes.end c.next_piece.new.buffer in
-    let sent = IsTaking-sent StandsFrom first c.loop-reader.damaging c.loop-reader.scanner old _
-    (g.W.Write.contents c.send.new.writer.inner) c.loop-reader.batch c.send.new.self r.0
-    (λ given k. c.in_ok-send.ensures.bytes old given k) r.2 in
-    let explained = subst (λ l. ExplainsLines (line_run damage_taker first now old
-    (g.W.Write.contents c.take_piece.new.writer.inner)) inside
-    (HasGiven old (g.W.Write.contents c.take_piece.new.writer.inner) c.take_piece.new.batch) l
-    (lines_fault c.in-Err.fault)) (append-nil (r.0 ++ piece))
-    (c.in-Err.ensures.taken first old r.0 sent []) in
-    let settled = c.settle.ensures.settled first now old (r.0 ++ piece) explained in
-    fault-of damage _ now c.settle.result
-    (RunsLines-of StandsFrom BeginsFrom RefusesFrom first now _ _ (r.0 ++ piece)
-    (Consumes-trans _ _ _ _ _ r.1 c.in-Bytes.ensures.2)
-    (ExplainsLines-piece StandsFrom BeginsFrom RefusesFrom _ first now old _ _ (r.0 ++ piece)
-    (lines_fault c.settle.result) settled)
-    (read_failed-none _ _ _ (ExplainsLines-not_read StandsFrom BeginsFrom RefusesFrom first now
-    old _ _ (r.0 ++ piece) (lines_fault c.settle.result) settled) c.in-Bytes.ensures.3)
-    (omega (arith, c.in-Bytes.ensures.3)) (lines-writes _ _ c.settle.ensures.writes))
-
-pub loop-reader-preserved : goal.loop-reader-preserved
-loop-reader-preserved g c =
-    let damage : Damage = record { kind = c.args.kind; from = c.args.from; count = c.args.count } in
-    let first = first_for damage in
-    let r = c.loop-reader.invariant.taken in
-    let old = g.W.Write.contents c.args.writer.now.inner in
-    let sent = IsTaking-sent StandsFrom first c.loop-reader.damaging c.loop-reader.scanner old _
-    (g.W.Write.contents c.send.new.writer.inner) c.loop-reader.batch c.send.new.self r.0
-    (λ given k. c.in_ok-send.ensures.bytes old given k) r.2 in
-    record {
-      reader = c.in-Bytes.ensures.3;
-      writer = Writes-sound _ _ _ (λ written. Ok-not_err _ _) c.in_default.ensures.writes;
-      chunk = omega (arith, c.loop-reader.invariant.chunk);
-      taken = (
-        r.0 ++ take c.in-Bytes.end c.next_piece.new.buffer,
-        Consumes-trans _ _ _ _ _ r.1 c.in-Bytes.ensures.2,
-        c.in_default.ensures.taken first old r.0 sent,
-      );
-    }
-
-pub returns-in_err-end : goal.returns-in_err-end
-returns-in_err-end g c =
-    let damage : Damage = record { kind = c.args.kind; from = c.args.from; count = c.args.count } in
-    let first = first_for damage in
-    let now = c.loop-reader.damaging in
-    let r = c.loop-reader.invariant.taken in
-    let old = g.W.Write.contents c.args.writer.now.inner in
-    let new = g.W.Write.contents c.send.new.writer.inner in
-    let why = c.in_err-end.field-0.0 in
-    let p = err_from_is_err_and c.from_residual-in_err-end.result
-    c.from_residual-in_err-end.ensures.1 in
-    rw p.1 (rw p.2 (line-of damage _ now why
-    (RunsLines-of StandsFrom BeginsFrom RefusesFrom first now _ _ r.0
-    (Consumes-kept _ _ _ r.0 r.1 c.in-End.ensures.0) (
-      IsPlaced-end _ why c.in-End.ensures.1,
-      StopsAt-end 268435456 c.loop-reader.scanner r.0 r.2.lines _ r.2.scans (
-        subst (λ l. IsCause 268435456 (length l) r.2.lines c.loop-reader.scanner.part [] why)
-            r.2.scans.splits.whole (c.in_err-end.ensures 268435456 r.0 r.2.lines r.2.scans),
-        HasTaken-map StandsFrom first now r.2.lines
-            (HasGiven old (g.W.Write.contents c.loop-reader.writer.inner) c.loop-reader.batch)
-            (Appends old new)
-            (λ given k. HasGiven-empty old new c.send.new.self given c.in_ok-send.ensures.empty
-            (c.in_ok-send.ensures.bytes old given k)) r.2.taken,
-      ),
-    )
-    (read_failed-none _ _ _ (Line-read _) c.in-End.ensures.2) (omega (arith, c.in-End.ensures.2))
-    (Writes-none _ _ _ (Line-write _) c.in_ok-send.ensures.counts.none))))
-
-pub returns : goal.returns
-returns g c =
-    let damage : Damage = record { kind = c.args.kind; from = c.args.from; count = c.args.count } in
-    let first = first_for damage in
-    let now = c.loop-reader.damaging in
-    let r = c.loop-reader.invariant.taken in
-    let old = g.W.Write.contents c.args.writer.now.inner in
-    let new = g.W.Write.contents c.send.new.writer.inner in
-    let read : LinesRead = record { lines = length r.2.lines; written = c.send.new.self.sent } in
-    rw (ap (λ v. v.inverted) c.damaging.view_is) (ok-of damage _ now read
-    (RunsLines-of StandsFrom BeginsFrom RefusesFrom first now _ _ r.0
-    (Consumes-kept _ _ _ r.0 r.1 c.in-End.ensures.0) (
-      c.in-End.ensures.1,
-      record {
-        lines = r.2.lines;
-        file = c.in_ok-end.ensures 268435456 r.0 r.2.lines r.2.scans;
-        taken = HasTaken-map StandsFrom first now r.2.lines
-            (HasGiven old (g.W.Write.contents c.loop-reader.writer.inner) c.loop-reader.batch) _
-            (λ given k. HasGiven-written old new c.send.new.self given c.send.new.self.sent
-            c.in_ok-send.ensures.empty refl (c.in_ok-send.ensures.bytes old given k)) r.2.taken;
-        counted = refl;
-      },
-    )
-    (read_failed-none _ _ _ (Ok-not_err _ _) c.in-End.ensures.2) (omega (arith, c.in-End.ensures.2))
-    (Writes-none _ _ _ (λ written. Ok-not_err _ _) c.in_ok-send.ensures.counts.none)))
+    let r = c.loop-kind.invariant.damaged in
+    let next = c.in-Err.ensures in
+    let sent = c.in_ok-send-in-Err.ensures in
+    rw c.from.ensures (
+    damaged-early damage _ c.next.new.self (search rules) r.0 c.in-Err.fault
+    (next.gives 268435456 _ r.0 r.1) next.failed next.once
+    (HasGiven-empty _ _ c.send-in-Err.new.self _ sent.empty
+    (sent.bytes _ (damaged_file damage r.0) r.2.given)) sent.counts.none)

@@ -1,22 +1,22 @@
-use Rattle.std.proofs.Common.{◌≡◌, ◌<◌, ℕ, List, length}
-use Rattle.std.specs.Io.KnownBytes.{Consumes}
-use Rattle.nx_fec.specs.private.LineTaking.{IsTaking}
-use Rattle.nx_station.specs.private.DamageTaker.{StandsFrom, first_for}
+use Rattle.std.proofs.Common.{◌≡◌, true, List, []}
+use Rattle.nx_fec.specs.air_files.AirFile.{Line}
+use Rattle.nx_fec.specs.air_files.LineReading.{HasGivenLines, answers_left, counted_of, is_over}
+use Rattle.nx_station.specs.private.DamageTaker.{IsDamaging}
 use Rattle.nx_station.proofs.damaging.damage.Given as goal
 
--- all whole lines that were read were taken
-abbrev pub invariant-loop-reader : goal.invariant-loop-reader
-invariant-loop-reader g l = record {
-  reader : l.reader.failures ≡ 0;
+-- the lines so far are damaged, and nothing waits where more is read
+abbrev pub invariant-loop-kind : goal.invariant-loop-kind
+invariant-loop-kind g l = record {
+  same : l.lines.reader.ghost_name ≡ l.initial.lines.reader.ghost_name;
+  reader : (counted_of l.lines).failures ≡ 0;
   writer : l.writer.failures ≡ 0;
-  chunk : 0 < length l.buffer;
-  taken : (bytes : List ℕ)
-      × Consumes (g.R.Read.remaining l.fn.reader.inner) (g.R.Read.remaining l.reader.inner) bytes
-      × IsTaking StandsFrom
-      (first_for record { kind = l.fn.kind; from = l.fn.from; count = l.fn.count })
-      l.damaging l.scanner (g.W.Write.contents l.fn.writer.inner)
-      (g.W.Write.contents l.writer.inner) l.batch bytes;
+  damaged : (lines : List Line)
+      × HasGivenLines g.R.Read.remaining 268435456 (g.R.Read.remaining l.fn.reader.inner) l.lines
+      lines
+      × IsDamaging record { kind = l.fn.kind; from = l.fn.from; count = l.fn.count } l.damaging
+      (g.W.Write.contents l.fn.writer.inner) (g.W.Write.contents l.writer.inner) l.batch lines;
+  sent : is_over l.lines ≡ true → l.batch.bytes ≡ [];
 }
 
-abbrev pub decreases-loop-reader : goal.decreases-loop-reader
-decreases-loop-reader g l = l.scanner.room
+abbrev pub decreases-loop-kind : goal.decreases-loop-kind
+decreases-loop-kind g l = answers_left l.lines

@@ -1,11 +1,10 @@
--- What damaging answers follows from what its run over the lines said.
-use Rattle.std.proofs.Common.{Bool, drop, map, take, ◌≡◌, ℕ, ◌+◌, ◌-◌, ◌*◌, ◌/◌, ◌^◌, ◌≤◌, List, []}
-use Rattle.std.proofs.Common.{◌∷◌, ◌++◌, length, min, Option, Some, None, Result, Ok, Err}
+-- What damaging answers, by what it took and what stopped the lines.
+use Rattle.std.proofs.Common.{Bool, drop, map, take, ◌≡◌, ◌↔◌, ℕ, ◌+◌, ◌-◌, ◌^◌, ◌≤◌, List, []}
+use Rattle.std.proofs.Common.{◌∷◌, ◌++◌, length, min, Option, Some, None, Result, Ok, Err, IsErrOf}
 use Rattle.std.proofs.Common.{if◌then◌else◌, refl, sym, ap, ◌∙◌, subst, arith, append-nil}
 use Rattle.std.proofs.Common.{MatchResult, length-append}
 use Rattle.std.specs.List.{flat_map, refill, AllByRecursion}
 use Rattle.std.proofs.Math.Seq.{drop-append_seam, take-append_seam}
-use Rattle.std.specs.Option.{option_map, IsSomeAnd}
 use Rattle.std.specs.Io.KnownBytes.{Appends}
 use Rattle.std.proofs.lemmas.List.{length-map}
 use Rattle.std.proofs.lemmas.List.Concat.{flat_map-append}
@@ -13,52 +12,44 @@ use Rattle.nx_fec.specs.air_files.AirFile.{Line, IsLine, element_digit, mark_byt
 use Rattle.nx_fec.specs.air_files.AirFile.{refuse_station, accept_station, refuse_subject, accept_subject}
 use Rattle.nx_fec.specs.air_files.AirFile.{spelling}
 use Rattle.nx_fec.specs.air_files.Channels.{channel_of, same_channel}
-use Rattle.nx_fec.specs.Transfers.{Contents, CountedDevice, Devices, Extent, Writes, WroteSome}
-use Rattle.nx_fec.specs.Transfers.{contents_of}
-use Rattle.nx_fec.specs.air_files.LineRuns.{ExplainsLines, HasGiven, HasTaken, HasTakenAll}
-use Rattle.nx_fec.specs.air_files.LineRuns.{HasTakenSome, IsPlaced, LineRun, RunsLines, Waiting}
-use Rattle.nx_fec.specs.air_files.LineRuns.{line_run}
-use Rattle.nx_fec.specs.air_files.Lines.{StopsAt, IsCause, elements_on, file_of, line_bytes}
-use Rattle.nx_fec.specs.air_files.Scanner.{kind_kept, kind_of}
+use Rattle.nx_fec.specs.Transfers.{Contents, Devices, Extent, Reads, WroteSome, contents_of, input_of}
+use Rattle.nx_fec.specs.air_files.LineReading.{EndsEarly, HasGivenAll, HasGivenLines}
+use Rattle.nx_fec.specs.air_files.LineRuns.{HasGiven, Waiting}
+use Rattle.nx_fec.specs.air_files.Lines.{IsAirFile, elements_on, file_of, line_bytes}
+use Rattle.nx_fec.specs.air_files.Scanner.{kind_of}
+use Rattle.nx_fec.specs.declared.air_files.line_reader.LineReader.{LineReader}
+use Rattle.nx_fec.specs.declared.air_files.lines.LineKind.{LineKind}
 use Rattle.nx_fec.specs.declared.air_files.lines.LineKind.TheVariants.{Elements}
 use Rattle.nx_fec.specs.declared.air_files.channel.Channel.{Channel}
 use Rattle.nx_fec.specs.declared.air_files.channel.Channel.TheVariants.{Zero, One, Two}
+use Rattle.nx_fec.specs.declared.fault.AirFault.{AirFault}
+use Rattle.nx_fec.specs.declared.fault.AirFault.TheVariants as air
 use Rattle.nx_fec.specs.declared.fault.LineFault.{LineFault}
 use Rattle.nx_fec.specs.declared.fault.LineFault.TheVariants as file
 use Rattle.nx_fec.specs.declared.fault.WriteFault.{WriteFault}
-use Rattle.nx_fec.specs.declared.air_files.line_runs.LinesFault.{LinesFault}
-use Rattle.nx_fec.specs.declared.air_files.line_runs.LinesFault.TheVariants as run
-use Rattle.nx_fec.specs.declared.air_files.line_runs.LinesRead.{LinesRead}
 use Rattle.nx_fec.proofs.lemmas.lines.LineLaws.{IsAirFile-unique, spelling-IsBeginning}
+use Rattle.nx_fec.proofs.lemmas.line_runs.LineReading.{Line-not_read, unfailed}
 use Rattle.nx_fec.proofs.lemmas.line_runs.LineRun.{StopsAt-map}
-use Rattle.nx_fec.proofs.lemmas.devices.TransferLaws.{Ok-not_err, Reads-on}
-use Rattle.nx_station.specs.Damage.{Damage, Damages, ExplainsDamaging, IsDamaged, damaged_elements}
-use Rattle.nx_station.specs.Damage.{damaged_file, damaged_line, damaged_lines, damaged_on}
-use Rattle.nx_station.specs.Damage.{inverted_count}
-use Rattle.nx_station.specs.Faults.{line_fault}
-use Rattle.nx_station.specs.private.DamageTaker.{Damager, HasDamaged, HasDigitsFrom, IsAt}
-use Rattle.nx_station.specs.private.DamageTaker.{StandsFrom, damage_of, damage_taker, first_for}
-use Rattle.nx_station.specs.private.DamageTaker.{lines_fault}
+use Rattle.nx_fec.proofs.lemmas.line_runs.LinesRead.{IsFaulty, read-all, read-behind, read-failed}
+use Rattle.nx_fec.proofs.lemmas.line_runs.LinesRead.{read-fault}
+use Rattle.nx_fec.proofs.lemmas.devices.TransferLaws.{Ok-not_err, Writes-none}
+use Rattle.nx_station.specs.Damage.{AnswersDamaging, Damage, Damages, ExplainsDamaging, HasDamaged}
+use Rattle.nx_station.specs.Damage.{IsDamaged, StopsFor, damaged_elements, damaged_file, damaged_line}
+use Rattle.nx_station.specs.Damage.{damaged_lines, damaged_on, inverted_count}
+use Rattle.nx_station.specs.Faults.{air_fault}
+use Rattle.nx_station.specs.private.DamageTaker.{Damager, HasDigitsFrom, IsAt, IsDamaging, StandsAfter}
+use Rattle.nx_station.specs.private.DamageTaker.{IsText, first_for}
 use Rattle.nx_station.specs.declared.fault.DamageFault.{DamageFault}
-use Rattle.nx_station.specs.declared.fault.DamageFault.TheVariants.{Read, AirTooLong, LineLong, LineCut}
-use Rattle.nx_station.specs.declared.fault.DamageFault.TheVariants.{BadLine, Write}
+use Rattle.nx_station.specs.declared.fault.DamageFault.TheVariants.{Read, Write}
 use Rattle.nx_station.proofs.lemmas.damage.Damage.{inverted-append, inverted-le, length-damaged, length-on}
 use Rattle.nx_station.proofs.lemmas.damage.Damage.{lines-append, lines-twice}
 
 -- ---- where it begins, and one line more
 
-damage-first : (damage : Damage) → damage_of (first_for damage) ≡ damage
-damage-first damage =
-    let from : (7 * damage.from) / 7 ≡ damage.from = omega arith in
-    let count : (7 * damage.from + 7 * damage.count) / 7 - (7 * damage.from) / 7 ≡ damage.count =
-    omega arith in
-    λ i. record { kind = damage.kind; from = from i; count = count i }
-
-pub starts : (damage : Damage) → HasDamaged (damage_of (first_for damage)) (first_for damage) [] []
+pub starts : (damage : Damage) → StandsAfter damage (first_for damage) []
 starts damage = record {
   at = record { kind = refl; begin = omega arith; end = omega arith; phase = refl };
   counted = refl;
-  whole = refl;
 }
 
 elements-more : (lines : List Line) (line : Line)
@@ -68,15 +59,21 @@ elements-more lines line =
     flat_map-append (elements_on Zero) lines (line ∷ [])
     ∙ ap (λ l. flat_map (elements_on Zero) lines ++ l) (append-nil (elements_on Zero line))
 
+-- how it stands, and what was given
+pub record HasMore (damage : Damage) (new : Damager) (lines : List Line) (bytes : List ℕ)
+    (line : Line) : Type 0 where
+  pub stands : StandsAfter damage new (lines ++ line ∷ [])
+  pub whole : damaged_file damage lines ++ bytes ≡ damaged_file damage (lines ++ line ∷ [])
+
 pub taken-more : (damage : Damage) (old new : Damager) (lines : List Line) (line : Line)
-    (given bytes : List ℕ) → HasDamaged damage old lines given
+    (bytes : List ℕ) → StandsAfter damage old lines
     → ((place : ℕ) → IsAt damage old place → bytes ≡ line_bytes (damaged_line damage place line))
     → ((place : ℕ) → IsAt damage old place
     → IsAt damage new (place + length (elements_on Zero line)))
     → ((place total : ℕ) → IsAt damage old place → old.inverted ≡ min total (2 ^ 64 - 1)
     → new.inverted ≡ min (total + inverted_count damage place (elements_on Zero line)) (2 ^ 64 - 1))
-    → HasDamaged damage new (lines ++ (line ∷ [])) (given ++ bytes)
-taken-more damage old new lines line given bytes h written moved counted =
+    → HasMore damage new lines bytes line
+taken-more damage old new lines line bytes h written moved counted =
     let bits = flat_map (elements_on Zero) lines in
     let more = elements-more lines line in
     let long : length bits + length (elements_on Zero line)
@@ -97,37 +94,28 @@ taken-more damage old new lines line given bytes h written moved counted =
     (append-nil (line_bytes (damaged_line damage (0 + length bits) line)))
     ∙ ap (λ p. damaged_file damage lines ++ line_bytes (damaged_line damage p line)) place in
     record {
-      at = subst (IsAt damage new) long (moved (length bits) h.at);
-      counted = subst (λ n. new.inverted ≡ min n (2 ^ 64 - 1)) total
-          (counted (length bits) (inverted_count damage 0 bits) h.at h.counted);
-      whole = ap (λ l. l ++ bytes) h.whole
-          ∙ ap (λ l. damaged_file damage lines ++ l) (written (length bits) h.at) ∙ sym file;
+      stands = record {
+        at = subst (IsAt damage new) long (moved (length bits) h.at);
+        counted = subst (λ n. new.inverted ≡ min n (2 ^ 64 - 1)) total
+            (counted (length bits) (inverted_count damage 0 bits) h.at h.counted);
+      };
+      whole =
+          ap (λ l. damaged_file damage lines ++ l) (written (length bits) h.at) ∙ sym file;
     }
 
 -- what was given for one line more waits, or a write failed
-pub gave : (first now : Damager) (lines : List Line) (line : Line) (old new : Option (List ℕ))
-    (batch : Waiting) (given bytes : List ℕ) (outcome : Result (Unit {0}) WriteFault)
-    → HasDamaged (damage_of first) now (lines ++ (line ∷ [])) (given ++ bytes)
-    → MatchResult outcome (λ _. HasGiven old new batch (given ++ bytes))
-    (λ fault. WroteSome old new (given ++ bytes) fault.written)
+pub gave : (damage : Damage) (now : Damager) (lines : List Line) (line : Line)
+    (old new : Option (List ℕ)) (batch : Waiting) (bytes : List ℕ)
+    (outcome : Result (Unit {0}) WriteFault) → HasMore damage now lines bytes line
+    → MatchResult outcome (λ _. HasGiven old new batch (damaged_file damage lines ++ bytes))
+    (λ fault. WroteSome old new (damaged_file damage lines ++ bytes) fault.written)
     → MatchResult outcome
-    (λ _. HasTaken StandsFrom first now (lines ++ (line ∷ [])) (HasGiven old new batch))
-    (λ fault. HasTakenSome (line_run damage_taker first now old new) (lines ++ (line ∷ []))
-    fault.written)
-gave first now lines line old new batch given bytes (Ok done) stood h =
-    record { given = given ++ bytes; stood = stood; here = h }
-gave first now lines line old new batch given bytes (Err fault) stood h =
-    record { given = given ++ bytes; begun = stood.whole; some = h }
-
--- the text of a line that was ended has at most 514 bytes
-pub text-short : (latest : Option Line) (text : Option (List ℕ)) (bytes : List ℕ)
-    → IsSomeAnd latest IsLine → text ≡ option_map spelling latest → text ≡ Some bytes
-    → length bytes ≤ 514
-text-short None text bytes h e is = let clash : None ≡ Some bytes = sym e ∙ is in cc
-text-short (Some line) text bytes h e is =
-    let clash : Some (spelling line) ≡ Some bytes = sym e ∙ is in
-    let same : spelling line ≡ bytes = cc in
-    subst (λ l. length l ≤ 514) same (spelling-IsBeginning line h).short
+    (λ _. IsDamaging damage now old new batch (lines ++ (line ∷ [])))
+    (λ fault. WroteSome old new (damaged_file damage (lines ++ (line ∷ []))) fault.written)
+gave damage now lines line old new batch bytes (Ok done) more h =
+    record { stands = more.stands; given = subst (HasGiven old new batch) more.whole h }
+gave damage now lines line old new batch bytes (Err fault) more h =
+    subst (λ l. WroteSome old new l fault.written) more.whole h
 
 -- a line of elements on channel 0, by its kind
 pub line-of-elements : (line : Line) (mark : Option Channel) → kind_of line ≡ Elements mark
@@ -150,14 +138,6 @@ pub damaged-here : (damage : Damage) (place : ℕ) (mark : Option Channel) (bits
     ≡ elements mark (damaged_elements damage place bits)
 damaged-here damage place mark bits zero =
     ap (λ c. elements mark (damaged_on c damage place bits)) zero
-
--- the text that is kept is that of the line
-pub text-of : (latest : Option Line) (text : Option (List ℕ)) (bytes : List ℕ) (line : Line)
-    → text ≡ option_map spelling latest → text ≡ Some bytes → latest ≡ Some line
-    → bytes ≡ spelling line
-text-of latest text bytes line e is here =
-    let clash : Some bytes ≡ Some (spelling line) = sym is ∙ e ∙ ap (option_map spelling) here in
-    cc
 
 -- what stands before the digits of a line of elements
 abbrev pub opening : Option Channel → List ℕ
@@ -182,18 +162,14 @@ pub record HasDigits (line : Line) (bytes : List ℕ) (start n : ℕ) : Type 0 w
   pub whole : bytes ≡ opening mark ++ (map element_digit (elements_on Zero line) ++ 10 ∷ [])
   pub long : n ≡ length (elements_on Zero line)
 
-pub has-digits : (latest : Option Line) (text : Option (List ℕ)) (kept bytes : List ℕ)
-    (line : Line) (start n : ℕ) → text ≡ option_map spelling latest → text ≡ Some kept
-    → latest ≡ Some line → HasDigitsFrom (kind_kept latest) start → bytes ≡ kept ++ 10 ∷ []
-    → n ≡ length bytes → HasDigits line bytes start ((n - 1) - start)
-has-digits latest text kept bytes line start n e is here from b count =
+pub has-digits : (kind : LineKind) (text bytes : List ℕ) (line : Line) (start n : ℕ)
+    → text ≡ spelling line → kind ≡ kind_of line → HasDigitsFrom kind start
+    → bytes ≡ text ++ 10 ∷ [] → n ≡ length bytes → HasDigits line bytes start ((n - 1) - start)
+has-digits kind text bytes line start n e here from b count =
     let mark = from.mark in
-    let kind : kind_of line ≡ Elements mark =
-    (let some : Some (kind_of line) ≡ Some (Elements mark) =
-    sym (ap kind_kept here) ∙ from.elements in cc) in
-    let same = line-of-elements line mark kind from.belongs in
+    let same = line-of-elements line mark (sym here ∙ from.elements) from.belongs in
     let bits = elements_on Zero line in
-    let whole = b ∙ ap (λ l. l ++ 10 ∷ []) (text-of latest text kept line e is here)
+    let whole = b ∙ ap (λ l. l ++ 10 ∷ []) e
     ∙ ap line_bytes same ∙ elements-bytes mark bits in
     let begins : start ≡ length (opening mark) = from.front ∙ sym (opening-long mark) in
     record {
@@ -212,6 +188,26 @@ has-digits latest text kept bytes line start n e is here from b count =
         length-map bits element_digit,
       );
     }
+
+-- its digits stand among its bytes
+pub digits-within : (kind : LineKind) (text bytes : List ℕ) (start n : ℕ) → IsText kind text
+    → HasDigitsFrom kind start → bytes ≡ text ++ 10 ∷ [] → n ≡ length bytes → start ≤ n - 1
+digits-within kind text bytes start n is from b count =
+    let h = has-digits kind text bytes is.line start n is.spelled is.kind_is from b count in
+    let digits = map element_digit (elements_on Zero is.line) in
+    omega (
+      arith,
+      count,
+      h.begins,
+      ap length h.whole,
+      length-append (opening h.mark) (digits ++ 10 ∷ []),
+      length-append digits (10 ∷ []),
+    )
+
+-- it has at most 514 bytes
+pub text-short : (kind : LineKind) (text : List ℕ) → IsText kind text → length text ≤ 514
+text-short kind text is =
+    subst (λ l. length l ≤ 514) (sym is.spelled) (spelling-IsBeginning is.line is.good).short
 
 -- its digits
 pub line-digits : (line : Line) (bytes : List ℕ) (start n : ℕ) → HasDigits line bytes start n
@@ -311,254 +307,167 @@ elements-few (line ∷ lines) =
     line-few (refuse_subject mark letter) = omega arith
     line-few (accept_subject mark letter) = omega arith
 
-taken-appends : (first now : Damager) (lines : List Line) (old new : Option (List ℕ))
-    → HasTaken StandsFrom first now lines (Appends old new)
-    → Appends old new (damaged_file (damage_of first) lines)
-taken-appends first now lines old new h = subst (Appends old new) h.stood.whole h.here
+-- ---- the outcomes, by what stopped the lines
 
-some-damaged : (first now : Damager) (lines : List Line) (old new : Option (List ℕ)) (written : ℕ)
-    → HasTakenSome (line_run damage_taker first now old new) lines written
-    → WroteSome old new (damaged_file (damage_of first) lines) written
-some-damaged first now lines old new written h =
-    subst (λ l. WroteSome old new l written) h.begun h.some
+stopped : (extent : Extent) (damage : Damage) (lines : List Line) (contents : Contents)
+    (bytes : List ℕ) (why : LineFault) → HasDamaged damage contents lines
+    → IsFaulty 268435456 lines why extent bytes
+    → ExplainsDamaging extent damage bytes contents (air_fault (air.Line why))
+stopped extent damage lines contents bytes why written k =
+    by-fault why (
+      k.0,
+      StopsAt-map bytes _ _ (λ before rest more p. (
+        p.0,
+        subst (HasDamaged damage contents) (sym p.1) written,
+      )) k.1,
+    )
+  where
+    by-fault : (why : LineFault) → StopsFor extent damage bytes contents why
+        → ExplainsDamaging extent damage bytes contents (air_fault (air.Line why))
+    by-fault file.TooLong h = h
+    by-fault (file.LineLong line) h = h
+    by-fault (file.LineCut line) h = h
+    by-fault (file.BadLine line) h = h
 
--- ---- the outcomes
+fault-read : (why : LineFault)
+    → ◌≡◌ {A = Result ℕ DamageFault} (Err (air_fault (air.Line why))) (Err Read) → ⊥
+fault-read file.TooLong e = cc
+fault-read (file.LineLong line) e = cc
+fault-read (file.LineCut line) e = cc
+fault-read (file.BadLine line) e = cc
 
-abbrev pub Ran : {R W : Type 0} → Damager → Damager → Devices R W
-    → Result LinesRead (LinesFault (Unit {0})) → Type 0
-Ran first now d outcome = RunsLines damage_taker first now d outcome
-
-line-read : (why : LineFault) → ◌≡◌ {A = Result ℕ DamageFault} (Err (line_fault why)) (Err Read) → ⊥
-line-read file.TooLong e = cc
-line-read (file.LineLong line) e = cc
-line-read (file.LineCut line) e = cc
-line-read (file.BadLine line) e = cc
-
-line-write : (why : LineFault) (written : ℕ)
-    → ◌≡◌ {A = Result ℕ DamageFault} (Err (line_fault why)) (Err (Write written)) → ⊥
-line-write file.TooLong written e = cc
-line-write (file.LineLong line) written e = cc
-line-write (file.LineCut line) written e = cc
-line-write (file.BadLine line) written e = cc
-
-run-line-read : (why : LineFault)
-    → ◌≡◌ {A = Result LinesRead (LinesFault (Unit {0}))} (Err (run.Line why)) (Err run.Read) → ⊥
-run-line-read why e = cc
-
-run-line-write : (why : LineFault) (written : ℕ)
-    → ◌≡◌ {A = Result LinesRead (LinesFault (Unit {0}))} (Err (run.Line why))
-    (Err (run.Write written)) → ⊥
-run-line-write why written e = cc
-
-run-read-write : (written : ℕ)
-    → ◌≡◌ {A = Result LinesRead (LinesFault (Unit {0}))} (Err run.Read) (Err (run.Write written))
-    → ⊥
-run-read-write written e = cc
-
-run-write-read : (written : ℕ)
-    → ◌≡◌ {A = Result LinesRead (LinesFault (Unit {0}))} (Err (run.Write written)) (Err run.Read)
-    → ⊥
-run-write-read written e = cc
-
-read-write : (written : ℕ) → ◌≡◌ {A = Result ℕ DamageFault} (Err Read) (Err (Write written)) → ⊥
-read-write written e = cc
+fault-write : (fault : AirFault) (written : ℕ)
+    → ◌≡◌ {A = Result ℕ DamageFault} (Err (air_fault fault)) (Err (Write written)) → ⊥
+fault-write air.Read written e = cc
+fault-write (air.Line file.TooLong) written e = cc
+fault-write (air.Line (file.LineLong line)) written e = cc
+fault-write (air.Line (file.LineCut line)) written e = cc
+fault-write (air.Line (file.BadLine line)) written e = cc
 
 write-read : (written : ℕ) → ◌≡◌ {A = Result ℕ DamageFault} (Err (Write written)) (Err Read) → ⊥
 write-read written e = cc
 
-whole-damaged : (first now : Damager) (old new : Option (List ℕ)) (bytes : List ℕ)
-    (read : LinesRead)
-    → HasTakenAll (line_run damage_taker first now old new) bytes read
-    → (text : List ℕ) × IsDamaged (damage_of first) 268435456 bytes text now.inverted
-    × Appends old new text
-whole-damaged first now old new bytes read h =
-    let few = elements-few h.lines in
-    let bound = inverted-le (damage_of first) 0 (flat_map (elements_on Zero) h.lines) in (
-      damaged_file (damage_of first) h.lines,
+whole-damaged : (damage : Damage) (now : Damager) (contents : Contents) (lines : List Line)
+    (bytes : List ℕ) → StandsAfter damage now lines → HasDamaged damage contents lines
+    → IsAirFile 268435456 bytes lines
+    → (text : List ℕ) × IsDamaged damage 268435456 bytes text now.inverted
+    × Appends contents.before contents.after text
+whole-damaged damage now contents lines bytes stands written file =
+    let few = elements-few lines in
+    let bound = inverted-le damage 0 (flat_map (elements_on Zero) lines) in (
+      damaged_file damage lines,
       record {
-        lines = h.lines;
-        file = h.file;
+        lines = lines;
+        file = file;
         whole = refl;
-        counted = omega (
-          arith,
-          h.taken.stood.counted,
-          few,
-          bound,
-          h.file.within,
-          ap length
-              h.file.whole,
-        );
+        counted = omega (arith, stands.counted, few, bound, file.within, ap length file.whole);
       },
-      subst (Appends old new) h.taken.stood.whole h.taken.here.appended,
+      written,
     )
 
-damaged-ok : {R W : Type 0} (d : Devices R W) (first now : Damager) (read : LinesRead)
-    → Ran first now d (Ok read) → Damages (damage_of first) d (Ok now.inverted)
-damaged-ok d first now read h = record {
-  reads = Reads-on _ _ _ _ _ _ _ h.reads
-      (λ extent bytes k. let w = whole-damaged first now _ _ bytes read k.1 in
-      (k.0, w.0, w.1, w.2))
-      (λ bytes k h. h) (λ e. absurd (Ok-not_err now.inverted Read e))
-      (λ e. absurd (Ok-not_err read run.Read e));
-  writes = record {
-    failed = (
-      λ w. absurd (Ok-not_err now.inverted (Write w.0) w.1),
-      λ one. let w = h.writes.failed.1 one in
-          absurd (Ok-not_err read (run.Write w.0) w.1),
-    );
-    once = h.writes.once;
-  };
-  unwritten = tt;
-}
+module _ {R W : Type 0} (damage : Damage) (d : Devices R W) (reader : LineReader R)
+    (same : reader.reader.now ≡ d.reader_after) (lines : List Line)
+  where
+    abbrev answers : Result ℕ DamageFault → Extent → List ℕ → Type 0
+    answers outcome extent air = AnswersDamaging extent damage air (contents_of d) outcome
 
-damaged-read : {R W : Type 0} (d : Devices R W) (first now : Damager)
-    → Ran first now d (Err run.Read) → Damages (damage_of first) d (Err Read)
-damaged-read d first now h = record {
-  reads = Reads-on _ _ _ _ _ _ _ h.reads
-      (λ extent bytes k. StopsAt-map bytes _ _
-      (λ lines rest more p. (p.0, p.1, taken-appends first now lines _ _ p.2)) k)
-      (λ bytes k h. tt) (λ e. refl) (λ e. refl);
-  writes = record {
-    failed = (
-      λ w. absurd (read-write w.0 w.1),
-      λ one. let w = h.writes.failed.1 one in
-          absurd (run-read-write w.0 w.1),
-    );
-    once = h.writes.once;
-  };
-  unwritten = tt;
-}
+    abbrev first : Option (List ℕ)
+    first = d.remaining d.reader.inner
 
-damaged-write : {R W : Type 0} (d : Devices R W) (first now : Damager) (written : ℕ)
-    → Ran first now d (Err (run.Write written)) → Damages (damage_of first) d (Err (Write written))
-damaged-write d first now written h = record {
-  reads = Reads-on _ _ _ _ _ _ _ h.reads
-      (λ extent bytes k. StopsAt-map bytes _ _
-      (λ lines rest more p. some-damaged first now lines _ _ written p) k)
-      (λ bytes k h. tt) (λ e. absurd (write-read written e))
-      (λ e. absurd (run-write-read written e));
-  writes = record {
-    failed =
-        (λ w. h.writes.failed.0 (written, refl), λ one. (written, refl));
-    once = h.writes.once;
-  };
-  unwritten = tt;
-}
+    abbrev before : Option (List ℕ)
+    before = d.contents d.writer.inner
 
-stopped : (extent : Extent) (first now : Damager) (contents : Contents) (bytes : List ℕ)
-    (why : LineFault)
-    → IsPlaced extent.at_end why × StopsAt bytes
-    (λ lines rest more. IsCause 268435456 (length (file_of lines ++ rest)) lines rest more why
-    × HasTaken StandsFrom first now lines (Appends contents.before contents.after))
-    → ExplainsDamaging extent (damage_of first) bytes contents (line_fault why)
-stopped extent first now contents bytes file.TooLong k = (
-  k.0,
-  StopsAt-map bytes _ _
-      (λ lines rest more p. (p.0, taken-appends first now lines _ _ p.1)) k.1,
-)
-stopped extent first now contents bytes (file.LineLong line) k = (
-  k.0,
-  StopsAt-map bytes _ _
-      (λ lines rest more p. (p.0, taken-appends first now lines _ _ p.1)) k.1,
-)
-stopped extent first now contents bytes (file.LineCut line) k = (
-  k.0,
-  StopsAt-map bytes _ _
-      (λ lines rest more p. (p.0, taken-appends first now lines _ _ p.1)) k.1,
-)
-stopped extent first now contents bytes (file.BadLine line) k = (
-  k.0,
-  StopsAt-map bytes _ _
-      (λ lines rest more p. (p.0, taken-appends first now lines _ _ p.1)) k.1,
-)
+    abbrev after_run : Option (List ℕ)
+    after_run = d.contents d.writer_after.inner
 
-damaged-line : {R W : Type 0} (d : Devices R W) (first now : Damager) (why : LineFault)
-    → Ran first now d (Err (run.Line why)) → Damages (damage_of first) d (Err (line_fault why))
-damaged-line d first now why h = record {
-  reads = Reads-on _ _ _ _ _ _ _ h.reads
-      (λ extent bytes k. stopped extent first now (contents_of d) bytes why k)
-      (λ bytes k h. tt) (λ e. absurd (line-read why e)) (λ e. absurd (run-line-read why e));
-  writes = record {
-    failed = (
-      λ w. absurd (line-write why w.0 w.1),
-      λ one. let w = h.writes.failed.1 one in
-          absurd (run-line-write why w.0 w.1),
-    );
-    once = h.writes.once;
-  };
-  unwritten = tt;
-}
+    after : (failures : ℕ) → reader.reader.now.failures ≡ failures
+        → d.reader_after.failures ≡ failures
+    after failures is = ap (λ r. r.failures) (sym same) ∙ is
 
--- the outcomes of a run for a damage
-for-damage : {R W : Type 0} (damage : Damage) (d : Devices R W) (outcome : Result ℕ DamageFault)
-    → Damages (damage_of (first_for damage)) d outcome → Damages damage d outcome
-for-damage damage d outcome h = subst (λ D. Damages D d outcome) (damage-first damage) h
+    -- all lines were written, damaged
+    pub damaged-all : (now : Damager) → HasGivenAll d.remaining 268435456 first reader lines
+        → reader.reader.now.failures ≡ 0 → StandsAfter damage now lines
+        → HasDamaged damage (contents_of d) lines → d.writer_after.failures ≡ 0
+        → Damages damage d (Ok now.inverted)
+    damaged-all now h none stands written well = record {
+      reads = read-all (input_of d) Read (λ fault bytes. Unit {0}) (Ok now.inverted)
+          (answers (Ok now.inverted)) 268435456 reader same lines h (after 0 none)
+          (Ok-not_err now.inverted Read) (λ bytes. tt)
+          (λ extent bytes end file. let w = whole-damaged damage now (contents_of d) lines bytes
+          stands written file in (end, w.0, w.1, w.2));
+      writes = Writes-none _ _ _ (λ count. Ok-not_err now.inverted (Write count)) well;
+      unwritten = tt;
+    }
 
-pub ok-of : {R W : Type 0} (damage : Damage) (d : Devices R W) (now : Damager) (read : LinesRead)
-    → Ran (first_for damage) now d (Ok read) → Damages damage d (Ok now.inverted)
-ok-of damage d now read h = for-damage damage d _ (damaged-ok d (first_for damage) now read h)
+    -- so were the lines before a fault
+    pub damaged-early : {N : Type 0} (fault : AirFault)
+        → EndsEarly d.remaining 268435456 first reader lines fault
+        → IsErrOf {T = N} (Err fault) air.Read ↔ (reader.reader.now.failures ≡ 1)
+        → reader.reader.now.failures ≤ 1 → HasDamaged damage (contents_of d) lines
+        → d.writer_after.failures ≡ 0 → Damages damage d (Err (air_fault fault))
+    damaged-early air.Read h failed once written well = record {
+      reads = read-failed (input_of d) Read (λ fault bytes. Unit {0}) (Err Read)
+          (answers (Err Read)) 268435456 reader same lines h.0 h.1 (after 1 (failed.0 refl)) refl tt
+          (λ extent bytes k. StopsAt-map bytes _ _ (λ before rest more p. (
+            p.0,
+            p.1,
+            subst (HasDamaged damage (contents_of d)) (sym p.2) written,
+          )) k);
+      writes = Writes-none _ _ _ (fault-write air.Read) well;
+      unwritten = tt;
+    }
+    damaged-early {N} (air.Line why) h failed once written well = record {
+      reads = read-fault (input_of d) Read (λ fault bytes. Unit {0})
+          (Err (air_fault (air.Line why))) (answers (Err (air_fault (air.Line why)))) 268435456
+          reader same lines why h
+          (after 0 (unfailed {N = N} _ _ (Line-not_read why) failed once)) (fault-read why)
+          (λ bytes. tt)
+          (λ extent bytes k. stopped extent damage lines (contents_of d) bytes why written k);
+      writes = Writes-none _ _ _ (fault-write (air.Line why)) well;
+      unwritten = tt;
+    }
 
-pub fault-of : {R W : Type 0} (damage : Damage) (d : Devices R W) (now : Damager)
-    (fault : DamageFault) → Ran (first_for damage) now d (Err (lines_fault fault))
-    → Damages damage d (Err fault)
-fault-of damage d now Read h = for-damage damage d _ (damaged-read d (first_for damage) now h)
-fault-of damage d now AirTooLong h =
-    for-damage damage d _ (damaged-line d (first_for damage) now file.TooLong h)
-fault-of damage d now (LineLong line) h =
-    for-damage damage d _ (damaged-line d (first_for damage) now (file.LineLong line) h)
-fault-of damage d now (LineCut line) h =
-    for-damage damage d _ (damaged-line d (first_for damage) now (file.LineCut line) h)
-fault-of damage d now (BadLine line) h =
-    for-damage damage d _ (damaged-line d (first_for damage) now (file.BadLine line) h)
-fault-of damage d now (Write written) h =
-    for-damage damage d _ (damaged-write d (first_for damage) now written h)
+    -- a write failed, of the lines that were read by then
+    lost : (written : ℕ)
+        → Reads {N = ℕ} (input_of d) Read (λ fault bytes. Unit {0}) (Err (Write written))
+        (answers (Err (Write written))) → d.writer_after.failures ≡ 1
+        → Damages damage d (Err (Write written))
+    lost written reads one = record {
+      reads = reads;
+      writes = record {
+        failed = (λ w. one, λ o. (written, refl));
+        once = omega (arith, one);
+      };
+      unwritten = tt;
+    }
 
-pub line-of : {R W : Type 0} (damage : Damage) (d : Devices R W) (now : Damager)
-    (why : LineFault) → Ran (first_for damage) now d (Err (run.Line why))
-    → Damages damage d (Err (line_fault why))
-line-of damage d now why h = for-damage damage d _ (damaged-line d (first_for damage) now why h)
+    pub damaged-lost : (written : ℕ) → HasGivenLines d.remaining 268435456 first reader lines
+        → reader.reader.now.failures ≡ 0
+        → WroteSome before after_run (damaged_file damage lines) written
+        → d.writer_after.failures ≡ 1 → Damages damage d (Err (Write written))
+    damaged-lost written h none some one =
+        lost written (read-behind (input_of d) Read (λ fault bytes. Unit {0}) (Err (Write written))
+        (answers (Err (Write written))) 268435456 reader same lines h (after 0 none)
+        (write-read written) (λ bytes. tt)
+        (λ extent bytes k. StopsAt-map bytes _ _ (λ front rest more p.
+        subst (λ l. WroteSome before after_run (damaged_file damage l) written) (sym p) some) k))
+        one
 
--- ---- its faults, and those of a run over lines
-
-line-again : (why : LineFault) → run.Line why ≡ lines_fault (line_fault why)
-line-again file.TooLong = refl
-line-again (file.LineLong line) = refl
-line-again (file.LineCut line) = refl
-line-again (file.BadLine line) = refl
-
-pub explains-line : (r : LineRun Damager (Unit {0})) (extent : Extent) (wrote : List ℕ → Type 0)
-    (bytes : List ℕ) (why : LineFault) → ExplainsLines r extent wrote bytes (run.Line why)
-    → ExplainsLines r extent wrote bytes (lines_fault (line_fault why))
-explains-line r extent wrote bytes why h =
-    subst (ExplainsLines r extent wrote bytes) (line-again why) h
-
-pub lines-write : (fault : DamageFault) (written : ℕ) → lines_fault fault ≡ run.Write written
-    → fault ≡ Write written
-lines-write Read written e = cc
-lines-write AirTooLong written e = cc
-lines-write (LineLong line) written e = cc
-lines-write (LineCut line) written e = cc
-lines-write (BadLine line) written e = cc
-lines-write (Write count) written e = cc
-
-pub err-is : {N : Type 0} (a b : DamageFault) → ◌≡◌ {A = Result N DamageFault} (Err a) (Err b)
-    → a ≡ b
-err-is a b e = cc
-
-lines-err : {N : Type 0} (a b : LinesFault (Unit {0}))
-    → ◌≡◌ {A = Result N (LinesFault (Unit {0}))} (Err a) (Err b) → a ≡ b
-lines-err a b e = cc
-
-pub lines-writes : {W : Type 0} (new : CountedDevice W) (fault : DamageFault)
-    → Writes {N = Unit {0}} new (λ written. Write written) (Err fault)
-    → Writes {N = LinesRead} new (λ written. run.Write written) (Err (lines_fault fault))
-lines-writes new fault h = record {
-  failed = (
-    λ w. h.failed.0 (w.0, ap Err (lines-write fault w.0 (lines-err _ _ w.1))),
-    λ one. let w = h.failed.1 one in (w.0, ap (λ f. Err (lines_fault f)) (err-is _ _ w.1)),
-  );
-  once = h.once;
-}
+    pub damaged-lost-early : {N : Type 0} (fault : AirFault) (written : ℕ)
+        → EndsEarly d.remaining 268435456 first reader lines fault
+        → IsErrOf {T = N} (Err fault) air.Read ↔ (reader.reader.now.failures ≡ 1)
+        → reader.reader.now.failures ≤ 1 → (fault ≡ air.Read → ⊥)
+        → WroteSome before after_run (damaged_file damage lines) written
+        → d.writer_after.failures ≡ 1 → Damages damage d (Err (Write written))
+    damaged-lost-early air.Read written h failed once other some one = absurd (other refl)
+    damaged-lost-early {N} (air.Line why) written h failed once other some one =
+        lost written (read-fault (input_of d) Read (λ fault bytes. Unit {0}) (Err (Write written))
+        (answers (Err (Write written))) 268435456 reader same lines why h
+        (after 0 (unfailed {N = N} _ _ (Line-not_read why) failed once)) (write-read written)
+        (λ bytes. tt)
+        (λ extent bytes k. StopsAt-map bytes _ _ (λ front rest more p.
+        subst (λ l. WroteSome before after_run (damaged_file damage l) written) (sym p.1) some)
+        k.1)) one
 
 -- ---- twice
 
