@@ -6,5 +6,9 @@ pub mod Examples
 pub mod Held
 pub mod Invented
 pub mod Joined
+pub mod Printed
 pub mod ReadOn
+pub mod Sendings
+pub mod Together
+pub mod Whole
 pub mod Worse

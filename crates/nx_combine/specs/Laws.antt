@@ -1,10 +1,20 @@
 -- What the laws of combined copies say.
-use Rattle.std.specs.Prelude.{◌≡◌, ◌⊎◌, ℕ, true, List, [], ◌∷◌, ◌++◌, length, slice_get, Contains}
-use Rattle.std.specs.Prelude.{Option, Some, None}
-use Rattle.nx_code.specs.Reading.{Reception, combination, idle}
+use Rattle.std.specs.Prelude.{◌≡◌, ◌⊎◌, ℕ, ◌+◌, ◌-◌, ◌<◌, ◌≤◌, Bool, true, List, [], ◌∷◌, ◌++◌, length, slice_get}
+use Rattle.std.specs.Prelude.{Contains, Option, Some, None, fold, map}
+use Rattle.std.specs.List.{AllByRecursion, filter, find}
+use Rattle.nx_code.specs.Reading.{Reception, combination, idle, lost}
+use Rattle.nx_envelope.specs.Copies.{errors_of}
+use Rattle.nx_envelope.specs.Identity.{same_identity}
+use Rattle.nx_envelope.specs.declared.found.How.TheVariants.{Full}
+use Rattle.nx_envelope.specs.declared.identity.Identity.{Identity}
+use Rattle.nx_memory.specs.declared.memories.entry.MemoryEntry.{MemoryEntry}
+use Rattle.nx_copies.specs.copies.Printing.{is_remembered}
 use Rattle.nx_combine.specs.CombinedPrinting.{are_of_one_family}
-use Rattle.nx_combine.specs.Families.{CombinedCopy}
-use Rattle.nx_combine.specs.Joining.{joined_position}
+use Rattle.nx_combine.specs.CopyPositions.{HeardCopy}
+use Rattle.nx_combine.specs.Families.{CombinedCopy, Family, families_after, has_family, most_families}
+use Rattle.nx_combine.specs.Families.{combined, seconds_joined}
+use Rattle.nx_combine.specs.Joining.{joined, joined_position}
+use Rattle.nx_combine.specs.PositionEnds.{ending_by}
 
 -- what two lists have at an index, where each has something or ends before it
 abbrev pub joined_where : Option Reception → Option Reception → Option Reception
@@ -44,3 +54,110 @@ abbrev pub AreAllTakenAlike : List Reception → List Reception → Type 0
 AreAllTakenAlike first second =
     (index : ℕ) (x y : Reception) → slice_get first index ≡ Some x
     → slice_get second index ≡ Some y → AreTakenAlike x y
+
+-- no index that is idle in the first list is lost in the second
+abbrev pub LosesNoIdle : List Reception → List Reception → Type 0
+LosesNoIdle first second =
+    (index : ℕ) → slice_get first index ≡ Some idle → slice_get second index ≡ Some lost → ⊥
+
+-- the positions give a full text with no error
+pub record IsWhole (positions : List Reception) : Type 0 where
+  pub full : (ending_by positions).how ≡ Full
+  pub no_error : errors_of (ending_by positions).text ≡ 0
+
+-- copies' positions, joined one after the other
+abbrev pub joined_all : List (List Reception) → List Reception
+joined_all copies = fold joined [] copies
+
+-- each combination that a copy took is the one that was sent, as far as the sent ones go
+abbrev pub IsHeardOf : List ℕ → List Reception → Type 0
+IsHeardOf sent positions =
+    (index number taken : ℕ) → slice_get sent index ≡ Some number
+    → slice_get positions index ≡ Some (combination taken) → taken ≡ number
+
+-- behind what was sent two copies took no two combinations at an index
+abbrev pub RunOnAlike : List ℕ → List Reception → List Reception → Type 0
+RunOnAlike sent first second =
+    (index m n : ℕ) → length sent ≤ index → slice_get first index ≡ Some (combination m)
+    → slice_get second index ≡ Some (combination n) → m ≡ n
+
+-- one of the copies took the combination at the index
+abbrev pub IsTakenByOne : ℕ → ℕ → List (List Reception) → Type 0
+IsTakenByOne index number [] = ⊥
+IsTakenByOne index number (positions ∷ copies) =
+    (slice_get positions index ≡ Some (combination number)) ⊎ IsTakenByOne index number copies
+
+-- each combination that was sent was taken at its index by one of the copies
+abbrev pub CameThrough : List ℕ → List (List Reception) → Type 0
+CameThrough sent copies =
+    (index number : ℕ) → slice_get sent index ≡ Some number → IsTakenByOne index number copies
+
+-- behind what was sent the copy took at each index nothing, or the one combination that `behind`
+-- has
+abbrev pub RunsOnAs : List ℕ → (ℕ → ℕ) → List Reception → Type 0
+RunsOnAs sent behind positions =
+    (index number : ℕ) → length sent ≤ index
+    → slice_get positions index ≡ Some (combination number) → number ≡ behind index
+
+-- the combined copy has these positions, and it comes to what they give, unless its copy is better
+pub record IsGivenBy (positions : List Reception) (one : CombinedCopy) : Type 0 where
+  pub joined : one.positions ≡ positions
+  pub copy : one.copy ≡ combined positions one.own.copy
+
+-- the families, newest first, behind these copies
+abbrev pub families_behind : List Family → List HeardCopy → List Family
+families_behind families copies = fold families_after families copies
+
+-- the copy bears the identity
+abbrev pub bears : Identity → HeardCopy → Bool
+bears identity heard = same_identity heard.copy.identity identity
+
+-- the positions of the copies that bear the identity, in order
+abbrev pub positions_heard : Identity → List HeardCopy → List (List Reception)
+positions_heard identity copies = map (λ heard. heard.positions) (filter (bears identity) copies)
+
+-- The copy is a sending of what was sent: it has a family, took nothing else than what was sent,
+-- runs on as the others, and comes less than 66 hours behind this moment.
+pub record IsSending (sent : List ℕ) (behind : ℕ → ℕ) (moment : ℕ) (heard : HeardCopy) : Type 0
+  where
+    pub family : has_family heard ≡ true
+    pub as_sent : IsHeardOf sent heard.positions
+    pub runs_on : RunsOnAs sent behind heard.positions
+    pub near : heard.copy.moment - moment < seconds_joined
+
+-- so is each of the copies that bears the identity
+abbrev pub AreSendings : List ℕ → (ℕ → ℕ) → ℕ → Identity → List HeardCopy → Type 0
+AreSendings sent behind moment identity copies =
+    AllByRecursion (λ heard. bears identity heard ≡ true → IsSending sent behind moment heard)
+    copies
+
+-- where so many families were begun up to a first copy, fewer than 200 are begun between it and
+-- each of these copies that bears the identity
+abbrev pub FewBegun : Identity → ℕ → List Family → List HeardCopy → Type 0
+FewBegun identity first families [] = Unit {0}
+FewBegun identity first families (heard ∷ later) =
+    (bears identity heard ≡ true → length families < first + most_families)
+    × FewBegun identity first (families_after families heard) later
+
+-- a combined copy that is full and has no error
+pub record IsWholeCopy (one : CombinedCopy) : Type 0 where
+  pub full : one.copy.how ≡ Full
+  pub no_error : errors_of one.copy.text ≡ 0
+
+-- the last copy of its family that was printed, of these, newest first, is whole
+pub record IsLastWhole (before : List CombinedCopy) (one : CombinedCopy) : Type 0 where
+  pub last : CombinedCopy
+  pub found : find (are_of_one_family one) before ≡ Some last
+  pub whole : IsWholeCopy last
+
+-- it is selected, has a family and isn't numbered 00; and where an entry of its identity is live, a
+-- copy of its family was printed before
+pub record IsOfPrinted (entries : List MemoryEntry) (before : List CombinedCopy)
+    (one : CombinedCopy)
+    : Type 0 where
+  pub selected : one.copy.selected ≡ true
+  pub number : ℕ
+  pub family : one.family ≡ Some number
+  pub numbered : 0 < one.copy.identity.number
+  pub printed : is_remembered entries one.copy ≡ true
+      → (last : CombinedCopy) × (find (are_of_one_family one) before ≡ Some last)

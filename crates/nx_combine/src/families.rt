@@ -19,6 +19,7 @@ use nx_envelope::{Finder, Identity};
 use nx_memory::{CAPACITY, LIFETIME};
 use std::alloc::{AllocError, Global};
 use std::marker::Model;
+use std::mem::size_of;
 
 /// Behind how many later families one is joined no more (this profile).
 pub const MAX_FAMILIES: usize = CAPACITY;
@@ -104,6 +105,7 @@ impl Families {
     pub fn new(alloc: Global) -> Result<Families, AllocError>
         ensures { IfOk result (λ families. families ≡ []) }
     {
+        prove!(size_of::<Families>() == 32);
         Ok(Families {
             held: HeapCircularBuffer::with_capacity(alloc, MAX_FAMILIES)?,
         })

@@ -1,11 +1,21 @@
 //! What combined copies promise: laws over the definitions alone.
 
-ghost use Rattle.std.specs.Prelude.{◌≡◌, ℕ, max, List, [], length, slice_get, Some, false};
+ghost use Rattle.std.specs.Prelude.{◌≡◌, ◌+◌, ◌<◌, ◌++◌, ℕ, max, List, [], ◌∷◌, length, map, slice_get, None, Some, false, true};
 ghost use Rattle.nx_code.specs.Reading.{Reception, combination};
 ghost use Rattle.nx_combine.specs.CopyPositions.{HeardCopy};
-ghost use Rattle.nx_combine.specs.Families.{Family, combined_copies, combined_copy, is_better};
-ghost use Rattle.nx_combine.specs.Joining.{joined};
-ghost use Rattle.nx_combine.specs.Laws.{AreAllTakenAlike, InventNothing, joined_where};
+ghost use Rattle.nx_envelope.specs.declared.identity.Identity.{Identity as TheIdentity};
+ghost use Rattle.nx_combine.specs.Families.{CombinedCopy, Family, combined_copies, combined_copy, given_by, is_better};
+ghost use Rattle.nx_combine.specs.Families.{families_after, last_index};
+ghost use Rattle.nx_combine.specs.Laws.{AreSendings, FewBegun, IsGivenBy, IsSending, bears, families_behind, positions_heard};
+ghost use Rattle.nx_memory.specs.declared.memories.entry.MemoryEntry.{MemoryEntry};
+ghost use Rattle.nx_copies.specs.copies.Printing.{is_remembered};
+ghost use Rattle.nx_combine.specs.CombinedPrinting.{if_printed_combined, is_printed_combined};
+ghost use Rattle.nx_combine.specs.Laws.{IsLastWhole, IsOfPrinted, IsWholeCopy};
+ghost use Rattle.nx_combine.specs.Joining.{is_of_one_text, joined};
+ghost use Rattle.nx_combine.specs.PositionEnds.{ending_by, has_ended, up_to_end};
+ghost use Rattle.nx_combine.specs.Laws.{CameThrough, IsHeardOf, RunOnAlike, joined_all};
+ghost use Rattle.std.specs.List.{AllByRecursion};
+ghost use Rattle.nx_combine.specs.Laws.{AreAllTakenAlike, InventNothing, IsWhole, LosesNoIdle, joined_where};
 
 /// The joined list has the length of the longer one, and at each index what both give; behind the
 /// shorter one, what the longer one has.
@@ -24,11 +34,66 @@ pub fn nothing_is_invented()
 {}
 
 /// No combined copy is worse than its copy. Where a list of positions and those of a copy that
-/// joins them took nothing otherwise at any index, each combination stays as it was.
+/// joins them took nothing otherwise at any index, each combination stays as it was. And so does a
+/// full text with no error, letter for letter, where no idle position of it is lost in the copy.
 pub fn no_combined_copy_is_worse()
     ensures own { (families : List Family) (heard : HeardCopy)
         → is_better heard.copy (combined_copy families heard).copy ≡ false }
     ensures stays { (first second : List Reception) (index number : ℕ)
         → AreAllTakenAlike first second → slice_get first index ≡ Some (combination number)
         → slice_get (joined first second) index ≡ Some (combination number) }
+    ensures whole { (first second : List Reception)
+        → AreAllTakenAlike first second → LosesNoIdle first second → IsWhole first
+        → ending_by (joined first second) ≡ ending_by first }
+{}
+
+/// The sendings of a message make a whole. Copies took no other combinations than those that were
+/// sent, as far as these go, up to the marker that ends them. Then what is joined of them and one
+/// more copy are of one text, where no two took two combinations behind that. And
+/// where each combination came through in one of them, the joined list gives the text that was
+/// sent, and nothing else. A combined copy that is given by such positions has that text, full and
+/// without an error.
+pub fn sendings_make_a_whole()
+    ensures of_one_text { (sent : List ℕ) (copies : List (List Reception)) (next : List Reception)
+        → AllByRecursion (IsHeardOf sent) copies → IsHeardOf sent next
+        → AllByRecursion (λ positions. RunOnAlike sent positions next) copies
+        → is_of_one_text (up_to_end (joined_all copies)) next ≡ true }
+    ensures whole { (sent : List ℕ) (copies : List (List Reception))
+        → has_ended (map combination sent) ≡ true → AllByRecursion (IsHeardOf sent) copies
+        → CameThrough sent copies
+        → ending_by (joined_all copies) ≡ ending_by (map combination sent) }
+    ensures printed { (sent positions : List Reception) (one : CombinedCopy)
+        → ending_by positions ≡ ending_by sent → IsWhole sent → IsGivenBy positions one
+        → one.copy ≡ given_by sent one.own.copy }
+{}
+
+/// The sendings of a message make one family, whatever is heard between them. No family of its
+/// identity was begun before the first of them; they lie within 66 hours of it, and fewer than 200
+/// families are begun between it and any later one. Then what each later one joins is the joined
+/// list of all of them up to it.
+pub fn sendings_make_one_family()
+    ensures { (sent : List ℕ) (behind : ℕ → ℕ) (identity : TheIdentity) (families : List Family)
+        (first : HeardCopy) (copies : List HeardCopy)
+        → last_index identity families ≡ None → bears identity first ≡ true
+        → IsSending sent behind first.copy.moment first
+        → AreSendings sent behind first.copy.moment identity copies
+        → FewBegun identity (length families + 1) (families_after families first) copies
+        → (mid later : List HeardCopy) (one : HeardCopy) → copies ≡ mid ++ one ∷ later
+        → bears identity one ≡ true
+        → IsGivenBy
+        (joined_all ((first.positions ∷ positions_heard identity mid) ++ one.positions ∷ []))
+        (combined_copy (families_behind (families_after families first) mid) one) }
+{}
+
+/// A whole combined copy, full and without an error, is printed, or the last one of its family that
+/// was printed is whole. And behind a whole one nothing of its family is printed, while an entry of
+/// its identity is live.
+pub fn whole_copies_are_printed_once()
+    ensures printed { (entries : List MemoryEntry) (before : List CombinedCopy) (one : CombinedCopy)
+        → IsWholeCopy one → IsOfPrinted entries before one
+        → IsLastWhole (if_printed_combined entries before one ++ before) one }
+    ensures nothing_behind { (entries : List MemoryEntry) (before : List CombinedCopy)
+        (one : CombinedCopy) → IsLastWhole before one → 0 < one.copy.identity.number
+        → is_remembered entries one.copy ≡ true
+        → is_printed_combined entries before one ≡ false }
 {}

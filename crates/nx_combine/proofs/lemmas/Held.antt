@@ -59,7 +59,7 @@ position-take p n xs =
     ∙ position_at (position_or_len p xs) (length xs) n (nat_lt (position_or_len p xs) n) refl
 
 -- the index, if the family there takes the copy in
-abbrev if_joins : List Family → HeardCopy → ℕ → Option ℕ
+abbrev pub if_joins : List Family → HeardCopy → ℕ → Option ℕ
 if_joins families heard index = if joins_at families heard index then Some index else None
 
 none_at : {A B : Type 0} (f : A → Option B) (b : Bool) (a : A) → f a ≡ None
@@ -125,7 +125,7 @@ stands_at families heard index true None below is passes =
 stands_at families heard index false o below is passes =
     absurd (let contra : false ≡ true = passes in cc)
 
-from_if : (b : Bool) (k index : ℕ) → (if b then Some k else None) ≡ Some index
+pub from_if : (b : Bool) (k index : ℕ) → (if b then Some k else None) ≡ Some index
     → (b ≡ true) × (k ≡ index)
 from_if true k index is = (refl, (let inside : Some k ≡ Some index = is in cc))
 from_if false k index is = absurd (let contra : None ≡ Some index = is in cc)
@@ -165,20 +165,26 @@ index_joined-gone families heard index is gone =
     then Some index else None) gone
     ∙ ap (λ b. if b then Some index else None) (and_false (nat_lt index 200))
 
-pub index_joined-by : (families : List Family) (heard : HeardCopy) (index : ℕ) (family : Family)
+pub index_joined-at : (families : List Family) (heard : HeardCopy) (index : ℕ) (family : Family)
     (b : Bool) → last_index heard.copy.identity families ≡ Some index
-    → slice_get families index ≡ Some family → length families ≤ 200 → b ≡ takes_in family heard
+    → slice_get families index ≡ Some family → index < 200 → b ≡ takes_in family heard
     → index_joined families heard ≡ (if b then Some index else None)
 unfolding index_joined
-index_joined-by families heard index family b is there few takes =
-    let within = slice_get_within families index family there in
-    let below : nat_lt index 200 ≡ true = lt-ltb index 200 (omega arith) in
+index_joined-at families heard index family b is there few takes =
     ap (option_and_then (if_joins families heard)) is
     ∙ ap (λ o. if nat_lt index 200
     && unwrap_or (option_map (λ (family : Family). takes_in family heard) o) false
     then Some index else None) there
-    ∙ ap (λ c. if c && takes_in family heard then Some index else None) below
+    ∙ ap (λ c. if c && takes_in family heard then Some index else None) (lt-ltb index 200 few)
     ∙ ap (λ c. if c then Some index else None) (sym takes)
+
+pub index_joined-by : (families : List Family) (heard : HeardCopy) (index : ℕ) (family : Family)
+    (b : Bool) → last_index heard.copy.identity families ≡ Some index
+    → slice_get families index ≡ Some family → length families ≤ 200 → b ≡ takes_in family heard
+    → index_joined families heard ≡ (if b then Some index else None)
+index_joined-by families heard index family b is there few takes =
+    let within = slice_get_within families index family there in
+    index_joined-at families heard index family b is there (omega arith) takes
 
 -- The families and the combined copy, by what becomes of the copy.
 

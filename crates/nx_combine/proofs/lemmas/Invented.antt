@@ -38,7 +38,7 @@ split_position lost (combination n) number is = inr is
 split_position lost idle number is = inl is
 split_position lost lost number is = inl is
 
-split_where : (o p : Option Reception) (number : ℕ)
+pub split_where : (o p : Option Reception) (number : ℕ)
     → joined_where o p ≡ Some (combination number)
     → (o ≡ Some (combination number)) ⊎ (p ≡ Some (combination number))
 split_where None p number is = inr is
@@ -58,7 +58,7 @@ set_at [] i f g is = absurd (let contra : None ≡ Some g = is in cc)
 set_at (x ∷ families) zero f g is = let inside : Some f ≡ Some g = is in cc
 set_at (x ∷ families) (suc i) f g is = set_at families i f g is
 
-set_other : (families : List Family) (i k : ℕ) (f : Family) → k ≢ i
+pub set_other : (families : List Family) (i k : ℕ) (f : Family) → k ≢ i
     → slice_get (set families i f) k ≡ slice_get families k
 set_other [] i k f apart = refl
 set_other (x ∷ families) zero zero f apart = absurd (apart refl)

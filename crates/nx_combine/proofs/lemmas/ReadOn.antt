@@ -178,7 +178,8 @@ ending-more identity raw (byte ∷ more) ending is =
     ∙ ending-more identity (raw ++ byte ∷ []) more ending one
 
 -- and so of positions
-ending-positions : (identity : Identity) (positions : List Reception) (count : ℕ) (ending : Ending)
+pub ending-positions : (identity : Identity) (positions : List Reception) (count : ℕ)
+    (ending : Ending)
     → ending_of (less_newline (text_of positions count)) ≡ Some ending
     → ending_by positions ≡ ending
 unfolding ending_by raw_text_of
