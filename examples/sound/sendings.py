@@ -400,7 +400,9 @@ class Sendings:
         if self.header or not self.header_place.is_open or len(self.stretches) > 1:
             return
         places = TURN * np.arange(len(headers.FORM))
-        models = [self.mixed(told, self.seen(told, self.off_at(told - self.told + place))) for told in self.told + places]
+        models = []
+        for told in self.told + places:
+            models.append(self.mixed(told, self.seen(told, self.off_at(told - self.told + place))))
         words = headers.header(np.array(models), COMBINATION, SURE)
         if words is not None:
             self.header = dict(zip(self.told + places, words))
