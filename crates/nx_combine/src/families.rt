@@ -167,6 +167,7 @@ impl Families {
         ensures { (text : List ℕ) (selected : Bool) → self.new ≡ take 200
             (spec.begun_by (heard_of head.now text selected positions.now) ∷ self.old) }
     {
+        prove!(size_of::<Family>() == 8216);
         let mut copied = ArrayVec::new();
         copied.try_extend_from_slice(positions).unwrap();
         let _forgotten = self.held.push_front(Family {
