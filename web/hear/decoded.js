@@ -6,7 +6,7 @@ import { takenOf } from './wave.js';
 const RATE = 8000;          // samples a second that a sound is brought to, where the browser can do that
 const USUAL_RATE = 44100;
 const SECOND = 2 * 4 * 48000; // bytes that a second of sound takes while the browser decodes it, at most
-const MOST = 4e9;           // bytes that a browser gives a page
+const MOST = 3e9;           // bytes that a browser gives a page for that
 const PACKED = 4000;        // bytes of a file that are a second of sound, where it doesn't say how long it is
 const PATIENCE = 3000;      // milliseconds in which a file says how long it is
 
