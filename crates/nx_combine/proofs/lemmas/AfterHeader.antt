@@ -1,18 +1,18 @@
 -- The one copy of a text that is a header and what stands behind it.
-use Rattle.std.proofs.Common.{◌≡◌, ℕ, zero, suc, ◌+◌, ◌<◌, ◌≤◌, inl, inr, Bool, true, false, Option}
-use Rattle.std.proofs.Common.{Some, None, List, [], ◌∷◌, ◌++◌, length, take, drop, replicate, refl}
+use Rattle.std.proofs.Common.{◌≡◌, ℕ, zero, suc, ◌+◌, ◌<◌, ◌≤◌, Option}
+use Rattle.std.proofs.Common.{Some, None, List, [], ◌∷◌, ◌++◌, length, take, replicate, refl}
 use Rattle.std.proofs.Common.{sym, ap, ap₂, ◌∙◌, ◌/◌, ◌%◌, arith, append_assoc, length-append, lit<}
 use Rattle.std.proofs.Math.Seq.{drop-append_seam}
 use Rattle.std.proofs.lemmas.List.{length-take}
-use Rattle.std.specs.Option.{option_map, option_to_list, is_none}
-use Rattle.std.specs.List.{filter, filter_map}
+use Rattle.std.specs.Option.{option_map, option_to_list}
+use Rattle.std.specs.List.{filter}
 use Rattle.nx_code.specs.Reading.{space}
 use Rattle.nx_envelope.specs.AtTheEnd.{identity_at_end}
 use Rattle.nx_envelope.specs.Copies.{Copy, Ending, copy_with, ended_copies, ended_copy, ending_of}
-use Rattle.nx_envelope.specs.Copies.{closed_copy, header_at_end, headers, is_open, less_newline}
+use Rattle.nx_envelope.specs.Copies.{header_at_end, headers, is_open, less_newline}
 use Rattle.nx_envelope.specs.Copies.{open_headers, raw_text}
 use Rattle.nx_envelope.specs.Finder.{Ends, Keeps}
-use Rattle.nx_envelope.specs.Header.{EndsWithHeader, Header, StandsIn, start_marker}
+use Rattle.nx_envelope.specs.Header.{EndsWithHeader, Header, start_marker}
 use Rattle.nx_envelope.specs.Identity.{identity_bytes}
 use Rattle.nx_envelope.specs.declared.identity.Identity.{Identity}
 use Rattle.nx_envelope.proofs.lemmas.copies.Beginnings.{headers-push}

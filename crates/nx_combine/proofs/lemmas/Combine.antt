@@ -1,6 +1,6 @@
 -- What a call that combines a copy answers, by what becomes of the copy.
-use Rattle.std.proofs.Common.{◌≡◌, ℕ, ◌-◌, ◌<◌, Bool, true, false, if◌then◌else◌, Option, Some, None}
-use Rattle.std.proofs.Common.{List, ◌∷◌, length, take, refl, sym, ap, ap₂, ◌∙◌, subst, arith}
+use Rattle.std.proofs.Common.{◌≡◌, ℕ, ◌-◌, Bool, true, false, if◌then◌else◌, Option, Some, None}
+use Rattle.std.proofs.Common.{List, ◌∷◌, length, take, refl, sym, ap, ap₂, ◌∙◌, arith}
 use Rattle.std.proofs.Math.ListN.{set}
 use Rattle.std.proofs.lemmas.List.{length-set}
 use Rattle.std.specs.Prelude.{slice_get, IfSome}
@@ -10,7 +10,6 @@ use Rattle.nx_envelope.specs.Finder.{HasReady}
 use Rattle.nx_envelope.specs.Found.{IsHeadOf}
 use Rattle.nx_envelope.specs.declared.finder.Finder.{Finder}
 use Rattle.nx_envelope.specs.declared.found.FoundHead.{FoundHead}
-use Rattle.nx_envelope.specs.declared.found.How.{How}
 use Rattle.nx_envelope.specs.declared.identity.Identity.{Identity}
 use Rattle.nx_copies.specs.copies.FoundCopies.{TaggedCopy, headed_copy}
 use Rattle.nx_copies.specs.declared.entry.EntryHead.{EntryHead}
@@ -20,7 +19,7 @@ use Rattle.nx_combine.specs.Families.{CombinedCopy, Family, begun_by, combined, 
 use Rattle.nx_combine.specs.Families.{families_after, given_by}
 use Rattle.nx_combine.specs.Families.{has_family, index_joined, is_better, joined_at, joined_by}
 use Rattle.nx_combine.specs.PositionEnds.{HasRead, ending_by}
-use Rattle.nx_combine.proofs.lemmas.Held.{Begins, HasNone, Joins, begins_one, index_joined-take}
+use Rattle.nx_combine.proofs.lemmas.Held.{begins_one, index_joined-take}
 use Rattle.nx_combine.proofs.lemmas.Held.{joined_at-take, joined_at_index, joins_one, no_family}
 use Rattle.nx_combine.proofs.lemmas.Held.{take-begun, there-take}
 

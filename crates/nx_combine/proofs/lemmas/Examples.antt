@@ -1,22 +1,13 @@
 -- The definitions, evaluated on worked examples.
-use Rattle.std.proofs.Common.{◌≡◌, ℕ, Bool, true, false, List, [], ◌∷◌, ◌++◌, map, Some, None, refl, lit≤}
+use Rattle.std.proofs.Common.{◌≡◌, ℕ, true, false, List, [], ◌∷◌, ◌++◌, map, refl}
 use Rattle.std.specs.Prelude.{codes, slice_set}
 use Rattle.std.specs.List.{range_with_len}
-use Rattle.nx_code.specs.Reading.{Reception, character_of, combination, idle, lost, text}
+use Rattle.nx_code.specs.Reading.{Reception, character_of, combination, idle, lost}
 use Rattle.nx_code.specs.Table.{row_of, table}
-use Rattle.nx_code.specs.declared.shifts.Shift.TheVariants.{Figures}
-use Rattle.nx_envelope.specs.Copies.{Ending, beginnings, ending_by_marker, ending_of}
+use Rattle.nx_envelope.specs.Copies.{beginnings, ending_by_marker, ending_of}
 use Rattle.nx_envelope.specs.private.Reading.{marker_read}
-use Rattle.nx_envelope.specs.declared.found.How.{How}
-use Rattle.nx_envelope.specs.declared.found.How.TheVariants.{Full, Cut}
-use Rattle.nx_envelope.specs.declared.identity.Identity.{Identity}
-use Rattle.nx_copies.specs.copies.FoundCopies.{TaggedCopy}
-use Rattle.nx_combine.specs.CombinedPrinting.{entry_made_combined, if_printed_combined}
-use Rattle.nx_combine.specs.CombinedPrinting.{is_better_than_before, is_entered_combined}
-use Rattle.nx_combine.specs.CombinedPrinting.{is_printed_combined, printed_combined}
-use Rattle.nx_combine.specs.CopyPositions.{HeardCopy, positions_for, sure_count}
-use Rattle.nx_combine.specs.Families.{CombinedCopy, combined_copies, combined_copy, families_after}
-use Rattle.nx_combine.specs.Families.{given_by, index_joined}
+use Rattle.nx_envelope.specs.declared.found.How.TheVariants.{Full}
+use Rattle.nx_combine.specs.CopyPositions.{sure_count}
 use Rattle.nx_combine.specs.Joining.{count_of_differing, count_of_same, is_of_one_text, joined}
 use Rattle.nx_combine.specs.PositionEnds.{end_of, ending_by, raw_text_of}
 

@@ -5,7 +5,7 @@ use Rattle.std.proofs.Common.{take, nat_lt, refl, sym, ap, ap₂, ◌∙◌, sub
 use Rattle.std.proofs.Math.ListN.{set}
 use Rattle.std.proofs.Math.Seq.{take-set-lt}
 use Rattle.std.proofs.lemmas.Bool.{le-ltb, lt-ltb, ltb-false, ltb-true}
-use Rattle.std.proofs.lemmas.List.{length-set, length-take}
+use Rattle.std.proofs.lemmas.List.{length-take}
 use Rattle.std.proofs.lemmas.Option.{slice_get_within}
 use Rattle.std.specs.List.{position_or_len, prefix_len}
 use Rattle.std.specs.Prelude.{position, slice_get}
@@ -13,7 +13,7 @@ use Rattle.std.specs.Option.{option_and_then, option_map, option_map_or}
 use Rattle.circular_buffer.proofs.Places.{slice_get-take}
 use Rattle.nx_envelope.specs.Identity.{same_identity}
 use Rattle.nx_combine.specs.CopyPositions.{HeardCopy}
-use Rattle.nx_combine.specs.Families.{CombinedCopy, Family, alone, begun_by, combined_at, combined_copy}
+use Rattle.nx_combine.specs.Families.{Family, alone, begun_by, combined_copy}
 use Rattle.nx_combine.specs.Families.{families_after, has_family, index_joined, joined_at, joined_by}
 use Rattle.nx_combine.specs.Families.{joins_at, last_index, takes_in, together}
 

@@ -1,6 +1,6 @@
 -- Nothing is invented: each combination of a family was taken at its index by one of its copies.
-use Rattle.std.proofs.Common.{◌≡◌, ◌≢◌, ◌⊎◌, inl, inr, ℕ, zero, suc, ◌+◌, ◌-◌, ◌<◌, Bool, true, false}
-use Rattle.std.proofs.Common.{if◌then◌else◌, ◌&&◌, Option, Some, None, List, [], ◌∷◌, ◌++◌, length}
+use Rattle.std.proofs.Common.{◌≡◌, ◌≢◌, ◌⊎◌, inl, inr, ℕ, zero, suc, ◌-◌, Bool, true, false}
+use Rattle.std.proofs.Common.{if◌then◌else◌, Option, Some, None, List, [], ◌∷◌, ◌++◌, length}
 use Rattle.std.proofs.Common.{refl, sym, ap, ◌∙◌, subst, arith, append_assoc, append-nil}
 use Rattle.std.proofs.Math.ListN.{set}
 use Rattle.std.proofs.lemmas.Bool.{eq-eqb, cases_eq}
@@ -15,7 +15,7 @@ use Rattle.nx_combine.specs.Families.{CombinedCopy, Family, alone, begun_by, com
 use Rattle.nx_combine.specs.Families.{combined_copy, families_after, has_family, index_joined, joined_at}
 use Rattle.nx_combine.specs.Families.{joined_by, together}
 use Rattle.nx_combine.specs.Joining.{joined, joined_position}
-use Rattle.nx_combine.specs.Laws.{InventNothing, IsOfFamily, WasTaken, joined_where}
+use Rattle.nx_combine.specs.Laws.{InventNothing, WasTaken, joined_where}
 use Rattle.nx_combine.proofs.lemmas.Joined.{slice_get-joined}
 
 -- A combination of the joined list is one of the two lists.

@@ -1,6 +1,6 @@
 -- Positions that are read one after the other, as those behind a header.
-use Rattle.std.proofs.Common.{◌≡◌, ◌≢◌, ℕ, zero, suc, ◌+◌, ◌<◌, ◌≤◌, inl, inr, Bool, true, false}
-use Rattle.std.proofs.Common.{Option, Some, None, List, [], ◌∷◌, ◌++◌, length, take, drop, get_or}
+use Rattle.std.proofs.Common.{◌≡◌, ◌≢◌, ℕ, ◌+◌, ◌<◌, ◌≤◌, inl, inr, true, false}
+use Rattle.std.proofs.Common.{Some, None, List, [], ◌∷◌, ◌++◌, length, take, drop, get_or}
 use Rattle.std.proofs.Common.{refl, sym, ap, ap₂, ◌∙◌, subst, arith, add-one, append_assoc, append-nil}
 use Rattle.std.proofs.Common.{is_some, unwrap_or}
 use Rattle.std.proofs.Math.Seq.{take-suc}
@@ -12,7 +12,7 @@ use Rattle.nx_code.specs.declared.shifts.Shift.{Shift}
 use Rattle.nx_code.specs.declared.shifts.Shift.TheVariants.{Figures}
 use Rattle.nx_code.proofs.lemmas.Reading.{shift_after_all-append, text-append, text-push}
 use Rattle.nx_envelope.specs.Copies.{Ending, closed_copy, ending_of, less_newline, raw_text}
-use Rattle.nx_envelope.specs.Finder.{BeginsCopy, BringsHeader, ClosesHeld, EndsReady, HappensAt}
+use Rattle.nx_envelope.specs.Finder.{ClosesHeld, EndsReady, HappensAt}
 use Rattle.nx_envelope.specs.Finder.{Keeps, StandsAfter, is_ready}
 use Rattle.nx_envelope.specs.Header.{Header}
 use Rattle.nx_envelope.specs.declared.finder.Finder.{Finder}

@@ -1,18 +1,18 @@
 -- The sendings of a message make one family, whatever is heard between them.
-use Rattle.std.proofs.Common.{◌≡◌, ◌≢◌, ◌⊎◌, inl, inr, ℕ, zero, suc, ◌+◌, ◌-◌, ◌*◌, ◌<◌, ◌≤◌, Bool, true}
+use Rattle.std.proofs.Common.{◌≡◌, ◌≢◌, ℕ, zero, suc, ◌+◌, ◌-◌, ◌<◌, ◌≤◌, Bool, true}
 use Rattle.std.proofs.Common.{false, not, cond, if◌then◌else◌, ◌&&◌, ◌||◌, nat_lt, Option, Some, None}
-use Rattle.std.proofs.Common.{unwrap_or, List, [], ◌∷◌, ◌++◌, length, map, refl, sym, ap, ap₂, ◌∙◌, subst}
+use Rattle.std.proofs.Common.{List, [], ◌∷◌, ◌++◌, length, map, refl, sym, ap, ap₂, ◌∙◌, subst}
 use Rattle.std.proofs.Common.{arith, append_assoc, append-nil, get_or}
 use Rattle.std.proofs.Math.ListN.{set}
-use Rattle.std.specs.Prelude.{slice_get, position, fold}
+use Rattle.std.specs.Prelude.{slice_get, fold}
 use Rattle.std.specs.List.{AllByRecursion, filter, position_or_len, prefix_len}
-use Rattle.std.specs.Option.{option_and_then, option_map, option_map_or}
-use Rattle.std.proofs.lemmas.Bool.{cases_eq, eq-eqb, le-ltb, lt-ltb, ltb-false, ltb-true}
+use Rattle.std.specs.Option.{option_and_then, option_map}
+use Rattle.std.proofs.lemmas.Bool.{le-ltb, lt-ltb, ltb-false, ltb-true}
 use Rattle.std.proofs.lemmas.List.{length-set}
 use Rattle.std.proofs.lemmas.List.Quantifiers.{position-Some}
 use Rattle.std.proofs.lemmas.Option.{slice_get_within, slice_get-get_or}
 use Rattle.circular_buffer.proofs.Places.{slice_get-set_same}
-use Rattle.nx_code.specs.Reading.{Reception, combination, idle, lost}
+use Rattle.nx_code.specs.Reading.{Reception}
 use Rattle.nx_envelope.specs.Copies.{Ending, errors_of}
 use Rattle.nx_envelope.specs.Identity.{same_identity}
 use Rattle.nx_envelope.specs.declared.found.How.TheVariants.{Full}
@@ -23,7 +23,7 @@ use Rattle.nx_copies.specs.copies.Printing.{is_full}
 use Rattle.nx_combine.specs.CopyPositions.{HeardCopy}
 use Rattle.nx_combine.specs.Families.{CombinedCopy, Family, begun_by, combined_copy, families_after}
 use Rattle.nx_combine.specs.Families.{combined, given_by, has_family, has_fewer_errors, is_better}
-use Rattle.nx_combine.specs.Families.{index_joined, joined_at, joined_by, joins_at, last_index, takes_in}
+use Rattle.nx_combine.specs.Families.{index_joined, joined_by, joins_at, last_index, takes_in}
 use Rattle.nx_combine.specs.Joining.{is_of_one_text, joined}
 use Rattle.nx_combine.specs.PositionEnds.{ending_by, up_to_end}
 use Rattle.nx_combine.proofs.lemmas.Combine.{how_given, text_given}

@@ -1,8 +1,8 @@
 -- The sendings of a message, taken together: what each of them has as it was sent makes a whole.
-use Rattle.std.proofs.Common.{◌≡◌, ◌⊎◌, inl, inr, ℕ, zero, suc, ◌+◌, ◌*◌, ◌<◌, ◌≤◌, max, Bool, true, false}
-use Rattle.std.proofs.Common.{not, if◌then◌else◌, nat_lt, Option, Some, None, List, [], ◌∷◌, length, take}
+use Rattle.std.proofs.Common.{◌≡◌, ◌⊎◌, inl, inr, ℕ, zero, suc, ◌+◌, ◌*◌, max, true, false}
+use Rattle.std.proofs.Common.{nat_lt, Option, Some, None, List, [], ◌∷◌, length, take}
 use Rattle.std.proofs.Common.{map, cond, refl, sym, ap, ap₂, ◌∙◌, arith}
-use Rattle.std.specs.Prelude.{slice_get, ◌==◌, fold}
+use Rattle.std.specs.Prelude.{slice_get, fold}
 use Rattle.std.specs.List.{AllByRecursion, zip}
 use Rattle.std.proofs.lemmas.Bool.{eq-eqb, lt-ltb}
 use Rattle.std.proofs.lemmas.Bool.Decides.{leb_tells}
@@ -14,7 +14,7 @@ use Rattle.nx_code.specs.Reading.{Reception, combination, idle, lost, text}
 use Rattle.nx_code.specs.declared.shifts.Shift.TheVariants.{Figures}
 use Rattle.nx_envelope.specs.Copies.{ending_of, less_newline}
 use Rattle.nx_combine.specs.Joining.{count_of_differing, count_of_same, is_of_one_text, joined}
-use Rattle.nx_combine.specs.Joining.{joined_position, took_two}
+use Rattle.nx_combine.specs.Joining.{took_two}
 use Rattle.nx_combine.specs.Laws.{CameThrough, IsHeardOf, IsTakenByOne, RunOnAlike, joined_all}
 use Rattle.nx_combine.specs.Laws.{joined_where}
 use Rattle.nx_combine.specs.PositionEnds.{end_of, ending_by, has_ended, up_to_end}

@@ -1,25 +1,23 @@
 -- A full text with no error stays letter for letter.
 use Rattle.std.proofs.Common.{◌≡◌, ◌≢◌, ℕ, zero, suc, ◌+◌, ◌-◌, ◌<◌, ◌≤◌, inl, inr, Bool, true, false}
 use Rattle.std.proofs.Common.{if◌then◌else◌, Option, Some, None, unwrap_or, is_some, List, [], ◌∷◌, ◌++◌}
-use Rattle.std.proofs.Common.{length, take, drop, get_or, refl, sym, ap, ap₂, ◌∙◌, subst, arith, add-one}
+use Rattle.std.proofs.Common.{length, take, drop, get_or, refl, sym, ap, ap₂, ◌∙◌, subst, arith}
 use Rattle.std.proofs.Common.{drop-cons, length-append, lit≤, cond}
-use Rattle.std.specs.Prelude.{slice_get, codes, ◌==◌}
-use Rattle.std.proofs.Math.Seq.{take-length, take-suc, take-append_seam}
-use Rattle.std.proofs.Math.ListN.{get_or-append}
+use Rattle.std.specs.Prelude.{slice_get, ◌==◌}
+use Rattle.std.proofs.Math.Seq.{take-length, take-suc}
 use Rattle.std.proofs.Common.{eqb}
 use Rattle.std.proofs.lemmas.Bool.{agree_below_at, eq-eqb}
 use Rattle.std.proofs.lemmas.Bool.Decides.{leb_tells}
 use Rattle.std.proofs.lemmas.List.{length-take, take-append-drop, take-append-le, get_or-take}
 use Rattle.std.proofs.lemmas.List.{get_or-append-add}
 use Rattle.std.proofs.lemmas.List.Sums.{sum_by-append, sum_by-cons}
-use Rattle.std.proofs.lemmas.Option.{slice_get_read, slice_get_within, slice_get-get_or}
+use Rattle.std.proofs.lemmas.Option.{slice_get_within, slice_get-get_or}
 use Rattle.nx_code.specs.Reading.{Reception, asterisk, combination, idle, lost, shift_after_all, text}
 use Rattle.nx_code.specs.declared.shifts.Shift.TheVariants.{Figures}
 use Rattle.nx_code.proofs.lemmas.Reading.{text-append}
-use Rattle.nx_envelope.specs.Copies.{Ending, ending_of, errors_of, less_newline, most_found}
-use Rattle.nx_envelope.specs.Ending.{EndsAtMarker, IsEnding, IsUnended}
+use Rattle.nx_envelope.specs.Copies.{Ending, ending_of, errors_of, less_newline}
+use Rattle.nx_envelope.specs.Ending.{EndsAtMarker}
 use Rattle.nx_envelope.specs.Header.{EndsWith, EndsWithMarker, end_marker}
-use Rattle.nx_envelope.specs.declared.found.How.{How}
 use Rattle.nx_envelope.specs.declared.found.How.TheVariants.{Cut, Full, Long}
 use Rattle.nx_envelope.specs.declared.identity.Identity.{Identity}
 use Rattle.nx_envelope.proofs.lemmas.copies.Endings.{ended_both, open_both}

@@ -1,10 +1,7 @@
-use Rattle.std.proofs.Common.{◌≡◌, ℕ, List, refl, sym, ap, ◌∙◌}
-use Rattle.nx_code.specs.Reading.{Reception}
+use Rattle.std.proofs.Common.{refl, sym, ap, ◌∙◌}
 use Rattle.nx_envelope.specs.Copies.{errors_of}
-use Rattle.nx_envelope.specs.declared.identity.Identity.{Identity}
 use Rattle.nx_copies.specs.copies.FoundCopies.{headed_copy}
-use Rattle.nx_combine.specs.Families.{given_by, is_better}
-use Rattle.nx_combine.specs.PositionEnds.{HasRead}
+use Rattle.nx_combine.specs.Families.{given_by}
 use Rattle.nx_combine.proofs.lemmas.Combine.{chosen_own, given_chosen, gives, how_given, text_given}
 use Rattle.nx_combine.proofs.combining.given_in_place.Goals as goal
 

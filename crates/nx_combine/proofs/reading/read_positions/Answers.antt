@@ -1,4 +1,4 @@
-use Rattle.std.proofs.Common.{◌≡◌, ◌≢◌, ℕ, Bool, true, false, Option, Some, None, sym, ◌∙◌, ◌+◌, ap, refl}
+use Rattle.std.proofs.Common.{◌≡◌, ◌≢◌, ℕ, true, false, Option, Some, None, sym, ◌∙◌, ◌+◌, ap, refl}
 use Rattle.nx_code.specs.Reading.{Reception, byte_of, shift_after}
 use Rattle.nx_code.specs.Taken.{reception_of}
 use Rattle.nx_code.specs.declared.shifts.Shift.{Shift}

@@ -1,4 +1,4 @@
-use Rattle.std.proofs.Common.{◌≡◌, ℕ, List, Bool, true, false, Option, Some, None, refl, sym, ap, ◌∙◌}
+use Rattle.std.proofs.Common.{◌≡◌, ℕ, Option, Some, None, refl, sym, ◌∙◌}
 use Rattle.nx_combine.specs.Combining.{heard_of}
 use Rattle.nx_combine.specs.Families.{joined_by}
 use Rattle.nx_combine.proofs.lemmas.Combine.{answers_begun, answers_joined, answers_none}
