@@ -3,10 +3,13 @@ the figure shift, two digits, a carriage return and a line feed (ITU-R M.540).
 
 Where one letter of a header is damaged the receiver prints nothing of the message. So what is fixed
 is written as it is known, where all of it together is sure. The identity isn't guessed: it is
-written where its four characters together are as sure as a word has to be. A header begins only
-behind phasing, or behind an end of a message; so no text is taken for one.
+written where its four characters together are surer than a word has to be, since a wrong one names
+another message. A header begins only behind phasing, or behind an end of a message; so no text is
+taken for one.
 """
 import numpy as np
+
+from likelihood import log_sum, part
 
 LETTERS = [*range(26)]                                                # by their number in TRAFFIC
 DIGITS = [ord(letter) - ord("A") for letter in "PQWERTYUIO"]          # 0 to 9, in figures
@@ -14,6 +17,7 @@ RETURN, FEED, LETTER_SHIFT, FIGURE_SHIFT, SPACE = range(26, 31)
 Z, C, N = (ord(letter) - ord("A") for letter in "ZCN")
 FORM = [[Z], [C], [Z], [C], [SPACE], LETTERS, LETTERS, [FIGURE_SHIFT], DIGITS, DIGITS, [RETURN], [FEED]]
 IDENTITY = [place for place, those in enumerate(FORM) if len(those) > 1]
+NAMED = 0.999         # the identity is written where it is so probable
 OFTEN = 0.02          # how often a header begins at a position where it may
 WAITED = 14           # positions that aren't sure at most, from phasing or an end to a header
 END = 4               # N of an end
@@ -46,7 +50,7 @@ def header(models, combination, sure):
     """The numbers in TRAFFIC of the words of a header, None for those that aren't sure; None where
     it isn't sure that there is one. Given are the likelihoods of the pairs at each of its positions,
     of which the first ones are those of TRAFFIC, with the prior of a `combination`."""
-    whole = models.max(1) + np.log(np.sum(np.exp(models - models.max(1, keepdims=True)), 1))
+    whole = log_sum(models)
     odds = np.log(OFTEN / (1 - OFTEN))
     words, shares = [], np.ones(len(FORM))
     for place, those in enumerate(FORM):
@@ -54,10 +58,10 @@ def header(models, combination, sure):
         odds += np.log(here.mean() + 1e-300) - np.log(combination)
         words.append(those[here.argmax()])
         shares[place] = here.max() / (here.sum() + 1e-300)
-    share = 1 / (1 + np.exp(-np.clip(odds, -30, 30)))
+    share = part(odds)
     if share < sure:
         return None
     for place in sorted(IDENTITY, key=lambda place: -shares[place]):
         share *= shares[place]
-        words[place] = words[place] if share >= sure else None
+        words[place] = words[place] if share >= NAMED else None
     return words

@@ -3,9 +3,9 @@
 // It is ZCZC, a space, two letters, the figure shift, two digits, a carriage return and a line feed
 // (ITU-R M.540). Where one letter of a header is damaged the receiver prints nothing of the
 // message. So what is fixed is written as it is known, where all of it together is sure. The
-// identity isn't guessed: it is written where its four characters together are as sure as a word
-// has to be. A header begins only behind phasing, or behind an end of a message; so no text is
-// taken for one.
+// identity isn't guessed: it is written where its four characters together are surer than a word
+// has to be, since a wrong one names another message. A header begins only behind phasing, or
+// behind an end of a message; so no text is taken for one.
 
 import { probability } from './likelihood.js';
 import { sum } from './numbers.js';
@@ -18,6 +18,7 @@ const FORM = [
     ...Array.from('ZCZC', (letter) => [numberOf(letter)]), [SPACE], ALPHABET, ALPHABET,
     [FIGURE_SHIFT], DIGITS, DIGITS, [RETURN], [FEED],
 ];
+const NAMED = 0.999;         // the identity is written where it is so probable
 const OFTEN = 0.02;          // how often a header begins at a position where it may
 const WAITED = 14;           // positions that aren't sure at most, from phasing or an end to a header
 const END = 4;               // N of an end
@@ -70,7 +71,7 @@ export function headerOf(models, sure) {
     identity.sort((one, other) => places[other].share - places[one].share);
     for (const place of identity) {
         share *= places[place].share;
-        words[place] = share >= sure ? words[place] : null;
+        words[place] = share >= NAMED ? words[place] : null;
     }
     return words;
 }
