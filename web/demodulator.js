@@ -12,8 +12,8 @@
 // - receive.py: sound/rates.js, sound/middle.js, sound/mixer.js, sound/clock.js,
 //   sound/swings.js
 // - sendings.py: sound/sendings.js, and what it needs: sound/loudness.js, sound/cases.js,
-//   sound/likelihood.js, sound/words.js, sound/phase.js, sound/carried.js, sound/ways.js,
-//   sound/jumps.js, sound/store.js
+//   sound/words.js, sound/phase.js, sound/carried.js, sound/ways.js, sound/jumps.js, sound/store.js
+// - headers.py, levels.py, likelihood.py: sound/headers.js, sound/levels.js, sound/likelihood.js
 // - plain.py: sound/plain.js
 
 import { otherRate } from './sound/find.js';

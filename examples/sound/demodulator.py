@@ -58,14 +58,14 @@ class Demodulator:
     def hear_piece(self, samples):
         self.spectrum.hear(samples)
         self.follow()
-        begins, upper, lower = self.clock.hear(self.mixer.hear(samples, self.middle))
+        begins, upper, lower, energies = self.clock.hear(self.mixer.hear(samples, self.middle))
         if self.clock.is_moved:
             self.sendings.moved = self.begins.end
         if self.clock.is_other:       # elements before it weren't counted rightly
             self.sendings.forget(self.begins.end)
         self.outside += self.clock.is_outside
         self.begins.add(begins.real)
-        told = self.sendings.hear(upper, lower, np.full(len(upper), self.middle))
+        told = self.sendings.hear(upper, lower, energies.real, np.full(len(upper), self.middle))
         self.locks += self.locked and not self.was
         self.was = self.locked
         self.place = self.middle if self.locked else self.place

@@ -146,7 +146,8 @@ class Clock:
         self.is_other = False               # whether the rate did so
 
     def hear(self, samples):
-        """(begins, upper, lower): where the new elements begin, in samples, and r of both tones."""
+        """(begins, upper, lower, energies): where the new elements begin, in samples, r of both
+        tones, and the mean of |x|^2."""
         self.heard = np.concatenate((self.heard, samples))
         size = PER * PIECE
         told, self.is_moved, self.is_other = [], False, False
@@ -156,7 +157,7 @@ class Clock:
             if len(self.swings) > AHEAD:
                 told.append(self.piece())
         if not told:
-            return np.zeros((3, 0))
+            return np.zeros((4, 0))
         return np.concatenate(told, 1)
 
     def swing(self, first):
@@ -187,9 +188,10 @@ class Clock:
             self.next += PER + slip + min(max(late() / 8, -0.02 * PER), 0.02 * PER)
         begins = np.array(begins)
         pair = [self.tone(begins, sign) for sign in (1, -1)]
+        energies = self.energies(begins)
         drop = max(0, int(self.next) - self.begin - 2 * PER)
         self.heard, self.begin = self.heard[drop:], self.begin + drop
-        return np.array([begins, *pair])
+        return np.array([begins, *pair, energies])
 
     def place(self):
         """Where elements begin in the middle of the oldest piece, and whether the place changed at
@@ -234,3 +236,9 @@ class Clock:
         sums = np.concatenate(([0], np.cumsum(heard * np.exp(-1j * turns * places))))
         at = lambda t: np.interp(t - self.begin, np.arange(len(sums)), sums)
         return (at(begins + PER) - at(begins)) * np.exp(1j * turns * begins) / PER
+
+    def energies(self, begins):
+        """The mean of |x|^2 over each element."""
+        sums = np.concatenate(([0], np.cumsum(np.abs(self.heard) ** 2)))
+        at = lambda t: np.interp(t - self.begin, np.arange(len(sums)), sums)
+        return (at(begins + PER) - at(begins)) / PER

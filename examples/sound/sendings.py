@@ -8,6 +8,8 @@ tone over an element, A its size where the tone is sent, N the power of noise in
 import numpy as np
 
 import headers
+import levels
+from likelihood import log_i0, log_sum, part
 
 TRAFFIC = [int(n, 16) for n in (            # the 32 traffic combinations (ITU-R M.476, M.625)
     "47 72 1D 53 56 1B 35 69 4D 17 1E 65 39 59 71 2D "
@@ -23,6 +25,7 @@ FARTHEST = 30                               # elements that words jump at most
 JUMP, MOVED = 14.0, 7.0                     # evidence for it; and where the clock jumped too
 RARE = 0.001                                # places of a jump that are less likely cut no words
 BLIND = 20                                  # elements that tell nothing at most, where the clock jumped
+WAYS = 6                                    # ways to see a word: `seen`
 WANDER = 0.2                                # how fast the phase is forgotten, for each word in between
 EVER = 1 << 60                              # the last element of a stretch without an end
 PAIR = 0.06                                 # for a lock one tone has this part of the other's A^2
@@ -53,23 +56,6 @@ PHASING = len(TRAFFIC)                      # the number of phasing among them
 COMBINATION = 0.75 / 32                     # how often each combination is sent
 PRIOR = np.log([COMBINATION] * 32 + [0.20, 0.02])
 LAST = np.log(0.001)                        # an end position: P1, and no second sending
-BESSEL = np.linspace(0, 40, 1601), np.log(np.i0(np.linspace(0, 40, 1601)))
-
-
-def log_i0(x):
-    """ln I0(x), the modified Bessel function of order 0: a table to 40, then x - ln(2 pi x) / 2."""
-    return np.where(x < 40, np.interp(x, BESSEL[0], BESSEL[1]), x - 0.5 * np.log(2 * np.pi * x + 1e-9) + 0.003)
-
-
-def log_sum(x):
-    """ln(sum of e^x) over the last axis."""
-    top = np.max(x, -1, keepdims=True)
-    return top[..., 0] + np.log(np.sum(np.exp(x - top), -1))
-
-
-def part(odds):
-    """The probability of which the logarithm of the odds is given."""
-    return 1 / (1 + np.exp(-np.clip(odds, -30, 30)))
 
 
 def likely(power, loud, noise):
@@ -171,18 +157,22 @@ class Sendings:
         self.tones = Store(2, dtype=complex)     # r of the upper and of the lower tone
         self.mixed_by = Store()                  # the frequency that they were mixed down by
         self.state = Store(2, 4)                 # of each tone A^2, A / N, A^2 / N, and its likelihood
+        self.energies = Store()                  # the whole energy of the element
+        self.levels = levels.Levels()
+        self.leveled = Store(2, 4)               # as `state`, where levels and bursts are told
         self.words = Store(129)                  # the likelihood of each word that begins here: `spoilt`
         self.proof = Store(2)                    # that of a position that begins here; exchanged
         self.slopes = Store(2, dtype=complex)    # how the phase of its words grows; exchanged
         self.phasors = Store(2, 2, dtype=complex)  # the phase of DX, and of RX; exchanged
         self.out = Store(dtype=int)
         self.told = 0
-        self.ways = np.zeros(3)                  # what spoke of late for each way to see the phase
+        self.ways = np.zeros(WAYS)                  # what spoke of late for each way to see the phase
         self.header_place = headers.Place()      # whether a header may begin
         self.header = {}                         # the numbers of its words, by where they are told
 
-    def hear(self, upper, lower, middle):
+    def hear(self, upper, lower, energies, middle):
         self.tones.add(np.array([upper, lower]).T)
+        self.energies.add(energies)
         self.mixed_by.add(middle)
         self.hear_tones()
         self.hear_words()
@@ -202,7 +192,8 @@ class Sendings:
 
     def hear_tones(self):
         """A^2 and N of each tone, by two rounds of expectation and maximisation over the elements
-        near it (Dempster, Laird and Rubin 1977); then what each of the cases makes of them."""
+        near it (Dempster, Laird and Rubin 1977); then what each of the cases makes of them. Beside
+        it what the levels make of it."""
         first, end = self.state.end, self.tones.end - BEHIND
         if end <= first:
             return
@@ -225,6 +216,10 @@ class Sendings:
         sizes = np.sqrt(loud) / noise * (shares @ (np.sqrt(PARTS[:2]) / PARTS[2:]).T)
         ratios = loud / noise * (shares @ (PARTS[:2] / PARTS[2:]).T)
         self.state.add(np.stack((loud, sizes, ratios, likes), 2))
+        since = max(0, end - levels.LATELY)
+        power = np.abs(self.tones[since:end + BEHIND]) ** 2 + 1e-15
+        energy = np.maximum(self.energies[since:end + BEHIND], 0) + 1e-15
+        self.leveled.add(self.levels.hear(power, energy, first - since, end - since))
 
     def hear_words(self):
         """The likelihood of each word: the sum of those of its elements, without their phase."""
@@ -288,7 +283,7 @@ class Sendings:
                 self.single += self.is_tuned
                 return
             self.slot = int(best[0]) if self.slot is None else self.slot
-            self.lock, self.exchanged, self.ways = self.slot, bool(best[1]), np.zeros(3)
+            self.lock, self.exchanged, self.ways = self.slot, bool(best[1]), np.zeros(WAYS)
             self.doubts = -np.inf
             step = (int(best[0]) - self.slot + TURN // 2) % TURN - TURN // 2
             if step:
@@ -379,18 +374,21 @@ class Sendings:
             self.out[begin:begin + WORD][:] = PATTERNS[word]
 
     def seen(self, told, off):
-        """What speaks for each pair of words of the position that is told there, in three ways:
+        """What speaks for each pair of words of the position that is told there, in six ways:
         without phase, with a phase that goes on through a word, and with one that goes on from the
-        words beside it too."""
-        rows = np.zeros((3, 2, 129))
+        words beside it too; each by the cases near an element, and by the levels."""
+        rows = np.zeros((WAYS, 2, 129))
         for is_rx, begin in enumerate((self.heard(told), self.heard(told + GAP))):
             if begin is not None:
+                begun = np.array([0, self.carried(begin, is_rx, off)])
                 rows[0, is_rx] = self.words[begin]
-                rows[1:, is_rx] = spoilt(self.with_phase(begin, off, np.array([0, self.carried(begin, is_rx, off)])))
+                rows[1:3, is_rx] = spoilt(self.with_phase(self.state, begin, off, begun))
+                rows[3, is_rx] = spoilt(self.leveled[begin:begin + WORD][:, :, 3].T.reshape(-1) @ PICK)
+                rows[4:, is_rx] = spoilt(self.with_phase(self.leveled, begin, off, begun))
         return pairs(rows[:, 0], rows[:, 1], self.exchanged)
 
     def mixed(self, told, ways):
-        """These three together, by what spoke for each of late. What a word tells that a jump may
+        """These ways together, by what spoke for each of late. What a word tells that a jump may
         cut is added, as `joined` has it without phase."""
         models = log_sum((ways + self.ways[:, None]).T) - log_sum(self.ways)
         return models + self.joined[told] - ways[0] if told in self.joined else models
@@ -399,13 +397,12 @@ class Sendings:
         """Looks for a header that begins here, where one may."""
         if self.header or not self.header_place.is_open or len(self.stretches) > 1:
             return
-        places = TURN * np.arange(len(headers.FORM))
-        models = []
-        for told in self.told + places:
-            models.append(self.mixed(told, self.seen(told, self.off_at(told - self.told + place))))
-        words = headers.header(np.array(models), COMBINATION, SURE)
+        told = self.told + TURN * np.arange(len(headers.FORM))
+        offs = [self.off_at(place + one - self.told) for one in told]
+        models = np.array([self.mixed(one, self.seen(one, off)) for one, off in zip(told, offs)])
+        words = headers.header(models, COMBINATION, SURE)
         if words is not None:
-            self.header = dict(zip(self.told + places, words))
+            self.header = dict(zip(told, words))
 
     def count(self, dx):
         """Counts a position: words that aren't sure count only between sure ones of a lock."""
@@ -443,12 +440,12 @@ class Sendings:
                 total += phasor * np.exp(-2j * np.pi * turns) / (1 + WANDER * abs(words) * np.abs(phasor))
         return total
 
-    def with_phase(self, place, off, begun):
+    def with_phase(self, state, place, off, begun):
         """The likelihood of each word whose tones follow each other without a jump of phase:
         ln I0(|b + sum of 2 A r e^(-i phi) / N|) - ln I0(|b|) - sum of A^2 / N; phi grows by 0.85
         turns an element, and b is what is known of the phase in which the word begins: a row for
         each."""
-        state = self.state[place:place + WORD]
+        state = state[place:place + WORD]
         rows = 2 * state[:, :, 1] * self.tones[place:place + WORD]
         rows = rows * np.exp(-2j * np.pi * off * T * np.arange(WORD))[:, None]
         total = np.sum(np.where(PATTERNS, rows[:, 0], rows[:, 1]) * TURNED, 1)

@@ -39,7 +39,7 @@ export class Clock {
         return this.swings.isOutside;
     }
 
-    /** The new elements of each piece: where they begin, in samples, and both tones in them. */
+    /** The new elements of each piece: where they begin, in samples, both tones in them, and their energy. */
     hear(samples) {
         this.heard = this.heard.and(samples);
         const size = PER * PIECE;
@@ -80,10 +80,11 @@ export class Clock {
         const begins = this.begins();
         const upper = this.tones(begins, 1);
         const lower = this.tones(begins, -1);
+        const energy = this.energies(begins);
         const drop = Math.max(0, Math.trunc(this.next) - this.begin - 2 * PER);
         this.heard = this.heard.part(drop);
         this.begin += drop;
-        return begins.map((begin, one) => ({ begin, upper: upper[one], lower: lower[one] }));
+        return begins.map((begin, one) => ({ begin, upper: upper[one], lower: lower[one], energy: energy[one] }));
     }
 
     /** Where the elements of the oldest piece begin. */
@@ -122,6 +123,17 @@ export class Clock {
             const sine = -sign * Math.sin(TONE_ANGLE * begin);
             return point(real * cosine - imaginary * sine, real * sine + imaginary * cosine);
         });
+    }
+
+    /** The mean of |x|^2 over each element. */
+    energies(begins) {
+        const { real, imaginary } = this.heard;
+        const sums = new Float64Array(this.heard.length + 1);
+        for (let place = 0; place < this.heard.length; place++) {
+            sums[place + 1] = sums[place] + real[place] ** 2 + imaginary[place] ** 2;
+        }
+        return begins.map((begin) =>
+            (between(sums, begin - this.begin + PER) - between(sums, begin - this.begin)) / PER);
     }
 }
 

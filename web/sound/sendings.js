@@ -3,11 +3,12 @@
 import { carriedPhase, NO_PHASE, PHASORS } from './carried.js';
 import { HEADER_POSITIONS, headerOf, HeaderPlace } from './headers.js';
 import { findJump, ON, TURN } from './jumps.js';
+import { LATELY, Levels } from './levels.js';
 import { BEFORE, BEHIND, inState, LOUD, SENT, STATE, statesOf } from './loudness.js';
-import { clip, modulo, placeOfGreatest, sum } from './numbers.js';
+import { clip, listOf, modulo, placeOfGreatest, sum } from './numbers.js';
 import { offBySlope, phasorOf, slopeOf, turnedBack, wordsWithPhase } from './phase.js';
 import { Store } from './store.js';
-import { Ways } from './ways.js';
+import { Ways, WAYS } from './ways.js';
 import {
     asHeard, DX, GAP, pairs, PAIRS, PATTERNS, PHASING_NUMBER, PHASING_ONE, PHASING_TWO, RX, UNHEARD, WORD, WORDS,
     wordsByElements, wordsByLikelihoods,
@@ -52,6 +53,9 @@ export class Sendings {
         this.tones = new Store(4);         // of the upper and of the lower tone, real and imaginary
         this.mixedBy = new Store(1);       // the frequency that they were mixed down by
         this.state = new Store(STATE);     // loudness of both tones, and how probable they are
+        this.energies = new Store(1);      // the whole energy of the element
+        this.levels = new Levels();
+        this.leveled = new Store(STATE);   // as `state`, where levels and bursts are told
         this.words = new Store(WORDS);     // how likely each word is that begins here
         this.proof = new Store(2);         // what speaks for a position that begins here; exchanged
         this.slopes = new Store(4);        // how the phase of its words grows; exchanged
@@ -62,7 +66,8 @@ export class Sendings {
 
     /** Takes elements, mixed down by this middle, and tells those that are decided. */
     hear(elements, middle) {
-        for (const { upper, lower } of elements) {
+        for (const { upper, lower, energy } of elements) {
+            this.energies.add([Math.max(energy, 0) + 1e-15]);
             this.tones.add([upper.real, upper.imaginary, lower.real, lower.imaginary]);
             this.mixedBy.add([middle]);
         }
@@ -90,19 +95,24 @@ export class Sendings {
         const end = this.tones.end - BEHIND;
         if (end > first) {
             const begin = Math.max(0, first - BEFORE);
-            const power = new Float64Array(2 * (this.tones.end - begin));
-            const tones = this.tones.rows(begin, this.tones.end);
-            for (let place = 0; place < power.length; place++) {
-                power[place] = tones[2 * place] ** 2 + tones[2 * place + 1] ** 2 + 1e-15;
-            }
-            this.state.add(statesOf(power, first - begin));
+            this.state.add(statesOf(this.power(begin), first - begin));
+            const since = Math.max(0, end - LATELY);
+            const energy = this.energies.rows(since, this.energies.end);
+            this.leveled.add(this.levels.hear(this.power(since), energy, first - since, end - since));
         }
+    }
+
+    /** The power of both tones in the elements from `begin` on. */
+    power(begin) {
+        const tones = this.tones.rows(begin, this.tones.end);
+        return listOf(2 * (this.tones.end - begin), (place) =>
+            tones[2 * place] ** 2 + tones[2 * place + 1] ** 2 + 1e-15);
     }
 
     /** How likely each word is: by each of its elements, without their phase. */
     hearWords() {
         for (let place = this.words.end; place + WORD <= this.state.end; place++) {
-            this.words.add(wordsByElements((element, tone) => this.state.get(place + element, inState(tone, SENT))));
+            this.words.add(this.wordBy(this.state, place));
         }
     }
 
@@ -282,9 +292,9 @@ export class Sendings {
     }
 
     /**
-     * How likely each pair of words of the position that is told there is, in three ways: without
+     * How likely each pair of words of the position that is told there is, in six ways: without
      * phase, with a phase that goes on through a word, and with one that goes on from the words
-     * beside it too.
+     * beside it too; each by the cases near an element, and by the levels.
      */
     seen(told, off) {
         const [dx, rx] = this.heardWords(told).map((at, isRx) => this.rows(at, isRx, off));
@@ -292,7 +302,7 @@ export class Sendings {
     }
 
     /**
-     * These three together, by what spoke for each of late. What a word tells that a jump may cut
+     * These ways together, by what spoke for each of late. What a word tells that a jump may cut
      * counts too, as `joined` has it without phase.
      */
     mixed(told, ways) {
@@ -314,15 +324,23 @@ export class Sendings {
         }
     }
 
-    /** How likely each word is that begins at an element, in each way to see its phase. */
+    /** How likely each word is that begins at an element, in each way to see it. */
     rows(place, isRx, off) {
         if (place === null) {
-            return [UNHEARD, UNHEARD, UNHEARD];
+            return Array.from({ length: WAYS }, () => UNHEARD);
         }
         const word = { place, isRx, isExchanged: this.exchanged, off };
-        const carried = carriedPhase(this.phasors, this.stretches[0], word);
-        const withPhase = wordsWithPhase(this.tones, this.state, place, off, [NO_PHASE, carried]);
-        return [this.row(place), ...withPhase.map(wordsByLikelihoods)];
+        const begun = [NO_PHASE, carriedPhase(this.phasors, this.stretches[0], word)];
+        const withPhase = (state) => wordsWithPhase(this.tones, state, place, off, begun).map(wordsByLikelihoods);
+        return [
+            this.row(place), ...withPhase(this.state),
+            this.wordBy(this.leveled, place), ...withPhase(this.leveled),
+        ];
+    }
+
+    /** How likely each word is that begins at an element, without its phase. */
+    wordBy(state, place) {
+        return wordsByElements((element, tone) => state.get(place + element, inState(tone, SENT)));
     }
 
     /** Writes a word; elements up to its end that nobody wrote are 0. */

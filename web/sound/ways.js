@@ -2,7 +2,7 @@
 
 import { listOf, sum } from './numbers.js';
 
-const WAYS = 3;          // without phase, with one that goes on through a word, and from word to word
+export const WAYS = 6;   // without phase, with one that goes on through a word, and from word to word; twice
 const REMEMBERED = 0.95; // how much of what spoke for a way before counts at the next position
 const LEAST = -6;        // what speaks for a way, over what speaks for the best one, at least
 
