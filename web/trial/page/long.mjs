@@ -12,7 +12,7 @@ const LATE = 0.02;      // the part of all answers that may come later, beside t
 const MEMORY = 200e6;   // bytes that the page may take more
 
 /** Asks the page each 10 ms, and keeps how late each answer is. */
-const ASKING = `
+const ASKING = `(() => {
     window.late = [];
     let due = performance.now() + 10;
     window.asking = setInterval(() => {
@@ -20,7 +20,7 @@ const ASKING = `
         window.late.push(Math.max(0, now - due));
         due = now + 10;
     }, 10);
-    true`;
+})()`;
 
 /** How late the page answered, in milliseconds, while it was asked. */
 async function answers(tab) {
