@@ -8,7 +8,7 @@ import { setTimeout as pause } from 'node:timers/promises';
 import { example, path } from '../waves.mjs';
 
 const MANY = 20000;
-const SLOW = 1000; // milliseconds that a message takes at most, with so many behind it
+const SLOW = 2000; // milliseconds that a message takes at most, with so many behind it
 
 /** Does something with the browser's store, in the page. */
 const inStore = (body) => `new Promise((resolve, reject) => {
@@ -59,19 +59,11 @@ async function triesMany({ tab }) {
     const loading = Date.now() - begun;
     assert.match(await tab.textOf('counts'), /^20002 messages, /);
     assert.equal(await tab.value("document.querySelectorAll('#list li').length"), 200);
-    await tab.value(`
-        window.added = null;
-        new MutationObserver(() => { window.added ??= performance.now(); })
-            .observe(document.getElementById('list'), { childList: true });
-        window.longest = 0;
-        new PerformanceObserver((list) => { for (const { duration } of list.getEntries()) {
-            window.longest = Math.max(window.longest, duration); } }).observe({ entryTypes: ['longtask'] });
-        true`).catch(() => {}); // not each browser tells long tasks
     const before = Date.now();
     await tab.hear(path('refused.air'));
     const took = Date.now() - before;
     assert.match(await tab.textOf('counts'), /^20003 messages, /);
-    assert.ok(took < SLOW + 1000, `a message took ${took} ms, with ${MANY} behind it; loading ${loading} ms`);
+    assert.ok(took < SLOW, `a message took ${took} ms, with ${MANY} behind it; loading ${loading} ms`);
     await tab.press('.unread button');
     await tab.set('words', 'message 777');
     await tab.until("document.getElementById('counts').textContent.includes(', 11 of them chosen')");
