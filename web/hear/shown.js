@@ -5,6 +5,7 @@ import { button, FREQUENCIES, made } from '../show/messages.js';
 const IDLE = 'Nothing is being heard.';
 const LOOKED_AT = 2000; // characters of the text as it arrives
 const ENDED = 50;       // sounds that are over and still named
+const APART = 50;       // milliseconds between two rows, and between two looks at how far a sound is
 
 const find = (id) => document.getElementById(id);
 
@@ -12,7 +13,8 @@ export class Shown {
     #faults;
     #tones;
     #on;
-    #sound = null; // the one that is shown
+    #sound = null;      // the one that is shown
+    #last = new Map();  // when something was shown, by what it is
 
     /** `on` is told `changed`, where a file may refuse others; `live`, where live sound is heard; `log`,
      *  of a log among the files. */
@@ -53,15 +55,16 @@ export class Shown {
     }
 
     row(channel, row) {
-        this.#tones.add(channel, row);
+        if (this.#isDue(`row ${channel}`)) this.#tones.add(channel, row);
     }
 
     status(channel, status) {
-        this.#tones.showStatus(channel, status);
+        if (this.#isDue(`status ${channel}`)) this.#tones.showStatus(channel, status);
     }
 
     /** How far it is, and the seconds that are left, or null. */
     progress(part, left) {
+        if (!this.#isDue('progress')) return;
         const some = left < 90 ? `${Math.ceil(left)} s` : `${Math.ceil(left / 60)} min`;
         find('progress-row').hidden = false;
         find('progress').value = part;
@@ -101,6 +104,14 @@ export class Shown {
         find('ended').prepend(made('li', '', words));
         find('ended').hidden = false;
         while (find('ended').childElementCount > ENDED) find('ended').lastElementChild.remove();
+    }
+
+    /** Whether something is shown again: a recording is heard faster than anybody looks. */
+    #isDue(what) {
+        const now = performance.now();
+        if (now - (this.#last.get(what) ?? -APART) < APART) return false;
+        this.#last.set(what, now);
+        return true;
     }
 
     /** Of two frequencies that are heard one is shown. */

@@ -36,6 +36,7 @@ export class Firefox {
             .map(([name, value]) => `user_pref(${JSON.stringify(name)}, ${JSON.stringify(value)});\n`).join(''));
         browser.#process = spawn(program, ['--headless', '--marionette', '--no-remote', '--profile', folder],
             { stdio: 'ignore', env: { ...process.env, HOME: folder } });
+        process.once('exit', () => browser.#process.kill('SIGKILL')); // it would go on alone
         await browser.#connect(`${folder}/MarionetteActivePort`);
         const alwaysMatch = { unhandledPromptBehavior: 'accept' };
         await browser.send('WebDriver:NewSession', { capabilities: { alwaysMatch } });

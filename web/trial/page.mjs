@@ -22,6 +22,8 @@ const TRIALS = { files, queue, long, live, store, alarm, looks, lacking };
 const [, , kind, program, room, pictures, ...names] = process.argv;
 const address = pathToFileURL(`${room}/navtex.html`).href;
 
+process.once('SIGTERM', () => process.exit(1)); // whoever stops this, stops the browser too
+
 /** Starts a browser that has kept nothing, for one trial. */
 async function started(name, options = []) {
     const folder = `${room}/${kind}-${name}`;

@@ -8,7 +8,7 @@ import { writeFileSync } from 'node:fs';
 const HOURS = 2;
 const WATCHED = 10000;  // milliseconds
 const ANSWER = 100;     // milliseconds in which the page answers
-const LATE = 0.02;      // the part of all answers that may come later than those of a page that does nothing
+const LATE = 0.02;      // the part of all answers that may come later, also of a page that does nothing
 const MEMORY = 200e6;   // bytes that the page may take more
 
 /** Asks the page each 10 ms, and keeps how late each answer is. */
@@ -46,8 +46,12 @@ async function triesTwoHours({ tab, room, kind }) {
     await tab.giveFiles('#file', `${room}/two-hours.wav`);
     await tab.until("document.querySelectorAll('#list li').length === 1");
     const all = await answers(tab);
-    assert.ok(lateOf(all) <= LATE + 2 * usual, `${kind}: of ${all.length} answers ${(100 * lateOf(all)).toFixed(1)} % `
-        + `came after ${ANSWER} ms, and ${(100 * usual).toFixed(1)} % of a page that does nothing`);
+    if (usual > LATE) {
+        console.log('ci/web: answers while sound is heard: left out, this machine does too much else');
+    } else {
+        const part = (100 * lateOf(all)).toFixed(1);
+        assert.ok(lateOf(all) <= LATE, `${kind}: of ${all.length} answers ${part} % came after ${ANSWER} ms`);
+    }
     assert.ok(await memory() - before < MEMORY);
     assert.ok(await tab.value("document.getElementById('progress').value > 0"));
     assert.match(await tab.textOf('left'), /^\d+ %, some \d+ (s|min) left$/);
