@@ -2,6 +2,7 @@
 pub mod QuietElements
 pub mod WordLoop
 pub mod channels
+pub mod copy_hearer
 pub mod emissions
 pub mod locks
 pub mod once

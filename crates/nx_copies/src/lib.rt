@@ -2,6 +2,7 @@
 //! is printed is defined here.
 #![tactic(auto)]
 
+mod copy_taker;
 mod entry;
 mod judging;
 mod lock_printer;
@@ -9,6 +10,7 @@ mod lock_reader;
 mod word_loop;
 mod writing;
 
+pub use copy_taker::{CopyTag, CopyTaker, Over};
 pub use entry::{Entry, EntryHead};
 pub use judging::judge;
 pub use lock_reader::LockReader;

@@ -28,7 +28,7 @@ ghost use Rattle.nx_copies.specs.copies.Log.{IsLog};
 ghost use Rattle.nx_copies.specs.copies.Printing.{entries_after, entries_made, printed_copies};
 ghost use Rattle.nx_receiver.specs.Receiver.{Receiving, Stands};
 ghost use Rattle.nx_copies.specs.copies.Shares.{MarkedCopy, copies_on, none_saved, saved_of, start_on, starts_from};
-ghost use Rattle.nx_receiver.specs.CopyHearing.{in_force};
+ghost use Rattle.nx_copies.specs.hearing.CopyHearing.{in_force};
 ghost use Rattle.nx_promises.specs.examples.Emission.{worked_log};
 ghost use Rattle.nx_receiver.specs.declared.air_file_runs.listening.Report.{Report};
 

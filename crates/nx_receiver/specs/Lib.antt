@@ -1,5 +1,4 @@
 pub mod Commands
-pub mod CopyHearing
 pub mod Listener
 pub mod Moments
 pub mod Receiver

@@ -15,8 +15,8 @@ use Rattle.nx_copies.specs.Events.{setting_after_all, elements}
 use Rattle.nx_copies.specs.copies.Log.{HasPrinted}
 use Rattle.nx_copies.specs.copies.Printing.{printed_copies, entries_after}
 use Rattle.nx_copies.specs.copies.FoundCopies.{TaggedCopy, copy_of, headed_copy}
-use Rattle.nx_receiver.specs.private.CopyHearer.{HearerStands}
-use Rattle.nx_receiver.specs.CopyHearing.{CopyHearing, in_force}
+use Rattle.nx_copies.specs.hearing.CopyHearer.{HearerStands}
+use Rattle.nx_copies.specs.hearing.CopyHearing.{CopyHearing, in_force}
 
 -- what contracts see of a receiver: its hearer, and its memory
 pub record Receiving (M : Type 0) : Type 0 where

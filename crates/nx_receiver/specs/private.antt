@@ -1,7 +1,4 @@
 pub mod Awaiting
-pub mod CopyHearer
-pub mod CopyTaker
-pub mod CopyTakerLaws
 pub mod ListenFaults
 pub mod Listener
 pub mod ListenerBegins

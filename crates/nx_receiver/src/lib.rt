@@ -3,7 +3,6 @@
 
 mod air_file_runs;
 mod command;
-mod copy_taker;
 mod fault;
 mod fresh_recall;
 mod listener;

@@ -19,12 +19,11 @@ ghost use Rattle.nx_copies.specs.copies.Shares.{Given, MarkedCopy, Starts, marke
 ghost use Rattle.nx_receiver.specs.private.Awaiting.{FinishesNext, HearsUpTo};
 
 use crate::command::Command;
-use crate::copy_taker::Over;
 use crate::fault::MomentFault;
 use crate::fresh_recall::FreshRecall;
 use crate::receiver::Receiver;
 use arrayvec::ArrayVec;
-use nx_copies::{Entry, EntryHead, MAX_ENTRY, spell_entry};
+use nx_copies::{Entry, EntryHead, MAX_ENTRY, Over, spell_entry};
 use nx_envelope::MAX_FOUND;
 use nx_fec::{Channel, PackedElements};
 use nx_memory::{Listed, Recall, RingRecall, Saved, SavedSet, Selection, Vital};

@@ -21,12 +21,11 @@ ghost use Rattle.nx_copies.specs.copies.Printing.{entries_after, printed_copies}
 ghost use Rattle.nx_receiver.specs.Receiver.{HandsOutNoneBefore, HeadsText, RefusesStart, Stands, TakesEvent, entry_list, headed_list, text_of};
 ghost use Rattle.nx_receiver.specs.private.Awaiting.{Awaits, FinishesNext, HearsUpTo};
 ghost use Rattle.nx_copies.specs.copies.FoundCopies.{TaggedCopy};
-ghost use Rattle.nx_receiver.specs.private.CopyHearer.{ready_copies};
+ghost use Rattle.nx_copies.specs.hearing.CopyHearer.{ready_copies};
 
 use crate::command::Command;
-use crate::copy_taker::{CopyTag, CopyTaker, Over};
 use crate::fault::{MomentFault, ReceiverFault, check_moment};
-use nx_copies::{Entry, EntryHead, hear_elements, judge};
+use nx_copies::{CopyTag, CopyTaker, Entry, EntryHead, Over, hear_elements, judge};
 use nx_envelope::{Identity, LAST_MOMENT, Letter, MAX_FOUND};
 use nx_fec::{MAX_ELEMENTS, PackedElements};
 use nx_memory::{Listed, Recall, RingRecall, Saved, Selection, Vital};
@@ -52,7 +51,7 @@ impl<M: Recall> Model for Receiver<M> {
     ghost use Rattle.nx_memory.specs.private.RefusedCode.{refused_code};
     ghost use Rattle.nx_receiver.specs.Receiver.{Receiving};
     ghost use Rattle.nx_receiver.specs.private.Awaiting.{IsInOrder};
-    ghost use Rattle.nx_receiver.specs.private.CopyTaker.{hearer_of};
+    ghost use Rattle.nx_copies.specs.hearing.CopyTaker.{hearer_of};
     ghost use Rattle.nx_memory.specs.Memory.{newest_moment};
 
     ghost Value = { Receiving M };

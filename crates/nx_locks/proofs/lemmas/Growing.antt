@@ -14,7 +14,7 @@ use Rattle.nx_copies.specs.copies.LockText.{bytes_of, text_by}
 use Rattle.nx_copies.specs.ReaderWords.{word_place}
 use Rattle.nx_copies.specs.copies.LockText.{text_after}
 use Rattle.nx_copies.proofs.lemmas.locks.Texts.{bytes_are_reading, lock_text-more}
-use Rattle.nx_receiver.proofs.lemmas.copy_hearer.Bits as watching
+use Rattle.nx_copies.proofs.lemmas.copy_hearer.Bits as watching
 use Rattle.nx_locks.specs.LockText.{headers_shown, shown_text, wrong_words}
 use Rattle.nx_locks.specs.Report.{AreShown, IsClosing, IsOpened, IsOpening, IsShown, moment_at}
 use Rattle.nx_locks.specs.Report.{past_headers}

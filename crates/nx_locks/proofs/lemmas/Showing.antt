@@ -6,7 +6,7 @@ use Rattle.nx_code.specs.Packed.{elements_of_numbers, packed_part}
 use Rattle.nx_sync.specs.Steps.{LockStands}
 use Rattle.nx_sync.specs.Synchroniser.{Held, StandsAfter}
 use Rattle.nx_sync.specs.declared.step.Change.TheVariants.{Locked}
-use Rattle.nx_receiver.proofs.lemmas.copy_hearer.Packed.{all_is}
+use Rattle.nx_copies.proofs.lemmas.copy_hearer.Packed.{all_is}
 use Rattle.nx_locks.specs.ReportText.{last_line}
 use Rattle.nx_locks.specs.private.Taker.{Closes, Hears, TakerShows, Taking, all_at}
 use Rattle.nx_locks.specs.private.Showing.{EndsShown, HearsAll, Showing}

@@ -7,7 +7,7 @@ use Rattle.nx_receiver.specs.Receiver.{Receiving, Stands, events_of_pieces, elem
 use Rattle.nx_copies.specs.copies.FoundCopies.{TaggedCopy}
 use Rattle.nx_copies.proofs.lemmas.printing.Logged.{one_printed}
 use Rattle.nx_receiver.proofs.lemmas.receiver.Printing.{has_printed}
-use Rattle.nx_receiver.proofs.lemmas.copy_hearer.Hears.{has_ended}
+use Rattle.nx_copies.proofs.lemmas.copy_hearer.Hears.{has_ended}
 use Rattle.nx_promises.proofs.cuttings_print_the_same.Goals as goal
 
 events-of_elements : (pieces : List (List Bool))

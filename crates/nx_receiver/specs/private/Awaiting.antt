@@ -11,9 +11,9 @@ use Rattle.nx_copies.specs.copies.FoundCopies.{TaggedCopy}
 use Rattle.nx_copies.specs.copies.Log.{HasPrinted}
 use Rattle.nx_copies.specs.copies.Printing.{printed_copies, entries_after}
 use Rattle.nx_receiver.specs.Receiver.{Receiving, Stands}
-use Rattle.nx_receiver.specs.declared.copy_taker.Over.{Over}
-use Rattle.nx_receiver.specs.private.CopyHearer.{IsOver}
-use Rattle.nx_receiver.specs.CopyHearing.{in_force}
+use Rattle.nx_copies.specs.declared.copy_taker.Over.{Over}
+use Rattle.nx_copies.specs.hearing.CopyHearer.{IsOver}
+use Rattle.nx_copies.specs.hearing.CopyHearing.{in_force}
 
 -- The receiver stands after these elements but for what is over with the last of them, which is yet
 -- to be finished: the log is what is printed of the copies that ended before it.

@@ -13,7 +13,7 @@ use Rattle.nx_receiver.specs.Receiver.{Receiving, Stands}
 use Rattle.nx_copies.specs.copies.Shares.{Given, Starts}
 use Rattle.nx_receiver.specs.private.Listener.{BeginsListening, BeginsLog, HearsLog, IsListening}
 use Rattle.nx_receiver.specs.Listener.{Listening}
-use Rattle.nx_receiver.specs.private.CopyHearer.{copies_by}
+use Rattle.nx_copies.specs.hearing.CopyHearer.{copies_by}
 
 tagged-by : (first : Setting) (events : List Event) (copies : List FoundCopy)
     → copies_by first (settings first events) copies ≡ tagged_copies first events copies

@@ -21,8 +21,8 @@ use Rattle.nx_copies.specs.copies.LockText.{PlacedByte, bytes_of}
 use Rattle.nx_copies.specs.copies.Printing.{entries_after, entries_made, entry_made, entry_of}
 use Rattle.nx_copies.specs.copies.Printing.{is_entered, is_good, is_number_00, is_printed}
 use Rattle.nx_receiver.specs.Receiver.{Receiving, Stands}
-use Rattle.nx_receiver.specs.private.CopyHearer.{copies_by}
-use Rattle.nx_receiver.specs.CopyHearing.{in_force}
+use Rattle.nx_copies.specs.hearing.CopyHearer.{copies_by}
+use Rattle.nx_copies.specs.hearing.CopyHearing.{in_force}
 use Rattle.nx_receiver.proofs.lemmas.chain.Runs.{found_same}
 use Rattle.nx_copies.proofs.lemmas.printing.Logged.{end_adds, entries_after-append}
 use Rattle.nx_copies.proofs.lemmas.printing.Logged.{tagged_copies-append}

@@ -39,7 +39,7 @@ use Rattle.nx_memory.specs.declared.memories.entry.MemoryEntry.{MemoryEntry}
 use Rattle.nx_receiver.specs.Receiver.{HandsOutNoneBefore, HeadsText, Receiving, Stands, TakesEvent}
 use Rattle.nx_receiver.specs.Receiver.{headed_list, text_of}
 use Rattle.nx_receiver.specs.private.Awaiting.{Awaits, FinishesNext, HearsUpTo}
-use Rattle.nx_receiver.specs.declared.copy_taker.Over.{Over}
+use Rattle.nx_copies.specs.declared.copy_taker.Over.{Over}
 use Rattle.nx_receiver.proofs.lemmas.receiver.Feeds.{heard_then, nothing_awaited, printed_then}
 use Rattle.std.specs.Prelude.{IfSome, Result, Ok, Err, OnOk}
 use Rattle.std.proofs.lemmas.List.Elements.{All-nil, All-cons}

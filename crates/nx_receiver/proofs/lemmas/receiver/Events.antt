@@ -8,8 +8,8 @@ use Rattle.nx_copies.specs.Events.{command, element, first_setting, setting_afte
 use Rattle.nx_copies.specs.Events.{setting_after_all, settings, elements}
 use Rattle.nx_receiver.specs.Receiver.{Receiving, Stands}
 use Rattle.nx_copies.specs.copies.FoundCopies.{TaggedCopy}
-use Rattle.nx_receiver.specs.private.CopyHearer.{HearerStands, all_in_force}
-use Rattle.nx_receiver.specs.CopyHearing.{CopyHearing, in_force}
+use Rattle.nx_copies.specs.hearing.CopyHearer.{HearerStands, all_in_force}
+use Rattle.nx_copies.specs.hearing.CopyHearing.{CopyHearing, in_force}
 use Rattle.nx_copies.proofs.lemmas.printing.Logged.{bits_of-append, settings-append}
 
 -- elements as events

@@ -8,22 +8,22 @@ use Rattle.std.proofs.lemmas.List.{drop-drop, length-take, map-append, take-take
 use Rattle.nx_code.specs.Packed.{elements_of_numbers}
 use Rattle.nx_sync.specs.Synchroniser.{Held}
 use Rattle.nx_memory.specs.declared.memories.entry.MemoryEntry.{MemoryEntry}
-use Rattle.nx_receiver.specs.declared.copy_taker.Over.{Over}
+use Rattle.nx_copies.specs.declared.copy_taker.Over.{Over}
 use Rattle.nx_copies.specs.Events.{Event, Setting, Start, elements_among, element, first_setting}
 use Rattle.nx_copies.specs.Events.{setting_after_all, settings, elements}
 use Rattle.nx_copies.specs.copies.Log.{HasPrinted}
 use Rattle.nx_receiver.specs.Receiver.{HandsOutNoneBefore, Receiving, Stands, StandsOver}
 use Rattle.nx_receiver.specs.private.Awaiting.{Awaits, AwaitsOver, FinishesNext, HearsUpTo}
 use Rattle.nx_copies.specs.copies.FoundCopies.{TaggedCopy}
-use Rattle.nx_receiver.specs.private.CopyHearer.{HasEnded, HearsAll, IsOver, all_in_force}
-use Rattle.nx_receiver.specs.CopyHearing.{CopyHearing, in_force}
-use Rattle.nx_receiver.specs.declared.copy_taker.CopyTaker.{CopyTaker}
+use Rattle.nx_copies.specs.hearing.CopyHearer.{HasEnded, HearsAll, IsOver, all_in_force}
+use Rattle.nx_copies.specs.hearing.CopyHearing.{CopyHearing, in_force}
+use Rattle.nx_copies.specs.declared.copy_taker.CopyTaker.{CopyTaker}
 use Rattle.nx_copies.specs.WordLoop.{HearsPart}
-use Rattle.nx_receiver.specs.private.CopyTaker.{Hears, hearer_of}
+use Rattle.nx_copies.specs.hearing.CopyTaker.{Hears, hearer_of}
 use Rattle.nx_receiver.proofs.lemmas.receiver.Events.{bits_of-more, force-more, settings-more}
 use Rattle.nx_receiver.proofs.lemmas.receiver.Printing.{has_printed}
-use Rattle.nx_receiver.proofs.lemmas.copy_hearer.Packed.{rest_is}
-use Rattle.nx_receiver.proofs.lemmas.copy_hearer.Parts.{part_of_all}
+use Rattle.nx_copies.proofs.lemmas.copy_hearer.Packed.{rest_is}
+use Rattle.nx_copies.proofs.lemmas.copy_hearer.Parts.{part_of_all}
 
 -- the first so many of these elements were fed, and no entry was handed out
 pub record Fed {M : Type 0} (content : M → List MemoryEntry) (old now : Receiving M)

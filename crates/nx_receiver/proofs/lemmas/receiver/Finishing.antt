@@ -15,12 +15,12 @@ use Rattle.nx_copies.specs.copies.FoundCopies.{TaggedCopy}
 use Rattle.nx_copies.specs.copies.LockText.{text_after}
 use Rattle.nx_copies.specs.copies.Printing.{entries_after, printed_copies}
 use Rattle.nx_copies.specs.declared.entry.EntryHead.{EntryHead}
-use Rattle.nx_receiver.specs.CopyHearing.{CopyHearing, in_force}
+use Rattle.nx_copies.specs.hearing.CopyHearing.{CopyHearing, in_force}
 use Rattle.nx_receiver.specs.Receiver.{Receiving, Stands, headed_list, text_of}
-use Rattle.nx_receiver.specs.declared.copy_taker.Over.TheVariants as over
+use Rattle.nx_copies.specs.declared.copy_taker.Over.TheVariants as over
 use Rattle.nx_receiver.specs.private.Awaiting.{Awaits}
-use Rattle.nx_receiver.specs.private.CopyHearer.{IsFresh, IsOver, over_with, ready_copies}
-use Rattle.nx_receiver.proofs.lemmas.copy_hearer.Takes.{lock_closed, lock_ended_none, over_ready}
+use Rattle.nx_copies.specs.hearing.CopyHearer.{IsFresh, IsOver, over_with, ready_copies}
+use Rattle.nx_copies.proofs.lemmas.copy_hearer.Takes.{lock_closed, lock_ended_none, over_ready}
 use Rattle.nx_receiver.proofs.lemmas.receiver.Feeds.{nothing_awaited}
 use Rattle.nx_receiver.proofs.lemmas.receiver.Given.{ready_not_open}
 use Rattle.nx_receiver.proofs.lemmas.receiver.Printing.{awaits_with}

@@ -12,10 +12,10 @@ use Rattle.nx_envelope.specs.declared.found.HeldCopy.{HeldCopy}
 use Rattle.nx_envelope.specs.declared.found.HeldCopy.TheVariants as held
 use Rattle.nx_copies.specs.copies.FoundCopies.{headed_copy}
 use Rattle.nx_receiver.specs.Receiver.{headed_list}
-use Rattle.nx_receiver.specs.declared.copy_taker.CopyTag.{CopyTag}
+use Rattle.nx_copies.specs.declared.copy_taker.CopyTag.{CopyTag}
 use Rattle.nx_copies.specs.declared.entry.EntryHead.{EntryHead}
 use Rattle.nx_copies.specs.ReaderWords.{is_open}
-use Rattle.nx_receiver.specs.private.CopyHearer.{ready_in}
+use Rattle.nx_copies.specs.hearing.CopyHearer.{ready_in}
 
 -- the copy that can be taken, with its head
 pub record HasHead (finder : Finder) (head : FoundHead) : Type 0 where

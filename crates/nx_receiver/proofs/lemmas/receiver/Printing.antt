@@ -15,11 +15,11 @@ use Rattle.nx_copies.specs.copies.Printing.{entries_after, entries_made, entry_m
 use Rattle.nx_copies.specs.copies.Printing.{is_printed, printed_copies}
 use Rattle.nx_receiver.specs.Receiver.{Receiving, Stands}
 use Rattle.nx_copies.specs.declared.entry.EntryHead.{EntryHead}
-use Rattle.nx_receiver.specs.declared.copy_taker.Over.{Over}
+use Rattle.nx_copies.specs.declared.copy_taker.Over.{Over}
 use Rattle.nx_receiver.specs.private.Awaiting.{AwaitsOver}
-use Rattle.nx_receiver.specs.private.CopyHearer.{HasEnded, HasEndedAll, HearerStands, copies_by}
-use Rattle.nx_receiver.specs.private.CopyHearer.{IsOver}
-use Rattle.nx_receiver.specs.CopyHearing.{CopyHearing, in_force}
+use Rattle.nx_copies.specs.hearing.CopyHearer.{HasEnded, HasEndedAll, HearerStands, copies_by}
+use Rattle.nx_copies.specs.hearing.CopyHearer.{IsOver}
+use Rattle.nx_copies.specs.hearing.CopyHearing.{CopyHearing, in_force}
 use Rattle.nx_copies.proofs.lemmas.printing.Logged.{printed_copies-append, entries_after-append}
 
 -- where no copy has ended, none is printed, and none entered

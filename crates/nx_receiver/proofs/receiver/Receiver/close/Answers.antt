@@ -1,11 +1,11 @@
 use Rattle.std.proofs.Common.{◌∷◌, ◌∙◌, [], ap, subst, sym, true}
-use Rattle.nx_receiver.specs.CopyHearing.{CopyHearing}
+use Rattle.nx_copies.specs.hearing.CopyHearing.{CopyHearing}
 use Rattle.nx_copies.specs.Events.{elements_among, first_setting, settings}
 use Rattle.nx_receiver.specs.Receiver.{Stands, entry_list, headed_list}
 use Rattle.nx_copies.specs.copies.FoundCopies.{copy_of, headed_copy}
-use Rattle.nx_receiver.specs.private.CopyHearer.{ready_copies}
-use Rattle.nx_receiver.specs.private.CopyTaker.{hearer_of}
-use Rattle.nx_receiver.proofs.lemmas.copy_hearer.Takes.{all_closed}
+use Rattle.nx_copies.specs.hearing.CopyHearer.{ready_copies}
+use Rattle.nx_copies.specs.hearing.CopyTaker.{hearer_of}
+use Rattle.nx_copies.proofs.lemmas.copy_hearer.Takes.{all_closed}
 use Rattle.nx_receiver.proofs.lemmas.receiver.Printing.{prints_to_end}
 use Rattle.nx_receiver.proofs.receiver.Receiver.close.Goals as goal
 

@@ -9,7 +9,7 @@ use Rattle.nx_receiver.specs.Commands.{said}
 use Rattle.nx_receiver.specs.Receiver.{Receiving, Stands}
 use Rattle.nx_receiver.specs.declared.command.Command.{Command}
 use Rattle.nx_receiver.specs.declared.receiver.Receiver.TheInside.{Inside}
-use Rattle.nx_receiver.specs.private.CopyTaker.{hearer_of}
+use Rattle.nx_copies.specs.hearing.CopyTaker.{hearer_of}
 use Rattle.nx_receiver.proofs.lemmas.receiver.Events.{stands_after, a_command}
 use Rattle.nx_receiver.proofs.receiver.Receiver.command.Goals as goal
 use Rattle.nx_receiver.proofs.receiver.Receiver.command.Goals.{in-RefuseStation, in-AcceptStation}

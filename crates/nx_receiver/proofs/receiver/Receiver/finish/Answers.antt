@@ -1,8 +1,8 @@
 use Rattle.std.proofs.Common.{Some, subst, sym}
 use Rattle.nx_receiver.specs.Receiver.{Receiving}
-use Rattle.nx_receiver.specs.declared.copy_taker.Over.TheVariants as over
+use Rattle.nx_copies.specs.declared.copy_taker.Over.TheVariants as over
 use Rattle.nx_receiver.specs.private.Awaiting.{Awaits}
-use Rattle.nx_receiver.specs.private.CopyTaker.{hearer_of}
+use Rattle.nx_copies.specs.hearing.CopyTaker.{hearer_of}
 use Rattle.nx_receiver.proofs.lemmas.receiver.Finishing.{IsJudged, both_finished}
 use Rattle.nx_receiver.proofs.lemmas.receiver.Finishing.{copy_finished, lock_finished}
 use Rattle.nx_receiver.proofs.receiver.Receiver.finish.Goals as goal

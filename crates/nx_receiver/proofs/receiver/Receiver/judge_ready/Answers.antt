@@ -7,8 +7,8 @@ use Rattle.nx_envelope.specs.declared.finder.Finder.{Finder}
 use Rattle.nx_memory.specs.Memory.{most_entries}
 use Rattle.nx_receiver.specs.Receiver.{Receiving, headed_list, text_of}
 use Rattle.nx_copies.specs.copies.FoundCopies.{headed_copy}
-use Rattle.nx_receiver.specs.private.CopyHearer.{ready_copies, ready_in}
-use Rattle.nx_receiver.proofs.lemmas.copy_hearer.Takes.{none_ready}
+use Rattle.nx_copies.specs.hearing.CopyHearer.{ready_copies, ready_in}
+use Rattle.nx_copies.proofs.lemmas.copy_hearer.Takes.{none_ready}
 use Rattle.nx_receiver.proofs.lemmas.receiver.Given.{has_head, headed_ready, with_moment}
 use Rattle.nx_receiver.proofs.lemmas.receiver.Printing.{entered_none, entered_one, printed_none}
 use Rattle.nx_receiver.proofs.lemmas.receiver.Printing.{printed_one, was_selected}

@@ -1,8 +1,8 @@
 use Rattle.std.proofs.Common.{◌≡◌, ◌∙◌, ap₂, rules, sym}
 use Rattle.nx_copies.specs.Events.{first_setting}
-use Rattle.nx_receiver.specs.CopyHearing.{in_force}
-use Rattle.nx_receiver.specs.private.CopyTaker.{hearer_of}
-use Rattle.nx_receiver.proofs.lemmas.copy_hearer.Hears.{nothing_heard}
+use Rattle.nx_copies.specs.hearing.CopyHearing.{in_force}
+use Rattle.nx_copies.specs.hearing.CopyTaker.{hearer_of}
+use Rattle.nx_copies.proofs.lemmas.copy_hearer.Hears.{nothing_heard}
 use Rattle.nx_receiver.proofs.lemmas.receiver.Printing.{begins}
 use Rattle.nx_receiver.proofs.receiver.Receiver.starting.Goals as goal
 

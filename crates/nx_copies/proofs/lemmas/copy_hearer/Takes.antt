@@ -17,26 +17,26 @@ use Rattle.nx_envelope.specs.declared.found.Found.{Found}
 use Rattle.nx_envelope.specs.declared.found.HeldCopy.{HeldCopy}
 use Rattle.nx_envelope.specs.declared.found.HeldCopy.TheVariants as held
 use Rattle.nx_envelope.proofs.lemmas.copies.OneOpenCopy.{open_headers-nil}
-use Rattle.nx_receiver.specs.declared.copy_taker.CopyTag.{CopyTag}
+use Rattle.nx_copies.specs.declared.copy_taker.CopyTag.{CopyTag}
 use Rattle.nx_copies.specs.Events.{Setting}
 use Rattle.nx_copies.specs.copies.FoundCopies.{ended_in, open_in, past_copies, past_text, standing_text}
 use Rattle.nx_copies.specs.copies.FoundCopies.{ended_so_far, open_so_far, found_copy, TaggedCopy, tag}
 use Rattle.nx_copies.specs.LockReader.{ReadsLock}
 use Rattle.nx_copies.specs.copies.LockText.{text_after}
-use Rattle.nx_receiver.specs.CopyHearing.{CopyHearing}
+use Rattle.nx_copies.specs.hearing.CopyHearing.{CopyHearing}
 use Rattle.nx_copies.specs.LockReader.{LockReading}
 use Rattle.nx_copies.specs.copies.LockText.{PlacedByte, bytes_of, text_by}
-use Rattle.nx_receiver.specs.private.CopyHearer.{CopyIsOver, HasEndedAll, HasTag, IsFresh}
-use Rattle.nx_receiver.specs.private.CopyHearer.{IsOver, LockIsOver, ReadsNow, HearerStands, copies_by}
-use Rattle.nx_receiver.specs.private.CopyHearer.{handed_out, over_now, over_with, ready_copies}
-use Rattle.nx_receiver.specs.private.CopyHearer.{ready_copy, ready_in}
-use Rattle.nx_receiver.specs.private.CopyHearer.{setting_in, tag_of}
+use Rattle.nx_copies.specs.hearing.CopyHearer.{CopyIsOver, HasEndedAll, HasTag, IsFresh}
+use Rattle.nx_copies.specs.hearing.CopyHearer.{IsOver, LockIsOver, ReadsNow, HearerStands, copies_by}
+use Rattle.nx_copies.specs.hearing.CopyHearer.{handed_out, over_now, over_with, ready_copies}
+use Rattle.nx_copies.specs.hearing.CopyHearer.{ready_copy, ready_in}
+use Rattle.nx_copies.specs.hearing.CopyHearer.{setting_in, tag_of}
 use Rattle.nx_copies.specs.copies.FoundCopies.{place_of_header}
 use Rattle.nx_copies.proofs.lemmas.locks.Found.{all_in-parts}
 use Rattle.nx_copies.proofs.lemmas.locks.Growing.{hunted}
 use Rattle.nx_copies.proofs.lemmas.locks.Texts.{bytes_are_reading}
 use Rattle.nx_copies.proofs.lemmas.printing.Logged.{end_adds}
-use Rattle.nx_receiver.proofs.lemmas.copy_hearer.Texts.{copies_by-append, tag-none}
+use Rattle.nx_copies.proofs.lemmas.copy_hearer.Texts.{copies_by-append, tag-none}
 
 -- no copy stands open where no text is
 pub tag-hunting : (first : Setting) (settings : List Setting) (kept : CopyTag)

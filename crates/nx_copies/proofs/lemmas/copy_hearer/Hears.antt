@@ -8,25 +8,25 @@ use Rattle.nx_sync.specs.Synchroniser.{Held, StandsAfter}
 use Rattle.nx_sync.specs.Ahead.{BringsStep}
 use Rattle.nx_sync.specs.declared.step.Role.{Role}
 use Rattle.nx_sync.specs.declared.step.Step.{Step}
-use Rattle.nx_receiver.specs.declared.copy_taker.CopyTaker.{CopyTaker}
-use Rattle.nx_receiver.specs.declared.copy_taker.CopyTag.{CopyTag}
-use Rattle.nx_receiver.specs.declared.copy_taker.Over.{Over}
+use Rattle.nx_copies.specs.declared.copy_taker.CopyTaker.{CopyTaker}
+use Rattle.nx_copies.specs.declared.copy_taker.CopyTag.{CopyTag}
+use Rattle.nx_copies.specs.declared.copy_taker.Over.{Over}
 use Rattle.nx_copies.specs.Events.{Setting}
-use Rattle.nx_receiver.specs.CopyHearing.{CopyHearing}
+use Rattle.nx_copies.specs.hearing.CopyHearing.{CopyHearing}
 use Rattle.nx_copies.specs.LockReader.{LockReading}
 use Rattle.nx_copies.specs.copies.FoundCopies.{TaggedCopy, past_copies}
 use Rattle.nx_envelope.specs.declared.found.TextEvent.{TextEvent}
 use Rattle.nx_envelope.specs.declared.found.TextEvent.TheVariants as events
-use Rattle.nx_receiver.specs.private.CopyTaker.{Hears, ReadsStep, setting_of}
-use Rattle.nx_receiver.specs.private.CopyTaker.{tag_after, hearer_of}
-use Rattle.nx_receiver.specs.private.CopyHearer.{HasEnded, HearsBits, IsFresh, IsOver, ReadsOver}
-use Rattle.nx_receiver.specs.private.CopyHearer.{TagGoesOn, HearerStands, all_in_force, as_it_was}
-use Rattle.nx_receiver.specs.private.CopyHearer.{copies_by, now_in_force}
+use Rattle.nx_copies.specs.hearing.CopyTaker.{Hears, ReadsStep, setting_of}
+use Rattle.nx_copies.specs.hearing.CopyTaker.{tag_after, hearer_of}
+use Rattle.nx_copies.specs.hearing.CopyHearer.{HasEnded, HearsBits, IsFresh, IsOver, ReadsOver}
+use Rattle.nx_copies.specs.hearing.CopyHearer.{TagGoesOn, HearerStands, all_in_force, as_it_was}
+use Rattle.nx_copies.specs.hearing.CopyHearer.{copies_by, now_in_force}
 use Rattle.nx_copies.proofs.lemmas.QuietElements.{before_last, marks_of, quiet_bits}
 use Rattle.nx_copies.proofs.lemmas.locks.Growing.{hunted}
-use Rattle.nx_receiver.proofs.lemmas.copy_hearer.Takes.{tag-hunting}
-use Rattle.nx_receiver.proofs.lemmas.copy_hearer.Bits.{quiet_bit}
-use Rattle.nx_receiver.proofs.lemmas.copy_hearer.Words.{word_bit}
+use Rattle.nx_copies.proofs.lemmas.copy_hearer.Takes.{tag-hunting}
+use Rattle.nx_copies.proofs.lemmas.copy_hearer.Bits.{quiet_bit}
+use Rattle.nx_copies.proofs.lemmas.copy_hearer.Words.{word_bit}
 
 -- the copies that have ended
 pub has_ended : (first : Setting) (reader : LockReading) (kept : CopyTag) (bits : List Bool)

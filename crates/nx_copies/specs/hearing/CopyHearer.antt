@@ -16,12 +16,12 @@ use Rattle.nx_envelope.specs.declared.found.HeldCopy.{HeldCopy}
 use Rattle.nx_envelope.specs.declared.found.HeldCopy.TheVariants as held
 use Rattle.nx_envelope.specs.declared.identity.Identity.{Identity}
 use Rattle.nx_memory.specs.Selection.{admits}
-use Rattle.nx_receiver.specs.declared.copy_taker.Over.{Over}
-use Rattle.nx_receiver.specs.declared.copy_taker.Over.TheVariants as over
-use Rattle.nx_receiver.specs.declared.copy_taker.CopyTag.{CopyTag}
+use Rattle.nx_copies.specs.declared.copy_taker.Over.{Over}
+use Rattle.nx_copies.specs.declared.copy_taker.Over.TheVariants as over
+use Rattle.nx_copies.specs.declared.copy_taker.CopyTag.{CopyTag}
 use Rattle.nx_copies.specs.Events.{Setting}
 use Rattle.nx_copies.specs.LockReader.{ReadsLock}
-use Rattle.nx_receiver.specs.CopyHearing.{CopyHearing, in_force}
+use Rattle.nx_copies.specs.hearing.CopyHearing.{CopyHearing, in_force}
 use Rattle.nx_copies.specs.LockReader.{LockReading}
 use Rattle.nx_copies.specs.copies.LockText.{PlacedByte, bytes_of}
 use Rattle.nx_copies.specs.copies.FoundCopies.{FoundCopy, place_of_header, ended_in, past_text, past_copies}

@@ -1,6 +1,6 @@
 use Rattle.std.proofs.Common.{arith}
-use Rattle.nx_receiver.proofs.lemmas.copy_hearer.Hears.{step_taken}
-use Rattle.nx_receiver.proofs.copy_taker.CopyTakerWordTaker.take_step.Goals as goal
+use Rattle.nx_copies.proofs.lemmas.copy_hearer.Hears.{step_taken}
+use Rattle.nx_copies.proofs.copy_taker.CopyTakerWordTaker.take_step.Goals as goal
 
 pub returns : goal.returns
 returns c = record {

@@ -10,20 +10,20 @@ use Rattle.nx_sync.specs.Words.{word_of_lock, first_role, role_of, whole_words, 
 use Rattle.nx_sync.specs.declared.step.Role.{Role}
 use Rattle.nx_sync.specs.declared.step.Step.{Step}
 use Rattle.nx_envelope.specs.Finder.{is_over}
-use Rattle.nx_receiver.specs.declared.copy_taker.CopyTaker.{CopyTaker}
-use Rattle.nx_receiver.specs.declared.copy_taker.CopyTag.{CopyTag}
-use Rattle.nx_receiver.specs.declared.copy_taker.Over.{Over}
+use Rattle.nx_copies.specs.declared.copy_taker.CopyTaker.{CopyTaker}
+use Rattle.nx_copies.specs.declared.copy_taker.CopyTag.{CopyTag}
+use Rattle.nx_copies.specs.declared.copy_taker.Over.{Over}
 use Rattle.nx_copies.specs.Events.{Setting}
 use Rattle.nx_copies.specs.copies.FoundCopies.{FoundCopy, ended_in, past_copies, standing_text}
 use Rattle.nx_copies.specs.copies.FoundCopies.{ended_so_far, TaggedCopy}
 use Rattle.nx_copies.specs.LockReader.{ReadsLock}
 use Rattle.nx_copies.specs.ReaderWords.{word_place}
 use Rattle.nx_copies.specs.copies.LockText.{PlacedByte, lock_text}
-use Rattle.nx_receiver.specs.private.CopyHearer.{HasTag, IsOver, LockIsOver, ReadsNow, ReadsOver}
-use Rattle.nx_receiver.specs.private.CopyHearer.{HearerStands, copies_by, over_with}
-use Rattle.nx_receiver.specs.private.CopyTaker.{ReadsWord, setting_of, tag_after}
-use Rattle.nx_receiver.specs.private.CopyTaker.{hearer_of}
-use Rattle.nx_receiver.specs.CopyHearing.{CopyHearing}
+use Rattle.nx_copies.specs.hearing.CopyHearer.{HasTag, IsOver, LockIsOver, ReadsNow, ReadsOver}
+use Rattle.nx_copies.specs.hearing.CopyHearer.{HearerStands, copies_by, over_with}
+use Rattle.nx_copies.specs.hearing.CopyTaker.{ReadsWord, setting_of, tag_after}
+use Rattle.nx_copies.specs.hearing.CopyTaker.{hearer_of}
+use Rattle.nx_copies.specs.hearing.CopyHearing.{CopyHearing}
 use Rattle.nx_copies.proofs.lemmas.QuietElements.{no_word}
 use Rattle.nx_copies.proofs.lemmas.locks.Found.{text_placed}
 use Rattle.nx_copies.proofs.lemmas.locks.Growing.{past_copies-more}
@@ -31,9 +31,9 @@ use Rattle.nx_copies.proofs.lemmas.locks.Moves.{Moves, ends_word, finds, goes_on
 use Rattle.nx_copies.proofs.lemmas.locks.Moves.{releases}
 use Rattle.nx_copies.proofs.lemmas.locks.Texts.{lock_text-more}
 use Rattle.nx_copies.proofs.lemmas.printing.Logged.{ended_placed}
-use Rattle.nx_receiver.proofs.lemmas.copy_hearer.Texts.{AfterWord, Brought, adds_byte, after_word}
-use Rattle.nx_receiver.proofs.lemmas.copy_hearer.Texts.{copies_by-append}
-use Rattle.nx_receiver.proofs.lemmas.copy_hearer.Bits.{copies_by-later, reads-more}
+use Rattle.nx_copies.proofs.lemmas.copy_hearer.Texts.{AfterWord, Brought, adds_byte, after_word}
+use Rattle.nx_copies.proofs.lemmas.copy_hearer.Texts.{copies_by-append}
+use Rattle.nx_copies.proofs.lemmas.copy_hearer.Bits.{copies_by-later, reads-more}
 
 -- what is over, by what a word brought to the copies
 stand_on : (first : Setting) (hearer : CopyHearing) (bits : List Bool) (settings : List Setting)

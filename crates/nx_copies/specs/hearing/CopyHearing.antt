@@ -5,7 +5,7 @@ use Rattle.nx_sync.specs.Synchroniser.{Held}
 use Rattle.nx_memory.specs.Selection.{Refused}
 use Rattle.nx_copies.specs.Events.{Setting}
 use Rattle.nx_copies.specs.LockReader.{LockReading}
-use Rattle.nx_receiver.specs.declared.copy_taker.CopyTag.{CopyTag}
+use Rattle.nx_copies.specs.declared.copy_taker.CopyTag.{CopyTag}
 
 -- what contracts see of a hearer: the synchroniser, the reader of the lock's text, what is refused,
 -- the moment, and what was in force at the header that was heard last

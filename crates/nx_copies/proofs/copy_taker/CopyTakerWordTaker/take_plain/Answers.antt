@@ -1,5 +1,5 @@
-use Rattle.nx_receiver.proofs.lemmas.copy_hearer.PlainWords.{plain_taken}
-use Rattle.nx_receiver.proofs.copy_taker.CopyTakerWordTaker.take_plain.Goals as goal
+use Rattle.nx_copies.proofs.lemmas.copy_hearer.PlainWords.{plain_taken}
+use Rattle.nx_copies.proofs.copy_taker.CopyTakerWordTaker.take_plain.Goals as goal
 
 pub returns-clause-hears : goal.returns-clause-hears
 returns-clause-hears c = λ is old new brings.

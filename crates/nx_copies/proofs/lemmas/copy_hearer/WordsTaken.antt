@@ -17,17 +17,17 @@ use Rattle.nx_sync.specs.declared.step.Role.TheVariants.{Dx, Rx}
 use Rattle.nx_sync.proofs.lemmas.words.LastSteps.{word_last}
 use Rattle.nx_envelope.specs.Finder.{is_over}
 use Rattle.nx_envelope.specs.declared.found.TextEvent.{TextEvent}
-use Rattle.nx_receiver.specs.declared.copy_taker.CopyTaker.{CopyTaker}
+use Rattle.nx_copies.specs.declared.copy_taker.CopyTaker.{CopyTaker}
 use Rattle.nx_copies.specs.Events.{Setting}
 use Rattle.nx_copies.specs.copies.FoundCopies.{TaggedCopy}
 use Rattle.nx_copies.specs.LockReader.{LockReading}
 use Rattle.nx_copies.specs.ReaderWords.{HearsPairsUpTo, HearsPairs}
-use Rattle.nx_receiver.specs.private.CopyTaker.{Hears, ReadsStep, ReadsWord, hearer_of, setting_of}
-use Rattle.nx_receiver.specs.private.CopyTaker.{tag_after}
-use Rattle.nx_receiver.specs.private.CopyTakerLaws.{hears_on}
-use Rattle.nx_receiver.specs.private.CopyHearer.{HearerStands, HearsBits, all_in_force, over_with}
-use Rattle.nx_receiver.proofs.lemmas.copy_hearer.Hears.{step_heard, tag_by}
-use Rattle.nx_receiver.proofs.lemmas.copy_hearer.PlainWords.{plain_taken, words_read}
+use Rattle.nx_copies.specs.hearing.CopyTaker.{Hears, ReadsStep, ReadsWord, hearer_of, setting_of}
+use Rattle.nx_copies.specs.hearing.CopyTaker.{tag_after}
+use Rattle.nx_copies.specs.hearing.CopyTakerLaws.{hears_on}
+use Rattle.nx_copies.specs.hearing.CopyHearer.{HearerStands, HearsBits, all_in_force, over_with}
+use Rattle.nx_copies.proofs.lemmas.copy_hearer.Hears.{step_heard, tag_by}
+use Rattle.nx_copies.proofs.lemmas.copy_hearer.PlainWords.{plain_taken, words_read}
 use Rattle.nx_copies.proofs.lemmas.locks.ReaderWords.{dx_of_pair}
 
 -- what a taker is whose reader heard words that bring this

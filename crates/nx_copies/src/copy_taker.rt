@@ -3,11 +3,12 @@
 
 ghost use Rattle.std.specs.Prelude.{◌≡◌};
 ghost use Rattle.nx_envelope.specs.Finder.{is_over};
-ghost use Rattle.nx_receiver.specs.private.CopyTaker.{ReadsStep, setting_of, tag_after};
-ghost use Rattle.nx_receiver.specs.private.CopyHearer.{IsFresh, over_with};
+ghost use Rattle.nx_copies.specs.hearing.CopyTaker.{ReadsStep, setting_of, tag_after};
+ghost use Rattle.nx_copies.specs.hearing.CopyHearer.{IsFresh, over_with};
 
+use crate::lock_reader::LockReader;
+use crate::word_loop::WordTaker;
 use nx_code::Word;
-use nx_copies::{LockReader, WordTaker};
 use nx_envelope::TextEvent;
 use nx_memory::Selection;
 use nx_sync::Step;
@@ -15,7 +16,7 @@ use nx_sync::Step;
 /// What is over with an element that was heard, where anything is. It is copied for each element,
 /// so it is small; a copy that is over is left with the finder.
 #[derive(Clone, Copy, Debug, PartialEq, Eq)]
-pub(crate) enum Over {
+pub enum Over {
     /// A copy, which is ready.
     Copy,
     /// The lock: its text ends.
@@ -26,11 +27,11 @@ pub(crate) enum Over {
 
 /// What was in force at the second digit of a header.
 #[derive(Clone, Copy, Debug)]
-pub(crate) struct CopyTag {
+pub struct CopyTag {
     /// The moment, in whole seconds since 1970-01-01 00:00:00 UTC.
-    pub(crate) moment: u64,
+    pub moment: u64,
     /// Whether the copy's station and subject were selected.
-    pub(crate) is_selected: bool,
+    pub is_selected: bool,
 }
 
 /// Finds the copies in what a synchroniser hears, each with the moment and the selection in force
@@ -39,16 +40,20 @@ pub(crate) struct CopyTag {
 /// It holds what the reader of a lock holds, what is refused, the moment, and what was in force at
 /// the header that was heard last.
 #[derive(Drop)]
-pub(crate) struct CopyTaker {
-    pub(crate) reader: LockReader,
-    pub(crate) selection: Selection,
-    pub(crate) moment: u64,
-    pub(crate) tag: CopyTag,
+pub struct CopyTaker {
+    /// Reads the text of the lock that stands.
+    pub reader: LockReader,
+    /// What is selected.
+    pub selection: Selection,
+    /// The moment in force, in whole seconds since 1970-01-01 00:00:00 UTC.
+    pub moment: u64,
+    /// What was in force at the header that was heard last.
+    pub tag: CopyTag,
 }
 
 impl CopyTaker {
     /// A taker that has taken nothing, from this moment on, with what is selected at first.
-    pub(crate) fn new(moment: u64, selection: Selection) -> CopyTaker
+    pub fn new(moment: u64, selection: Selection) -> CopyTaker
         ensures fresh { IsFresh result.reader }
         ensures selection { result.selection ≡ selection }
         ensures moment { result.moment ≡ moment }
@@ -109,8 +114,8 @@ impl CopyTaker {
 }
 
 impl WordTaker for CopyTaker {
-    ghost use Rattle.nx_receiver.specs.private.CopyTaker.{Hears};
-    ghost use Rattle.nx_receiver.specs.private.CopyTakerLaws.{heard-both, heard-none};
+    ghost use Rattle.nx_copies.specs.hearing.CopyTaker.{Hears};
+    ghost use Rattle.nx_copies.specs.hearing.CopyTakerLaws.{heard-both, heard-none};
 
     type Over = Over;
 

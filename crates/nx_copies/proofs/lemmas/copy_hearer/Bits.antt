@@ -14,7 +14,7 @@ use Rattle.nx_fec.specs.emissions.Pairing.{IsLatest}
 use Rattle.nx_code.specs.Reading.{shift_after_all, text}
 use Rattle.nx_code.specs.declared.shifts.Shift.TheVariants.{Letters}
 use Rattle.nx_envelope.specs.Finder as finders
-use Rattle.nx_receiver.specs.declared.copy_taker.CopyTag.{CopyTag}
+use Rattle.nx_copies.specs.declared.copy_taker.CopyTag.{CopyTag}
 use Rattle.nx_copies.specs.Events.{Setting}
 use Rattle.nx_copies.specs.copies.FoundCopies.{FoundCopy, ended_in, past_copies, standing_text}
 use Rattle.nx_copies.specs.copies.FoundCopies.{ended_so_far, TaggedCopy, tag}
@@ -22,7 +22,7 @@ use Rattle.nx_copies.specs.LockReader.{ReadsLock}
 use Rattle.nx_copies.specs.copies.LockText.{dx_words}
 use Rattle.nx_copies.specs.LockReader.{LockReading}
 use Rattle.nx_copies.specs.copies.LockText.{PlacedByte, lock_text, text_by}
-use Rattle.nx_receiver.specs.private.CopyHearer.{HasTag, ReadsNow, ReadsOver, copies_by, setting_in}
+use Rattle.nx_copies.specs.hearing.CopyHearer.{HasTag, ReadsNow, ReadsOver, copies_by, setting_in}
 use Rattle.nx_copies.proofs.lemmas.QuietElements.{no_word}
 use Rattle.nx_copies.proofs.lemmas.locks.Found.{IsByteIn, IsCopyIn, text_placed}
 use Rattle.nx_copies.proofs.lemmas.locks.Growing.{past_copies-more, whole_heard}
@@ -30,7 +30,7 @@ use Rattle.nx_copies.proofs.lemmas.locks.Moves.{Moves, ends_word, finds, goes_on
 use Rattle.nx_copies.proofs.lemmas.locks.Moves.{releases}
 use Rattle.nx_copies.proofs.lemmas.locks.Texts.{lock_text-more, positions-same}
 use Rattle.nx_copies.proofs.lemmas.printing.Logged.{ended_placed, past_is}
-use Rattle.nx_receiver.proofs.lemmas.copy_hearer.Texts.{tag-later}
+use Rattle.nx_copies.proofs.lemmas.copy_hearer.Texts.{tag-later}
 
 -- words that are the same up to a word leave the reader where it stands
 dx_words-same : (first : Role) (f g : ℕ → ℕ) (n : ℕ) → ((j : ℕ) → j < n → f j ≡ g j)

@@ -19,21 +19,21 @@ use Rattle.nx_sync.proofs.lemmas.states.StateChanges.{standing_after}
 use Rattle.nx_sync.proofs.lemmas.states.UniqueStates.{now-unique}
 use Rattle.nx_envelope.specs.Copies.{ended_copies, open_headers}
 use Rattle.nx_envelope.specs.Finder.{BringNothing, Keeps}
-use Rattle.nx_receiver.specs.declared.copy_taker.CopyTaker.{CopyTaker}
-use Rattle.nx_receiver.specs.declared.copy_taker.CopyTag.{CopyTag}
+use Rattle.nx_copies.specs.declared.copy_taker.CopyTaker.{CopyTaker}
+use Rattle.nx_copies.specs.declared.copy_taker.CopyTag.{CopyTag}
 use Rattle.nx_copies.specs.Events.{Setting}
 use Rattle.nx_copies.specs.copies.FoundCopies.{FoundCopy, ended_in, ended_so_far, found_copy}
 use Rattle.nx_copies.specs.copies.FoundCopies.{past_copies, standing_text, TaggedCopy, tag}
 use Rattle.nx_copies.specs.copies.LockText.{PlacedByte, bytes_of, lock_text, text_by}
-use Rattle.nx_receiver.specs.CopyHearing.{CopyHearing, in_force}
+use Rattle.nx_copies.specs.hearing.CopyHearing.{CopyHearing, in_force}
 use Rattle.nx_copies.specs.LockReader.{LockReading}
 use Rattle.nx_copies.specs.LockReader.{ReadsLock}
 use Rattle.nx_copies.specs.ReaderWords.{ReadsPlain}
 use Rattle.nx_copies.specs.copies.LockText.{AreNext, text_after}
-use Rattle.nx_receiver.specs.private.CopyHearer.{HasEnded, HasTag, HearsBits, ReadsNow, ReadsOver}
-use Rattle.nx_receiver.specs.private.CopyTaker.{Hears, hearer_of}
-use Rattle.nx_receiver.specs.private.CopyHearer.{HearerStands, all_in_force, as_it_was, copies_by}
-use Rattle.nx_receiver.specs.private.CopyHearer.{setting_in}
+use Rattle.nx_copies.specs.hearing.CopyHearer.{HasEnded, HasTag, HearsBits, ReadsNow, ReadsOver}
+use Rattle.nx_copies.specs.hearing.CopyTaker.{Hears, hearer_of}
+use Rattle.nx_copies.specs.hearing.CopyHearer.{HearerStands, all_in_force, as_it_was, copies_by}
+use Rattle.nx_copies.specs.hearing.CopyHearer.{setting_in}
 use Rattle.nx_copies.proofs.lemmas.locks.Found.{IsByteIn, ended_headers_in, found-same, open_headers_in}
 use Rattle.nx_copies.proofs.lemmas.locks.Found.{text_placed}
 use Rattle.nx_copies.proofs.lemmas.locks.Growing.{ended_go_on, past_copies-more}
@@ -41,8 +41,8 @@ use Rattle.nx_copies.proofs.lemmas.locks.StillStands.{still_words}
 use Rattle.nx_copies.proofs.lemmas.locks.Texts.{bytes_are_reading, bytes_of-append, lock_text-more}
 use Rattle.nx_copies.proofs.lemmas.locks.Texts.{text_by-grows}
 use Rattle.nx_copies.proofs.lemmas.printing.Logged.{ended_placed}
-use Rattle.nx_receiver.proofs.lemmas.copy_hearer.Bits.{copies_by-later, reads-more}
-use Rattle.nx_receiver.proofs.lemmas.copy_hearer.Texts.{IsTagOf, tags-same}
+use Rattle.nx_copies.proofs.lemmas.copy_hearer.Bits.{copies_by-later, reads-more}
+use Rattle.nx_copies.proofs.lemmas.copy_hearer.Texts.{IsTagOf, tags-same}
 
 -- bytes that bring nothing leave the copies
 record LeaveCopies (text bytes : List ℕ) : Type 0 where

@@ -9,15 +9,15 @@ use Rattle.nx_sync.specs.declared.step.Role.{Role}
 use Rattle.nx_envelope.specs.Finder.{is_over}
 use Rattle.nx_envelope.specs.declared.found.TextEvent.{TextEvent}
 use Rattle.nx_envelope.specs.declared.found.TextEvent.TheVariants as events
-use Rattle.nx_receiver.specs.declared.copy_taker.Over.{Over}
-use Rattle.nx_receiver.specs.declared.copy_taker.CopyTag.{CopyTag}
-use Rattle.nx_receiver.specs.declared.copy_taker.CopyTaker.{CopyTaker}
+use Rattle.nx_copies.specs.declared.copy_taker.Over.{Over}
+use Rattle.nx_copies.specs.declared.copy_taker.CopyTag.{CopyTag}
+use Rattle.nx_copies.specs.declared.copy_taker.CopyTaker.{CopyTaker}
 use Rattle.nx_copies.specs.Events.{Setting}
-use Rattle.nx_receiver.specs.CopyHearing.{CopyHearing}
+use Rattle.nx_copies.specs.hearing.CopyHearing.{CopyHearing}
 use Rattle.nx_copies.specs.LockReader.{ReadsLock}
 use Rattle.nx_copies.specs.ReaderWords.{IsBrought}
 use Rattle.nx_copies.specs.copies.LockText.{text_after}
-use Rattle.nx_receiver.specs.private.CopyHearer.{HearsAll, TagGoesOn, over_with, tag_of}
+use Rattle.nx_copies.specs.hearing.CopyHearer.{HearsAll, TagGoesOn, over_with, tag_of}
 
 -- what is in force for a taker
 abbrev pub setting_of : CopyTaker → Setting

@@ -15,18 +15,18 @@ use Rattle.nx_envelope.specs.Header.{Header}
 use Rattle.nx_envelope.specs.declared.finder.Finder.{Finder}
 use Rattle.nx_envelope.specs.declared.found.TextEvent.{TextEvent}
 use Rattle.nx_envelope.specs.declared.found.TextEvent.TheVariants as events
-use Rattle.nx_receiver.specs.declared.copy_taker.CopyTag.{CopyTag}
+use Rattle.nx_copies.specs.declared.copy_taker.CopyTag.{CopyTag}
 use Rattle.nx_copies.specs.Events.{Setting}
 use Rattle.nx_copies.specs.copies.FoundCopies.{FoundCopy, place_in, found_copy, ended_in, TaggedCopy}
 use Rattle.nx_copies.specs.copies.FoundCopies.{tag}
 use Rattle.nx_copies.specs.ReaderWords.{IsBrought, word_place}
 use Rattle.nx_copies.specs.copies.LockText.{text_after}
 use Rattle.nx_copies.specs.copies.LockText.{PlacedByte, printed_by, text_by, bytes_of}
-use Rattle.nx_receiver.specs.private.CopyTaker.{tag_after}
-use Rattle.nx_receiver.specs.private.CopyHearer.{HasTag, copies_by, ready_copy, setting_in}
-use Rattle.nx_receiver.specs.private.CopyHearer.{tag_of}
+use Rattle.nx_copies.specs.hearing.CopyTaker.{tag_after}
+use Rattle.nx_copies.specs.hearing.CopyHearer.{HasTag, copies_by, ready_copy, setting_in}
+use Rattle.nx_copies.specs.hearing.CopyHearer.{tag_of}
 use Rattle.nx_copies.specs.copies.FoundCopies.{place_of_header}
-use Rattle.nx_receiver.specs.CopyHearing.{CopyHearing, in_force}
+use Rattle.nx_copies.specs.hearing.CopyHearing.{CopyHearing, in_force}
 use Rattle.nx_copies.proofs.lemmas.locks.Texts.{bytes_are_reading, bytes_of-append, bytes-placed}
 use Rattle.nx_copies.proofs.lemmas.locks.Found.{IsByteIn, IsHeaderIn, ended_headers_in, found-same}
 use Rattle.nx_copies.proofs.lemmas.locks.Found.{header_placed, length-bytes_of, open_headers_in}

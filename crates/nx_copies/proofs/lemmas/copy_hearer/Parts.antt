@@ -5,10 +5,10 @@ use Rattle.nx_code.specs.Packed.{elements_of_numbers, packed_part}
 use Rattle.nx_sync.proofs.lemmas.hunting.PackedParts.{first_part}
 use Rattle.nx_sync.specs.Synchroniser.{Held}
 use Rattle.nx_copies.specs.WordLoop.{HearsPart}
-use Rattle.nx_receiver.specs.declared.copy_taker.CopyTaker.{CopyTaker}
-use Rattle.nx_receiver.specs.declared.copy_taker.Over.{Over}
-use Rattle.nx_receiver.specs.private.CopyTaker.{Hears}
-use Rattle.nx_receiver.proofs.lemmas.copy_hearer.Packed.{all_is}
+use Rattle.nx_copies.specs.declared.copy_taker.CopyTaker.{CopyTaker}
+use Rattle.nx_copies.specs.declared.copy_taker.Over.{Over}
+use Rattle.nx_copies.specs.hearing.CopyTaker.{Hears}
+use Rattle.nx_copies.proofs.lemmas.copy_hearer.Packed.{all_is}
 
 -- a part of all packed elements from a place on is that of the elements from there on
 pub part_of_all : (all : List Bool) (numbers : List ℕ) (from count : ℕ) (old new : Held)

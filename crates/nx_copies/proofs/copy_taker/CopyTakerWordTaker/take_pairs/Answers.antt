@@ -2,9 +2,9 @@ use Rattle.std.proofs.Common.{◌≡◌, ℕ, List, arith, length, subst₂, sym
 use Rattle.std.proofs.lemmas.List.{length-take-le}
 use Rattle.std.specs.List.{flat_map}
 use Rattle.nx_code.specs.Word.{elements}
-use Rattle.nx_receiver.specs.private.CopyTaker.{Hears}
-use Rattle.nx_receiver.proofs.lemmas.copy_hearer.WordsTaken.{words_taken}
-use Rattle.nx_receiver.proofs.copy_taker.CopyTakerWordTaker.take_pairs.Goals as goal
+use Rattle.nx_copies.specs.hearing.CopyTaker.{Hears}
+use Rattle.nx_copies.proofs.lemmas.copy_hearer.WordsTaken.{words_taken}
+use Rattle.nx_copies.proofs.copy_taker.CopyTakerWordTaker.take_pairs.Goals as goal
 
 pub returns-clause-hears : goal.returns-clause-hears
 returns-clause-hears c = λ old new brings.

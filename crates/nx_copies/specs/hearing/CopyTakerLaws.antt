@@ -5,15 +5,15 @@ use Rattle.std.proofs.Common.{arith, inl, inr, append_assoc, append-nil, length-
 use Rattle.std.proofs.lemmas.List.{map-append, take-append-le}
 use Rattle.std.proofs.lemmas.Bool.{cases_lt}
 use Rattle.nx_sync.specs.Synchroniser.{Held}
-use Rattle.nx_receiver.specs.declared.copy_taker.CopyTaker.{CopyTaker}
-use Rattle.nx_receiver.specs.declared.copy_taker.CopyTag.{CopyTag}
-use Rattle.nx_receiver.specs.declared.copy_taker.Over.{Over}
+use Rattle.nx_copies.specs.declared.copy_taker.CopyTaker.{CopyTaker}
+use Rattle.nx_copies.specs.declared.copy_taker.CopyTag.{CopyTag}
+use Rattle.nx_copies.specs.declared.copy_taker.Over.{Over}
 use Rattle.nx_copies.specs.Events.{Setting}
 use Rattle.nx_copies.specs.copies.FoundCopies.{TaggedCopy}
-use Rattle.nx_receiver.specs.CopyHearing.{CopyHearing, in_force}
-use Rattle.nx_receiver.specs.private.CopyTaker.{Hears, hearer_of}
-use Rattle.nx_receiver.specs.private.CopyHearer.{HasEnded, HearsBits, IsOver, TagGoesOn}
-use Rattle.nx_receiver.specs.private.CopyHearer.{HearerStands, all_in_force, as_it_was, now_in_force}
+use Rattle.nx_copies.specs.hearing.CopyHearing.{CopyHearing, in_force}
+use Rattle.nx_copies.specs.hearing.CopyTaker.{Hears, hearer_of}
+use Rattle.nx_copies.specs.hearing.CopyHearer.{HasEnded, HearsBits, IsOver, TagGoesOn}
+use Rattle.nx_copies.specs.hearing.CopyHearer.{HearerStands, all_in_force, as_it_was, now_in_force}
 
 pub all_in_force-append : (hearer : CopyHearing) (xs ys : List Bool)
     → all_in_force hearer (xs ++ ys) ≡ all_in_force hearer xs ++ all_in_force hearer ys
