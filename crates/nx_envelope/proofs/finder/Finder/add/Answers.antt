@@ -1,6 +1,5 @@
 -- Each way through the body: a newline directly behind a header; a marker; the 4,100th byte; any
 -- other.
-use Rattle.std.proofs.Common.{rules}
 use Rattle.std.proofs.Common.{◌≡◌, ℕ, ◌+◌, ◌-◌, ◌<◌, ◌∷◌, length, take, reverse}
 use Rattle.std.proofs.Common.{refl, sym, ap, ◌∙◌, arith}
 use Rattle.std.proofs.lemmas.Bool.Decides.{nat_tests}
@@ -61,6 +60,3 @@ returns-clause-hearing c = λ text h recent.
     (rw c.push.ensures.items (goes_on c.args.fresh c.self.inside.text.items text c.args.byte
     c.args.identity (rw kept h) (grind (arith, nat_tests, c.else-fresh.either))
     (sym (c.in_default.ensures (c.args.byte ∷ reverse text) back)) short)) refl
-
-pub returns-then-len-eq-MAX_FOUND-clause-recent : goal.returns-then-len-eq-MAX_FOUND-clause-recent
-returns-then-len-eq-MAX_FOUND-clause-recent c = search rules

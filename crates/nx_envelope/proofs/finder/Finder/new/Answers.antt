@@ -1,10 +1,6 @@
-use Rattle.std.proofs.Common.{rules}
 use Rattle.std.proofs.Common.{refl}
 use Rattle.nx_envelope.proofs.lemmas.finder.Hearing.{stage-nil, none-nil}
 use Rattle.nx_envelope.proofs.finder.Finder.new.Goals as goal
 
 pub returns : goal.returns
 returns c = record { recent = refl; stage = stage-nil; copy = none-nil }
-
-pub prove-unreachable-requires : goal.prove-unreachable-requires
-prove-unreachable-requires c = search rules

@@ -1,8 +1,0 @@
-use Rattle.std.proofs.Common.{rules}
-use Rattle.nx_envelope.proofs.finder.Finder.take_found.Goals as goal
-
-pub returns-clause-found : goal.returns-clause-found
-returns-clause-found c = search rules
-
-pub returns-clause-none : goal.returns-clause-none
-returns-clause-none c = search rules

@@ -1,5 +1,0 @@
-use Rattle.std.proofs.Common.{rules}
-use Rattle.nx_envelope.proofs.identity.Identity.b1.Goals as goal
-
-pub returns : goal.returns
-returns c = search rules

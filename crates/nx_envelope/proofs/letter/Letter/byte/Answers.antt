@@ -1,8 +1,0 @@
-use Rattle.std.proofs.Common.{rules}
-use Rattle.nx_envelope.proofs.letter.Letter.byte.Goals as goal
-
-pub returns-clause-value : goal.returns-clause-value
-returns-clause-value c = search rules
-
-pub returns-clause-in_range : goal.returns-clause-in_range
-returns-clause-in_range c = search rules
