@@ -1,4 +1,5 @@
 -- What is judged and printed.
 pub mod Judging
+pub mod Laws
 pub mod Log
 pub mod Logged

@@ -82,3 +82,36 @@ HasPrinted start events log = Prints ended_so_far start events log
 -- What is printed where these events are all: the end closes the copy that stands open.
 abbrev pub PrintsToEnd : Start → List Event → List TaggedCopy → Type 0
 PrintsToEnd start events log = Prints found_to_end start events log
+
+-- What is printed of what a receiver is given, from its start on: of the copies that have ended
+-- after these events, and of all copies where the events end.
+pub record Printing : Type 1 where
+  pub so_far : Start → List Event → List TaggedCopy → Type 0
+  pub to_end : Start → List Event → List TaggedCopy → Type 0
+
+-- each copy is judged alone
+abbrev pub plain : Printing
+plain = record { so_far = HasPrinted; to_end = PrintsToEnd }
+
+-- The laws of a printing. Of any events there is one log, so far and to the end. No event prints
+-- nothing, and events without elements print nothing more. What is printed so far stays, whatever
+-- comes later, and the end adds to it.
+pub record IsPrinting (printing : Printing) : Type 0 where
+  pub some : (start : Start) (events : List Event)
+      → (log : List TaggedCopy) × printing.so_far start events log
+  pub one : (start : Start) (events : List Event) (log other : List TaggedCopy)
+      → printing.so_far start events log → printing.so_far start events other → log ≡ other
+  pub some_to_end : (start : Start) (events : List Event)
+      → (log : List TaggedCopy) × printing.to_end start events log
+  pub one_to_end : (start : Start) (events : List Event) (log other : List TaggedCopy)
+      → printing.to_end start events log → printing.to_end start events other → log ≡ other
+  pub none : (start : Start) → printing.so_far start [] []
+  pub no_elements : (start : Start) (events more : List Event) (log : List TaggedCopy)
+      → printing.so_far start events log → elements_among more ≡ []
+      → printing.so_far start (events ++ more) log
+  pub stays : (start : Start) (events more : List Event) (log later : List TaggedCopy)
+      → printing.so_far start events log → printing.so_far start (events ++ more) later
+      → (rest : List TaggedCopy) × (later ≡ log ++ rest)
+  pub stays_to_end : (start : Start) (events : List Event) (log whole : List TaggedCopy)
+      → printing.so_far start events log → printing.to_end start events whole
+      → (rest : List TaggedCopy) × (whole ≡ log ++ rest)

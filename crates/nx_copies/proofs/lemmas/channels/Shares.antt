@@ -13,8 +13,8 @@ use Rattle.nx_fec.specs.declared.air_files.channel.Channel.{Channel}
 use Rattle.nx_fec.specs.declared.air_files.channel.Channel.TheVariants.{Zero, One, Two}
 use Rattle.nx_copies.specs.Events.{none_refused}
 use Rattle.nx_copies.specs.copies.FoundCopies.{TaggedCopy}
-use Rattle.nx_copies.specs.copies.InTurn.{HavePrinted, PrintAllToEnd, PrintsInTurn}
-use Rattle.nx_copies.specs.copies.Log.{PrintsToEnd}
+use Rattle.nx_copies.specs.copies.InTurn.{HavePrintedBy, PrintAllToEndBy, PrintsInTurnBy}
+use Rattle.nx_copies.specs.copies.Log.{Printing}
 use Rattle.nx_copies.specs.copies.Shares.{Given, MarkedCopy, Starts, all_at_zero, copies_on, events_for}
 use Rattle.nx_copies.specs.copies.Shares.{marked, none_saved, saved_of, share, start_on, starts_from}
 
@@ -129,11 +129,11 @@ closed-on channel ended closed =
     ∙ ap (λ more. copies_on channel ended ++ more) (closed-alone channel closed)
 
 -- on each channel what is printed to the end is that of its share
-pub to_end-on : (starts : Starts) (given : List Given) (copies : List MarkedCopy)
-    (channel : Channel) → PrintAllToEnd starts given copies
-    → PrintsToEnd (start_on starts channel) (share channel given) (copies_on channel copies)
-to_end-on starts given copies channel h =
-    subst (λ those. PrintsToEnd (start_on starts channel) (share channel given) those)
+pub to_end-on : {printing : Printing} (starts : Starts) (given : List Given)
+    (copies : List MarkedCopy) (channel : Channel) → PrintAllToEndBy printing starts given copies
+    → printing.to_end (start_on starts channel) (share channel given) (copies_on channel copies)
+to_end-on {printing} starts given copies channel h =
+    subst (λ those. printing.to_end (start_on starts channel) (share channel given) those)
     (sym (ap (copies_on channel) h.whole ∙ closed-on channel h.ended h.closed))
     (h.to_end channel)
 
@@ -175,21 +175,24 @@ fronts (x ∷ list) one (a ∷ before) later e =
     ]
 
 -- The first of these copies are what is printed of this.
-pub record PrintsFirst (starts : Starts) (given : List Given) (copies : List MarkedCopy)
+pub record PrintsFirst (printing : Printing) (starts : Starts) (given : List Given)
+    (copies : List MarkedCopy)
     : Type 0 where
   pub first : List MarkedCopy
   pub rest : List MarkedCopy
   pub whole : copies ≡ first ++ rest
-  pub printed : HavePrinted starts given first
+  pub printed : HavePrintedBy printing starts given first
 
 -- what is printed in turn: of each beginning the first copies
-abbrev pub BeginsInTurn : Starts → List Given → List MarkedCopy → Type 0
-BeginsInTurn starts given copies =
-    (before later : List Given) → given ≡ before ++ later → PrintsFirst starts before copies
+abbrev pub BeginsInTurn : Printing → Starts → List Given → List MarkedCopy → Type 0
+BeginsInTurn printing starts given copies =
+    (before later : List Given) → given ≡ before ++ later
+    → PrintsFirst printing starts before copies
 
-pub begins-in_turn : (starts : Starts) (given : List Given) (copies : List MarkedCopy)
-    → PrintsInTurn starts given copies → BeginsInTurn starts given copies
-begins-in_turn starts given copies h before later e =
+pub begins-in_turn : {printing : Printing} (starts : Starts) (given : List Given)
+    (copies : List MarkedCopy)
+    → PrintsInTurnBy printing starts given copies → BeginsInTurn printing starts given copies
+begins-in_turn {printing} starts given copies h before later e =
     let first = h.in_turn before later e in
     record {
       first = take first.0 copies;
@@ -199,27 +202,30 @@ begins-in_turn starts given copies h before later e =
     }
 
 -- so many of the copies are the first ones
-counted : (starts : Starts) (given : List Given) (copies : List MarkedCopy)
-    → PrintsFirst starts given copies → (count : ℕ) × HavePrinted starts given (take count copies)
-counted starts given copies h = (
+counted : {printing : Printing} (starts : Starts) (given : List Given) (copies : List MarkedCopy)
+    → PrintsFirst printing starts given copies
+    → (count : ℕ) × HavePrintedBy printing starts given (take count copies)
+counted {printing} starts given copies h = (
   length h.first,
-  subst (HavePrinted starts given)
+  subst (HavePrintedBy printing starts given)
       (sym (ap (take (length h.first)) h.whole ∙ take-append_seam h.first h.rest)) h.printed,
 )
 
 -- nothing that is given prints nothing
-pub in_turn-none : (starts : Starts) → HavePrinted starts [] [] → PrintsInTurn starts [] []
-in_turn-none starts h = record {
+pub in_turn-none : {printing : Printing} (starts : Starts) → HavePrintedBy printing starts [] []
+    → PrintsInTurnBy printing starts [] []
+in_turn-none {printing} starts h = record {
   each = h;
   in_turn = λ before later e. (
     0,
-    subst (λ given. HavePrinted starts given []) (sym (front-of_none before later e)) h,
+    subst (λ given. HavePrintedBy printing starts given []) (sym (front-of_none before later e)) h,
   );
 }
 
-longer : (starts : Starts) (before : List Given) (copies more : List MarkedCopy)
-    → PrintsFirst starts before copies → PrintsFirst starts before (copies ++ more)
-longer starts before copies more h = record {
+longer : {printing : Printing} (starts : Starts) (before : List Given)
+    (copies more : List MarkedCopy) → PrintsFirst printing starts before copies
+    → PrintsFirst printing starts before (copies ++ more)
+longer {printing} starts before copies more h = record {
   first = h.first;
   rest = h.rest ++ more;
   whole = ap (λ c. c ++ more) h.whole ∙ append_assoc h.first h.rest more;
@@ -227,10 +233,11 @@ longer starts before copies more h = record {
 }
 
 -- what is given next brings these copies, where what is given before brings the first ones in turn
-next-in_turn : (starts : Starts) (given : List Given) (one : Given) (copies more : List MarkedCopy)
-    → BeginsInTurn starts given copies → HavePrinted starts (given ++ one ∷ []) (copies ++ more)
-    → PrintsInTurn starts (given ++ one ∷ []) (copies ++ more)
-next-in_turn starts given one copies more h k = record {
+next-in_turn : {printing : Printing} (starts : Starts) (given : List Given) (one : Given)
+    (copies more : List MarkedCopy) → BeginsInTurn printing starts given copies
+    → HavePrintedBy printing starts (given ++ one ∷ []) (copies ++ more)
+    → PrintsInTurnBy printing starts (given ++ one ∷ []) (copies ++ more)
+next-in_turn {printing} starts given one copies more h k = record {
   each = k;
   in_turn = λ before later e. counted starts before (copies ++ more)
       (elim (fronts given one before later e) [
@@ -238,25 +245,27 @@ next-in_turn starts given one copies more h k = record {
           first = copies ++ more;
           rest = [];
           whole = sym (append-nil (copies ++ more));
-          printed = subst (λ all. HavePrinted starts all (copies ++ more)) (sym whole) k;
+          printed =
+              subst (λ all. HavePrintedBy printing starts all (copies ++ more)) (sym whole) k;
         }
         | inr part ↦ longer starts before copies more (h before part.0 part.1)
       ]);
 }
 
-pub in_turn-more : (starts : Starts) (given : List Given) (one : Given)
-    (copies more : List MarkedCopy) → PrintsInTurn starts given copies
-    → HavePrinted starts (given ++ one ∷ []) (copies ++ more)
-    → PrintsInTurn starts (given ++ one ∷ []) (copies ++ more)
-in_turn-more starts given one copies more h k =
+pub in_turn-more : {printing : Printing} (starts : Starts) (given : List Given) (one : Given)
+    (copies more : List MarkedCopy) → PrintsInTurnBy printing starts given copies
+    → HavePrintedBy printing starts (given ++ one ∷ []) (copies ++ more)
+    → PrintsInTurnBy printing starts (given ++ one ∷ []) (copies ++ more)
+in_turn-more {printing} starts given one copies more h k =
     next-in_turn starts given one copies more (begins-in_turn starts given copies h) k
 
 -- the same with another in place of what was given last
-pub in_turn-other : (starts : Starts) (given : List Given) (one other : Given)
-    (copies more : List MarkedCopy) → PrintsInTurn starts (given ++ one ∷ []) copies
-    → HavePrinted starts (given ++ other ∷ []) (copies ++ more)
-    → PrintsInTurn starts (given ++ other ∷ []) (copies ++ more)
-in_turn-other starts given one other copies more h k =
+pub in_turn-other : {printing : Printing} (starts : Starts) (given : List Given)
+    (one other : Given) (copies more : List MarkedCopy)
+    → PrintsInTurnBy printing starts (given ++ one ∷ []) copies
+    → HavePrintedBy printing starts (given ++ other ∷ []) (copies ++ more)
+    → PrintsInTurnBy printing starts (given ++ other ∷ []) (copies ++ more)
+in_turn-other {printing} starts given one other copies more h k =
     next-in_turn starts given other copies more
     (λ before later e. begins-in_turn starts (given ++ one ∷ []) copies h before (later ++ one ∷ [])
     (ap (λ list. list ++ one ∷ []) e ∙ append_assoc before later (one ∷ [])))
