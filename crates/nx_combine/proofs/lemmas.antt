@@ -1,5 +1,6 @@
 -- Lemmas that several proofs cite.
 pub mod AfterHeader
+pub mod BehindHeader
 pub mod Combine
 pub mod Ends
 pub mod Examples

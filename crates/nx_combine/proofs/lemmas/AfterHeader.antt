@@ -26,7 +26,7 @@ pub length-header : (identity : Identity) → length (header identity) ≡ 9
 length-header identity = refl
 
 -- a text that ends with a header has at least as many bytes
-long_enough : (text : List ℕ) (identity : Identity) → EndsWithHeader text identity
+pub long_enough : (text : List ℕ) (identity : Identity) → EndsWithHeader text identity
     → 9 ≤ length text
 long_enough text identity h =
     let spaces : List ℕ = replicate (h.more_spaces + 1) space in

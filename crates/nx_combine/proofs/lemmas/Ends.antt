@@ -8,7 +8,7 @@ use Rattle.nx_code.specs.Reading.{Reception}
 use Rattle.nx_combine.specs.PositionEnds.{end_of, has_ended}
 
 -- none of the numbers passes
-find-none : (p : ℕ → Bool) (a n : ℕ) → ((k : ℕ) → a ≤ k → k < a + n → p k ≡ false)
+pub find-none : (p : ℕ → Bool) (a n : ℕ) → ((k : ℕ) → a ≤ k → k < a + n → p k ≡ false)
     → find p (range_with_len a n) ≡ None
 find-none p a zero none = refl
 find-none p a (suc n) none =
@@ -16,7 +16,7 @@ find-none p a (suc n) none =
     (find-none p (a + 1) n (λ k from below. none k (omega arith) (omega arith)))
 
 -- the first that passes
-find-some : (p : ℕ → Bool) (a n at : ℕ) → a ≤ at → at < a + n → p at ≡ true
+pub find-some : (p : ℕ → Bool) (a n at : ℕ) → a ≤ at → at < a + n → p at ≡ true
     → ((k : ℕ) → a ≤ k → k < at → p k ≡ false) → find p (range_with_len a n) ≡ Some at
 find-some p a zero at from below here none = absurd (omega arith)
 find-some p a (suc n) at from below here none =

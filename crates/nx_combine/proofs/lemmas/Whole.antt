@@ -162,7 +162,7 @@ not_some : (o : Option Ending) → is_some o ≡ false → o ≡ None
 not_some None is = refl
 not_some (Some ending) is = cc
 
-yes_some : (o : Option Ending) → is_some o ≡ true → (ending : Ending) × (o ≡ Some ending)
+pub yes_some : (o : Option Ending) → is_some o ≡ true → (ending : Ending) × (o ≡ Some ending)
 yes_some None is = cc
 yes_some (Some ending) is = (ending, refl)
 
