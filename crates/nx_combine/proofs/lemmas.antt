@@ -7,6 +7,7 @@ pub mod Examples
 pub mod Held
 pub mod Invented
 pub mod Joined
+pub mod PlacedOn
 pub mod Printed
 pub mod ReadOn
 pub mod Sendings

@@ -6,3 +6,4 @@ pub mod PlainPairs
 pub mod ReaderWords
 pub mod StillStands
 pub mod Texts
+pub mod Told

@@ -74,7 +74,7 @@ headers_in text = All-weaker (Contains (headers text)) (IsHeaderIn text)
     (All-contains_itself (headers text))
 
 -- what is made of items with P has Q
-filter_map-all : {X Y : Type 0} (P : X → Type 0) (Q : Y → Type 0) (f : X → Option Y)
+pub filter_map-all : {X Y : Type 0} (P : X → Type 0) (Q : Y → Type 0) (f : X → Option Y)
     → ((x : X) (y : Y) → P x → f x ≡ Some y → Q y) → (xs : List X) → All P xs
     → All Q (filter_map f xs)
 filter_map-all P Q f makes [] k = All-nil Q
@@ -90,7 +90,7 @@ header_kept : (h : Header) (o : Option Ending) (c : Copy) → option_map (copy_w
 header_kept h None c e = cc
 header_kept h (Some ending) c e = cc
 
-ended_header : (text : List ℕ) (h : Header) (c : Copy) → ended_copy text h ≡ Some c → h ≡ c.header
+pub ended_header : (text : List ℕ) (h : Header) (c : Copy) → ended_copy text h ≡ Some c → h ≡ c.header
 unfolding ended_copy
 ended_header text h c e = header_kept h (ending_of (raw_text text h)) c e
 
@@ -178,6 +178,14 @@ all_in_placed low high text k =
     rw (all_in-parts text) (All-append (IsCopyIn low high) (ended_in text) (open_in text)
     (ended_in_placed low high text k) (open_in_placed low high text k))
 
+-- text that comes later leaves a copy that stands in it
+pub same_found : (text more : List PlacedByte) (c : Copy) → c.header.behind - 1 < length text
+    → found_copy (text ++ more) c ≡ found_copy text c
+unfolding found_copy
+same_found text more c h =
+    ap (λ p. record { identity = c.header.identity; how = c.how; text = c.text; place = p })
+    (place_in-append text more (c.header.behind - 1) h)
+
 -- text that comes later leaves the copies that have ended as they are, and adds others behind them
 pub found-same : (text more : List PlacedByte) (copies : List Copy)
     → All (λ (c : Copy). IsHeaderIn (bytes_of text) c.header) copies
@@ -192,12 +200,6 @@ found-same text more (c ∷ copies) k =
     same_found text more c (omega (arith, length-bytes_of text, i.0, i.1)) in
     ap (λ f. f ∷ map (found_copy (text ++ more)) copies) here
     ∙ ap (λ fs. found_copy text c ∷ fs) rest
-  where
-    same_found : (text more : List PlacedByte) (c : Copy) → c.header.behind - 1 < length text
-        → found_copy (text ++ more) c ≡ found_copy text c
-    same_found text more c h =
-        ap (λ p. record { identity = c.header.identity; how = c.how; text = c.text; place = p })
-        (place_in-append text more (c.header.behind - 1) h)
 
 pub ended_in-grows : (text whole : List PlacedByte) → GoesOnAs text whole
     → GoesOnAs (ended_in text) (ended_in whole)

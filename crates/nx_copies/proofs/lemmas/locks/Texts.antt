@@ -17,7 +17,7 @@ use Rattle.nx_copies.specs.copies.LockText.{taken_at, positions, PlacedByte, pri
 use Rattle.nx_copies.specs.copies.LockText.{lock_text, bytes_of}
 
 -- words that are the same up to a word give the same text up to there
-five_before-same : (f g : ℕ → ℕ) (k : ℕ) → ((j : ℕ) → j < k → f j ≡ g j)
+pub five_before-same : (f g : ℕ → ℕ) (k : ℕ) → ((j : ℕ) → j < k → f j ≡ g j)
     → five_before f k ≡ five_before g k
 five_before-same f g k same =
     elim (cases_lt k 5) [
