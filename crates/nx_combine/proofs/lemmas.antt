@@ -2,6 +2,7 @@
 pub mod AfterHeader
 pub mod BehindHeader
 pub mod Combine
+pub mod CombinedLaws
 pub mod Ends
 pub mod Examples
 pub mod Held

@@ -8,6 +8,7 @@ use Rattle.nx_memory.specs.declared.memories.entry.MemoryEntry.{MemoryEntry}
 use Rattle.nx_sync.specs.Locks.{IsNow, Lock, Now}
 use Rattle.nx_copies.specs.Events.{Event, Start, elements_among, first_setting}
 use Rattle.nx_copies.specs.copies.FoundCopies.{TaggedCopy}
+use Rattle.nx_copies.specs.copies.Log.{Printing}
 use Rattle.nx_copies.specs.copies.Printing.{entry_of, is_good, is_printed, is_remembered}
 use Rattle.nx_combine.specs.CopyPositions.{PlacedCopy, ended_placed, heard_copies, placed_to_end}
 use Rattle.nx_combine.specs.Families.{CombinedCopy, combined_copies, is_better}
@@ -84,3 +85,7 @@ HasPrintedCombined start events log = PrintsCombined ended_placed start events l
 -- What is printed where these events are all: the end closes the copy that stands open.
 abbrev pub PrintsCombinedToEnd : Start → List Event → List TaggedCopy → Type 0
 PrintsCombinedToEnd start events log = PrintsCombined placed_to_end start events log
+
+-- what a receiver prints that takes several sendings together
+abbrev pub combined : Printing
+combined = record { so_far = HasPrintedCombined; to_end = PrintsCombinedToEnd }

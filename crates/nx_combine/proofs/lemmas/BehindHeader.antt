@@ -1,11 +1,10 @@
 -- The positions behind a header: what they print is what stands behind it in the text.
-use Rattle.std.proofs.Common.{◌≡◌, ◌⊎◌, ℕ, zero, suc, ◌+◌, ◌-◌, ◌<◌, ◌≤◌, inl, inr, Bool, true, false}
+use Rattle.std.proofs.Common.{◌≡◌, ◌⊎◌, ℕ, zero, suc, ◌+◌, ◌<◌, ◌≤◌, inl, inr, Bool, true, false}
 use Rattle.std.proofs.Common.{◌||◌, ◌/◌, ◌%◌, replicate, ltb, eqb, not, Option, Some, None, List, [], ◌∷◌, ◌++◌, length}
-use Rattle.std.proofs.Common.{take, drop, get_or, refl, sym, ap, ap₂, ◌∙◌, subst, arith, unwrap_or}
+use Rattle.std.proofs.Common.{take, drop, get_or, refl, sym, ap, ◌∙◌, subst, arith, unwrap_or}
 use Rattle.std.proofs.Common.{append_assoc, append-nil, length-append, is_some, lit<}
 use Rattle.std.specs.Prelude.{◌==◌, nat_le}
 use Rattle.std.proofs.lemmas.Option.{slice_get_past}
-use Rattle.std.specs.List.{find, range_with_len}
 use Rattle.std.specs.Option.{option_to_list}
 use Rattle.std.proofs.Math.Nat.{mod-lt}
 use Rattle.std.proofs.Math.Seq.{take-suc, drop-append_seam, get_or-append_seam, take-append_seam}
@@ -13,7 +12,7 @@ use Rattle.std.proofs.lemmas.Bool.{agree_below_at, le-ltb, ne_eqb}
 use Rattle.std.proofs.lemmas.Bool.Decides.{leb_tells}
 use Rattle.std.proofs.lemmas.List.{drop-append-le, length-take, take-append-drop, take-append-le, take_all}
 use Rattle.nx_code.specs.Reading.{Reception, combination, idle, lost, byte_of, character_of}
-use Rattle.nx_code.specs.Reading.{space, shift_after, shift_after_all, shift_set, text}
+use Rattle.nx_code.specs.Reading.{space, shift_after, shift_after_all, text}
 use Rattle.nx_code.specs.Table.{figure_shift, letter_shift, line_feed, row_of, space_combination, table}
 use Rattle.nx_code.specs.declared.shifts.Shift.{Shift}
 use Rattle.nx_code.specs.declared.shifts.Shift.TheVariants.{Letters, Figures}
@@ -55,7 +54,7 @@ first-more taken n =
           let front = take n taken in
           let shift = shift_after_all front Letters in
           let whole : text (take (suc n) taken) Letters
-              ≡ text front Letters ++ option_to_list (byte_of x shift) =
+          ≡ text front Letters ++ option_to_list (byte_of x shift) =
           ap (λ l. text l Letters) (take-suc taken n lost less.1) ∙ text-push front x Letters in
           let long = ap length whole in
           let parts = length-append (text front Letters) (option_to_list (byte_of x shift)) in
@@ -214,7 +213,7 @@ ends_with_digit front b identity ends =
     let rest : List ℕ = identity.b1.byte ∷ identity.b2.byte ∷ (48 + n / 10) ∷ [] in
     let bytes : identity_bytes identity ≡ rest ++ (48 + n % 10) ∷ [] = refl in
     let parts : front ++ b ∷ []
-        ≡ (ends.front ++ start_marker ++ spaces ++ rest) ++ (48 + n % 10) ∷ [] =
+    ≡ (ends.front ++ start_marker ++ spaces ++ rest) ++ (48 + n % 10) ∷ [] =
     ends.spelled ∙ ap (λ l. ends.front ++ start_marker ++ spaces ++ l) bytes
     ∙ sym (append_assoc (ends.front ++ start_marker ++ spaces) rest ((48 + n % 10) ∷ [])) in
     let same = last-same front (ends.front ++ start_marker ++ spaces ++ rest) b (48 + n % 10) parts in
@@ -276,7 +275,7 @@ print_header taken header stands =
         let shift = shift_after_all front Letters in
         let last : take (suc m) taken ≡ front ++ x ∷ [] = take-suc taken m lost are.within in
         let whole : text (take (suc m) taken) Letters
-            ≡ text front Letters ++ option_to_list (byte_of x shift) =
+        ≡ text front Letters ++ option_to_list (byte_of x shift) =
         ap (λ l. text l Letters) last ∙ text-push front x Letters in
         ap (λ l. shift_after_all l Letters) last
         ∙ shift_after_all-append front (x ∷ []) Letters
@@ -324,7 +323,7 @@ behind-more taken more header stands =
     let is = print_header taken header stands in
     let at = is.at in
     let same : (n : ℕ) → n ≤ length taken
-        → printed_by_first (taken ++ more) n ≡ printed_by_first taken n =
+    → printed_by_first (taken ++ more) n ≡ printed_by_first taken n =
     λ n low. ap (λ l. length (text l Letters)) (take-append-le n taken more low) in
     let fewest : AreFewest (taken ++ more) header.behind at = record {
       within = omega (arith, is.within, length-append taken more);

@@ -3,7 +3,7 @@
 use Rattle.std.proofs.Common.{◌≡◌, ℕ, zero, suc, ◌+◌, ◌*◌, ◌-◌, ◌<◌, ◌≤◌, Bool, true, List, [], ◌∷◌}
 use Rattle.std.proofs.Common.{◌++◌, map, Option, Some, None, refl, sym, ap, ◌∙◌, subst, arith}
 use Rattle.std.proofs.Common.{is_some, cond, length, add-zero, add-suc, append_assoc, take}
-use Rattle.std.specs.List.{All, Contains, filter_map}
+use Rattle.std.specs.List.{All, Contains}
 use Rattle.std.specs.Option.{option_map}
 use Rattle.std.proofs.lemmas.List.{length-take, map-append}
 use Rattle.std.proofs.lemmas.List.Elements.{All-contains_itself, All-head, All-tail, All-weaker}
@@ -36,7 +36,7 @@ use Rattle.nx_combine.specs.CopyPositions.{ended_placed}
 use Rattle.nx_combine.specs.CopyPositions.{lock_bytes, lock_positions, past_placed, placed}
 use Rattle.nx_combine.specs.CopyPositions.{positions_in_lost, positions_in_past, positions_of}
 use Rattle.nx_combine.specs.CopyPositions.{standing_placed}
-use Rattle.nx_combine.specs.PositionEnds.{has_ended, raw_text_of, up_to_end}
+use Rattle.nx_combine.specs.PositionEnds.{has_ended, up_to_end}
 use Rattle.nx_combine.proofs.lemmas.AfterHeader.{long_enough}
 use Rattle.nx_combine.proofs.lemmas.BehindHeader.{behind-more, raw-text_behind, up_to_end-more}
 
@@ -117,7 +117,7 @@ pub lock_positions-more : (bits more : List Bool) (t n : ℕ) → IsPattern bits
 lock_positions-more bits more t n here h =
     let first = first_role-more bits more t here.enough here.heard in
     let words : (j : ℕ) → j < n
-        → word_of_lock (bits ++ more) t j ≡ word_of_lock bits t j =
+    → word_of_lock (bits ++ more) t j ≡ word_of_lock bits t j =
     λ j lt. word_at-more bits more t j (omega arith) in
     ap (λ role. record {
       taken = positions role (word_of_lock (bits ++ more) t) n;

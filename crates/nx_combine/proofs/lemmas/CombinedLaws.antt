@@ -1,0 +1,296 @@
+-- The laws of what is printed of several sendings taken together: there is one log, and it stays.
+use Rattle.std.proofs.Common.{◌≡◌, ℕ, ◌+◌, Bool, List, [], ◌∷◌, ◌++◌}
+use Rattle.std.proofs.Common.{map, length, refl, sym, ap, ◌∙◌, subst, arith, append-nil}
+use Rattle.std.proofs.Common.{cond}
+use Rattle.std.specs.List.{All}
+use Rattle.std.proofs.lemmas.List.{map-append}
+use Rattle.std.proofs.lemmas.List.Elements.{All-cons, All-head, All-nil, All-tail}
+use Rattle.nx_envelope.specs.Copies.{closed_copy, copies, ended_copies, open_headers}
+use Rattle.nx_envelope.proofs.lemmas.copies.OneOpenCopy.{copies_parts}
+use Rattle.nx_memory.specs.declared.memories.entry.MemoryEntry.{MemoryEntry}
+use Rattle.nx_sync.specs.Locks.{IsNow, Lock, Now, hunting, locked}
+use Rattle.nx_sync.specs.Words.{whole_words}
+use Rattle.nx_sync.proofs.lemmas.states.StateChanges.{standing_after}
+use Rattle.nx_copies.specs.Events.{Event, Setting, Start, elements_among, first_setting, setting_at}
+use Rattle.nx_copies.specs.copies.FoundCopies.{FoundCopy, TaggedCopy, ended_so_far, tag}
+use Rattle.nx_copies.specs.copies.FoundCopies.{past_copies, ended_in, standing_text}
+use Rattle.nx_copies.specs.copies.Log.{IsPrinting}
+use Rattle.nx_copies.proofs.lemmas.locks.Found.{IsCopyIn, one_told}
+use Rattle.nx_copies.proofs.lemmas.locks.Growing.{ended_in-nil}
+use Rattle.nx_copies.proofs.lemmas.locks.Texts.{GoesOnAs, goes_on_behind}
+use Rattle.nx_copies.proofs.lemmas.printing.Logged.{bits_of-append, setting_at-more}
+use Rattle.nx_copies.proofs.lemmas.printing.Logged as logged
+use Rattle.nx_combine.specs.CombinedPrinting.{HasPrintedCombined, PrintsCombinedToEnd, combined}
+use Rattle.nx_combine.specs.CombinedPrinting.{entry_made_combined, if_printed_combined}
+use Rattle.nx_combine.specs.CombinedPrinting.{printed_combined, printed_of_placed}
+use Rattle.nx_combine.specs.CopyPositions.{HeardCopy, PlacedCopy, ended_placed}
+use Rattle.nx_combine.specs.CopyPositions.{heard_copies, lock_bytes, past_placed}
+use Rattle.nx_combine.specs.CopyPositions.{placed, placed_to_end, positions_in_past, standing_placed}
+use Rattle.nx_combine.specs.Families.{CombinedCopy, Family, combined_copies, combined_copy}
+use Rattle.nx_combine.specs.Families.{families_after}
+use Rattle.nx_combine.proofs.lemmas.PlacedOn.{placed_go_on}
+
+-- combined copies of more copies come behind those of the first
+combined-on : (families : List Family) (xs ys : List HeardCopy)
+    → GoesOnAs (combined_copies families xs) (combined_copies families (xs ++ ys))
+unfolding combined_copies
+combined-on families [] ys = record { rest = combined_copies families ys; whole = refl }
+combined-on families (x ∷ xs) ys =
+    goes_on_behind (if_selected x) (combined_copies (families_after families x) xs) _
+    (combined-on (families_after families x) xs ys)
+  where
+    if_selected : HeardCopy → List CombinedCopy
+    if_selected heard =
+        cond heard.copy.selected (combined_copy families heard ∷ []) []
+
+-- and what is printed of more combined copies
+printed-on : (entries : List MemoryEntry) (before xs ys : List CombinedCopy)
+    → GoesOnAs (printed_combined entries before xs) (printed_combined entries before (xs ++ ys))
+unfolding printed_combined
+printed-on entries before [] ys =
+    record { rest = printed_combined entries before ys; whole = refl }
+printed-on entries before (x ∷ xs) ys =
+    goes_on_behind (if_printed_combined entries before x) _ _
+    (printed-on (entries ++ entry_made_combined entries before x)
+    (if_printed_combined entries before x ++ before) xs ys)
+
+map-on : {X Y : Type 0} (f : X → Y) (xs ys : List X) → GoesOnAs xs ys → GoesOnAs (map f xs) (map f ys)
+map-on f xs ys g =
+    record { rest = map f g.rest; whole = ap (map f) g.whole ∙ map-append f xs g.rest }
+
+-- each copy that is found, without its positions
+abbrev found_of : PlacedCopy → FoundCopy
+found_of copy = copy.found
+
+abbrev PlacedIn : ℕ → PlacedCopy → Type 0
+PlacedIn high copy = IsCopyIn 0 high copy.found
+
+-- what is in force at a copy is so whatever comes later
+heard-more : (first : Setting) (xs ys : List Event) (copies : List PlacedCopy)
+    → All (PlacedIn (length (elements_among xs))) copies
+    → heard_copies first (xs ++ ys) copies ≡ heard_copies first xs copies
+unfolding heard_copies
+heard-more first xs ys [] all = refl
+heard-more first xs ys (c ∷ cs) all =
+    let here = All-head (PlacedIn (length (elements_among xs))) c cs all in
+    let rest = heard-more first xs ys cs
+    (All-tail (PlacedIn (length (elements_among xs))) c cs all) in
+    ap (λ s. heard_by s c ∷ heard_copies first (xs ++ ys) cs)
+    (setting_at-more first xs ys c.found.place here.1)
+    ∙ ap (λ hs. heard_by (setting_at first xs c.found.place) c ∷ hs) rest
+  where
+    heard_by : Setting → PlacedCopy → HeardCopy
+    heard_by setting copy = record { copy = tag setting copy.found; positions = copy.positions }
+
+heard-append : (first : Setting) (xs : List Event) (before later : List PlacedCopy)
+    → heard_copies first xs (before ++ later)
+    ≡ heard_copies first xs before ++ heard_copies first xs later
+unfolding heard_copies
+heard-append first xs before later = map-append _ before later
+
+-- more copies, found behind others, add to what is printed
+printed_of-on : (start : Start) (xs ys : List Event) (before later : List PlacedCopy)
+    → GoesOnAs before later → All (PlacedIn (length (elements_among xs))) before
+    → GoesOnAs (printed_of_placed start xs before) (printed_of_placed start (xs ++ ys) later)
+printed_of-on start xs ys before later g all =
+    let first = first_setting start in
+    let heard = heard_copies first xs before in
+    let more = heard_copies first (xs ++ ys) g.rest in
+    let parts : heard_copies first (xs ++ ys) later ≡ heard ++ more =
+    ap (heard_copies first (xs ++ ys)) g.whole
+    ∙ heard-append first (xs ++ ys) before g.rest
+    ∙ ap (λ hs. hs ++ more) (heard-more first xs ys before all) in
+    let combined = combined-on [] heard more in
+    let printed : GoesOnAs (printed_combined start.entries [] (combined_copies [] heard))
+    (printed_combined start.entries [] (combined_copies [] (heard ++ more))) =
+    rw combined.whole (printed-on start.entries [] (combined_copies [] heard) combined.rest) in
+    map-on (λ (one : CombinedCopy). one.copy) _ _ (rw parts printed)
+
+map-map : {X Y Z : Type 0} (g : Y → Z) (f : X → Y) (xs : List X)
+    → map g (map f xs) ≡ map (λ x. g (f x)) xs
+map-map g f [] = refl
+map-map g f (x ∷ xs) = ap (λ ys. g (f x) ∷ ys) (map-map g f xs)
+
+-- without their positions they are the copies that are found
+past-found : (bits : List Bool) (locks : List Lock)
+    → map found_of (past_placed bits locks) ≡ past_copies bits locks
+unfolding past_placed past_copies
+past-found bits [] = refl
+past-found bits (lock ∷ older) =
+    map-append found_of (past_placed bits older) _
+    ∙ ap (λ xs. xs ++ map found_of (placed_past lock)) (past-found bits older)
+    ∙ ap (λ xs. past_copies bits older ++ xs)
+    (map-map found_of _ (copies (lock_bytes bits lock.at (lock.last + 1))))
+  where
+    placed_past : Lock → List PlacedCopy
+    placed_past lock = placed (positions_in_past lock.how) bits lock.at (lock.last + 1)
+        (copies (lock_bytes bits lock.at (lock.last + 1)))
+
+standing-found : (bits : List Bool) (now : Now)
+    → map found_of (standing_placed ended_copies bits now) ≡ ended_in (standing_text bits now)
+standing-found bits (hunting p) = sym ended_in-nil
+standing-found bits (locked p t) =
+    map-map found_of _ (ended_copies (lock_bytes bits t (whole_words bits t)))
+
+ended-found : (bits : List Bool) (locks : List Lock) (now : Now)
+    → map found_of (ended_placed bits locks now) ≡ ended_so_far bits locks now
+unfolding ended_placed ended_so_far
+ended-found bits locks now =
+    map-append found_of (past_placed bits locks) (standing_placed ended_copies bits now)
+    ∙ ap (λ xs. xs ++ map found_of (standing_placed ended_copies bits now)) (past-found bits locks)
+    ∙ ap (λ xs. past_copies bits locks ++ xs) (standing-found bits now)
+
+-- so each stands at one of the bits
+are_placed : (high : ℕ) (copies : List PlacedCopy) → All (IsCopyIn 0 high) (map found_of copies)
+    → All (PlacedIn high) copies
+are_placed high [] all = All-nil (PlacedIn high)
+are_placed high (c ∷ cs) all =
+    All-cons (PlacedIn high) c cs (All-head (IsCopyIn 0 high) c.found (map found_of cs) all)
+    (are_placed high cs (All-tail (IsCopyIn 0 high) c.found (map found_of cs) all))
+
+ended_in_bits : (bits : List Bool) (locks : List Lock) (now : Now) → IsNow bits locks now
+    → All (PlacedIn (length bits)) (ended_placed bits locks now)
+ended_in_bits bits locks now is =
+    are_placed (length bits) (ended_placed bits locks now)
+    (subst (λ (xs : List FoundCopy). All (IsCopyIn 0 (length bits)) xs)
+    (sym (ended-found bits locks now)) (logged.ended_placed bits locks now is))
+
+-- what the end adds
+standing-on : (bits : List Bool) (now : Now)
+    → GoesOnAs (standing_placed ended_copies bits now) (standing_placed copies bits now)
+standing-on bits (hunting p) = record { rest = []; whole = refl }
+standing-on bits (locked p t) =
+    let n = whole_words bits t in
+    let bytes = lock_bytes bits t n in
+    map-on _ (ended_copies bytes) (copies bytes) (record {
+      rest = map (closed_copy bytes) (open_headers bytes);
+      whole = copies_parts bytes;
+    })
+
+end_adds : (bits : List Bool) (locks : List Lock) (now : Now)
+    → GoesOnAs (ended_placed bits locks now) (placed_to_end bits locks now)
+unfolding ended_placed placed_to_end
+end_adds bits locks now = goes_on_behind (past_placed bits locks) _ _ (standing-on bits now)
+
+-- more events change nothing that was printed
+stays : (start : Start) (xs ys : List Event) (log later : List TaggedCopy)
+    → HasPrintedCombined start xs log → HasPrintedCombined start (xs ++ ys) later
+    → (rest : List TaggedCopy) × (later ≡ log ++ rest)
+stays start xs ys log later h j =
+    let now : IsNow (elements_among xs ++ elements_among ys) j.locks j.now =
+    subst (λ (bits : List Bool). IsNow bits j.locks j.now) (bits_of-append xs ys) j.stands in
+    let found : GoesOnAs (ended_placed (elements_among xs) h.locks h.now)
+    (ended_placed (elements_among (xs ++ ys)) j.locks j.now) =
+    subst (λ (bits : List Bool). GoesOnAs (ended_placed (elements_among xs) h.locks h.now)
+    (ended_placed bits j.locks j.now)) (sym (bits_of-append xs ys))
+    (placed_go_on (elements_among xs) (elements_among ys) h.locks j.locks h.now j.now h.stands
+    now) in
+    let on = printed_of-on start xs ys _ _ found
+    (ended_in_bits (elements_among xs) h.locks h.now h.stands) in
+    (on.rest, j.printed ∙ on.whole ∙ ap (λ l. l ++ on.rest) (sym h.printed))
+
+stays-to_end : (start : Start) (events : List Event) (log whole : List TaggedCopy)
+    → HasPrintedCombined start events log → PrintsCombinedToEnd start events whole
+    → (rest : List TaggedCopy) × (whole ≡ log ++ rest)
+stays-to_end start events log whole h j =
+    let bits = elements_among events in
+    let one : ended_placed bits h.locks h.now ≡ ended_placed bits j.locks j.now =
+    one_told (ended_placed bits) bits h.locks j.locks h.now j.now h.stands j.stands in
+    let on = printed_of-on start events [] (ended_placed bits j.locks j.now)
+    (placed_to_end bits j.locks j.now) (end_adds bits j.locks j.now)
+    (ended_in_bits bits j.locks j.now j.stands) in
+    let same : events ++ [] ≡ events = append-nil events in (
+      on.rest,
+      j.printed
+          ∙ ap (λ all. printed_of_placed start all (placed_to_end bits j.locks j.now)) (sym same)
+          ∙ on.whole ∙ ap (λ l. l ++ on.rest)
+          (sym (h.printed ∙ ap (printed_of_placed start events) one)),
+    )
+
+-- there is one log
+one-printed : (start : Start) (events : List Event) (log other : List TaggedCopy)
+    → HasPrintedCombined start events log → HasPrintedCombined start events other → log ≡ other
+one-printed start events log other h j =
+    let bits = elements_among events in
+    h.printed ∙ ap (printed_of_placed start events)
+    (one_told (ended_placed bits) bits h.locks j.locks h.now j.now h.stands j.stands)
+    ∙ sym j.printed
+
+one-to_end : (start : Start) (events : List Event) (log other : List TaggedCopy)
+    → PrintsCombinedToEnd start events log → PrintsCombinedToEnd start events other → log ≡ other
+one-to_end start events log other h j =
+    let bits = elements_among events in
+    h.printed ∙ ap (printed_of_placed start events)
+    (one_told (placed_to_end bits) bits h.locks j.locks h.now j.now h.stands j.stands)
+    ∙ sym j.printed
+
+some-printed : (start : Start) (events : List Event)
+    → (log : List TaggedCopy) × HasPrintedCombined start events log
+some-printed start events =
+    let s = standing_after (elements_among events) in (
+      printed_of_placed start events (ended_placed (elements_among events) s.locks s.now),
+      record { locks = s.locks; now = s.now; stands = s.stands; printed = refl },
+    )
+
+some-to_end : (start : Start) (events : List Event)
+    → (log : List TaggedCopy) × PrintsCombinedToEnd start events log
+some-to_end start events =
+    let s = standing_after (elements_among events) in (
+      printed_of_placed start events (placed_to_end (elements_among events) s.locks s.now),
+      record { locks = s.locks; now = s.now; stands = s.stands; printed = refl },
+    )
+
+-- no event prints nothing
+none-placed : (copies : List PlacedCopy) → All (PlacedIn 0) copies → copies ≡ []
+none-placed [] all = refl
+none-placed (c ∷ cs) all =
+    let here = All-head (PlacedIn 0) c cs all in
+    absurd (omega (arith, here.1))
+
+no-events : (start : Start) → HasPrintedCombined start [] []
+unfolding elements_among heard_copies combined_copies printed_combined
+no-events start =
+    let log = some-printed start [] in
+    let h = log.1 in
+    let none : ended_placed [] h.locks h.now ≡ [] =
+    none-placed _ (ended_in_bits [] h.locks h.now h.stands) in
+    record {
+      locks = h.locks;
+      now = h.now;
+      stands = h.stands;
+      printed = sym (ap (printed_of_placed start []) none);
+    }
+
+-- events without elements bring no copy to an end
+no-elements : (start : Start) (xs ys : List Event) (log : List TaggedCopy)
+    → HasPrintedCombined start xs log → elements_among ys ≡ []
+    → HasPrintedCombined start (xs ++ ys) log
+no-elements start xs ys log h none =
+    let bits = elements_among xs in
+    let copies = ended_placed bits h.locks h.now in
+    let same : elements_among (xs ++ ys) ≡ bits =
+    bits_of-append xs ys ∙ ap (λ more. bits ++ more) none ∙ append-nil bits in
+    record {
+      locks = h.locks;
+      now = h.now;
+      stands = subst (λ (all : List Bool). IsNow all h.locks h.now) (sym same) h.stands;
+      printed = h.printed
+          ∙ ap (λ heard. map (λ (one : CombinedCopy). one.copy)
+          (printed_combined start.entries [] (combined_copies [] heard)))
+          (sym (heard-more (first_setting start) xs ys copies
+          (ended_in_bits bits h.locks h.now h.stands)))
+          ∙ ap (λ (all : List Bool).
+          printed_of_placed start (xs ++ ys) (ended_placed all h.locks h.now)) (sym same);
+    }
+
+pub combined-laws : IsPrinting combined
+combined-laws = record {
+  some = some-printed;
+  one = one-printed;
+  some_to_end = some-to_end;
+  one_to_end = one-to_end;
+  none = no-events;
+  no_elements = no-elements;
+  stays = stays;
+  stays_to_end = stays-to_end;
+}
