@@ -6,7 +6,7 @@ ghost use Rattle.nx_receiver.specs.Listener.{AreInRange};
 use arrayvec::ArrayVec;
 use nx_copies::MAX_ENTRY;
 use nx_memory::PlainRecall;
-use nx_receiver::{LastEntries, Listener};
+use nx_receiver::{LastEntries, Listener, Receiver};
 
 /// What is left of what the end prints.
 #[derive(Drop)]
@@ -20,7 +20,7 @@ pub struct Ending {
 #[derive(Drop)]
 pub enum LifeStage {
     /// It hears.
-    Hearing(Listener<PlainRecall>),
+    Hearing(Listener<Receiver<PlainRecall>>),
     /// Its end has begun.
     Ending(Ending),
 }

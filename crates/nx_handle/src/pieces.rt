@@ -8,7 +8,7 @@ use arrayvec::ArrayVec;
 use nx_copies::MAX_ENTRY;
 use nx_fec::{Channel, PackedElements};
 use nx_memory::PlainRecall;
-use nx_receiver::Listener;
+use nx_receiver::{Listener, Receiver};
 
 /// The most elements of a piece.
 const MAX_PIECE: usize = 512;
@@ -16,7 +16,7 @@ const MAX_PIECE: usize = 512;
 /// Hears elements of a channel, up to and with the one that ends the first copy that is printed;
 /// says how many it heard, and whether `entry` has the bytes of an entry then.
 pub(crate) fn hear_all(
-    listener: &mut Listener<PlainRecall>,
+    listener: &mut Listener<Receiver<PlainRecall>>,
     channel: Channel,
     elements: &[u8],
     entry: &mut ArrayVec<u8, MAX_ENTRY>,

@@ -1,3 +1,4 @@
+pub mod ChannelReceiver
 pub mod Commands
 pub mod Listener
 pub mod Moments

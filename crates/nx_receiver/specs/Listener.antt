@@ -12,60 +12,70 @@ use Rattle.nx_memory.specs.declared.memories.entry.MemoryEntry.{MemoryEntry}
 use Rattle.nx_copies.specs.Events as events
 use Rattle.nx_copies.specs.Events.{Event, elements_among}
 use Rattle.nx_copies.specs.copies.FoundCopies.{TaggedCopy}
-use Rattle.nx_copies.specs.copies.InTurn.{PrintsInTurn}
+use Rattle.nx_copies.specs.copies.InTurn.{PrintsInTurnBy}
 use Rattle.nx_copies.specs.copies.Log.{IsEntry}
-use Rattle.nx_receiver.specs.Receiver.{Receiving, Stands, entry_list, text_of}
+use Rattle.nx_receiver.specs.ChannelReceiver.{ReceiverKind}
+use Rattle.nx_receiver.specs.Receiver.{Receiving, entry_list, plain_kind, text_of}
 use Rattle.nx_copies.specs.copies.Shares.{Given, MarkedCopy, Starts, copies_on, marked, share}
 use Rattle.nx_copies.specs.copies.Shares.{start_on}
 use Rattle.nx_copies.specs.copies.Shares.{to_all, to_one}
 use Rattle.nx_receiver.specs.declared.listener.LastEntries.{LastEntries}
 
--- what contracts see of a listener over memories of this kind: the receiver of each channel,
+-- what contracts see of a listener over receivers of this kind: the receiver of each channel,
 -- whether there was a moment, and how many elements and entries it counted
-pub record ListeningOver (M : Type 0) : Type 0 where
-  pub on_0 : Receiving M
-  pub on_1 : Receiving M
-  pub on_2 : Receiving M
+pub record ListeningOver (R : Type 0) : Type 0 where
+  pub on_0 : R
+  pub on_1 : R
+  pub on_2 : R
   pub has_moment : Bool
   pub elements : ℕ
   pub entries : ℕ
 
--- the listener of the program, whose memories are rings with a table
+-- the listener of the program, whose receivers judge each copy alone, and whose memories are rings
+-- with a table
 abbrev pub Listening : Type 0
-Listening = ListeningOver RingMemory
+Listening = ListeningOver (Receiving RingMemory)
 
 -- the entries of such a memory
 abbrev pub content : RingMemory → List MemoryEntry
 content memory = memory.content
 
 -- the receiver of a channel
-abbrev pub receiver_on : {M : Type 0} → ListeningOver M → Channel → Receiving M
+abbrev pub receiver_on : {R : Type 0} → ListeningOver R → Channel → R
 receiver_on listener Zero = listener.on_0
 receiver_on listener One = listener.on_1
 receiver_on listener Two = listener.on_2
 
--- the text that the receiver of a channel has: of the copy that stands open there, or that ended
+-- the text that the receiver of a channel has: that of the entry which it handed out last
+abbrev pub text_by : {R : Type 0} → ReceiverKind R → ListeningOver R → Channel → List ℕ
+text_by kind listener channel = kind.text_of (receiver_on listener channel)
+
+-- the same where each copy is judged alone: that of the copy that stands open there, or that ended
 -- last
-abbrev pub text_on : {M : Type 0} → ListeningOver M → Channel → List ℕ
+abbrev pub text_on : {M : Type 0} → ListeningOver (Receiving M) → Channel → List ℕ
 text_on listener channel = text_of (receiver_on listener channel)
 
 -- the same listener with this as the receiver of a channel
-abbrev pub with_receiver : {M : Type 0} → ListeningOver M → Channel → Receiving M
-    → ListeningOver M
+abbrev pub with_receiver : {R : Type 0} → ListeningOver R → Channel → R → ListeningOver R
 with_receiver listener Zero receiver = record listener { on_0 = receiver }
 with_receiver listener One receiver = record listener { on_1 = receiver }
 with_receiver listener Two receiver = record listener { on_2 = receiver }
 
 -- with what a listener starts that has heard nothing yet: what its receivers have, of which all
--- have one moment; this tells the entries of a memory
-abbrev pub starts_over : {M : Type 0} → (M → List MemoryEntry) → ListeningOver M → Starts
-starts_over entries_of listener = record {
-  moment = listener.on_0.hearer.moment;
-  entries = λ channel. entries_of (receiver_on listener channel).memory;
-  refused = λ channel. (receiver_on listener channel).hearer.refused;
+-- have one moment
+abbrev pub starts_by : {R : Type 0} → ReceiverKind R → ListeningOver R → Starts
+starts_by kind listener = record {
+  moment = (kind.start_of listener.on_0).moment;
+  entries = λ channel. (kind.start_of (receiver_on listener channel)).entries;
+  refused = λ channel. (kind.start_of (receiver_on listener channel)).refused;
 }
 
--- the same of the listener of the program
+-- the same of a listener that judges each copy alone, where this tells the entries of a memory; and
+-- of the listener of the program
+abbrev pub starts_over : {M : Type 0} → (M → List MemoryEntry) → ListeningOver (Receiving M)
+    → Starts
+starts_over entries_of listener = starts_by (plain_kind entries_of) listener
+
 abbrev pub starts_of : Listening → Starts
 starts_of = starts_over content
 
@@ -100,21 +110,28 @@ moment_in_force first (to_one channel events ∷ given) = moment_in_force first 
 -- each channel stands after the channel's share, with the copies of that channel, and has the
 -- moment in force. The copies are in the order in which they ended. The listener counted the
 -- elements and the entries, each at most to the greatest number of 64 bits, and there are no more
--- copies than elements. This tells the entries of a memory.
-pub record HearsOver {M : Type 0} (entries_of : M → List MemoryEntry) (starts : Starts)
-    (listener : ListeningOver M) (given : List Given) (copies : List MarkedCopy)
+-- copies than elements.
+pub record HearsBy {R : Type 0} (kind : ReceiverKind R) (starts : Starts)
+    (listener : ListeningOver R) (given : List Given) (copies : List MarkedCopy)
     : Type 0 where
   pub receivers : (channel : Channel)
-      → Stands entries_of (start_on starts channel) (receiver_on listener channel)
+      → kind.stands (start_on starts channel) (receiver_on listener channel)
       (share channel given) (copies_on channel copies)
   pub moments : (channel : Channel)
-      → (receiver_on listener channel).hearer.moment ≡ moment_in_force starts.moment given
-  pub in_turn : PrintsInTurn starts given copies
+      → (kind.start_of (receiver_on listener channel)).moment
+      ≡ moment_in_force starts.moment given
+  pub in_turn : PrintsInTurnBy kind.printing starts given copies
   pub elements : listener.elements ≡ count_of (length (elements_given given))
   pub entries : listener.entries ≡ count_of (length copies)
   pub few : length copies ≤ length (elements_given given)
 
--- the same of the listener of the program
+-- the same of a listener that judges each copy alone, where this tells the entries of a memory; and
+-- of the listener of the program
+abbrev pub HearsOver : {M : Type 0} → (M → List MemoryEntry) → Starts
+    → ListeningOver (Receiving M) → List Given → List MarkedCopy → Type 0
+HearsOver entries_of starts listener given copies =
+    HearsBy (plain_kind entries_of) starts listener given copies
+
 abbrev pub HearsGiven : Starts → Listening → List Given → List MarkedCopy → Type 0
 HearsGiven = HearsOver content
 

@@ -1,5 +1,5 @@
 -- What a receiver holds, and after which events: the layer contract (this profile).
-use Rattle.std.specs.Prelude.{◌≡◌, ◌⊎◌, ℕ, ◌<◌, ◌≤◌, Bool, true, List, [], ◌∷◌, ◌++◌, take}
+use Rattle.std.specs.Prelude.{◌≡◌, ◌⊎◌, ℕ, ◌<◌, ◌≤◌, Bool, true, List, [], ◌∷◌, ◌++◌}
 use Rattle.std.specs.Prelude.{Option, Some, None}
 use Rattle.nx_code.specs.Lists.{last_of}
 use Rattle.nx_envelope.specs.Copies.{errors_of}
@@ -8,11 +8,12 @@ use Rattle.nx_memory.specs.Memory.{most_entries}
 use Rattle.nx_memory.specs.declared.memories.entry.MemoryEntry.{MemoryEntry}
 use Rattle.nx_copies.specs.declared.entry.Entry.{Entry}
 use Rattle.nx_copies.specs.declared.entry.EntryHead.{EntryHead}
+use Rattle.nx_receiver.specs.ChannelReceiver.{HandsOutNoneBeforeBy, ReceiverKind, TakesEventBy}
 use Rattle.nx_receiver.specs.declared.fault.ReceiverFault.{ReceiverFault}
 use Rattle.nx_receiver.specs.declared.fault.ReceiverFault.TheVariants.{MomentRange, Memory}
 use Rattle.nx_copies.specs.Events.{Event, Start, Setting, elements_among, first_setting, settings}
 use Rattle.nx_copies.specs.Events.{setting_after_all, elements}
-use Rattle.nx_copies.specs.copies.Log.{HasPrinted}
+use Rattle.nx_copies.specs.copies.Log.{plain}
 use Rattle.nx_copies.specs.copies.Printing.{printed_copies, entries_after}
 use Rattle.nx_copies.specs.copies.FoundCopies.{TaggedCopy, copy_of, headed_copy}
 use Rattle.nx_copies.specs.hearing.CopyHearer.{HearerStands}
@@ -43,21 +44,34 @@ Stands content start receiver events log =
     (settings (first_setting start) events)
     (setting_after_all (first_setting start) events) log
 
--- whatever it was given before, the receiver takes this event, and hands out nothing
+-- the text that a receiver has: of the copy that stands open, or that ended last
+abbrev pub text_of : {M : Type 0} → Receiving M → List ℕ
+text_of receiver = receiver.hearer.reader.finder.text
+
+-- what there is to say of the plain receiver, which judges each copy alone, over a memory whose
+-- content this function tells
+abbrev pub plain_kind : {M : Type 0} → (M → List MemoryEntry) → ReceiverKind (Receiving M)
+plain_kind content = record {
+  printing = plain;
+  stands = Stands content;
+  start_of = λ receiver. record {
+    entries = content receiver.memory;
+    moment = receiver.hearer.moment;
+    refused = receiver.hearer.refused;
+  };
+  text_of = text_of;
+}
+
+-- such a receiver takes this event, whatever it was given before, and hands out nothing; and it
+-- hands out nothing before the last of the first `count` of these elements
 abbrev pub TakesEvent : {M : Type 0} → (M → List MemoryEntry) → Receiving M → Receiving M → Event
     → Type 0
-TakesEvent content old new event =
-    (start : Start) (history : List Event) (log : List TaggedCopy)
-    → Stands content start old history log → Stands content start new (history ++ event ∷ []) log
+TakesEvent content old new event = TakesEventBy (plain_kind content) old new event
 
--- whatever it was given before, nothing more is printed before the last of the first `count` of
--- these elements
 abbrev pub HandsOutNoneBefore : {M : Type 0} → (M → List MemoryEntry) → Receiving M → List Bool → ℕ
     → Type 0
 HandsOutNoneBefore content old bits count =
-    (start : Start) (history : List Event) (log : List TaggedCopy)
-    → Stands content start old history log
-    → (k : ℕ) → k < count → HasPrinted start (history ++ elements (take k bits)) log
+    HandsOutNoneBeforeBy (plain_kind content) old bits count
 
 -- the entry that was handed out, as the copy that it prints
 abbrev pub entry_list : Option Entry → List TaggedCopy
@@ -73,10 +87,6 @@ headed_list (Some head) text = headed_copy head text true ∷ []
 pub record HeadsText (head : EntryHead) (text : List ℕ) : Type 0 where
   pub errors : head.errors ≡ errors_of text
   pub in_range : head.moment ≤ last_moment
-
--- the text that a receiver has: of the copy that stands open, or that ended last
-abbrev pub text_of : {M : Type 0} → Receiving M → List ℕ
-text_of receiver = receiver.hearer.reader.finder.text
 
 -- why a receiver is not made: its first moment is past the last one, or before the newest of its
 -- memory; or else there is no memory for it

@@ -2,6 +2,7 @@
 #![tactic(auto)]
 
 mod air_file_runs;
+mod channel_receiver;
 mod command;
 mod fault;
 mod fresh_recall;
@@ -14,6 +15,7 @@ pub use air_file_runs::resume_fault::{ResumeFault, Want};
 pub use air_file_runs::resuming::resume;
 pub use air_file_runs::state::{read_state, write_state};
 pub use air_file_runs::state_fault::StateFault;
+pub use channel_receiver::ChannelReceiver;
 pub use command::Command;
 pub use fault::{MomentFault, ReceiverFault, check_moment};
 pub use fresh_recall::FreshRecall;

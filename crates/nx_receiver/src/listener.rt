@@ -3,43 +3,44 @@
 
 ghost use Rattle.std.specs.Prelude.{◌≡◌, ◌+◌, ◌<◌, ◌≤◌, ◌↔◌, ◌∷◌, ℕ, Bool, true, false, List, [], ◌++◌, length, map, take, drop, IfErr, IfOk, IfSome, IsErr, IsNone, IsSome, IsTrue, MatchOption, MatchResult, None, OnErr, OnOk, Some};
 ghost use Rattle.nx_envelope.specs.Moment.{last_moment};
-ghost use Rattle.nx_memory.specs.Memory.{newest_moment};
 ghost use Rattle.nx_memory.specs.Saved.{AreSavedEntries};
 ghost use Rattle.nx_receiver.specs.air_file_runs.Chain.{Leaves};
+ghost use Rattle.nx_receiver.specs.ChannelReceiver.{FinishesNextBy, HandsOutNoneBeforeBy, HearsUpToBy, TakesEventBy};
 ghost use Rattle.nx_receiver.specs.Commands.{refuses_vital, said};
 ghost use Rattle.nx_receiver.specs.declared.command.Command.TheVariants.{RefuseSubject};
 ghost use Rattle.nx_copies.specs.Events as events;
-ghost use Rattle.nx_copies.specs.Events.{Start, at_moment};
+ghost use Rattle.nx_copies.specs.Events.{at_moment};
 ghost use Rattle.nx_receiver.specs.Moments.{Refuses};
 ghost use Rattle.nx_copies.specs.copies.FoundCopies.{TaggedCopy, copy_of};
-ghost use Rattle.nx_copies.specs.copies.InTurn.{PrintAllToEnd, PrintsInTurn};
-ghost use Rattle.nx_receiver.specs.Listener.{AreInRange, HearsOver, IsSpelled, last_copies, moment_in_force, receiver_on, starts_over, text_on, then_command, then_elements, then_moment, with_receiver};
-ghost use Rattle.nx_receiver.specs.Receiver.{HandsOutNoneBefore, HeadsText, Stands, TakesEvent, headed_list};
+ghost use Rattle.nx_copies.specs.copies.InTurn.{PrintAllToEndBy, PrintsInTurnBy};
+ghost use Rattle.nx_receiver.specs.Listener.{AreInRange, HearsBy, HearsOver, IsSpelled, last_copies, moment_in_force, receiver_on, starts_by, text_by, then_command, then_elements, then_moment, with_receiver};
+ghost use Rattle.nx_receiver.specs.Receiver.{HeadsText, headed_list};
 ghost use Rattle.nx_copies.specs.copies.Shares.{Given, MarkedCopy, Starts, marked, saved_of, share, start_on, starts_from};
-ghost use Rattle.nx_receiver.specs.private.Awaiting.{FinishesNext, HearsUpTo};
 
+use crate::channel_receiver::ChannelReceiver;
 use crate::command::Command;
 use crate::fault::MomentFault;
 use crate::fresh_recall::FreshRecall;
 use crate::receiver::Receiver;
 use arrayvec::ArrayVec;
-use nx_copies::{Entry, EntryHead, MAX_ENTRY, Over, spell_entry};
+use nx_copies::{Entry, EntryHead, MAX_ENTRY, spell_entry};
 use nx_envelope::MAX_FOUND;
 use nx_fec::{Channel, PackedElements};
-use nx_memory::{Listed, Recall, RingRecall, Saved, SavedSet, Selection, Vital};
+use nx_memory::{Listed, RingRecall, Saved, SavedSet, Selection, Vital};
 use std::alloc::{AllocError, Global};
 use std::marker::Model;
 
 /// Three receivers, one for each channel, that hear elements as they come. A moment belongs to all
 /// of them, elements and commands to one. `listen` hears the lines of an air file with it.
 ///
-/// It holds what its receivers hold, whether there was a moment, and two counts. Its memories are
-/// rings with a table, which take a heap; or others, as the plain one, which takes none.
+/// It holds what its receivers hold, whether there was a moment, and two counts. Its receivers judge
+/// each copy alone, over memories that are rings with a table, which take a heap; or over others,
+/// as the plain one, which takes none; or they are receivers of another kind.
 #[derive(Drop)]
-pub struct Listener<M: Recall = RingRecall> {
-    on_0: Receiver<M>,
-    on_1: Receiver<M>,
-    on_2: Receiver<M>,
+pub struct Listener<R: ChannelReceiver = Receiver<RingRecall>> {
+    on_0: R,
+    on_1: R,
+    on_2: R,
     has_moment: bool,
     /// How many elements were heard, and how many entries were handed out, each at most the
     /// greatest u64.
@@ -47,14 +48,13 @@ pub struct Listener<M: Recall = RingRecall> {
     entries: u64,
 }
 
-impl<M: Recall> Model for Listener<M> {
+impl<R: ChannelReceiver> Model for Listener<R> {
     ghost use Rattle.std.specs.Coded.{codes};
-    ghost use Rattle.nx_memory.specs.private.RefusedCode.{refused_code};
     ghost use Rattle.nx_receiver.specs.Listener.{ListeningOver};
 
-    ghost Value = { ListeningOver M };
+    ghost Value = { ListeningOver R };
 
-    ghost coded = { Prim.hlevel (codes, refused_code, M.code) };
+    ghost coded = { Prim.hlevel (codes, R.code) };
 
     ghost view = { λ l. record {
       on_0 = l.on_0;
@@ -108,39 +108,7 @@ impl LastEntries {
     }
 }
 
-impl<M: FreshRecall> Listener<M> {
-    /// A listener that has heard nothing, and starts with what is saved. The receiver of each
-    /// channel starts with the saved entries and the saved selection of the channel. All three
-    /// start at the greatest moment of an entry, or 0 where there is none. Takes all memory that it
-    /// ever needs, and fails where there is none.
-    pub fn starting(alloc: Global, saved: &SavedSet) -> Result<Listener<M>, AllocError>
-        ensures heard { IfOk result (λ listener.
-            HearsOver M.content (starts_from saved.now) listener [] []) }
-        ensures start { IfOk result (λ listener.
-            starts_over M.content listener ≡ starts_from saved.now) }
-        ensures none { IfOk result (λ listener. listener.has_moment ≡ false) }
-        ensures range { OnOk result ((starts_from saved.now).moment ≤ last_moment) }
-    {
-        prove!(size_of::<Listener>() == 3 * size_of::<Receiver<RingRecall>>() + 24);
-        let (selected_0, kept_0) = kept_on(saved, Channel::Zero);
-        let (selected_1, kept_1) = kept_on(saved, Channel::One);
-        let (selected_2, kept_2) = kept_on(saved, Channel::Two);
-        let moment = saved.newest().unwrap_or(0);
-        let on_0 = receiver_from(alloc, selected_0, kept_0, moment)?;
-        let on_1 = receiver_from(alloc, selected_1, kept_1, moment)?;
-        let on_2 = receiver_from(alloc, selected_2, kept_2, moment)?;
-        Ok(Listener {
-            on_0,
-            on_1,
-            on_2,
-            has_moment: false,
-            elements: 0,
-            entries: 0,
-        })
-    }
-}
-
-impl<M: Listed> Listener<M> {
+impl<M: Listed + FreshRecall> Listener<Receiver<M>> {
     /// What it leaves: of each channel the last 200 of all entries, those that it started with and
     /// those that were made, and what is selected now. Copies that stand open are no part of it.
     pub fn saved(&self) -> SavedSet
@@ -152,15 +120,45 @@ impl<M: Listed> Listener<M> {
     }
 }
 
-impl<M: Recall> Listener<M> {
+impl<R: ChannelReceiver> Listener<R> {
+    /// A listener that has heard nothing, and starts with what is saved. The receiver of each
+    /// channel starts with the saved entries and the saved selection of the channel. All three
+    /// start at the greatest moment of an entry, or 0 where there is none. Takes all memory that it
+    /// ever needs, and fails where there is none.
+    pub fn starting(alloc: Global, saved: &SavedSet) -> Result<Listener<R>, AllocError>
+        ensures heard { IfOk result (λ listener.
+            HearsBy R.kind (starts_from saved.now) listener [] []) }
+        ensures start { IfOk result (λ listener.
+            starts_by R.kind listener ≡ starts_from saved.now) }
+        ensures none { IfOk result (λ listener. listener.has_moment ≡ false) }
+        ensures range { OnOk result ((starts_from saved.now).moment ≤ last_moment) }
+    {
+        prove!(size_of::<Listener>() == 3 * size_of::<Receiver<RingRecall>>() + 24);
+        let (selected_0, kept_0) = kept_on(saved, Channel::Zero);
+        let (selected_1, kept_1) = kept_on(saved, Channel::One);
+        let (selected_2, kept_2) = kept_on(saved, Channel::Two);
+        let moment = saved.newest().unwrap_or(0);
+        let on_0 = R::from_saved(alloc, selected_0, kept_0, moment)?;
+        let on_1 = R::from_saved(alloc, selected_1, kept_1, moment)?;
+        let on_2 = R::from_saved(alloc, selected_2, kept_2, moment)?;
+        Ok(Listener {
+            on_0,
+            on_1,
+            on_2,
+            has_moment: false,
+            elements: 0,
+            entries: 0,
+        })
+    }
+
     /// Sets the moment of all channels, in whole seconds since 1970-01-01 00:00:00 UTC. `Range`
     /// where it is past 2999-12-31 23:59:59, else `Back` where it is before the one in force; the
     /// listener then stays as it was.
     pub fn set_moment(&mut self, moment: u64) -> Result<(), MomentFault>
         ensures heard { (starts : Starts) (given : List Given) (copies : List MarkedCopy)
-            → HearsOver M.content starts self.old given copies → MatchResult result
+            → HearsBy R.kind starts self.old given copies → MatchResult result
             (λ _. (moment_in_force starts.moment given ≤ moment) × (moment ≤ last_moment)
-            × HearsOver M.content starts self.new (then_moment given moment) copies)
+            × HearsBy R.kind starts self.new (then_moment given moment) copies)
             (λ fault. Refuses (moment_in_force starts.moment given) moment fault
             × (self.new ≡ self.old)) }
         ensures noted { OnOk result (self.new.has_moment ≡ true) }
@@ -174,14 +172,14 @@ impl<M: Recall> Listener<M> {
     /// does.
     fn set_moments(&mut self, moment: u64) -> Result<(), MomentFault>
         ensures stands { OnOk result ((channel : Channel)
-            → TakesEvent M.content (receiver_on self.old channel) (receiver_on self.new channel)
+            → TakesEventBy R.kind (receiver_on self.old channel) (receiver_on self.new channel)
             (at_moment moment)) }
         ensures taken { OnOk result
-            ((self.old.on_0.hearer.moment ≤ moment) × (moment ≤ last_moment)) }
-        ensures refused { self.old.on_1.hearer.moment ≡ self.old.on_0.hearer.moment
-            → self.old.on_2.hearer.moment ≡ self.old.on_0.hearer.moment
+            (((R.kind.start_of self.old.on_0).moment ≤ moment) × (moment ≤ last_moment)) }
+        ensures refused { (R.kind.start_of self.old.on_1).moment ≡ (R.kind.start_of self.old.on_0).moment
+            → (R.kind.start_of self.old.on_2).moment ≡ (R.kind.start_of self.old.on_0).moment
             → IfErr result (λ fault.
-            Refuses self.old.on_0.hearer.moment moment fault × (self.new ≡ self.old)) }
+            Refuses (R.kind.start_of self.old.on_0).moment moment fault × (self.new ≡ self.old)) }
         ensures elements { self.new.elements ≡ self.old.elements }
         ensures entries { self.new.entries ≡ self.old.entries }
     {
@@ -195,14 +193,14 @@ impl<M: Recall> Listener<M> {
     #[inline(always)]
     pub fn command(&mut self, channel: Channel, command: Command) -> Result<(), Vital>
         ensures heard { OnOk result ((starts : Starts) (given : List Given)
-            (copies : List MarkedCopy) → HearsOver M.content starts self.old given copies
-            → HearsOver M.content starts self.new
+            (copies : List MarkedCopy) → HearsBy R.kind starts self.old given copies
+            → HearsBy R.kind starts self.new
             (then_command given channel (said command)) copies) }
         ensures vital { IsErr result ↔ IsTrue (refuses_vital (said command)) }
         ensures fault { IfErr result (λ vital. command ≡ RefuseSubject vital.subject) }
         ensures unchanged { OnErr result (self.new ≡ self.old) }
         ensures stands { OnOk result
-            (TakesEvent M.content (receiver_on self.old channel) (receiver_on self.new channel)
+            (TakesEventBy R.kind (receiver_on self.old channel) (receiver_on self.new channel)
             (events.command (said command))) }
         ensures only { self.new ≡ with_receiver self.old channel (receiver_on self.new channel) }
     {
@@ -248,19 +246,20 @@ impl<M: Recall> Listener<M> {
         requires { from ≤ length packed.now }
         ensures heard { (starts : Starts) (given : List Given) (part : List Bool)
             (copies : List MarkedCopy)
-            → HearsOver M.content starts self.old (then_elements given channel part) copies
-            → HearsOver M.content starts self.new
+            → HearsBy R.kind starts self.old (then_elements given channel part) copies
+            → HearsBy R.kind starts self.new
             (then_elements given channel (part ++ take result.0 (drop from packed.now)))
-            (copies ++ map (marked channel) (headed_list result.1 (text_on self.new channel))) }
+            (copies ++ map (marked channel)
+            (headed_list result.1 (text_by R.kind self.new channel))) }
         ensures first { (starts : Starts) (given : List Given) (part : List Bool)
             (copies : List MarkedCopy)
-            → HearsOver M.content starts self.old (then_elements given channel part) copies
-            → (k : ℕ) → k < result.0 → PrintsInTurn starts
+            → HearsBy R.kind starts self.old (then_elements given channel part) copies
+            → (k : ℕ) → k < result.0 → PrintsInTurnBy R.kind.printing starts
             (then_elements given channel (part ++ take k (drop from packed.now))) copies }
         ensures within { from + result.0 ≤ length packed.now }
         ensures all { IsNone result.1 → from + result.0 ≡ length packed.now }
         ensures some { IsSome result.1 → 0 < result.0 }
-        ensures head { IfSome result.1 (λ head. HeadsText head (text_on self.new channel)) }
+        ensures head { IfSome result.1 (λ head. HeadsText head (text_by R.kind self.new channel)) }
         ensures moment { self.new.has_moment ≡ self.old.has_moment }
     {
         if from >= packed.len() {
@@ -286,12 +285,12 @@ impl<M: Recall> Listener<M> {
         channel: Channel,
         packed: &PackedElements,
         from: usize,
-    ) -> (usize, Option<Over>)
+    ) -> (usize, Option<R::Over>)
         requires { from ≤ length packed.now }
         ensures within { from + result.0 ≤ length packed.now }
-        ensures stands { HearsUpTo M.content (receiver_on self.old channel)
+        ensures stands { HearsUpToBy R.kind R.awaits (receiver_on self.old channel)
             (receiver_on self.new channel) (take result.0 (drop from packed.now)) result.1 }
-        ensures first { HandsOutNoneBefore M.content (receiver_on self.old channel)
+        ensures first { HandsOutNoneBeforeBy R.kind (receiver_on self.old channel)
             (drop from packed.now) result.0 }
         ensures all { result.1 ≡ None → from + result.0 ≡ length packed.now }
         ensures some { from < length packed.now → 0 < result.0 }
@@ -310,17 +309,17 @@ impl<M: Recall> Listener<M> {
     fn finish_next_on(
         &mut self,
         channel: Channel,
-        over: Over,
+        over: R::Over,
         packed: &PackedElements,
         from: usize,
     ) -> (usize, Option<EntryHead>)
         requires { from ≤ length packed.now }
         ensures within { from + result.0 ≤ length packed.now }
-        ensures finishes { FinishesNext M.content (receiver_on self.old channel)
+        ensures finishes { FinishesNextBy R.kind R.awaits (receiver_on self.old channel)
             (receiver_on self.new channel) over (drop from packed.now) result.0
-            (headed_list result.1 (text_on self.new channel)) }
+            (headed_list result.1 (text_by R.kind self.new channel)) }
         ensures all { IsNone result.1 → from + result.0 ≡ length packed.now }
-        ensures head { IfSome result.1 (λ head. HeadsText head (text_on self.new channel)) }
+        ensures head { IfSome result.1 (λ head. HeadsText head (text_by R.kind self.new channel)) }
         ensures only { self.new ≡ with_receiver self.old channel (receiver_on self.new channel) }
     {
         match channel {
@@ -335,7 +334,7 @@ impl<M: Recall> Listener<M> {
     // A call, so that the loop over elements has the registers to itself.
     #[inline(never)]
     pub fn text(&self, channel: Channel) -> &[u8]
-        ensures text { result.now ≡ text_on self.now channel }
+        ensures text { result.now ≡ text_by R.kind self.now channel }
         ensures short { length result.now ≤ MAX_FOUND }
     {
         match channel {
@@ -360,14 +359,14 @@ impl<M: Recall> Listener<M> {
         ensures heard { (next : List TaggedCopy)
             × IsSpelled channel result.1 next entry.new.items
             × ((starts : Starts) (given : List Given) (part : List Bool) (copies : List MarkedCopy)
-            → HearsOver M.content starts self.old (then_elements given channel part) copies
-            → HearsOver M.content starts self.new
+            → HearsBy R.kind starts self.old (then_elements given channel part) copies
+            → HearsBy R.kind starts self.new
             (then_elements given channel (part ++ take result.0 (drop from packed.now)))
             (copies ++ map (marked channel) next)) }
         ensures first { (starts : Starts) (given : List Given) (part : List Bool)
             (copies : List MarkedCopy)
-            → HearsOver M.content starts self.old (then_elements given channel part) copies
-            → (k : ℕ) → k < result.0 → PrintsInTurn starts
+            → HearsBy R.kind starts self.old (then_elements given channel part) copies
+            → (k : ℕ) → k < result.0 → PrintsInTurnBy R.kind.printing starts
             (then_elements given channel (part ++ take k (drop from packed.now))) copies }
         ensures within { from + result.0 ≤ length packed.now }
         ensures all { result.1 ≡ false → from + result.0 ≡ length packed.now }
@@ -386,8 +385,8 @@ impl<M: Recall> Listener<M> {
     /// copy that stands open on each channel, where it is printed.
     pub fn close(self) -> LastEntries
         ensures printed { (starts : Starts) (given : List Given) (copies : List MarkedCopy)
-            → HearsOver M.content starts self given copies
-            → PrintAllToEnd starts given (copies ++ last_copies result) }
+            → HearsBy R.kind starts self given copies
+            → PrintAllToEndBy R.kind.printing starts given (copies ++ last_copies result) }
         ensures range { AreInRange result }
         ensures moment_0 { IfSome result.on_0 (λ entry. entry.moment ≤ last_moment) }
         ensures moment_1 { IfSome result.on_1 (λ entry. entry.moment ≤ last_moment) }
@@ -408,26 +407,4 @@ fn kept_on(saved: &SavedSet, channel: Channel) -> (Selection, &Saved)
         unreachable!()
     };
     (kept.selection(), kept)
-}
-
-/// A receiver that has heard nothing, and starts with this selection and the saved entries, at this
-/// moment.
-fn receiver_from<M: FreshRecall>(
-    alloc: Global,
-    selected: Selection,
-    kept: &Saved,
-    moment: u64,
-) -> Result<Receiver<M>, AllocError>
-    requires newest { newest_moment kept.now.entries ≤ moment }
-    requires range { moment ≤ last_moment }
-    ensures stands { (start : Start) → start.entries ≡ kept.now.entries → start.moment ≡ moment
-        → start.refused ≡ selected → IfOk result (λ r. Stands M.content start r [] []) }
-    ensures kept { IfOk result (λ r. M.content r.memory ≡ kept.now.entries) }
-{
-    let mut memory = M::fresh(alloc)?;
-    kept.load(&mut memory);
-    let Ok(receiver) = Receiver::starting(memory, moment, selected) else {
-        unreachable!()
-    };
-    Ok(receiver)
 }

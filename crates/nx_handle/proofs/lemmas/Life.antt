@@ -8,9 +8,10 @@ use Rattle.nx_fec.specs.declared.air_files.channel.Channel.{Channel}
 use Rattle.nx_copies.specs.Events as events
 use Rattle.nx_copies.specs.Events.{Command, command}
 use Rattle.nx_copies.specs.copies.InTurn.{PrintAllToEnd}
-use Rattle.nx_handle.specs.Receivers.{HearsGiven, Listening}
+use Rattle.nx_handle.specs.Receivers.{HearsGiven, Listening, content}
 use Rattle.nx_copies.specs.copies.Log.{IsLog}
 use Rattle.nx_copies.specs.copies.Shares.{Given, MarkedCopy, Starts, all_at_zero, marked, to_all, to_one}
+use Rattle.nx_receiver.specs.private.PlainReceiver.{plain-receiver}
 use Rattle.nx_receiver.proofs.lemmas.listening.Listener.{none-given}
 use Rattle.nx_copies.proofs.lemmas.printing.Log.{logs_join, no-log, one-log}
 use Rattle.nx_handle.specs.Closing.{HandsOut}
@@ -61,7 +62,8 @@ step-hears channel heard bytes old new log a =
       λ starts given before stood.
           let is : stood.heard.listener ≡ h.listener = some-inj (sym stood.heard.hears ∙ h.was) in
           let begun = subst (λ l. HearsGiven starts l given stood.copies) is stood.heard.heard in
-          let none = none-given starts h.listener given h.on stood.copies begun in
+          let none =
+          none-given (plain-receiver content) starts h.listener given h.on stood.copies begun in
           let next = map (marked h.on) h.hears.next in record {
             copies = stood.copies ++ next;
             heard = record {

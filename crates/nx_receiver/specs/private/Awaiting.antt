@@ -1,16 +1,16 @@
 -- What a receiver holds between its calls: what is over and awaits to be finished, and in which
 -- order its moments stand (this profile).
-use Rattle.std.specs.Prelude.{◌≡◌, ℕ, ◌<◌, ◌≤◌, Bool, List, ◌++◌, Option, Some, take}
+use Rattle.std.specs.Prelude.{◌≡◌, ℕ, ◌≤◌, Bool, List, Option}
 use Rattle.nx_code.specs.Lists.{last_of}
 use Rattle.nx_envelope.specs.Moment.{last_moment}
 use Rattle.nx_memory.specs.Memory.{most_entries}
 use Rattle.nx_memory.specs.declared.memories.entry.MemoryEntry.{MemoryEntry}
 use Rattle.nx_copies.specs.Events.{Event, Start, Setting, elements_among, first_setting, settings}
-use Rattle.nx_copies.specs.Events.{setting_after_all, elements}
+use Rattle.nx_copies.specs.Events.{setting_after_all}
 use Rattle.nx_copies.specs.copies.FoundCopies.{TaggedCopy}
-use Rattle.nx_copies.specs.copies.Log.{HasPrinted}
 use Rattle.nx_copies.specs.copies.Printing.{printed_copies, entries_after}
-use Rattle.nx_receiver.specs.Receiver.{Receiving, Stands}
+use Rattle.nx_receiver.specs.ChannelReceiver.{FinishesNextBy, HearsUpToBy}
+use Rattle.nx_receiver.specs.Receiver.{Receiving, plain_kind}
 use Rattle.nx_copies.specs.declared.copy_taker.Over.{Over}
 use Rattle.nx_copies.specs.hearing.CopyHearer.{IsOver}
 use Rattle.nx_copies.specs.hearing.CopyHearing.{in_force}
@@ -33,26 +33,17 @@ Awaits content start receiver events log over =
     (settings (first_setting start) events)
     (setting_after_all (first_setting start) events) log over
 
--- whatever it was given before, the receiver hears these elements, and awaits what is over with the
--- last of them
+-- the plain receiver hears these elements, and awaits what is over with the last of them; and it
+-- finishes what awaited to be finished
 abbrev pub HearsUpTo : {M : Type 0} → (M → List MemoryEntry) → Receiving M → Receiving M
     → List Bool → Option Over → Type 0
 HearsUpTo content old new bits over =
-    (start : Start) (history : List Event) (log : List TaggedCopy)
-    → Stands content start old history log
-    → Awaits content start new (history ++ elements bits) log over
+    HearsUpToBy (plain_kind content) (Awaits content) old new bits over
 
--- Whatever the receiver was given before, what awaited to be finished was. Where that brought
--- nothing, it heard so many of these elements. With the last of them it handed out these copies,
--- and none before.
-pub record FinishesNext {M : Type 0} (content : M → List MemoryEntry) (old new : Receiving M)
-    (over : Over) (bits : List Bool) (count : ℕ) (copies : List TaggedCopy) : Type 0 where
-  pub stands : (start : Start) (history : List Event) (log : List TaggedCopy)
-      → Awaits content start old history log (Some over)
-      → Stands content start new (history ++ elements (take count bits)) (log ++ copies)
-  pub first : (start : Start) (history : List Event) (log : List TaggedCopy)
-      → Awaits content start old history log (Some over)
-      → (k : ℕ) → k < count → HasPrinted start (history ++ elements (take k bits)) log
+abbrev pub FinishesNext : {M : Type 0} → (M → List MemoryEntry) → Receiving M → Receiving M → Over
+    → List Bool → ℕ → List TaggedCopy → Type 0
+FinishesNext content old new over bits count copies =
+    FinishesNextBy (plain_kind content) (Awaits content) old new over bits count copies
 
 -- the moment of the memory's newest entry, that of the header that was heard last, the one in force
 -- and the last one rise in this order

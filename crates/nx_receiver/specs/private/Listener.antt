@@ -8,7 +8,6 @@ use Rattle.nx_fec.specs.air_files.AirFile.{Line, moment, elements, refuse_subjec
 use Rattle.nx_fec.specs.Transfers.{WroteSome, count_of}
 use Rattle.nx_fec.specs.declared.air_files.channel.Channel.{Channel}
 use Rattle.nx_memory.specs.Selection.{is_vital}
-use Rattle.nx_memory.specs.declared.memories.entry.MemoryEntry.{MemoryEntry}
 use Rattle.nx_copies.specs.Events as events
 use Rattle.nx_copies.specs.Events.{Event, Start, elements_among}
 use Rattle.nx_receiver.specs.Moments.{Refuses}
@@ -17,7 +16,7 @@ use Rattle.nx_receiver.specs.air_file_runs.Listen.{AreTaken, given_by, has_momen
 use Rattle.nx_copies.specs.copies.Log.{IsLog}
 use Rattle.nx_receiver.specs.Listener.{HearsGiven, Listening, ListeningOver}
 use Rattle.nx_receiver.specs.Listener.{elements_given, receiver_on, starts_of}
-use Rattle.nx_receiver.specs.Receiver.{HandsOutNoneBefore, Stands}
+use Rattle.nx_receiver.specs.ChannelReceiver.{HandsOutNoneBeforeBy, ReceiverKind}
 use Rattle.nx_copies.specs.copies.Shares.{Given, MarkedCopy, Starts}
 use Rattle.nx_copies.specs.copies.FoundCopies.{TaggedCopy}
 use Rattle.nx_receiver.specs.declared.fault.MomentFault.{MomentFault}
@@ -29,14 +28,14 @@ use Rattle.nx_receiver.specs.declared.air_file_runs.listen_fault.LineRefusal.The
 
 -- The receiver of a channel, whatever it was given before, hears so many of these elements, and
 -- hands out these copies with the last of them, and none before.
-pub record HearsTo {M : Type 0} (entries_of : M → List MemoryEntry) (channel : Channel)
-    (old new : ListeningOver M) (bits : List Bool) (count : ℕ) (copies : List TaggedCopy)
+pub record HearsTo {R : Type 0} (kind : ReceiverKind R) (channel : Channel)
+    (old new : ListeningOver R) (bits : List Bool) (count : ℕ) (copies : List TaggedCopy)
     : Type 0 where
   pub stands : (start : Start) (history : List Event) (log : List TaggedCopy)
-      → Stands entries_of start (receiver_on old channel) history log
-      → Stands entries_of start (receiver_on new channel)
+      → kind.stands start (receiver_on old channel) history log
+      → kind.stands start (receiver_on new channel)
       (history ++ events.elements (take count bits)) (log ++ copies)
-  pub first : HandsOutNoneBefore entries_of (receiver_on old channel) bits count
+  pub first : HandsOutNoneBeforeBy kind (receiver_on old channel) bits count
 
 -- After it was given this, a listener printed copies, of which these bytes are the log.
 pub record HearsLog (starts : Starts) (listener : Listening) (given : List Given) (bytes : List ℕ)

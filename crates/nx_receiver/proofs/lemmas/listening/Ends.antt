@@ -16,18 +16,18 @@ use Rattle.nx_fec.specs.declared.air_files.channel.Channel.TheVariants.{Zero, On
 use Rattle.nx_fec.proofs.lemmas.devices.WritingLaws.{WroteSome-front}
 use Rattle.nx_copies.specs.Events.{Event, Start}
 use Rattle.nx_copies.specs.copies.FoundCopies.{TaggedCopy, copy_of}
-use Rattle.nx_copies.specs.copies.InTurn.{PrintAllToEnd}
-use Rattle.nx_copies.specs.copies.Log.{IsLog, PrintsToEnd}
-use Rattle.nx_receiver.specs.Receiver.{Receiving, Stands, entry_list}
+use Rattle.nx_copies.specs.copies.InTurn.{PrintAllToEnd, PrintAllToEndBy}
+use Rattle.nx_copies.specs.copies.Log.{IsLog}
+use Rattle.nx_receiver.specs.ChannelReceiver.{ReceiverKind}
+use Rattle.nx_receiver.specs.Receiver.{entry_list}
 use Rattle.nx_copies.specs.copies.Shares.{Given, MarkedCopy, Starts, copies_on, marked, share}
 use Rattle.nx_copies.specs.copies.Shares.{start_on}
-use Rattle.nx_receiver.specs.Listener.{AreInRange, HearsOver, last_copies}
+use Rattle.nx_receiver.specs.Listener.{AreInRange, HearsBy, last_copies}
 use Rattle.nx_receiver.specs.private.Listener.{HasClosed, HasClosedSome, HearsLog}
 use Rattle.nx_receiver.specs.Listener.{Listening, ListeningOver}
 use Rattle.nx_copies.specs.declared.entry.Entry.{Entry}
 use Rattle.nx_receiver.specs.declared.listener.LastEntries.{LastEntries}
 use Rattle.nx_receiver.specs.declared.air_file_runs.listening.Report.{Report}
-use Rattle.nx_memory.specs.declared.memories.entry.MemoryEntry.{MemoryEntry}
 use Rattle.nx_receiver.proofs.lemmas.listening.Listener.{counts-on}
 use Rattle.nx_copies.proofs.lemmas.printing.Log.{logs_join, some_log}
 
@@ -45,50 +45,53 @@ abbrev pub marked_on : LastEntries → Channel → List MarkedCopy
 marked_on closing channel = map (marked channel) (closed_on closing channel)
 
 -- a receiver prints this entry, or none, at the end, whatever it was given; its moment is in range
-pub record Closes {M : Type 0} (entries_of : M → List MemoryEntry) (receiver : Receiving M)
-    (entry : Option Entry) : Type 0 where
+pub record Closes {R : Type 0} (kind : ReceiverKind R) (receiver : R) (entry : Option Entry)
+    : Type 0 where
   pub to_end : (start : Start) (events : List Event) (log : List TaggedCopy)
-      → Stands entries_of start receiver events log
-      → PrintsToEnd start events (log ++ entry_list entry)
+      → kind.stands start receiver events log
+      → kind.printing.to_end start events (log ++ entry_list entry)
   pub moment : IfSome entry (λ entry. entry.moment ≤ last_moment)
 
 -- the receivers of a listener do
-pub record CloseAll {M : Type 0} (entries_of : M → List MemoryEntry) (listener : ListeningOver M)
+pub record CloseAll {R : Type 0} (kind : ReceiverKind R) (listener : ListeningOver R)
     (closing : LastEntries) : Type 0 where
-  pub on_0 : Closes entries_of listener.on_0 closing.on_0
-  pub on_1 : Closes entries_of listener.on_1 closing.on_1
-  pub on_2 : Closes entries_of listener.on_2 closing.on_2
+  pub on_0 : Closes kind listener.on_0 closing.on_0
+  pub on_1 : Closes kind listener.on_1 closing.on_1
+  pub on_2 : Closes kind listener.on_2 closing.on_2
 
-pub closes-all : {M : Type 0} {entries_of : M → List MemoryEntry} (now inside : ListeningOver M)
+pub closes-all : {R : Type 0} {kind : ReceiverKind R} (now inside : ListeningOver R)
     (one two three : Option Entry) → inside ≡ now
-    → Closes entries_of inside.on_0 one → Closes entries_of inside.on_1 two
-    → Closes entries_of inside.on_2 three
-    → CloseAll entries_of now (record { on_0 = one; on_1 = two; on_2 = three })
-closes-all {M} {entries_of} now inside one two three e h i j =
-    subst (λ l. CloseAll entries_of l (record { on_0 = one; on_1 = two; on_2 = three })) e
+    → Closes kind inside.on_0 one → Closes kind inside.on_1 two
+    → Closes kind inside.on_2 three
+    → CloseAll kind now (record { on_0 = one; on_1 = two; on_2 = three })
+closes-all {R} {kind} now inside one two three e h i j =
+    subst (λ l. CloseAll kind l (record { on_0 = one; on_1 = two; on_2 = three })) e
     (record { on_0 = h; on_1 = i; on_2 = j })
 
-close-on : {M : Type 0} {entries_of : M → List MemoryEntry} (starts : Starts)
-    (listener : ListeningOver M) (closing : LastEntries) (given : List Given)
-    (copies : List MarkedCopy) → CloseAll entries_of listener closing
-    → HearsOver entries_of starts listener given copies
-    → (channel : Channel) → PrintsToEnd (start_on starts channel) (share channel given)
+close-on : {R : Type 0} {kind : ReceiverKind R} (starts : Starts)
+    (listener : ListeningOver R) (closing : LastEntries) (given : List Given)
+    (copies : List MarkedCopy) → CloseAll kind listener closing
+    → HearsBy kind starts listener given copies
+    → (channel : Channel) → kind.printing.to_end (start_on starts channel) (share channel given)
     (copies_on channel copies ++ closed_on closing channel)
-close-on starts listener closing given copies c h Zero = c.on_0.to_end _ _ _ (h.receivers Zero)
-close-on starts listener closing given copies c h One = c.on_1.to_end _ _ _ (h.receivers One)
-close-on starts listener closing given copies c h Two = c.on_2.to_end _ _ _ (h.receivers Two)
+close-on {R} {kind} starts listener closing given copies c h Zero =
+    c.on_0.to_end _ _ _ (h.receivers Zero)
+close-on {R} {kind} starts listener closing given copies c h One =
+    c.on_1.to_end _ _ _ (h.receivers One)
+close-on {R} {kind} starts listener closing given copies c h Two =
+    c.on_2.to_end _ _ _ (h.receivers Two)
 
 -- all copies: those that have ended, and those that the end closes
 abbrev pub all_copies : List MarkedCopy → LastEntries → List MarkedCopy
 all_copies copies closing =
     ((copies ++ marked_on closing Zero) ++ marked_on closing One) ++ marked_on closing Two
 
-print-all : {M : Type 0} {entries_of : M → List MemoryEntry} (starts : Starts)
-    (listener : ListeningOver M) (closing : LastEntries) (given : List Given)
-    (copies : List MarkedCopy) → CloseAll entries_of listener closing
-    → HearsOver entries_of starts listener given copies
-    → PrintAllToEnd starts given (all_copies copies closing)
-print-all starts listener closing given copies c h =
+print-all : {R : Type 0} {kind : ReceiverKind R} (starts : Starts)
+    (listener : ListeningOver R) (closing : LastEntries) (given : List Given)
+    (copies : List MarkedCopy) → CloseAll kind listener closing
+    → HearsBy kind starts listener given copies
+    → PrintAllToEndBy kind.printing starts given (all_copies copies closing)
+print-all {R} {kind} starts listener closing given copies c h =
     let a = marked_on closing Zero in
     let b = marked_on closing One in
     let last = marked_on closing Two in
@@ -102,16 +105,16 @@ print-all starts listener closing given copies c h =
     }
 
 -- the same, where those that the end prints are told by their entries
-pub prints-last : {M : Type 0} {entries_of : M → List MemoryEntry} (starts : Starts)
-    (listener : ListeningOver M) (closing : LastEntries)
-    (given : List Given) (copies : List MarkedCopy) → CloseAll entries_of listener closing
-    → HearsOver entries_of starts listener given copies
-    → PrintAllToEnd starts given (copies ++ last_copies closing)
-prints-last starts listener closing given copies c h =
+pub prints-last : {R : Type 0} {kind : ReceiverKind R} (starts : Starts)
+    (listener : ListeningOver R) (closing : LastEntries)
+    (given : List Given) (copies : List MarkedCopy) → CloseAll kind listener closing
+    → HearsBy kind starts listener given copies
+    → PrintAllToEndBy kind.printing starts given (copies ++ last_copies closing)
+prints-last {R} {kind} starts listener closing given copies c h =
     let a = marked_on closing Zero in
     let b = marked_on closing One in
     let last = marked_on closing Two in
-    subst (PrintAllToEnd starts given)
+    subst (PrintAllToEndBy kind.printing starts given)
     (ap (λ l. l ++ last) (append_assoc copies a b) ∙ append_assoc copies (a ++ b) last)
     (print-all starts listener closing given copies c h)
 

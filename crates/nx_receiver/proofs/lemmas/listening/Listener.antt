@@ -19,28 +19,26 @@ use Rattle.nx_envelope.specs.Moment.{last_moment}
 use Rattle.nx_copies.specs.Events.{Event, Setting, Start, element, first_setting}
 use Rattle.nx_copies.specs.Events.{setting_after_all}
 use Rattle.nx_copies.specs.Events as fed
-use Rattle.nx_copies.specs.copies.InTurn.{HavePrinted, PrintsInTurn}
+use Rattle.nx_copies.specs.copies.InTurn.{HavePrintedBy, PrintsInTurnBy}
 use Rattle.nx_receiver.specs.air_file_runs.Listen.{AreTaken, events_on, given_by, given_of}
 use Rattle.nx_receiver.specs.air_file_runs.Listen.{has_moment}
 use Rattle.nx_receiver.specs.air_file_runs.Listen.{is_moment_line, moment_after}
 use Rattle.nx_receiver.specs.private.Taken.{AreTakenAfter, IsTakenAfter}
 use Rattle.nx_receiver.proofs.lemmas.listening.Taken.{are-taken, taken-each}
-use Rattle.nx_receiver.specs.Listener.{HearsGiven, HearsOver, Listening, ListeningOver, text_on}
+use Rattle.nx_receiver.specs.Listener.{HearsBy, HearsGiven, Listening, ListeningOver, text_by}
 use Rattle.nx_receiver.specs.Listener.{content}
 use Rattle.nx_receiver.specs.Listener.{elements_given, elements_in, moment_in_force, receiver_on}
-use Rattle.nx_receiver.specs.Listener.{starts_of, starts_over, then_command, then_elements}
+use Rattle.nx_receiver.specs.Listener.{starts_by, starts_of, then_command, then_elements}
 use Rattle.nx_receiver.specs.Listener.{then_moment}
 use Rattle.nx_receiver.specs.Listener.{with_receiver}
 use Rattle.nx_receiver.specs.private.Listener.{BeginsListening, BeginsLog, HearsTo}
 use Rattle.nx_receiver.specs.private.Listener.{HearsLog, IsListening, StandsFrom}
-use Rattle.nx_receiver.specs.private.ListenerBegins.{printed-so_far}
+use Rattle.nx_receiver.specs.private.PlainReceiver.{plain-receiver}
 use Rattle.nx_copies.specs.copies.Log.{HasPrinted, IsLog}
-use Rattle.nx_memory.specs.declared.memories.entry.MemoryEntry.{MemoryEntry}
-use Rattle.nx_receiver.specs.Receiver.{HandsOutNoneBefore, HeadsText, Receiving, Stands, TakesEvent}
-use Rattle.nx_receiver.specs.Receiver.{headed_list, text_of}
-use Rattle.nx_receiver.specs.private.Awaiting.{Awaits, FinishesNext, HearsUpTo}
-use Rattle.nx_copies.specs.declared.copy_taker.Over.{Over}
-use Rattle.nx_receiver.proofs.lemmas.receiver.Feeds.{heard_then, nothing_awaited, printed_then}
+use Rattle.nx_receiver.specs.ChannelReceiver.{AwaitsFinish, FinishesNextBy, HandsOutNoneBeforeBy}
+use Rattle.nx_receiver.specs.ChannelReceiver.{HearsUpToBy, IsReceiver, ReceiverKind, TakesEventBy}
+use Rattle.nx_receiver.specs.Receiver.{HeadsText, TakesEvent, headed_list}
+use Rattle.nx_receiver.proofs.lemmas.receiver.Feeds.{heard_then, printed_then}
 use Rattle.std.specs.Prelude.{IfSome, Result, Ok, Err, OnOk}
 use Rattle.std.proofs.lemmas.List.Elements.{All-nil, All-cons}
 use Rattle.nx_copies.specs.copies.Shares.{Given, MarkedCopy, Starts, copies_on, events_for}
@@ -97,56 +95,56 @@ on-each P Two here others One = others One refl
 on-each P Two here others Two = here
 
 -- two listeners with the same receivers have the same on each channel
-pub same-receivers : {M : Type 0} (old new : ListeningOver M) → old.on_0 ≡ new.on_0
+pub same-receivers : {R : Type 0} (old new : ListeningOver R) → old.on_0 ≡ new.on_0
     → old.on_1 ≡ new.on_1
     → old.on_2 ≡ new.on_2 → (channel : Channel)
     → receiver_on old channel ≡ receiver_on new channel
-same-receivers {M} old new e f g Zero = e
-same-receivers {M} old new e f g One = f
-same-receivers {M} old new e f g Two = g
+same-receivers {R} old new e f g Zero = e
+same-receivers {R} old new e f g One = f
+same-receivers {R} old new e f g Two = g
 
 -- another receiver on a channel leaves those of the others, and all else
-with-other : {M : Type 0} (listener : ListeningOver M) (channel other : Channel)
-    (new : ListeningOver M)
+with-other : {R : Type 0} (listener : ListeningOver R) (channel other : Channel)
+    (new : ListeningOver R)
     → new ≡ with_receiver listener channel (receiver_on new channel)
     → same_channel channel other ≡ false → receiver_on new other ≡ receiver_on listener other
-with-other {M} listener Zero Zero new e h = cc
-with-other {M} listener Zero One new e h = ap (λ (l : ListeningOver M). l.on_1) e
-with-other {M} listener Zero Two new e h = ap (λ (l : ListeningOver M). l.on_2) e
-with-other {M} listener One Zero new e h = ap (λ (l : ListeningOver M). l.on_0) e
-with-other {M} listener One One new e h = cc
-with-other {M} listener One Two new e h = ap (λ (l : ListeningOver M). l.on_2) e
-with-other {M} listener Two Zero new e h = ap (λ (l : ListeningOver M). l.on_0) e
-with-other {M} listener Two One new e h = ap (λ (l : ListeningOver M). l.on_1) e
-with-other {M} listener Two Two new e h = cc
+with-other {R} listener Zero Zero new e h = cc
+with-other {R} listener Zero One new e h = ap (λ (l : ListeningOver R). l.on_1) e
+with-other {R} listener Zero Two new e h = ap (λ (l : ListeningOver R). l.on_2) e
+with-other {R} listener One Zero new e h = ap (λ (l : ListeningOver R). l.on_0) e
+with-other {R} listener One One new e h = cc
+with-other {R} listener One Two new e h = ap (λ (l : ListeningOver R). l.on_2) e
+with-other {R} listener Two Zero new e h = ap (λ (l : ListeningOver R). l.on_0) e
+with-other {R} listener Two One new e h = ap (λ (l : ListeningOver R). l.on_1) e
+with-other {R} listener Two Two new e h = cc
 
 -- a listener of which only the receiver of a channel is another
-pub record DiffersOn {M : Type 0} (channel : Channel) (old new : ListeningOver M) : Type 0 where
+pub record DiffersOn {R : Type 0} (channel : Channel) (old new : ListeningOver R) : Type 0 where
   pub others : (other : Channel) → same_channel channel other ≡ false
       → receiver_on new other ≡ receiver_on old other
   pub moment : new.has_moment ≡ old.has_moment
   pub elements : new.elements ≡ old.elements
   pub entries : new.entries ≡ old.entries
 
-pub differs-on : {M : Type 0} (channel : Channel) (old new : ListeningOver M)
+pub differs-on : {R : Type 0} (channel : Channel) (old new : ListeningOver R)
     → new ≡ with_receiver old channel (receiver_on new channel) → DiffersOn channel old new
-differs-on {M} Zero old new e = record {
+differs-on {R} Zero old new e = record {
   others = λ other h. with-other old Zero other new e h;
-  moment = ap (λ (l : ListeningOver M). l.has_moment) e;
-  elements = ap (λ (l : ListeningOver M). l.elements) e;
-  entries = ap (λ (l : ListeningOver M). l.entries) e;
+  moment = ap (λ (l : ListeningOver R). l.has_moment) e;
+  elements = ap (λ (l : ListeningOver R). l.elements) e;
+  entries = ap (λ (l : ListeningOver R). l.entries) e;
 }
-differs-on {M} One old new e = record {
+differs-on {R} One old new e = record {
   others = λ other h. with-other old One other new e h;
-  moment = ap (λ (l : ListeningOver M). l.has_moment) e;
-  elements = ap (λ (l : ListeningOver M). l.elements) e;
-  entries = ap (λ (l : ListeningOver M). l.entries) e;
+  moment = ap (λ (l : ListeningOver R). l.has_moment) e;
+  elements = ap (λ (l : ListeningOver R). l.elements) e;
+  entries = ap (λ (l : ListeningOver R). l.entries) e;
 }
-differs-on {M} Two old new e = record {
+differs-on {R} Two old new e = record {
   others = λ other h. with-other old Two other new e h;
-  moment = ap (λ (l : ListeningOver M). l.has_moment) e;
-  elements = ap (λ (l : ListeningOver M). l.elements) e;
-  entries = ap (λ (l : ListeningOver M). l.entries) e;
+  moment = ap (λ (l : ListeningOver R). l.has_moment) e;
+  elements = ap (λ (l : ListeningOver R). l.elements) e;
+  entries = ap (λ (l : ListeningOver R). l.entries) e;
 }
 
 one-after : (starts : Starts) (first lines : List Line) (line : Line)
@@ -313,36 +311,36 @@ moment-next first was now events more given one e f same sets =
     ∙ sym (in_force-append first.moment given (one ∷ []))
 
 -- what is printed of the share of each channel, by how its receiver stands
-have-printed : {M : Type 0} {entries_of : M → List MemoryEntry} (starts : Starts)
-    (listener : ListeningOver M) (given : List Given)
+have-printed : {R : Type 0} {kind : ReceiverKind R} (laws : IsReceiver kind) (starts : Starts)
+    (listener : ListeningOver R) (given : List Given)
     (copies : List MarkedCopy)
-    → ((channel : Channel) → Stands entries_of (start_on starts channel)
+    → ((channel : Channel) → kind.stands (start_on starts channel)
     (receiver_on listener channel) (share channel given) (copies_on channel copies))
-    → HavePrinted starts given copies
-have-printed {M} {entries_of} starts listener given copies stands channel =
-    printed-so_far entries_of (start_on starts channel) (receiver_on listener channel)
+    → HavePrintedBy kind.printing starts given copies
+have-printed {R} {kind} laws starts listener given copies stands channel =
+    laws.prints (start_on starts channel) (receiver_on listener channel)
     (share channel given) (copies_on channel copies) (stands channel)
 
 -- one more is given, which has no elements and brings no copies
-pub hears-next : {M : Type 0} {entries_of : M → List MemoryEntry} (starts : Starts)
-    (old new : ListeningOver M) (given : List Given) (one : Given)
-    (copies : List MarkedCopy) → HearsOver entries_of starts old given copies → elements_in one ≡ []
+pub hears-next : {R : Type 0} {kind : ReceiverKind R} (laws : IsReceiver kind) (starts : Starts)
+    (old new : ListeningOver R) (given : List Given) (one : Given)
+    (copies : List MarkedCopy) → HearsBy kind starts old given copies → elements_in one ≡ []
     → SetsMoment one → new.elements ≡ old.elements → new.entries ≡ old.entries
     → ((channel : Channel) (log : List TaggedCopy)
-    → Stands entries_of (start_on starts channel) (receiver_on old channel) (share channel given)
+    → kind.stands (start_on starts channel) (receiver_on old channel) (share channel given)
     log
-    → Stands entries_of (start_on starts channel) (receiver_on new channel)
+    → kind.stands (start_on starts channel) (receiver_on new channel)
     (share channel given ++ events_for channel one) log)
-    → HearsOver entries_of starts new (given ++ one ∷ []) copies
-hears-next {M} {entries_of} starts old new given one copies h none sets heard printed stands =
+    → HearsBy kind starts new (given ++ one ∷ []) copies
+hears-next {R} {kind} laws starts old new given one copies h none sets heard printed stands =
     let all = given ++ one ∷ [] in
-    let next : (channel : Channel) → Stands entries_of (start_on starts channel)
+    let next : (channel : Channel) → kind.stands (start_on starts channel)
     (receiver_on new channel) (share channel given ++ events_for channel one)
     (copies_on channel copies) =
     λ channel. stands channel (copies_on channel copies) (h.receivers channel) in
-    let each : (channel : Channel) → Stands entries_of (start_on starts channel)
+    let each : (channel : Channel) → kind.stands (start_on starts channel)
     (receiver_on new channel) (share channel all) (copies_on channel copies) =
-    λ channel. subst (λ es. Stands entries_of (start_on starts channel) (receiver_on new channel) es
+    λ channel. subst (λ es. kind.stands (start_on starts channel) (receiver_on new channel) es
     (copies_on channel copies)) (sym (share-one channel given one)) (next channel) in
     let same : elements_given all ≡ elements_given given =
     elements-one given one ∙ ap (λ bits. elements_given given ++ bits) none
@@ -352,12 +350,13 @@ hears-next {M} {entries_of} starts old new given one copies h none sets heard pr
       moments = λ channel.
           let first = first_setting (start_on starts channel) in
           moment-next first _ _ (share channel given) (events_for channel one) given one
-          (h.receivers channel).force (next channel).force (h.moments channel)
+          (laws.in_force _ _ _ _ (h.receivers channel))
+          (laws.in_force _ _ _ _ (next channel)) (h.moments channel)
           (sets channel (setting_after_all first (share channel given)));
-      in_turn = subst (PrintsInTurn starts all) (append-nil copies)
+      in_turn = subst (PrintsInTurnBy kind.printing starts all) (append-nil copies)
           (in_turn-more starts given one copies [] h.in_turn
-          (subst (HavePrinted starts all) (sym (append-nil copies))
-          (have-printed starts new all copies each)));
+          (subst (HavePrintedBy kind.printing starts all) (sym (append-nil copies))
+          (have-printed laws starts new all copies each)));
       elements = heard ∙ h.elements ∙ ap (λ bits. count_of (length bits)) (sym same);
       entries = printed ∙ h.entries;
       few = subst (λ bits. length copies ≤ length bits) (sym same) h.few;
@@ -372,33 +371,34 @@ others-events : (channel other : Channel) (events : List Event)
 others-events channel other events h = ap (λ b. cond b events []) h
 
 -- a command for a channel
-pub commanded : {M : Type 0} {entries_of : M → List MemoryEntry} (starts : Starts)
-    (old new : ListeningOver M) (given : List Given)
+pub commanded : {R : Type 0} {kind : ReceiverKind R} (laws : IsReceiver kind)
+    (starts : Starts)
+    (old new : ListeningOver R) (given : List Given)
     (copies : List MarkedCopy) (channel : Channel) (command : fed.Command)
-    → HearsOver entries_of starts old given copies
+    → HearsBy kind starts old given copies
     → new ≡ with_receiver old channel (receiver_on new channel)
-    → TakesEvent entries_of (receiver_on old channel) (receiver_on new channel)
+    → TakesEventBy kind (receiver_on old channel) (receiver_on new channel)
     (fed.command command)
-    → HearsOver entries_of starts new (then_command given channel command) copies
+    → HearsBy kind starts new (then_command given channel command) copies
 unfolding fed.elements_among
-commanded {M} {entries_of} starts old new given copies channel command h only takes =
+commanded {R} {kind} laws starts old new given copies channel command h only takes =
     let differs = differs-on channel old new only in
     let one = to_one channel (fed.command command ∷ []) in
-    hears-next starts old new given one copies h refl (command-sets channel command)
+    hears-next laws starts old new given one copies h refl (command-sets channel command)
     differs.elements differs.entries
     (on-each (λ on. (log : List TaggedCopy)
-    → Stands entries_of (start_on starts on) (receiver_on old on) (share on given) log
-    → Stands entries_of (start_on starts on) (receiver_on new on)
+    → kind.stands (start_on starts on) (receiver_on old on) (share on given) log
+    → kind.stands (start_on starts on) (receiver_on new on)
     (share on given ++ events_for on one) log) channel
-    (λ log s. subst (λ es. Stands entries_of (start_on starts channel) (receiver_on new channel)
+    (λ log s. subst (λ es. kind.stands (start_on starts channel) (receiver_on new channel)
     (share channel given ++ es) log) (sym (own-events channel (fed.command command ∷ [])))
     (takes (start_on starts channel) (share channel given) log s))
     (λ on not log s.
     let none : share on given ++ events_for on one ≡ share on given =
     ap (λ es. share on given ++ es) (others-events channel on (fed.command command ∷ []) not)
     ∙ append-nil (share on given) in
-    subst (λ es. Stands entries_of (start_on starts on) (receiver_on new on) es log) (sym none)
-    (subst (λ r. Stands entries_of (start_on starts on) r (share on given) log)
+    subst (λ es. kind.stands (start_on starts on) (receiver_on new on) es log) (sym none)
+    (subst (λ r. kind.stands (start_on starts on) r (share on given) log)
     (sym (differs.others on not)) s)))
 
 -- one more line is taken, as what it gives is
@@ -432,18 +432,20 @@ commanded-on starts old new lines line channel command bytes h taken gives other
     (moment-other lines line new.has_moment ((differs-on channel old new only).moment ∙ h.moment)
     other)
     (λ copies heard. subst (λ one. HearsGiven starts new (given_by lines ++ one ∷ []) copies)
-    (sym gives) (commanded starts old new (given_by lines) copies channel command heard only takes))
+    (sym gives) (commanded (plain-receiver content) starts old new (given_by lines) copies channel
+    command heard only takes))
 
 -- a moment for all channels
-pub set-all : {M : Type 0} {entries_of : M → List MemoryEntry} (starts : Starts)
-    (old new : ListeningOver M) (given : List Given)
-    (copies : List MarkedCopy) (n : ℕ) → HearsOver entries_of starts old given copies
+pub set-all : {R : Type 0} {kind : ReceiverKind R} (laws : IsReceiver kind)
+    (starts : Starts)
+    (old new : ListeningOver R) (given : List Given)
+    (copies : List MarkedCopy) (n : ℕ) → HearsBy kind starts old given copies
     → new.elements ≡ old.elements → new.entries ≡ old.entries
-    → ((channel : Channel) → TakesEvent entries_of (receiver_on old channel)
+    → ((channel : Channel) → TakesEventBy kind (receiver_on old channel)
     (receiver_on new channel) (fed.at_moment n))
-    → HearsOver entries_of starts new (then_moment given n) copies
-set-all {M} {entries_of} starts old new given copies n h heard printed takes =
-    hears-next starts old new given (to_all n) copies h refl (moment-sets n) heard printed
+    → HearsBy kind starts new (then_moment given n) copies
+set-all {R} {kind} laws starts old new given copies n h heard printed takes =
+    hears-next laws starts old new given (to_all n) copies h refl (moment-sets n) heard printed
     (λ channel log s. takes channel (start_on starts channel) (share channel given) log s)
 
 -- Share of a channel, where elements of one are given last
@@ -531,22 +533,23 @@ pub counts-on : (old new m n all : ℕ) → old ≡ count_of m → new ≡ count
 counts-on old new m n all h k e = omega arith
 
 -- More elements of a channel were heard, and these copies were handed out with the last of them.
-pub hears-more : {M : Type 0} {entries_of : M → List MemoryEntry} (starts : Starts)
-    (old new : ListeningOver M) (given : List Given) (channel : Channel)
+pub hears-more : {R : Type 0} {kind : ReceiverKind R} (laws : IsReceiver kind)
+    (starts : Starts)
+    (old new : ListeningOver R) (given : List Given) (channel : Channel)
     (part more : List Bool) (copies : List MarkedCopy) (next : List TaggedCopy)
-    → HearsOver entries_of starts old (then_elements given channel part) copies
+    → HearsBy kind starts old (then_elements given channel part) copies
     → length next ≤ length more
     → ((start : Start) (events : List Event) (log : List TaggedCopy)
-    → Stands entries_of start (receiver_on old channel) events log
-    → Stands entries_of start (receiver_on new channel) (events ++ fed.elements more)
+    → kind.stands start (receiver_on old channel) events log
+    → kind.stands start (receiver_on new channel) (events ++ fed.elements more)
     (log ++ next))
     → ((other : Channel) → same_channel channel other ≡ false
     → receiver_on new other ≡ receiver_on old other)
     → new.elements ≡ count_of (old.elements + length more)
     → new.entries ≡ count_of (old.entries + length next)
-    → HearsOver entries_of starts new (then_elements given channel (part ++ more))
+    → HearsBy kind starts new (then_elements given channel (part ++ more))
     (copies ++ map (marked channel) next)
-hears-more {M} {entries_of} starts old new given channel part more copies next h few stands others
+hears-more {R} {kind} laws starts old new given channel part more copies next h few stands others
     heard printed =
     let was = then_elements given channel part in
     let later = map (marked channel) next in
@@ -559,29 +562,30 @@ hears-more {M} {entries_of} starts old new given channel part more copies next h
     length-append copies later
     ∙ ap (λ n. length copies + n) (length-map next (marked channel)) in
     let each = grows-on
-    (λ other es log. Stands entries_of (start_on starts other) (receiver_on new other) es log) given
+    (λ other es log. kind.stands (start_on starts other) (receiver_on new other) es log) given
     channel part more copies next
     (stands (start_on starts channel) (share channel was) (copies_on channel copies)
     (h.receivers channel))
-    (λ other not. subst (λ r. Stands entries_of (start_on starts other) r (share other was)
+    (λ other not. subst (λ r. kind.stands (start_on starts other) r (share other was)
     (copies_on other copies)) (sym (others other not)) (h.receivers other)) in
     let first = first_setting (start_on starts channel) in
     let own = stands (start_on starts channel) (share channel was) (copies_on channel copies)
     (h.receivers channel) in
-    let kept : (other : Channel) → (receiver_on new other).hearer.moment
-    ≡ (receiver_on old other).hearer.moment =
-    on-each (λ other. (receiver_on new other).hearer.moment ≡ (receiver_on old other).hearer.moment)
-    channel
-    (ap (λ (s : Setting). s.moment) (own.force ∙ force-more first (share channel was) more
-    ∙ sym (h.receivers channel).force))
-    (λ other not. ap (λ (r : Receiving M). r.hearer.moment) (others other not)) in
+    let kept : (other : Channel) → (kind.start_of (receiver_on new other)).moment
+    ≡ (kind.start_of (receiver_on old other)).moment =
+    on-each (λ other. (kind.start_of (receiver_on new other)).moment
+    ≡ (kind.start_of (receiver_on old other)).moment) channel
+    (ap (λ (s : Setting). s.moment) (laws.in_force _ _ _ _ own
+    ∙ force-more first (share channel was) more
+    ∙ sym (laws.in_force _ _ _ _ (h.receivers channel))))
+    (λ other not. ap (λ (r : R). (kind.start_of r).moment) (others other not)) in
     record {
       receivers = each;
       moments = λ other. kept other ∙ h.moments other
           ∙ in_force-elements starts.moment given channel part (part ++ more);
       in_turn = in_turn-other starts given (to_one channel (fed.elements part))
           (to_one channel (fed.elements (part ++ more))) copies later h.in_turn
-          (have-printed starts new _ (copies ++ later) each);
+          (have-printed laws starts new _ (copies ++ later) each);
       elements = counts-on old.elements new.elements (length (elements_given was)) (length more) _
           h.elements heard all;
       entries = counts-on old.entries new.entries (length copies) (length next) _
@@ -591,119 +595,126 @@ hears-more {M} {entries_of} starts old new given channel part more copies next h
 
 -- The receiver of the channel heard so many of these elements, and handed out these copies with the
 -- last of them; and then the listener counted both.
-pub heard-to : {M : Type 0} {entries_of : M → List MemoryEntry} (starts : Starts)
-    (old mid now : ListeningOver M) (given : List Given) (channel : Channel)
+pub heard-to : {R : Type 0} {kind : ReceiverKind R} (laws : IsReceiver kind)
+    (starts : Starts)
+    (old mid now : ListeningOver R) (given : List Given) (channel : Channel)
     (part bits : List Bool) (n m k : ℕ) (copies : List MarkedCopy) (next : List TaggedCopy)
-    → HearsOver entries_of starts old (then_elements given channel part) copies
-    → HearsTo entries_of channel old mid bits n next
+    → HearsBy kind starts old (then_elements given channel part) copies
+    → HearsTo kind channel old mid bits n next
     → mid ≡ with_receiver old channel (receiver_on mid channel) → now ≡ mid
     → n ≤ length bits → length next ≤ n
     → m ≡ count_of (now.elements + n) → k ≡ count_of (now.entries + length next)
-    → HearsOver entries_of starts (record now { elements = m; entries = k })
+    → HearsBy kind starts (record now { elements = m; entries = k })
     (then_elements given channel (part ++ take n bits)) (copies ++ map (marked channel) next)
-heard-to {M} {entries_of} starts old mid now given channel part bits n m k copies next h hears only
+heard-to {R} {kind} laws starts old mid now given channel part bits n m k copies next h hears only
     e within few
     counted printed =
     let new = record now { elements = m; entries = k } in
-    let same = same-receivers mid new (sym (ap (λ (l : ListeningOver M). l.on_0) e))
-    (sym (ap (λ (l : ListeningOver M). l.on_1) e)) (sym (ap (λ (l : ListeningOver M). l.on_2) e)) in
+    let same = same-receivers mid new (sym (ap (λ (l : ListeningOver R). l.on_0) e))
+    (sym (ap (λ (l : ListeningOver R). l.on_1) e)) (sym (ap (λ (l : ListeningOver R). l.on_2) e)) in
     let differs = differs-on channel old mid only in
     let many : length (take n bits) ≡ n = length-take-le n bits within in
-    hears-more starts old new given channel part (take n bits) copies next h
+    hears-more laws starts old new given channel part (take n bits) copies next h
     (omega (arith, many, few))
-    (λ start events log s. subst (λ r. Stands entries_of start r
+    (λ start events log s. subst (λ r. kind.stands start r
     (events ++ fed.elements (take n bits))
     (log ++ next)) (same channel) (hears.stands start events log s))
     (λ other not. sym (same other) ∙ differs.others other not)
     (counted ∙ ap₂ (λ a b. count_of (a + b))
-    (ap (λ (l : ListeningOver M). l.elements) e ∙ differs.elements) (sym many))
+    (ap (λ (l : ListeningOver R). l.elements) e ∙ differs.elements) (sym many))
     (printed ∙ ap (λ a. count_of (a + length next))
-    (ap (λ (l : ListeningOver M). l.entries) e ∙ differs.entries))
+    (ap (λ (l : ListeningOver R). l.entries) e ∙ differs.entries))
 
 -- nothing more is printed before the last of them
-pub none-before : {M : Type 0} {entries_of : M → List MemoryEntry} (starts : Starts)
-    (old mid : ListeningOver M) (given : List Given) (channel : Channel)
+pub none-before : {R : Type 0} {kind : ReceiverKind R} (starts : Starts)
+    (old mid : ListeningOver R) (given : List Given) (channel : Channel)
     (part bits : List Bool) (n : ℕ) (copies : List MarkedCopy) (next : List TaggedCopy)
-    → HearsOver entries_of starts old (then_elements given channel part) copies
-    → HearsTo entries_of channel old mid bits n next → (k : ℕ) → k < n
-    → PrintsInTurn starts (then_elements given channel (part ++ take k bits)) copies
-none-before {M} {entries_of} starts old mid given channel part bits n copies next h hears k lt =
+    → HearsBy kind starts old (then_elements given channel part) copies
+    → HearsTo kind channel old mid bits n next → (k : ℕ) → k < n
+    → PrintsInTurnBy kind.printing starts (then_elements given channel (part ++ take k bits)) copies
+none-before {R} {kind} starts old mid given channel part bits n copies next h hears k lt =
     let start = start_on starts channel in
     let was = share channel (then_elements given channel part) in
     let mine = copies_on channel copies in
-    subst (PrintsInTurn starts (then_elements given channel (part ++ take k bits)))
+    subst (PrintsInTurnBy kind.printing starts (then_elements given channel (part ++ take k bits)))
     (append-nil copies)
     (in_turn-other starts given (to_one channel (fed.elements part))
     (to_one channel (fed.elements (part ++ take k bits))) copies [] h.in_turn
-    (grows-on (λ other es log. HasPrinted (start_on starts other) es log) given channel part
+    (grows-on (λ other es log. kind.printing.so_far (start_on starts other) es log) given channel part
     (take k bits) copies []
-    (subst (HasPrinted start (was ++ fed.elements (take k bits))) (sym (append-nil mine))
+    (subst (kind.printing.so_far start (was ++ fed.elements (take k bits))) (sym (append-nil mine))
     (hears.first start was mine (h.receivers channel) k lt))
     (λ other not. h.in_turn.each other)))
 
 -- So many elements of a channel were heard with which nothing is over: nothing is handed out.
-pub hears-quiet : {M : Type 0} {entries_of : M → List MemoryEntry} (channel : Channel)
-    (old new : ListeningOver M) (bits : List Bool) (n : ℕ) (left : Option Over) → left ≡ None
-    → HearsUpTo entries_of (receiver_on old channel) (receiver_on new channel) (take n bits) left
-    → HandsOutNoneBefore entries_of (receiver_on old channel) bits n
-    → HearsTo entries_of channel old new bits n []
-hears-quiet {M} {entries_of} channel old new bits n left nothing hears before = record {
-  stands = λ start history log s.
-      let events = history ++ fed.elements (take n bits) in
-      subst (λ l. Stands entries_of start (receiver_on new channel) events l)
-      (sym (append-nil log))
-      (nothing_awaited entries_of start (receiver_on new channel) _ _ _ log left nothing
-      (hears start history log s));
-  first = before;
-}
+pub hears-quiet : {R Over : Type 0} {kind : ReceiverKind R} (awaits : AwaitsFinish R Over)
+    (channel : Channel) (old new : ListeningOver R) (bits : List Bool) (n : ℕ)
+    (left : Option Over)
+    → ((start : Start) (receiver : R) (events : List Event) (log : List TaggedCopy)
+    → awaits start receiver events log None → kind.stands start receiver events log)
+    → left ≡ None
+    → HearsUpToBy kind awaits (receiver_on old channel) (receiver_on new channel) (take n bits) left
+    → HandsOutNoneBeforeBy kind (receiver_on old channel) bits n
+    → HearsTo kind channel old new bits n []
+hears-quiet {R} {Over} {kind} awaits channel old new bits n left none nothing hears before =
+    record {
+      stands = λ start history log s.
+          let events = history ++ fed.elements (take n bits) in
+          subst (λ l. kind.stands start (receiver_on new channel) events l)
+          (sym (append-nil log))
+          (none start (receiver_on new channel) events log
+          (subst (λ over. awaits start (receiver_on new channel) events log over) nothing
+          (hears start history log s)));
+      first = before;
+    }
 
 -- What is over with so many elements was finished, and so many more were heard.
-pub hears-then : {M : Type 0} {entries_of : M → List MemoryEntry} (channel : Channel)
-    (old mid new : ListeningOver M) (packed : List Bool) (from n m : ℕ) (left : Option Over)
-    (over : Over) (copies : List TaggedCopy) → left ≡ Some over
-    → HearsUpTo entries_of (receiver_on old channel) (receiver_on mid channel)
+pub hears-then : {R Over : Type 0} {kind : ReceiverKind R} (awaits : AwaitsFinish R Over)
+    (channel : Channel) (old mid new : ListeningOver R) (packed : List Bool) (from n m : ℕ)
+    (left : Option Over) (over : Over) (copies : List TaggedCopy) → left ≡ Some over
+    → HearsUpToBy kind awaits (receiver_on old channel) (receiver_on mid channel)
     (take n (drop from packed)) left
-    → HandsOutNoneBefore entries_of (receiver_on old channel) (drop from packed) n
-    → FinishesNext entries_of (receiver_on mid channel) (receiver_on new channel) over
+    → HandsOutNoneBeforeBy kind (receiver_on old channel) (drop from packed) n
+    → FinishesNextBy kind awaits (receiver_on mid channel) (receiver_on new channel) over
     (drop (from + n) packed) m copies
-    → HearsTo entries_of channel old new (drop from packed) (n + m) copies
-hears-then {M} {entries_of} channel old mid new packed from n m left over copies is hears before
-    finishes =
-    let awaits : (start : Start) (history : List Event) (log : List TaggedCopy)
-    → Stands entries_of start (receiver_on old channel) history log
-    → Awaits entries_of start (receiver_on mid channel)
+    → HearsTo kind channel old new (drop from packed) (n + m) copies
+hears-then {R} {Over} {kind} awaits channel old mid new packed from n m left over copies is hears
+    before finishes =
+    let due : (start : Start) (history : List Event) (log : List TaggedCopy)
+    → kind.stands start (receiver_on old channel) history log
+    → awaits start (receiver_on mid channel)
     (history ++ fed.elements (take n (drop from packed))) log (Some over) =
-    λ start history log s. subst (λ o. Awaits entries_of start (receiver_on mid channel)
+    λ start history log s. subst (λ o. awaits start (receiver_on mid channel)
     (history ++ fed.elements (take n (drop from packed))) log o) is (hears start history log s) in
     record {
       stands = λ start history log s.
-          subst (λ events. Stands entries_of start (receiver_on new channel) events (log ++ copies))
+          subst (λ events. kind.stands start (receiver_on new channel) events (log ++ copies))
           (heard_then history packed from n m)
           (finishes.stands start (history ++ fed.elements (take n (drop from packed))) log
-          (awaits start history log s));
-      first = λ start history log s. printed_then start history log packed from n m
+          (due start history log s));
+      first = λ start history log s. printed_then kind.printing start history log packed from n m
           (λ k lt. before start history log s k lt)
           (λ k lt. finishes.first start (history ++ fed.elements (take n (drop from packed))) log
-          (awaits start history log s) k lt);
+          (due start history log s) k lt);
     }
 
 -- only the receiver of the channel is another, after both
-pub only-then : {M : Type 0} (channel : Channel) (old mid new : ListeningOver M)
+pub only-then : {R : Type 0} (channel : Channel) (old mid new : ListeningOver R)
     → mid ≡ with_receiver old channel (receiver_on mid channel)
     → new ≡ with_receiver mid channel (receiver_on new channel)
     → new ≡ with_receiver old channel (receiver_on new channel)
-only-then {M} Zero old mid new e f = f ∙ ap (λ l. with_receiver l Zero new.on_0) e
-only-then {M} One old mid new e f = f ∙ ap (λ l. with_receiver l One new.on_1) e
-only-then {M} Two old mid new e f = f ∙ ap (λ l. with_receiver l Two new.on_2) e
+only-then {R} Zero old mid new e f = f ∙ ap (λ l. with_receiver l Zero new.on_0) e
+only-then {R} One old mid new e f = f ∙ ap (λ l. with_receiver l One new.on_1) e
+only-then {R} Two old mid new e f = f ∙ ap (λ l. with_receiver l Two new.on_2) e
 
 -- what a listener counts changes no text
-pub text-counted : {M : Type 0} (mid now : ListeningOver M) (channel : Channel) (m k : ℕ)
-    → now ≡ mid
-    → text_on (record now { elements = m; entries = k }) channel ≡ text_on mid channel
-text-counted {M} mid now channel m k e =
-    sym (ap (λ (r : Receiving M). text_of r) (same-receivers mid
-    (record now { elements = m; entries = k }) (sym (ap (λ (l : ListeningOver M). l.on_0) e))
-    (sym (ap (λ (l : ListeningOver M). l.on_1) e)) (sym (ap (λ (l : ListeningOver M). l.on_2) e))
+pub text-counted : {R : Type 0} (kind : ReceiverKind R) (mid now : ListeningOver R)
+    (channel : Channel) (m k : ℕ) → now ≡ mid
+    → text_by kind (record now { elements = m; entries = k }) channel ≡ text_by kind mid channel
+text-counted {R} kind mid now channel m k e =
+    sym (ap kind.text_of (same-receivers mid
+    (record now { elements = m; entries = k }) (sym (ap (λ (l : ListeningOver R). l.on_0) e))
+    (sym (ap (λ (l : ListeningOver R). l.on_1) e)) (sym (ap (λ (l : ListeningOver R). l.on_2) e))
     channel))
 
 -- Such a head has its entry's bytes, whatever the channel, and none has none.
@@ -774,15 +785,16 @@ if-empty true = refl
 if-empty false = refl
 
 -- no elements of a channel change nothing
-pub none-given : {M : Type 0} {entries_of : M → List MemoryEntry} (starts : Starts)
-    (listener : ListeningOver M) (given : List Given) (channel : Channel)
-    (copies : List MarkedCopy) → HearsOver entries_of starts listener given copies
-    → HearsOver entries_of starts listener (then_elements given channel []) copies
+pub none-given : {R : Type 0} {kind : ReceiverKind R} (laws : IsReceiver kind)
+    (starts : Starts)
+    (listener : ListeningOver R) (given : List Given) (channel : Channel)
+    (copies : List MarkedCopy) → HearsBy kind starts listener given copies
+    → HearsBy kind starts listener (then_elements given channel []) copies
 unfolding fed.elements_among
-none-given {M} {entries_of} starts listener given channel copies h =
-    hears-next starts listener listener given (to_one channel []) copies h refl
+none-given {R} {kind} laws starts listener given channel copies h =
+    hears-next laws starts listener listener given (to_one channel []) copies h refl
     (elements-set channel []) refl refl
-    (λ other log s. subst (λ es. Stands entries_of (start_on starts other)
+    (λ other log s. subst (λ es. kind.stands (start_on starts other)
     (receiver_on listener other) es log)
     (sym (ap (λ es. share other given ++ es) (if-empty (same_channel channel other))
     ∙ append-nil (share other given))) s)
@@ -792,48 +804,50 @@ pub none-heard : (starts : Starts) (listener : Listening) (given : List Given)
     → HearsLog starts listener (then_elements given channel []) bytes
 none-heard starts listener given channel bytes h = record {
   log = h.log;
-  hears = none-given starts listener given channel h.log h.hears;
+  hears = none-given (plain-receiver content) starts listener given channel h.log h.hears;
   spelled = h.spelled;
 }
 
 -- with what a listener starts, by what its receivers have
-starts-is : {M : Type 0} {entries_of : M → List MemoryEntry} (starts : Starts)
-    (listener : ListeningOver M)
-    → ((channel : Channel) → Stands entries_of (start_on starts channel)
+starts-is : {R : Type 0} {kind : ReceiverKind R} (laws : IsReceiver kind) (starts : Starts)
+    (listener : ListeningOver R)
+    → ((channel : Channel) → kind.stands (start_on starts channel)
     (receiver_on listener channel) [] [])
-    → ((channel : Channel) → entries_of (receiver_on listener channel).memory
+    → ((channel : Channel) → (kind.start_of (receiver_on listener channel)).entries
     ≡ starts.entries channel)
-    → starts_over entries_of listener ≡ starts
+    → starts_by kind listener ≡ starts
 unfolding setting_after_all
-starts-is {M} {entries_of} starts listener stands same =
+starts-is {R} {kind} laws starts listener stands same =
     ap₂ (λ n es. record {
       moment = n;
       entries = es;
       refused =
-          (starts_over entries_of listener).refused;
+          (starts_by kind listener).refused;
     })
-    (ap (λ (s : Setting). s.moment) (stands Zero).force) (fun_ext same)
+    (ap (λ (s : Setting). s.moment) (laws.in_force _ _ _ _ (stands Zero))) (fun_ext same)
     ∙ ap (λ r. record { moment = starts.moment; entries = starts.entries; refused = r })
-    (fun_ext (λ channel. ap (λ (s : Setting). s.refused) (stands channel).force))
+    (fun_ext (λ channel.
+    ap (λ (s : Setting). s.refused) (laws.in_force _ _ _ _ (stands channel))))
 
 -- a listener that was made has heard nothing
-heard-nothing : {M : Type 0} {entries_of : M → List MemoryEntry} (starts : Starts)
-    (listener : ListeningOver M)
-    → ((channel : Channel) → Stands entries_of (start_on starts channel)
+heard-nothing : {R : Type 0} {kind : ReceiverKind R} (laws : IsReceiver kind) (starts : Starts)
+    (listener : ListeningOver R)
+    → ((channel : Channel) → kind.stands (start_on starts channel)
     (receiver_on listener channel) [] [])
-    → listener.elements ≡ 0 → listener.entries ≡ 0 → HearsOver entries_of starts listener [] []
+    → listener.elements ≡ 0 → listener.entries ≡ 0 → HearsBy kind starts listener [] []
 unfolding setting_after_all
-heard-nothing {M} {entries_of} starts listener stands elements' entries' = record {
+heard-nothing {R} {kind} laws starts listener stands elements' entries' = record {
   receivers = stands;
-  moments = λ channel. ap (λ (s : Setting). s.moment) (stands channel).force;
-  in_turn = in_turn-none starts (have-printed starts listener [] [] stands);
+  moments = λ channel.
+      ap (λ (s : Setting). s.moment) (laws.in_force _ _ _ _ (stands channel));
+  in_turn = in_turn-none starts (have-printed laws starts listener [] [] stands);
   elements = elements';
   entries = entries';
   few = omega arith;
 }
 
 -- a listener of these receivers, which counted nothing and had no moment
-abbrev pub made_of : {M : Type 0} → Receiving M → Receiving M → Receiving M → ListeningOver M
+abbrev pub made_of : {R : Type 0} → R → R → R → ListeningOver R
 made_of on_0 on_1 on_2 = record {
   on_0 = on_0;
   on_1 = on_1;
@@ -844,28 +858,29 @@ made_of on_0 on_1 on_2 = record {
 }
 
 -- it has heard nothing, and starts with this, where its receivers do
-pub heard-first : {M : Type 0} {entries_of : M → List MemoryEntry} (starts : Starts)
-    (on_0 on_1 on_2 : Receiving M) → Stands entries_of (start_on starts Zero) on_0 [] []
-    → Stands entries_of (start_on starts One) on_1 [] []
-    → Stands entries_of (start_on starts Two) on_2 [] []
-    → HearsOver entries_of starts (made_of on_0 on_1 on_2) [] []
-heard-first {M} {entries_of} starts on_0 on_1 on_2 zero one two =
-    heard-nothing starts (made_of on_0 on_1 on_2)
-    (on-all (λ channel. Stands entries_of (start_on starts channel)
+pub heard-first : {R : Type 0} {kind : ReceiverKind R} (laws : IsReceiver kind) (starts : Starts)
+    (on_0 on_1 on_2 : R) → kind.stands (start_on starts Zero) on_0 [] []
+    → kind.stands (start_on starts One) on_1 [] []
+    → kind.stands (start_on starts Two) on_2 [] []
+    → HearsBy kind starts (made_of on_0 on_1 on_2) [] []
+heard-first {R} {kind} laws starts on_0 on_1 on_2 zero one two =
+    heard-nothing laws starts (made_of on_0 on_1 on_2)
+    (on-all (λ channel. kind.stands (start_on starts channel)
     (receiver_on (made_of on_0 on_1 on_2) channel) [] []) zero one two) refl refl
 
-pub starts-first : {M : Type 0} {entries_of : M → List MemoryEntry} (starts : Starts)
-    (on_0 on_1 on_2 : Receiving M) → Stands entries_of (start_on starts Zero) on_0 [] []
-    → Stands entries_of (start_on starts One) on_1 [] []
-    → Stands entries_of (start_on starts Two) on_2 [] []
-    → entries_of on_0.memory ≡ starts.entries Zero → entries_of on_1.memory ≡ starts.entries One
-    → entries_of on_2.memory ≡ starts.entries Two
-    → starts_over entries_of (made_of on_0 on_1 on_2) ≡ starts
-starts-first {M} {entries_of} starts on_0 on_1 on_2 zero one two same_0 same_1 same_2 =
-    starts-is starts (made_of on_0 on_1 on_2)
-    (on-all (λ channel. Stands entries_of (start_on starts channel)
+pub starts-first : {R : Type 0} {kind : ReceiverKind R} (laws : IsReceiver kind) (starts : Starts)
+    (on_0 on_1 on_2 : R) → kind.stands (start_on starts Zero) on_0 [] []
+    → kind.stands (start_on starts One) on_1 [] []
+    → kind.stands (start_on starts Two) on_2 [] []
+    → (kind.start_of on_0).entries ≡ starts.entries Zero
+    → (kind.start_of on_1).entries ≡ starts.entries One
+    → (kind.start_of on_2).entries ≡ starts.entries Two
+    → starts_by kind (made_of on_0 on_1 on_2) ≡ starts
+starts-first {R} {kind} laws starts on_0 on_1 on_2 zero one two same_0 same_1 same_2 =
+    starts-is laws starts (made_of on_0 on_1 on_2)
+    (on-all (λ channel. kind.stands (start_on starts channel)
     (receiver_on (made_of on_0 on_1 on_2) channel) [] []) zero one two)
-    (on-all (λ channel. entries_of (receiver_on (made_of on_0 on_1 on_2) channel).memory
+    (on-all (λ channel. (kind.start_of (receiver_on (made_of on_0 on_1 on_2) channel)).entries
     ≡ starts.entries channel) same_0 same_1 same_2)
 
 -- and took no line

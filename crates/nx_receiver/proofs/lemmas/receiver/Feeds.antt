@@ -11,7 +11,7 @@ use Rattle.nx_memory.specs.declared.memories.entry.MemoryEntry.{MemoryEntry}
 use Rattle.nx_copies.specs.declared.copy_taker.Over.{Over}
 use Rattle.nx_copies.specs.Events.{Event, Setting, Start, elements_among, element, first_setting}
 use Rattle.nx_copies.specs.Events.{setting_after_all, settings, elements}
-use Rattle.nx_copies.specs.copies.Log.{HasPrinted}
+use Rattle.nx_copies.specs.copies.Log.{HasPrinted, Printing}
 use Rattle.nx_receiver.specs.Receiver.{HandsOutNoneBefore, Receiving, Stands, StandsOver}
 use Rattle.nx_receiver.specs.private.Awaiting.{Awaits, AwaitsOver, FinishesNext, HearsUpTo}
 use Rattle.nx_copies.specs.copies.FoundCopies.{TaggedCopy}
@@ -176,20 +176,20 @@ heard_then history packed from n m =
     (sym (drop-drop n from packed)) ∙ elements-more history (drop from packed) n m
 
 -- where nothing was printed before the last of either, none was before the last of all
-pub printed_then : (start : Start) (history : List Event) (log : List TaggedCopy)
+pub printed_then : (printing : Printing) (start : Start) (history : List Event) (log : List TaggedCopy)
     (packed : List Bool) (from n m : ℕ)
-    → ((k : ℕ) → k < n → HasPrinted start (history ++ elements (take k (drop from packed))) log)
-    → ((k : ℕ) → k < m → HasPrinted start ((history ++ elements (take n (drop from packed)))
+    → ((k : ℕ) → k < n → printing.so_far start (history ++ elements (take k (drop from packed))) log)
+    → ((k : ℕ) → k < m → printing.so_far start ((history ++ elements (take n (drop from packed)))
     ++ elements (take k (drop (from + n) packed))) log)
     → (k : ℕ) → k < n + m
-    → HasPrinted start (history ++ elements (take k (drop from packed))) log
-printed_then start history log packed from n m first second k lt =
+    → printing.so_far start (history ++ elements (take k (drop from packed))) log
+printed_then printing start history log packed from n m first second k lt =
     elim (cases_lt k n) [
       | inl early ↦ first k early
       | inr late ↦
           let j = k - n in
           let sum : n + j ≡ k = omega arith in
-          subst (λ events. HasPrinted start events log)
+          subst (λ events. printing.so_far start events log)
           (heard_then history packed from n j
           ∙ ap (λ i. history ++ elements (take i (drop from packed))) sum)
           (second j (omega arith))

@@ -7,6 +7,7 @@ use Rattle.nx_copies.specs.Events.{Event, Setting, elements_among, setting_after
 use Rattle.nx_receiver.specs.Listener.{HearsGiven, Listening, content, receiver_on, then_elements}
 use Rattle.nx_receiver.specs.Receiver.{Stands}
 use Rattle.nx_copies.specs.copies.Shares.{Given, MarkedCopy, Starts, share, start_on, to_one}
+use Rattle.nx_receiver.specs.private.PlainReceiver.{plain-receiver}
 use Rattle.nx_receiver.proofs.lemmas.listening.Listener.{SetsMoment, hears-next}
 
 if-empty : (b : Bool) → cond b (fed.elements []) [] ≡ []
@@ -26,8 +27,8 @@ pub none-heard : (starts : Starts) (listener : Listening) (given : List Given) (
     → HearsGiven starts listener (then_elements given channel []) copies
 unfolding elements_among
 none-heard starts listener given channel copies h =
-    hears-next starts listener listener given (to_one channel []) copies h refl (none-sets channel)
-    refl refl
+    hears-next (plain-receiver content) starts listener listener given (to_one channel []) copies h
+    refl (none-sets channel) refl refl
     (λ other log s. subst (λ es. Stands content (start_on starts other) (receiver_on listener other)
     es log)
     (sym (ap (λ es. share other given ++ es) (if-empty (same_channel channel other))

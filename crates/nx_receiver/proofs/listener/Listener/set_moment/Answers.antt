@@ -4,7 +4,7 @@ use Rattle.nx_fec.specs.declared.air_files.channel.Channel.TheVariants.{Zero, On
 use Rattle.nx_copies.specs.Events.{at_moment}
 use Rattle.nx_receiver.specs.Moments.{Refuses}
 use Rattle.nx_receiver.specs.Listener.{ListeningOver, receiver_on}
-use Rattle.nx_receiver.specs.Receiver.{TakesEvent}
+use Rattle.nx_receiver.specs.ChannelReceiver.{TakesEventBy}
 use Rattle.nx_receiver.proofs.lemmas.listening.Listener.{same-receivers, set-all}
 use Rattle.nx_receiver.proofs.listener.Listener.set_moment.Goals as goal
 
@@ -13,7 +13,7 @@ returns-clause-heard g c = λ starts given copies h.
     let n = c.args.moment in
     let e = c.self.view_is in
     let made = c.in_ok-set_moments.ensures in
-    let new : ListeningOver g.row.M.Denot = record {
+    let new : ListeningOver g.row.R.Denot = record {
       on_0 = c.self.inside.on_0;
       on_1 = c.self.inside.on_1;
       on_2 = c.self.inside.on_2;
@@ -23,16 +23,16 @@ returns-clause-heard g c = λ starts given copies h.
     } in (
       subst (λ m. m ≤ n) (h.moments Zero) made.taken.0,
       made.taken.1,
-      set-all starts c.args.self.now new given copies n h
-          (ap (λ (l : ListeningOver g.row.M.Denot). l.elements) e ∙ c.set_moments.ensures.elements)
-          (ap (λ (l : ListeningOver g.row.M.Denot). l.entries) e ∙ c.set_moments.ensures.entries)
-          (λ channel. subst (λ r. TakesEvent g.M.Recall.content
+      set-all g.met.R.ChannelReceiver.laws starts c.args.self.now new given copies n h
+          (ap (λ (l : ListeningOver g.row.R.Denot). l.elements) e ∙ c.set_moments.ensures.elements)
+          (ap (λ (l : ListeningOver g.row.R.Denot). l.entries) e ∙ c.set_moments.ensures.entries)
+          (λ channel. subst (λ r. TakesEventBy g.R.ChannelReceiver.kind
           (receiver_on c.args.self.now channel) r
           (at_moment n))
           (same-receivers c.set_moments.new.self new
-          (sym (ap (λ (l : ListeningOver g.row.M.Denot). l.on_0) e))
-          (sym (ap (λ (l : ListeningOver g.row.M.Denot). l.on_1) e))
-          (sym (ap (λ (l : ListeningOver g.row.M.Denot). l.on_2) e)) channel)
+          (sym (ap (λ (l : ListeningOver g.row.R.Denot). l.on_0) e))
+          (sym (ap (λ (l : ListeningOver g.row.R.Denot). l.on_1) e))
+          (sym (ap (λ (l : ListeningOver g.row.R.Denot). l.on_2) e)) channel)
           (made.stands channel)),
     )
 

@@ -21,7 +21,7 @@ returns-clause-heard g c =
     let starts = starts_from c.args.saved.now in
     let same : starts.moment ≡ c.unwrap_or-moment.result =
     sym (c.unwrap_or-moment.ensures ∙ ap (λ o. unwrap_or o 0) c.newest.ensures) in
-    heard-first starts _ _ _
+    heard-first g.met.R.ChannelReceiver.laws starts _ _ _
     (c.in_ok-on_0.ensures.stands (start_on starts Zero)
     (sym (ap (λ (s : SavedState). s.entries) c.kept_on-selected_0.ensures.kept)) same
     (sym c.kept_on-selected_0.ensures.selected))
@@ -48,7 +48,7 @@ returns-clause-start g c =
     let starts = starts_from c.args.saved.now in
     let same : starts.moment ≡ c.unwrap_or-moment.result =
     sym (c.unwrap_or-moment.ensures ∙ ap (λ o. unwrap_or o 0) c.newest.ensures) in
-    starts-first starts _ _ _
+    starts-first g.met.R.ChannelReceiver.laws starts _ _ _
     (c.in_ok-on_0.ensures.stands (start_on starts Zero)
     (sym (ap (λ (s : SavedState). s.entries) c.kept_on-selected_0.ensures.kept)) same
     (sym c.kept_on-selected_0.ensures.selected))
@@ -65,11 +65,11 @@ returns-clause-start g c =
     (c.in_ok-on_2.ensures.kept
     ∙ ap (λ (s : SavedState). s.entries) c.kept_on-selected_2.ensures.kept)
 
-pub receiver_from-requires-2-clause-newest : goal.receiver_from-requires-2-clause-newest
-receiver_from-requires-2-clause-newest g c = grind (arith, common_steps)
+pub from_saved-requires-2-clause-newest : goal.from_saved-requires-2-clause-newest
+from_saved-requires-2-clause-newest g c = grind (arith, common_steps)
 
-pub receiver_from-requires-3-clause-newest : goal.receiver_from-requires-3-clause-newest
-receiver_from-requires-3-clause-newest g c = grind (arith, common_steps)
+pub from_saved-requires-3-clause-newest : goal.from_saved-requires-3-clause-newest
+from_saved-requires-3-clause-newest g c = grind (arith, common_steps)
 
-pub receiver_from-requires-clause-newest : goal.receiver_from-requires-clause-newest
-receiver_from-requires-clause-newest g c = grind (arith, common_steps)
+pub from_saved-requires-clause-newest : goal.from_saved-requires-clause-newest
+from_saved-requires-clause-newest g c = grind (arith, common_steps)

@@ -3,7 +3,7 @@ use Rattle.nx_fec.specs.declared.air_files.channel.Channel.TheVariants.{Zero, On
 use Rattle.nx_receiver.specs.air_file_runs.Chain.{Leaves}
 use Rattle.nx_copies.specs.copies.Shares.{share, start_on}
 use Rattle.nx_receiver.proofs.lemmas.listening.Listener.{on-all}
-use Rattle.nx_receiver.proofs.listener.Listener.saved.Goals as goal
+use Rattle.nx_receiver.proofs.listener.Listener+Receiver+M.saved.Goals as goal
 
 pub returns : goal.returns
 returns g c = rw (← c.self.view_is) (λ starts given copies h.

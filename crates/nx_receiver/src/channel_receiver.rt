@@ -1,0 +1,185 @@
+//! A receiver of one channel, of whatever kind: what a listener calls of it, and what it may rely on.
+
+ghost use Rattle.std.specs.Prelude.{◌≡◌, ◌↔◌, ℕ, ◌+◌, ◌<◌, ◌≤◌, List, [], ◌++◌, length, take, drop, IfErr, IfOk, IfSome, IsErr, IsNone, IsTrue, None, OnErr, OnOk};
+ghost use Rattle.nx_envelope.specs.Moment.{last_moment};
+ghost use Rattle.nx_memory.specs.Memory.{newest_moment};
+ghost use Rattle.nx_copies.specs.Events as events;
+ghost use Rattle.nx_copies.specs.Events.{Event, Start, at_moment};
+ghost use Rattle.nx_copies.specs.copies.FoundCopies.{TaggedCopy};
+ghost use Rattle.nx_receiver.specs.Commands.{refuses_vital, said};
+ghost use Rattle.nx_receiver.specs.declared.command.Command.TheVariants.{RefuseSubject};
+ghost use Rattle.nx_receiver.specs.ChannelReceiver.{AwaitsFinish, FinishesNextBy, HandsOutNoneBeforeBy, HearsUpToBy, IsReceiver, ReceiverKind, TakesEventBy};
+ghost use Rattle.nx_receiver.specs.Moments.{Refuses};
+ghost use Rattle.nx_receiver.specs.Receiver.{HeadsText, entry_list, headed_list};
+
+use crate::command::Command;
+use crate::fault::MomentFault;
+use crate::fresh_recall::FreshRecall;
+use crate::receiver::Receiver;
+use nx_copies::{Entry, EntryHead, Over};
+use nx_envelope::MAX_FOUND;
+use nx_fec::PackedElements;
+use nx_memory::{Saved, Selection, Vital};
+use std::alloc::{AllocError, Global};
+
+/// A receiver of one channel, which is given elements, moments and commands, and hands out an entry
+/// for each copy that it prints. What it prints is its own matter: each copy judged alone, or
+/// several sendings taken together.
+pub trait ChannelReceiver: Drop {
+    /// What can be over with an element, at which the hearing stops.
+    type Over: Copy;
+
+    /// What it prints, after which events it stands, with what it starts, and its text.
+    ghost kind: { ReceiverKind Self };
+
+    /// After which events it stands but for what is over, which is yet to be finished.
+    ghost awaits: { AwaitsFinish Self Self.Over };
+
+    /// A receiver that has heard nothing, and starts with this selection and the saved entries, at
+    /// this moment. Takes all memory that it ever needs, and fails where there is none.
+    fn from_saved(
+        alloc: Global,
+        selected: Selection,
+        kept: &Saved,
+        moment: u64,
+    ) -> Result<Self, AllocError>
+        requires newest { newest_moment kept.now.entries ≤ moment }
+        requires range { moment ≤ last_moment }
+        ensures stands { (start : Start) → start.entries ≡ kept.now.entries
+            → start.moment ≡ moment → start.refused ≡ selected
+            → IfOk result (λ r. kind.stands start r [] []) }
+        ensures kept { IfOk result (λ r. (kind.start_of r).entries ≡ kept.now.entries) };
+
+    /// Sets the moment, in whole seconds since 1970-01-01 00:00:00 UTC. `Range` where it is past
+    /// 2999-12-31 23:59:59, else `Back` where it is before the last one; the receiver then stays as
+    /// it was.
+    fn set_moment(&mut self, moment: u64) -> Result<(), MomentFault>
+        ensures stands { OnOk result (TakesEventBy kind self.old self.new (at_moment moment)) }
+        ensures taken { OnOk result
+            (((kind.start_of self.old).moment ≤ moment) × (moment ≤ last_moment)) }
+        ensures refused { IfErr result (Refuses (kind.start_of self.old).moment moment) }
+        ensures unchanged { OnErr result (self.new ≡ self.old) };
+
+    /// Does what the command says, from here on. `Vital` where it is to refuse subject A, B, D or L
+    /// (ITU-R M.540); the receiver then stays as it was.
+    fn command(&mut self, command: Command) -> Result<(), Vital>
+        ensures stands { OnOk result (TakesEventBy kind self.old self.new
+            (events.command (said command))) }
+        ensures vital { IsErr result ↔ IsTrue (refuses_vital (said command)) }
+        ensures fault { IfErr result (λ vital. command ≡ RefuseSubject vital.subject) }
+        ensures unchanged { OnErr result (self.new ≡ self.old) };
+
+    /// Hears elements from a place on, up to and with the first one with which something is over,
+    /// all of them where nothing is. Says how many, and what is over. `finish_next` is due then,
+    /// before anything else is heard.
+    fn hear(&mut self, packed: &PackedElements, from: usize) -> (usize, Option<Self::Over>)
+        requires { from ≤ length packed.now }
+        ensures within { from + result.0 ≤ length packed.now }
+        ensures stands { HearsUpToBy kind awaits self.old self.new
+            (take result.0 (drop from packed.now)) result.1 }
+        ensures first { HandsOutNoneBeforeBy kind self.old (drop from packed.now) result.0 }
+        ensures all { result.1 ≡ None → from + result.0 ≡ length packed.now }
+        ensures some { from < length packed.now → 0 < result.0 };
+
+    /// Finishes what is over. Where that isn't printed it hears on, from a place on, up to and with
+    /// the element that ends the first copy that is printed. Says how many it heard, and the head
+    /// of the entry, whose text is `text`. With `None` it heard all.
+    fn finish_next(
+        &mut self,
+        over: Self::Over,
+        packed: &PackedElements,
+        from: usize,
+    ) -> (usize, Option<EntryHead>)
+        requires { from ≤ length packed.now }
+        ensures within { from + result.0 ≤ length packed.now }
+        ensures finishes { FinishesNextBy kind awaits self.old self.new over
+            (drop from packed.now) result.0 (headed_list result.1 (kind.text_of self.new)) }
+        ensures all { IsNone result.1 → from + result.0 ≡ length packed.now }
+        ensures head { IfSome result.1 (λ head. HeadsText head (kind.text_of self.new)) };
+
+    /// The text of the entry whose head was answered last, until more is heard.
+    fn text(&self) -> &[u8]
+        ensures text { result.now ≡ kind.text_of self.now }
+        ensures short { length result.now ≤ MAX_FOUND };
+
+    /// Ends the elements, and hands out the entry that their end prints: that of the open copy,
+    /// where it is printed.
+    fn close(self) -> Option<Entry>
+        ensures stands { (start : Start) (history : List Event) (log : List TaggedCopy)
+            → kind.stands start self history log
+            → kind.printing.to_end start history (log ++ entry_list result) }
+        ensures moment { IfSome result (λ entry. entry.moment ≤ last_moment) };
+
+    /// The laws of its kind.
+    ghost laws: { IsReceiver kind };
+
+    /// Where nothing is over, nothing is awaited.
+    ghost none_awaited: { (start : Start) (receiver : Self) (history : List Event)
+        (log : List TaggedCopy)
+        → awaits start receiver history log None → kind.stands start receiver history log };
+}
+
+/// The receiver that judges each copy alone.
+impl<M: FreshRecall> ChannelReceiver for Receiver<M> {
+    ghost use Rattle.nx_receiver.specs.Receiver.{plain_kind};
+    ghost use Rattle.nx_receiver.specs.private.Awaiting.{Awaits};
+    ghost use Rattle.nx_receiver.specs.private.PlainReceiver.{none-awaited, plain-receiver};
+
+    type Over = Over;
+
+    ghost kind = { plain_kind M.content };
+
+    ghost awaits = { Awaits M.content };
+
+    fn from_saved(
+        alloc: Global,
+        selected: Selection,
+        kept: &Saved,
+        moment: u64,
+    ) -> Result<Receiver<M>, AllocError> {
+        let mut memory = M::fresh(alloc)?;
+        kept.load(&mut memory);
+        let Ok(receiver) = Receiver::starting(memory, moment, selected) else {
+            unreachable!()
+        };
+        Ok(receiver)
+    }
+
+    fn set_moment(&mut self, moment: u64) -> Result<(), MomentFault> {
+        Receiver::set_moment(self, moment)
+    }
+
+    #[inline(always)]
+    fn command(&mut self, command: Command) -> Result<(), Vital> {
+        Receiver::command(self, command)
+    }
+
+    #[inline(always)]
+    fn hear(&mut self, packed: &PackedElements, from: usize) -> (usize, Option<Over>) {
+        Receiver::hear(self, packed, from)
+    }
+
+    #[inline(always)]
+    fn finish_next(
+        &mut self,
+        over: Over,
+        packed: &PackedElements,
+        from: usize,
+    ) -> (usize, Option<EntryHead>) {
+        Receiver::finish_next(self, over, packed, from)
+    }
+
+    #[inline(always)]
+    fn text(&self) -> &[u8] {
+        Receiver::text(self)
+    }
+
+    #[inline(always)]
+    fn close(self) -> Option<Entry> {
+        Receiver::close(self)
+    }
+
+    ghost laws = { plain-receiver M.content };
+
+    ghost none_awaited = { none-awaited M.content };
+}
