@@ -1,8 +1,8 @@
 pub mod Awaiting
-pub mod ListenFaults
 pub mod Listener
 pub mod ListenerBegins
 pub mod PlainReceiver
+pub mod Runs
 pub mod StateParts
 pub mod Taken
 pub mod Unlogged

@@ -15,6 +15,8 @@ use Rattle.nx_fec.specs.air_files.LineRuns.{HasFaultAfter, HasReadFault}
 use Rattle.nx_fec.specs.air_files.Lines.{StopsAt, air_limit, IsAirFile, IsLineRefused, elements_of}
 use Rattle.nx_fec.specs.declared.air_files.line_runs.LinesFault.{LinesFault}
 use Rattle.nx_fec.specs.declared.air_files.line_runs.LinesFault.TheVariants as run
+use Rattle.nx_fec.specs.declared.fault.AirFault.{AirFault}
+use Rattle.nx_fec.specs.declared.fault.AirFault.TheVariants as air
 use Rattle.nx_fec.specs.declared.fault.LineFault.{LineFault}
 use Rattle.nx_fec.specs.declared.fault.LineFault.TheVariants as file
 use Rattle.nx_memory.specs.Selection.{is_vital}
@@ -142,6 +144,11 @@ file_fault file.TooLong = AirTooLong
 file_fault (file.LineLong line) = LineLong line
 file_fault (file.LineCut line) = LineCut line
 file_fault (file.BadLine line) = BadLine line
+
+-- the fault of a run that stands for what ended the reading of its lines
+abbrev pub air_fault : AirFault → ListenFault
+air_fault air.Read = Read
+air_fault (air.Line why) = file_fault why
 
 -- the fault of a run that stands for a line that is refused
 abbrev pub refusal_fault : ℕ → LineRefusal → ListenFault

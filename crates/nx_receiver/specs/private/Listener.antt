@@ -3,7 +3,6 @@ use Rattle.std.specs.Prelude.{◌≡◌, ℕ, ◌+◌, ◌≤◌, Bool, false, L
 use Rattle.std.specs.Prelude.{IsTrue}
 use Rattle.std.specs.Io.KnownBytes.{Appends}
 use Rattle.nx_envelope.specs.declared.letter.Letter.{Letter}
-use Rattle.nx_fec.specs.air_files.LineRuns.{Taker, taker_of}
 use Rattle.nx_fec.specs.air_files.AirFile.{Line, moment, elements, refuse_subject}
 use Rattle.nx_fec.specs.Transfers.{WroteSome, count_of}
 use Rattle.nx_fec.specs.declared.air_files.channel.Channel.{Channel}
@@ -106,15 +105,6 @@ RefusesLine starts lines line (Vital subject) = RefusesVital subject lines line
 -- the same for a taker of lines that stood so at first, which is its start
 abbrev pub StandsFrom : Listening → Listening → List Line → List ℕ → Type 0
 StandsFrom first now lines bytes = IsListening (starts_of first) now lines bytes
-
-abbrev pub BeginsFrom : Listening → List Line → List ℕ → Type 0
-BeginsFrom first lines bytes = BeginsListening (starts_of first) lines bytes
-
-abbrev pub RefusesFrom : Listening → List Line → Line → LineRefusal → Type 0
-RefusesFrom first lines line why = RefusesLine (starts_of first) lines line why
-
-abbrev pub listener_taker : Taker Listening LineRefusal
-listener_taker = taker_of StandsFrom BeginsFrom RefusesFrom
 
 -- The file ended after it was given this: the log of all copies was written, with those that the
 -- end closes, and the report counts the elements and the copies.

@@ -2,7 +2,7 @@
 
 use crate::fault::MomentFault;
 use nx_envelope::Letter;
-use nx_fec::{LineFault, LinesFault, WriteFault};
+use nx_fec::{AirFault, LineFault, LinesFault, WriteFault};
 use nx_memory::Vital;
 use std::alloc::AllocError;
 use thiserror::Error;
@@ -105,6 +105,20 @@ impl From<LinesFault<LineRefusal>> for ListenFault {
             LinesFault::Write(written) => ListenFault::Write { written },
             LinesFault::Line(fault) => ListenFault::from(fault),
             LinesFault::Refused { line, why } => ListenFault::of_refusal(line, why),
+        }
+    }
+}
+
+impl From<AirFault> for ListenFault {
+    ghost use Rattle.std.specs.Prelude.{◌≡◌};
+    ghost use Rattle.nx_receiver.specs.air_file_runs.Listen.{air_fault};
+
+    ghost from_gives = { λ fault made. made ≡ air_fault fault };
+
+    fn from(fault: AirFault) -> ListenFault {
+        match fault {
+            AirFault::Read => ListenFault::Read,
+            AirFault::Line(why) => ListenFault::from(why),
         }
     }
 }

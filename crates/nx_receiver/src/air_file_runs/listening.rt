@@ -7,14 +7,15 @@ ghost use Rattle.nx_fec.specs.air_files.AirFile.{IsLine, Line};
 ghost use Rattle.nx_fec.specs.air_files.AirFile as line;
 ghost use Rattle.nx_fec.specs.air_files.Scanner.{kind_of, line_with};
 ghost use Rattle.nx_fec.specs.Transfers.{FailsOnce, HasWritten, WroteSome, devices, count_of};
-ghost use Rattle.nx_fec.specs.air_files.LineRuns.{HasGiven, HasTaken, HasTakenSome, line_run};
+ghost use Rattle.nx_fec.specs.air_files.LineRuns.{HasGiven, HasTaken};
+ghost use Rattle.nx_receiver.specs.air_file_runs.Listen.{HasLoggedSome, IsLogOfLines};
 ghost use Rattle.nx_receiver.specs.air_file_runs.ListenFrom.{GoesOnBy};
 ghost use Rattle.nx_receiver.specs.air_file_runs.ListenOnce.{ListensOnce};
 ghost use Rattle.nx_copies.specs.copies.Log.{IsLog};
 ghost use Rattle.nx_receiver.specs.Receiver.{entry_list};
 ghost use Rattle.nx_copies.specs.copies.Shares.{Given, Starts, all_at_zero, marked};
-ghost use Rattle.nx_receiver.specs.Listener.{Listening, then_elements};
-ghost use Rattle.nx_receiver.specs.private.Listener.{HasClosed, HasClosedSome, HeardSome, HearsLog, IsHearing, IsListening, RefusesLine, StandsFrom, listener_taker};
+ghost use Rattle.nx_receiver.specs.Listener.{Listening, starts_of, then_elements};
+ghost use Rattle.nx_receiver.specs.private.Listener.{HasClosed, HasClosedSome, HeardSome, HearsLog, IsHearing, IsListening, RefusesLine, StandsFrom};
 ghost use Rattle.nx_receiver.specs.declared.air_file_runs.listen_fault.ListenFault.TheVariants.{Memory};
 
 mod logged;
@@ -159,9 +160,9 @@ fn take_elements<W: Write>(
         (λ _. HasTaken StandsFrom first listener.new
         (lines ++ line.elements mark packed.now ∷ [])
         (HasGiven old (W.contents writer.new.inner) batch.new))
-        (λ fault. HasTakenSome (line_run listener_taker first listener.new old
-        (W.contents writer.new.inner)) (lines ++ line.elements mark packed.now ∷ [])
-        fault.written) }
+        (λ fault. HasLoggedSome (IsLogOfLines (starts_of first)
+        (lines ++ line.elements mark packed.now ∷ []))
+        record { before = old; after = W.contents writer.new.inner } fault.written) }
     ensures counts { FailsOnce writer.new result }
 {
     let channel = Channel::of(mark);

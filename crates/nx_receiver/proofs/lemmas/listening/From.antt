@@ -3,18 +3,19 @@ use Rattle.std.proofs.Common.{◌≡◌, ℕ, List, Option, Result, Ok, Err, IsE
 use Rattle.std.specs.Prelude.{⊤}
 use Rattle.std.specs.Io.KnownBytes.{Appends}
 use Rattle.nx_fec.specs.air_files.AirFile.{Line}
-use Rattle.nx_fec.specs.Transfers.{CountedDevice, Devices, Extent, HasWritten, Reads}
+use Rattle.nx_fec.specs.Transfers.{Contents, CountedDevice, Devices, Extent, HasWritten, Reads}
 use Rattle.nx_fec.specs.Transfers.{contents_of, devices, input}
 use Rattle.nx_fec.proofs.lemmas.devices.TransferLaws.{Ok-not_err, Reads-on, Writes-none}
-use Rattle.nx_fec.specs.declared.air_files.line_runs.LinesFault.TheVariants as run
-use Rattle.nx_fec.specs.air_files.LineRuns.{HasTakenAll, RunsLines, line_run}
+use Rattle.nx_fec.specs.air_files.LineRuns.{HasHeardAll, HasTaken}
 use Rattle.nx_fec.specs.declared.air_files.line_runs.LinesRead.{LinesRead}
 use Rattle.nx_memory.specs.Saved.{SavedStates}
 use Rattle.nx_receiver.specs.air_file_runs.Chain.{HasGoneOn}
-use Rattle.nx_receiver.specs.air_file_runs.Listen.{AnswersListening, IsLogOfFile, Listens, given_by}
+use Rattle.nx_receiver.specs.air_file_runs.Listen.{AnswersListening, AreTaken, IsLogOfFile, Listens}
+use Rattle.nx_receiver.specs.air_file_runs.Listen.{given_by}
 use Rattle.nx_receiver.specs.air_file_runs.ListenFrom.{GoesOnBy, reported}
 use Rattle.nx_receiver.specs.Listener.{Listening}
-use Rattle.nx_receiver.specs.private.Listener.{HasClosed, IsListening, listener_taker}
+use Rattle.nx_receiver.specs.private.Listener.{HasClosed, IsListening, StandsFrom}
+use Rattle.nx_receiver.specs.private.Runs.{HasTakenAll, TakesLines}
 use Rattle.nx_receiver.specs.Listener.{starts_of}
 use Rattle.nx_copies.specs.copies.Shares.{Starts, starts_from}
 use Rattle.nx_receiver.specs.declared.air_file_runs.listen_fault.ListenFault.{ListenFault}
@@ -31,29 +32,26 @@ err-is (Ok x) fault h e = cc
 err-is (Err made) fault h e = cc
 
 -- the whole file was read, and its end printed
-pub gone : (saved left : SavedStates) (first now : Listening) (old mid new : Option (List ℕ))
-    (bytes : List ℕ) (read : LinesRead) (report : Report) → starts_of first ≡ starts_from saved
-    → HasTakenAll (line_run listener_taker first now old mid) bytes read
-    → ((lines : List Line) (given : List ℕ) → IsListening (starts_of first) now lines given
-    → HasWritten old mid given read.written
-    → HasClosed (starts_of first) old new (given_by lines) report)
-    → ((lines : List Line) (given : List ℕ) → IsListening (starts_of first) now lines given
-    → LeavesEach (starts_of first) lines left)
-    → HasGoneOn saved (record { before = old; after = new }) bytes left
-gone saved left first now old mid new bytes read report begins h closed leaves =
-    let t = h.taken in
-    let e = closed h.lines t.given t.stood t.here in
-    let log : IsLogOfFile (starts_of first) bytes h.lines e.copies e.log =
-    record { file = h.file; taken = t.stood.taken; printed = e.printed; spelled = e.spelled } in
+pub gone : (saved left : SavedStates) (starts : Starts) (contents : Contents) (bytes : List ℕ)
+    (count : ℕ) (report : Report) (holds : List Line → Type 0) → starts ≡ starts_from saved
+    → HasHeardAll holds bytes count
+    → ((lines : List Line) → holds lines → AreTaken starts lines
+    × HasClosed starts contents.before contents.after (given_by lines) report)
+    → ((lines : List Line) → holds lines → LeavesEach starts lines left)
+    → HasGoneOn saved contents bytes left
+gone saved left starts contents bytes count report holds begins h closed leaves =
+    let end = closed h.lines h.here in
+    let e = end.1 in
+    let log : IsLogOfFile starts bytes h.lines e.copies e.log =
+    record { file = h.file; taken = end.0; printed = e.printed; spelled = e.spelled } in
     let run = goes_on saved left bytes h.lines e.copies e.log
     (subst (λ (starts : Starts). IsLogOfFile starts bytes h.lines e.copies e.log) begins log)
-    (subst (λ (starts : Starts). LeavesEach starts h.lines left) begins
-    (leaves h.lines t.given t.stood)) in
+    (subst (λ (starts : Starts). LeavesEach starts h.lines left) begins (leaves h.lines h.here)) in
     record {
       run = run.0;
       read = run.1;
       written =
-          subst (Appends old new) (sym run.2) e.written;
+          subst (Appends contents.before contents.after) (sym run.2) e.written;
       goes = run.3;
     }
 
@@ -63,8 +61,7 @@ pub goes-on : {R W : Type 0} (remaining : R → Option (List ℕ)) (contents : W
     (saved left : SavedStates) (first now : Listening) (reader reader_after : CountedDevice R)
     (writer mid new : CountedDevice W) (read : LinesRead) (report : Report)
     → starts_of first ≡ starts_from saved
-    → RunsLines listener_taker first now
-    (devices remaining contents reader reader_after writer mid) (Ok read)
+    → TakesLines first now (devices remaining contents reader reader_after writer mid) (Ok read)
     → ((lines : List Line) (given : List ℕ) → IsListening (starts_of first) now lines given
     → HasWritten (contents writer.inner) (contents mid.inner) given read.written
     → HasClosed (starts_of first) (contents writer.inner) (contents new.inner) (given_by lines)
@@ -77,18 +74,23 @@ pub goes-on : {R W : Type 0} (remaining : R → Option (List ℕ)) (contents : W
 goes-on remaining contents saved left first now' reader reader_after writer mid new read report
     begins h closed leaves counted none =
     let d = devices remaining contents reader reader_after writer new in
-    let old = contents writer.inner in
-    let heard : (extent : Extent) (bytes : List ℕ) → extent.at_end
-    × HasTakenAll (line_run listener_taker first now' old (contents mid.inner)) bytes read
+    let ends : (lines : List Line) → HasTaken StandsFrom first now' lines
+    (λ log. HasWritten (contents writer.inner) (contents mid.inner) log read.written)
+    → AreTaken (starts_of first) lines × HasClosed (starts_of first) (contents writer.inner)
+    (contents new.inner) (given_by lines) report =
+    λ lines t. (t.stood.taken, closed lines t.given t.stood t.here) in
+    let heard : (extent : Extent) (bytes : List ℕ) → extent.at_end × HasTakenAll first now'
+    (contents_of (devices remaining contents reader reader_after writer mid)) read bytes
     → AnswersListening (starts_of first) extent (contents_of d) (Ok report) bytes
     × HasGoneOn saved (contents_of d) bytes left = λ extent bytes k. (
-      (k.0, listened first now' _ _ _ bytes read report k.1 closed counted),
-      gone saved left first now' _ _ _ bytes read report begins k.1 closed leaves,
+      (k.0, listened (starts_of first) _ bytes read.lines report _ k.1 ends counted),
+      gone saved left (starts_of first) _ bytes read.lines report _ begins k.1 ends
+          (λ lines t. leaves lines t.given t.stood),
     ) in
     let r : Reads (input remaining reader reader_after) Read (λ fault bytes. ⊤) (Ok report)
     (λ extent bytes. AnswersListening (starts_of first) extent (contents_of d) (Ok report) bytes
     × HasGoneOn saved (contents_of d) bytes left) =
-    Reads-on (input remaining reader reader_after) run.Read Read (Ok read) (Ok report) _ _ h.reads
+    Reads-on (input remaining reader reader_after) Read Read (Ok read) (Ok report) _ _ h.reads
     heard
     (λ bytes k h. h) (λ e. absurd (Ok-not_err _ _ e)) (λ e. absurd (Ok-not_err _ _ e)) in
     let writes = Writes-none new (λ written. Write written) (Ok report)

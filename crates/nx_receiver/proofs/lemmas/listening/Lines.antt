@@ -1,20 +1,23 @@
 -- What the taking of a line by a listener answers, by what the line says.
 use Rattle.std.proofs.Common.{◌≡◌, ℕ, List, [], ◌∷◌, ◌++◌, Option, Some, Result, Ok, Err}
-use Rattle.std.proofs.Common.{Bool, IfOk, IsTrue, MatchResult, false, true, inl, refl, sym, ap, ◌∙◌}
+use Rattle.std.proofs.Common.{Bool, IfOk, IsTrue, MatchResult, false, true, refl, sym, ap, ◌∙◌}
 use Rattle.std.proofs.Common.{subst}
 use Rattle.nx_fec.specs.air_files.AirFile.{Line, moment, elements, refuse_station, accept_station}
 use Rattle.nx_fec.specs.air_files.AirFile.{refuse_subject, accept_subject}
+use Rattle.nx_fec.specs.air_files.LineReading.{SaysLatest}
 use Rattle.nx_fec.specs.air_files.LineRuns.{HasGiven, HasTaken, Waiting}
+use Rattle.nx_fec.specs.declared.air_files.line_reader.NextLine.TheVariants as next
 use Rattle.nx_fec.specs.air_files.Lines.{elements_of}
 use Rattle.nx_fec.specs.air_files.Channels.{channel_of}
 use Rattle.nx_fec.specs.air_files.Scanner.{elements_kept, kind_kept, kind_of, line_with}
 use Rattle.nx_fec.specs.declared.air_files.lines.LineKind.{LineKind}
-use Rattle.nx_fec.specs.declared.air_files.lines.LineKind.TheVariants.{Elements}
+use Rattle.nx_fec.specs.declared.air_files.lines.LineKind.TheVariants.{AcceptStation, AcceptSubject, Elements}
+use Rattle.nx_fec.specs.declared.air_files.lines.LineKind.TheVariants.{Moment, RefuseStation, RefuseSubject}
 use Rattle.nx_fec.specs.declared.air_files.channel.Channel.{Channel}
 use Rattle.nx_receiver.specs.Commands.{refuses_vital}
 use Rattle.nx_copies.specs.Events.{Command, command}
 use Rattle.nx_copies.specs.Events as fed
-use Rattle.nx_receiver.specs.air_file_runs.Listen.{given_by, given_of, is_moment_line, refusal_fault}
+use Rattle.nx_receiver.specs.air_file_runs.Listen.{given_by, given_of, is_moment_line}
 use Rattle.nx_receiver.specs.Receiver.{TakesEvent}
 use Rattle.nx_copies.specs.copies.Shares.{Given, Starts, to_one}
 use Rattle.nx_receiver.specs.Listener.{Listening}
@@ -22,12 +25,10 @@ use Rattle.nx_receiver.specs.private.Listener.{IsListening}
 use Rattle.nx_receiver.specs.Listener.{content, receiver_on}
 use Rattle.nx_receiver.specs.private.Listener.{RefusesLine, StandsFrom}
 use Rattle.nx_receiver.specs.Listener.{starts_of, then_elements, with_receiver}
-use Rattle.nx_receiver.specs.private.ListenFaults.{StopsAtLine}
 use Rattle.nx_receiver.specs.private.Taken.{IsTakenAfter}
 use Rattle.nx_receiver.specs.private.Unlogged.{HasHeard, HasHeardGiven}
 use Rattle.nx_receiver.specs.declared.air_file_runs.listen_fault.LineRefusal.{LineRefusal}
 use Rattle.nx_receiver.specs.declared.air_file_runs.listen_fault.LineRefusal.TheVariants.{NoMoment}
-use Rattle.nx_receiver.specs.declared.air_file_runs.listen_fault.ListenFault.{ListenFault}
 use Rattle.nx_receiver.proofs.lemmas.listening.Listener.{commanded-on, heard-line, none-heard}
 
 line-is : (line : Line) → line ≡ line_with (kind_of line) (elements_of line)
@@ -64,6 +65,34 @@ said-elements latest found kind mark bits line e f g h same =
     said latest found kind (Elements mark) line e f g h
     ∙ ap (λ (bits : List Bool). elements mark bits) (sym (same ∙ ap elements_kept e))
 
+-- the line that a reader gave last, where it said this
+pub last-kind : (latest : Option Line) (kind : LineKind) (line : Line)
+    → SaysLatest latest (next.Line kind) → latest ≡ Some line → kind_of line ≡ kind
+last-kind latest kind line says e =
+    sym (subst (λ o. SaysLatest o (next.Line kind)) e says).1
+
+pub last-line : (latest : Option Line) (kind : LineKind) (bits : List Bool) (line : Line)
+    → SaysLatest latest (next.Line kind) → latest ≡ Some line → bits ≡ elements_kept latest
+    → line ≡ line_with kind bits
+last-line latest kind bits line says e same =
+    of-kind line kind kind (last-kind latest kind line says e) refl
+    ∙ ap (λ bits. line_with kind bits) (sym (same ∙ ap elements_kept e))
+
+pub last-elements : (latest : Option Line) (kind : LineKind) (mark : Option Channel)
+    (bits : List Bool) (line : Line) → SaysLatest latest (next.Line kind) → latest ≡ Some line
+    → kind ≡ Elements mark → bits ≡ elements_kept latest → line ≡ elements mark bits
+last-elements latest kind mark bits line says e is same =
+    last-line latest kind bits line says e same ∙ ap (λ kind. line_with kind bits) is
+
+-- what says so says so with any elements
+pub kind-with : (kind : LineKind) (bits : List Bool) → kind_of (line_with kind bits) ≡ kind
+kind-with (Moment n) bits = refl
+kind-with (Elements mark) bits = refl
+kind-with (RefuseStation mark letter) bits = refl
+kind-with (AcceptStation mark letter) bits = refl
+kind-with (RefuseSubject mark letter) bits = refl
+kind-with (AcceptSubject mark letter) bits = refl
+
 -- a line that sets something is taken, and prints nothing
 pub taken-line : (first before after : Listening) (old new : Option (List ℕ)) (batch : Waiting)
     (lines : List Line) (line : Line)
@@ -74,29 +103,17 @@ pub taken-line : (first before after : Listening) (old new : Option (List ℕ)) 
 taken-line first before after old new batch lines line h takes =
     record { given = h.given; stood = takes h.given h.stood; here = h.here }
 
--- or it is refused
-pub refused-line : (first before after : Listening) (old new : Option (List ℕ)) (batch : Waiting)
-    (lines : List Line) (line : Line) (number : ℕ) (why : LineRefusal) (fault : ListenFault)
-    → fault ≡ refusal_fault number why
-    → HasTaken StandsFrom first before lines (HasGiven old new batch)
+-- or it is refused, and changes nothing
+pub refused-line : (first before after : Listening) (lines : List Line) (line : Line)
+    (why : LineRefusal) (holds : List ℕ → Type 0) → HasTaken StandsFrom first before lines holds
     → ((bytes : List ℕ) → IsListening (starts_of first) before lines bytes
     → RefusesLine (starts_of first) lines line why × (after ≡ before))
-    → StopsAtLine first after old new batch lines line number fault
-refused-line first before after old new batch lines line number why fault is h refuses =
-    let refused = refuses h.given h.stood in
-    inl (record {
-      why = why;
-      is = is;
-      explained = (
-        refused.0,
-        record {
-          given = h.given;
-          stood = subst (λ n. IsListening (starts_of first) n lines h.given) (sym refused.1)
-              h.stood;
-          here = h.here;
-        },
-      );
-    })
+    → RefusesLine (starts_of first) lines line why × HasTaken StandsFrom first after lines holds
+refused-line first before after lines line why holds h refuses =
+    let refused = refuses h.given h.stood in (
+      refused.0,
+      subst (λ n. HasTaken StandsFrom first n lines holds) (sym refused.1) h,
+    )
 
 -- a line for which nothing is given: there is a log
 pub heard-same : (starts : Starts) (old new : Listening) (lines : List Line) (line is : Line)
@@ -118,6 +135,16 @@ pub heard-as : (starts : Starts) (old new : Listening) (lines : List Line) (line
     (λ why. RefusesLine starts lines line why × (new ≡ old))
 heard-as starts old new lines line log (Ok x) h = (log, h)
 heard-as starts old new lines line log (Err why) h = h
+
+-- where it is refused nothing changed
+pub refused-heard : (starts : Starts) (old new : Listening) (lines : List Line) (line is : Line)
+    (why : LineRefusal) → line ≡ is → HasHeard starts old lines
+    → RefusesLine starts lines is why × (new ≡ old)
+    → RefusesLine starts lines line why × HasHeard starts new lines
+refused-heard starts old new lines line is why e h refused = (
+  subst (λ (l : Line). RefusesLine starts lines l why) (sym e) refused.0,
+  subst (λ (l : Listening). HasHeard starts l lines) (sym refused.1) h,
+)
 
 -- a line of elements is heard, or refused where there was no moment
 pub heard-elements : (starts : Starts) (old new : Listening) (lines : List Line)

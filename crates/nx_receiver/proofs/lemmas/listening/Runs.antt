@@ -1,7 +1,7 @@
 -- What a run over lines says, said of the log and in the faults of `listen`.
-use Rattle.std.proofs.Common.{◌≡◌, inl, inr, ℕ, ◌+◌, ◌≤◌, List, [], ◌∷◌, ◌++◌, length, map, Option}
+use Rattle.std.proofs.Common.{◌≡◌, inr, ℕ, ◌+◌, ◌≤◌, List, [], ◌∷◌, ◌++◌, length, map, Option}
 use Rattle.std.proofs.Common.{None, Some, IfSome, Result, Ok, Err, refl, ap, ap₂, ◌∙◌, arith}
-use Rattle.std.proofs.Common.{length-append}
+use Rattle.std.proofs.Common.{length-append, subst}
 use Rattle.std.specs.Prelude.{⊤}
 use Rattle.std.specs.List.{flat_map}
 use Rattle.std.specs.Io.KnownBytes.{Appends}
@@ -10,28 +10,35 @@ use Rattle.std.proofs.KnownBytes.{Consumes-nil}
 use Rattle.std.proofs.lemmas.List.{length-map}
 use Rattle.nx_fec.specs.air_files.AirFile.{Line, moment, elements, refuse_station, accept_station}
 use Rattle.nx_fec.specs.air_files.AirFile.{refuse_subject, accept_subject, element_digit, mark_bytes}
-use Rattle.nx_fec.specs.Transfers.{CountedDevice, Devices, Extent, HasWritten, Reads, Writes, contents_of}
-use Rattle.nx_fec.specs.Transfers.{devices, input, input_of}
-use Rattle.nx_fec.specs.air_files.LineRuns.{ExplainsLines, HasTaken, HasTakenAll, RunsLines, line_run}
+use Rattle.nx_fec.specs.Transfers.{Contents, CountedDevice, Devices, Extent, HasWritten, Reads, Writes}
+use Rattle.nx_fec.specs.Transfers.{WroteSome, as_read, contents_of, devices, input, input_of}
+use Rattle.nx_fec.specs.air_files.LineRuns.{HasGiven, HasHeardAll, HasTaken, Waiting}
 use Rattle.nx_fec.specs.air_files.Lines.{IsLineRefused, air_limit, elements_of, file_of, line_bytes}
 use Rattle.nx_fec.specs.declared.fault.LineFault.TheVariants as file
 use Rattle.nx_fec.specs.declared.air_files.line_runs.LinesFault.{LinesFault}
 use Rattle.nx_fec.specs.declared.air_files.line_runs.LinesFault.TheVariants as run
 use Rattle.nx_fec.specs.declared.air_files.line_runs.LinesRead.{LinesRead}
-use Rattle.nx_fec.proofs.lemmas.line_runs.LineRun.{StopsAt-map}
-use Rattle.nx_fec.proofs.lemmas.devices.TransferLaws.{Ok-not_err, Reads-on, Writes-none, read_failed-none}
+use Rattle.nx_fec.proofs.lemmas.line_runs.LineRun.{HasGiven-empty, HasTaken-map}
+use Rattle.nx_fec.proofs.lemmas.devices.TransferLaws.{Ok-not_err, Reads-on, Writes-fault, Writes-none}
+use Rattle.nx_fec.proofs.lemmas.devices.TransferLaws.{read_failed-none}
 use Rattle.nx_copies.specs.Events.{elements_among}
-use Rattle.nx_receiver.specs.air_file_runs.Listen.{AnswersListening, HasListened, HasLogged, HasLoggedSome}
-use Rattle.nx_receiver.specs.air_file_runs.Listen.{IsLogOf, Listens, RefusesAfter, given_by, given_of}
+use Rattle.nx_receiver.specs.air_file_runs.Listen.{AnswersListening, AreTaken, HasListened, HasLogged}
+use Rattle.nx_receiver.specs.air_file_runs.Listen.{HasLoggedSome, IsLogOf, IsLogOfLines, Listens}
+use Rattle.nx_receiver.specs.air_file_runs.Listen.{RefusesAfter, given_by, given_of}
 use Rattle.nx_receiver.specs.air_file_runs.Listen.{lines_fault, refusal_fault}
 use Rattle.nx_copies.specs.copies.Shares.{Starts}
 use Rattle.nx_receiver.specs.private.Listener.{HasClosed, HasClosedSome, IsListening}
 use Rattle.nx_receiver.specs.Listener.{Listening}
-use Rattle.nx_receiver.specs.private.Listener.{RefusesLine, StandsFrom, listener_taker}
+use Rattle.nx_receiver.specs.private.Listener.{RefusesLine, StandsFrom}
+use Rattle.nx_receiver.specs.private.ListenerBegins.{begins-listening}
+use Rattle.nx_receiver.specs.private.Runs.{ExplainsLog, TakesLines}
 use Rattle.nx_receiver.specs.Listener.{elements_given, elements_in}
 use Rattle.nx_receiver.specs.Listener.{starts_of}
 use Rattle.nx_receiver.specs.declared.air_file_runs.listen_fault.ListenFault.{ListenFault}
 use Rattle.nx_receiver.specs.declared.air_file_runs.listen_fault.ListenFault.TheVariants.{Memory, Read, Write}
+use Rattle.nx_receiver.specs.declared.air_file_runs.listen_fault.ListenFault.TheVariants.{AirTooLong, LineLong}
+use Rattle.nx_receiver.specs.declared.air_file_runs.listen_fault.ListenFault.TheVariants.{LineCut, BadLine}
+use Rattle.nx_receiver.specs.declared.air_file_runs.listen_fault.ListenFault.TheVariants.{NoMoment, Moment, Vital}
 use Rattle.nx_receiver.specs.declared.air_file_runs.listen_fault.LineRefusal.{LineRefusal}
 use Rattle.nx_receiver.specs.declared.air_file_runs.listen_fault.LineRefusal.TheVariants as refusal
 use Rattle.nx_receiver.specs.declared.air_file_runs.listening.Report.{Report}
@@ -39,7 +46,7 @@ use Rattle.nx_receiver.proofs.lemmas.listening.Moments.{logged-some}
 use Rattle.nx_receiver.proofs.lemmas.receiver.Events.{bits_of-more}
 
 -- what the lines gave was written: their log
-logged : (first now : Listening) (old new : Option (List ℕ)) (lines : List Line)
+pub logged : (first now : Listening) (old new : Option (List ℕ)) (lines : List Line)
     → HasTaken StandsFrom first now lines (Appends old new)
     → HasLogged (starts_of first) (record { before = old; after = new }) lines
 logged first now old new lines h = (
@@ -52,6 +59,27 @@ logged first now old new lines h = (
   },
   h.here,
 )
+
+-- where nothing waits all of it was
+pub all-logged : (first now : Listening) (old new : Option (List ℕ)) (batch : Waiting)
+    (lines : List Line) → batch.bytes ≡ []
+    → HasTaken StandsFrom first now lines (HasGiven old new batch)
+    → HasLogged (starts_of first) (record { before = old; after = new }) lines
+all-logged first now old new batch lines empty h =
+    logged first now old new lines
+    (HasTaken-map StandsFrom first now lines (HasGiven old new batch) (Appends old new)
+    (λ given k. HasGiven-empty old new batch given empty k) h)
+
+-- or a write of it failed
+pub some-logged : (first now : Listening) (old mid new : Option (List ℕ)) (batch : Waiting)
+    (lines : List Line) (written : ℕ)
+    → HasTaken StandsFrom first now lines (HasGiven old mid batch)
+    → ((given : List ℕ) → HasGiven old mid batch given → WroteSome old new given written)
+    → HasLoggedSome (IsLogOfLines (starts_of first) lines)
+    (record { before = old; after = new }) written
+some-logged first now old mid new batch lines written h lost =
+    logged-some (starts_of first) old new written lines h.given
+    (begins-listening (starts_of first) now lines h.given h.stood) (lost h.given h.here)
 
 -- a line that is refused isn't taken, as its fault says
 fault-says : (starts : Starts) (number : ℕ) (lines : List Line) (line : Line) (why : LineRefusal)
@@ -93,55 +121,6 @@ next-refused starts number lines rest more why h = record {
   counted = refl;
   refused = fault-says starts number lines h.line why h.counted h.refused;
 }
-
--- what a fault of the lines explains
-pub explains : (extent : Extent) (first now : Listening)
-    (old new : Option (List ℕ)) (bytes : List ℕ) (fault : LinesFault LineRefusal)
-    → ExplainsLines (line_run listener_taker first now old new) extent (Appends old new) bytes fault
-    → AnswersListening (starts_of first) extent (record { before = old; after = new })
-    (Err (lines_fault fault)) bytes
-explains extent first now old new bytes run.Read h =
-    StopsAt-map bytes _ _ (λ lines rest more p. (p.0, p.1, logged first now old new lines p.2)) h
-explains extent first now old new bytes (run.Line file.TooLong) h =
-    StopsAt-map bytes _ _ (λ lines rest more p. (p.0, logged first now old new lines p.1)) h.1
-explains extent first now old new bytes (run.Line (file.LineLong line)) h =
-    StopsAt-map bytes _ _ (λ lines rest more p. (p.0, logged first now old new lines p.1)) h.1
-explains extent first now old new bytes (run.Line (file.LineCut line)) h = (
-  h.0,
-  StopsAt-map bytes _ _
-      (λ lines rest more p. (p.0, logged first now old new lines p.1)) h.1,
-)
-explains extent first now old new bytes (run.Line (file.BadLine line)) h =
-    StopsAt-map bytes _ _ (λ lines rest more p. (p.0, logged first now old new lines p.1)) h.1
-explains extent first now old new bytes (run.Refused line refusal.NoMoment) h =
-    StopsAt-map bytes _ _ (λ lines rest more p. (
-      next-refused (starts_of first) line lines rest more refusal.NoMoment p.0,
-      logged first now old new
-          lines p.1,
-    )) h
-explains extent first now old new bytes (run.Refused line (refusal.Moment why)) h =
-    StopsAt-map bytes _ _ (λ lines rest more p. (
-      next-refused (starts_of first) line lines rest more (refusal.Moment why) p.0,
-      logged first now old new
-          lines p.1,
-    )) h
-explains extent first now old new bytes (run.Refused line (refusal.Vital subject)) h =
-    StopsAt-map bytes _ _ (λ lines rest more p. (
-      next-refused (starts_of first) line lines rest more (refusal.Vital subject) p.0,
-      logged first now old
-          new lines p.1,
-    )) h
-explains extent first now old new bytes (run.Write written) h =
-    inl (record {
-      lines = h.lines;
-      rest = h.rest;
-      more = h.more;
-      whole = h.whole;
-      each = h.each;
-      part = h.part;
-      here = logged-some (starts_of first) old new written h.lines h.here.given h.here.begun
-          h.here.some;
-    })
 
 -- the faults of devices are those of devices
 pub read-back : (fault : LinesFault LineRefusal) → lines_fault fault ≡ Read → fault ≡ run.Read
@@ -195,25 +174,37 @@ listens-by starts d outcome r w = record {
   write_once = w.once;
 }
 
+-- what a fault says, as a run that listens answers it
+as-answer : (starts : Starts) (contents : Contents) (extent : Extent) (bytes : List ℕ)
+    (fault : ListenFault) → ExplainsLog starts contents extent bytes fault
+    → AnswersListening starts extent contents (Err fault) bytes
+as-answer starts contents extent bytes Read h = h
+as-answer starts contents extent bytes AirTooLong h = h
+as-answer starts contents extent bytes (LineLong line) h = h
+as-answer starts contents extent bytes (LineCut line) h = h
+as-answer starts contents extent bytes (BadLine line) h = h
+as-answer starts contents extent bytes (NoMoment line) h = h
+as-answer starts contents extent bytes (Moment line why) h = h
+as-answer starts contents extent bytes (Vital line subject) h = h
+as-answer starts contents extent bytes (Write written) h = h
+as-answer starts contents extent bytes (Memory error) h = tt
+
 -- a run over lines that ended early is a run of `listen` that did
-pub listens-fault : {R W : Type 0} (first now : Listening) (d : Devices R W)
-    (fault : LinesFault LineRefusal)
-    → RunsLines listener_taker first now d (Err fault)
-    → Listens (starts_of first) d (Err (lines_fault fault))
+pub listens-fault : {R W : Type 0} (first now : Listening) (d : Devices R W) (fault : ListenFault)
+    → TakesLines first now d (Err fault) → Listens (starts_of first) d (Err fault)
 listens-fault first now d fault h =
-    listens-by (starts_of first) d (Err (lines_fault fault))
-    (Reads-on (input_of d) run.Read Read (Err fault) (Err (lines_fault fault)) _ _ h.reads
-    (λ extent bytes k. explains extent first now _ _ bytes fault k)
-    (λ bytes k h. tt) (λ e. as-err _ _ (read-back fault (err-of _ _ e)))
-    (λ e. as-err _ _ (ap lines_fault (run-err-of _ _ e))))
-    (record {
-      failed = (
-        λ w. h.writes.failed.0 (w.0, as-err _ _ (write-back fault w.0 (err-of _ _ w.1))),
-        λ one. let w = h.writes.failed.1 one in
-            (w.0, as-err _ _ (ap lines_fault (run-err-of _ _ w.1))),
-      );
-      once = h.writes.once;
-    })
+    listens-by (starts_of first) d (Err fault)
+    (Reads-on (input_of d) Read Read (Err fault) (Err fault) _ _ h.reads
+    (λ extent bytes k. as-answer (starts_of first) (contents_of d) extent bytes fault k)
+    (λ bytes k h. tt) (λ e. as-err _ _ (err-of _ _ e)) (λ e. as-err _ _ (err-of _ _ e)))
+    (Writes-fault d.writer_after (λ written. Write written) fault h.writes)
+
+-- and it is no want of memory
+pub not-memory : {R W : Type 0} (first now : Listening) (d : Devices R W) (fault : ListenFault)
+    (error : AllocError) → TakesLines first now d (Err fault) → fault ≡ Memory error → ⊥
+not-memory first now d fault error h is =
+    subst (ExplainsLog (starts_of first) (contents_of d) (as_read d) h.reads.bytes) is
+    h.reads.answer
 
 line-given : (line : Line) → elements_in (given_of line) ≡ elements_of line
 unfolding elements_among
@@ -261,17 +252,14 @@ lines-fewer (line ∷ lines) =
     )
 
 -- the whole file was read, and its end printed
-pub listened : (first now : Listening) (old mid new : Option (List ℕ)) (bytes : List ℕ)
-    (read : LinesRead) (report : Report)
-    → HasTakenAll (line_run listener_taker first now old mid) bytes read
-    → ((lines : List Line) (given : List ℕ) → IsListening (starts_of first) now lines given
-    → HasWritten old mid given read.written
-    → HasClosed (starts_of first) old new (given_by lines) report)
-    → report.lines ≡ read.lines
-    → HasListened (starts_of first) (record { before = old; after = new }) bytes report
-listened first now old mid new bytes read report h closed counted =
-    let t = h.taken in
-    let e = closed h.lines t.given t.stood t.here in
+pub listened : (starts : Starts) (contents : Contents) (bytes : List ℕ) (count : ℕ)
+    (report : Report) (holds : List Line → Type 0) → HasHeardAll holds bytes count
+    → ((lines : List Line) → holds lines → AreTaken starts lines
+    × HasClosed starts contents.before contents.after (given_by lines) report)
+    → report.lines ≡ count → HasListened starts contents bytes report
+listened starts contents bytes count report holds h closed counted =
+    let end = closed h.lines h.here in
+    let e = end.1 in
     let same = ap length (given-elements h.lines) in
     let few : length (flat_map elements_of h.lines) ≤ 268435456 =
     omega (arith, lines-fewer h.lines, ap length h.file.whole, h.file.within) in
@@ -279,13 +267,8 @@ listened first now old mid new bytes read report h closed counted =
       lines = h.lines;
       copies = e.copies;
       log = e.log;
-      heard = record {
-        file = h.file;
-        taken = t.stood.taken;
-        printed = e.printed;
-        spelled =
-            e.spelled;
-      };
+      heard =
+          record { file = h.file; taken = end.0; printed = e.printed; spelled = e.spelled };
       written = e.written;
       lines_counted = counted ∙ h.counted;
       bits_counted = omega (arith, few, same, e.bits_counted);
@@ -293,23 +276,19 @@ listened first now old mid new bytes read report h closed counted =
     }
 
 -- the whole file was read, and a write of what its end prints failed
-part-listened : (first now : Listening) (old mid new : Option (List ℕ)) (bytes : List ℕ)
-    (read : LinesRead) (written : ℕ)
-    → HasTakenAll (line_run listener_taker first now old mid) bytes read
-    → ((lines : List Line) (given : List ℕ) → IsListening (starts_of first) now lines given
-    → HasWritten old mid given read.written
-    → HasClosedSome (starts_of first) old new (given_by lines) written)
-    → HasLoggedSome (IsLogOf (starts_of first) bytes) (record { before = old; after = new })
-    written
-part-listened first now old mid new bytes read written h closed =
-    let t = h.taken in
-    let e = closed h.lines t.given t.stood t.here in (
+part-listened : (starts : Starts) (contents : Contents) (bytes : List ℕ) (count written : ℕ)
+    (holds : List Line → Type 0) → HasHeardAll holds bytes count
+    → ((lines : List Line) → holds lines → AreTaken starts lines
+    × HasClosedSome starts contents.before contents.after (given_by lines) written)
+    → HasLoggedSome (IsLogOf starts bytes) contents written
+part-listened starts contents bytes count written holds h closed =
+    let end = closed h.lines h.here in
+    let e = end.1 in (
       e.log,
       (
         h.lines,
         e.copies,
-        record
-            { file = h.file; taken = t.stood.taken; printed = e.printed; spelled = e.spelled },
+        record { file = h.file; taken = end.0; printed = e.printed; spelled = e.spelled },
       ),
       e.some,
     )
@@ -321,8 +300,7 @@ write-not_read written e = cc
 pub listens-part : {R W : Type 0} (remaining : R → Option (List ℕ)) (contents : W → Option (List ℕ))
     (first now : Listening) (reader reader_after : CountedDevice R)
     (writer mid new : CountedDevice W) (read : LinesRead) (written : ℕ)
-    → RunsLines listener_taker first now
-    (devices remaining contents reader reader_after writer mid) (Ok read)
+    → TakesLines first now (devices remaining contents reader reader_after writer mid) (Ok read)
     → ((lines : List Line) (given : List ℕ) → IsListening (starts_of first) now lines given
     → HasWritten (contents writer.inner) (contents mid.inner) given read.written
     → HasClosedSome (starts_of first) (contents writer.inner) (contents new.inner) (given_by lines)
@@ -333,9 +311,15 @@ listens-part remaining contents first now reader reader_after writer mid new rea
     one =
     listens-by (starts_of first) (devices remaining contents reader reader_after writer new)
     (Err (Write written))
-    (Reads-on (input remaining reader reader_after) run.Read Read (Ok read) (Err (Write written)) _
-    _ h.reads
-    (λ extent bytes k. inr (k.0, part-listened first now _ _ _ bytes read written k.1 closed))
+    (Reads-on (input remaining reader reader_after) Read Read (Ok read) (Err (Write written)) _ _
+    h.reads
+    (λ extent bytes k. inr (
+      k.0,
+      part-listened (starts_of first) _ bytes read.lines written _ k.1 (λ lines t. (
+        t.stood.taken,
+        closed lines t.given t.stood t.here,
+      )),
+    ))
     (λ bytes k h. tt) (λ e. absurd (write-not_read written e))
     (λ e. absurd (Ok-not_err _ _ e)))
     (record { failed = (λ w. one, λ k. (written, refl)); once = omega (arith, one) })

@@ -1,20 +1,20 @@
 //! Listening where the log is wanted: the lines of a file are taken as they are read, and what they
 //! print is written before each further read.
 
-ghost use Rattle.std.specs.Prelude.{◌≡◌, ◌+◌, ◌<◌, ◌≤◌, ℕ, List, [], ◌++◌, Option, Some, Err, IfOk, MatchResult, OnOk, length, take};
-ghost use Rattle.std.specs.Io.KnownBytes.{Appends};
-ghost use Rattle.nx_fec.specs.air_files.LineRuns.{ExplainsLines, HasGiven, RunsLines, line_run};
-ghost use Rattle.nx_fec.specs.private.LineTaking.{IsTaking, inside};
+ghost use Rattle.std.specs.Prelude.{◌≡◌, ℕ, List, [], ◌∷◌, ◌++◌, Option, Some, Err, MatchResult};
+ghost use Rattle.nx_fec.specs.air_files.AirFile.{Line};
+ghost use Rattle.nx_fec.specs.air_files.LineReading.{SaysLatest, latest_of, lines_given};
+ghost use Rattle.nx_fec.specs.air_files.LineRuns.{HasGiven, HasTaken};
+ghost use Rattle.nx_fec.specs.declared.air_files.line_reader.NextLine.TheVariants as next;
 ghost use Rattle.nx_fec.specs.Transfers.{Writes, devices};
-ghost use Rattle.nx_receiver.specs.air_file_runs.Listen.{lines_fault};
-ghost use Rattle.nx_receiver.specs.Listener.{Listening};
-ghost use Rattle.nx_receiver.specs.private.Listener.{StandsFrom, listener_taker};
-ghost use Rattle.nx_receiver.specs.private.ListenFaults.{StandsFor};
+ghost use Rattle.nx_receiver.specs.Listener.{Listening, starts_of};
+ghost use Rattle.nx_receiver.specs.private.Listener.{RefusesLine, StandsFrom};
+ghost use Rattle.nx_receiver.specs.private.Runs.{StopsAtLine, TakesLines};
 
-use crate::air_file_runs::listen_fault::ListenFault;
+use crate::air_file_runs::listen_fault::{LineRefusal, ListenFault};
 use crate::air_file_runs::listening::{take_elements, take_setting};
 use crate::listener::Listener;
-use nx_fec::{AIR_LIMIT, Batch, CHUNK, Counting, LineKind, LinesRead, Piece, Scanner, next_piece};
+use nx_fec::{AIR_LIMIT, Batch, Counting, LineKind, LineReader, LinesRead, NextLine};
 use std::io::{Read, Write};
 
 /// Reads an air file to its end, gives each of its lines to the listener, and writes what they
@@ -30,129 +30,89 @@ pub(super) fn listen_lines<R: Read, W: Write>(
 ) -> Result<LinesRead, ListenFault>
     requires reader { reader.old.failures ≡ 0 }
     requires writer { writer.old.failures ≡ 0 }
-    ensures { (first : Listening) → StandsFrom first listener.old [] [] → MatchResult result
-        (λ read. RunsLines listener_taker first listener.new
-        (devices R.remaining W.contents reader.old reader.new writer.old writer.new) (Ok read))
-        (StandsFor lines_fault (λ why. RunsLines listener_taker first listener.new
-        (devices R.remaining W.contents reader.old reader.new writer.old writer.new) (Err why))) }
+    ensures { (first : Listening) → StandsFrom first listener.old [] []
+        → TakesLines first listener.new
+        (devices R.remaining W.contents reader.old reader.new writer.old writer.new) result }
 {
-    let mut buffer = [0; CHUNK];
-    let mut scanner = Scanner::new(AIR_LIMIT);
+    let mut lines = LineReader::new(reader, AIR_LIMIT);
     let mut batch = Batch::new();
     loop {
-        batch.send(writer)?;
-        let count = match next_piece(reader, &mut buffer) {
-            Piece::Bytes(count) => count,
-            Piece::End => break,
-            Piece::Failed => return Err(ListenFault::Read),
-        };
-        if let Err(why) = take_piece(listener, &buffer[..count], &mut scanner, writer, &mut batch) {
-            return Err(settle(why, writer, &mut batch));
+        let count = lines.lines();
+        match lines.next() {
+            Ok(NextLine::Line(kind)) => take_line(listener, kind, &lines, writer, &mut batch)?,
+            Ok(NextLine::PieceOver) => batch.send(writer)?,
+            Ok(NextLine::End) => {
+                let written = batch.bytes_sent();
+                return Ok(LinesRead {
+                    lines: count,
+                    written,
+                });
+            }
+            Err(fault) => {
+                batch.send(writer)?;
+                return Err(ListenFault::from(fault));
+            }
         }
     }
-    scanner.end()?;
-    Ok(LinesRead {
-        lines: scanner.lines(),
-        written: batch.bytes_sent(),
-    })
 }
 
-/// Writes what the lines before a fault print, unless it is that of a write. Answers the fault of
-/// the run.
-fn settle<W: Write>(fault: ListenFault, writer: &mut Counting<W>, batch: &mut Batch) -> ListenFault
-    requires { Writes {N = Unit {0}} writer.old ListenFault.Write (Err fault) }
-    ensures settled { (first now : Listening) (old : Option (List ℕ)) (bytes : List ℕ)
-        → StandsFor lines_fault (ExplainsLines (line_run listener_taker first now old
-        (W.contents writer.old.inner)) inside
-        (HasGiven old (W.contents writer.old.inner) batch.old) bytes) fault
-        → StandsFor lines_fault (ExplainsLines (line_run listener_taker first now old
-        (W.contents writer.new.inner)) inside
-        (Appends old (W.contents writer.new.inner)) bytes) result }
-    ensures writes { Writes {N = Unit {0}} writer.new ListenFault.Write (Err result) }
-{
-    if let ListenFault::Write { .. } = fault {
-        return fault;
-    }
-    match batch.send(writer) {
-        Ok(()) => fault,
-        Err(lost) => ListenFault::from(lost),
-    }
-}
-
-/// Takes the lines that a piece of the file ends.
-fn take_piece<W: Write>(
+/// Takes the line that was given last, which says this, and gives the batch what it prints. A line
+/// that is refused changes nothing, and what the lines before it print is written.
+#[inline(always)]
+fn take_line<R, W: Write>(
     listener: &mut Listener,
-    piece: &[u8],
-    scanner: &mut Scanner,
+    kind: LineKind,
+    lines: &LineReader<R>,
     writer: &mut Counting<W>,
     batch: &mut Batch,
 ) -> Result<(), ListenFault>
-    requires { writer.old.failures ≡ 0 }
-    ensures taken { (first : Listening) (old : Option (List ℕ)) (bytes : List ℕ)
-        → IsTaking StandsFrom first listener.old scanner.old old
-        (W.contents writer.old.inner) batch.old bytes
-        → MatchResult result
-        (λ _. IsTaking StandsFrom first listener.new scanner.new old
-        (W.contents writer.new.inner) batch.new
-        (bytes ++ piece.now))
-        (λ fault. (more : List ℕ) → StandsFor lines_fault
-        (ExplainsLines (line_run listener_taker first listener.new old
-        (W.contents writer.new.inner)) inside
-        (HasGiven old (W.contents writer.new.inner) batch.new)
-        ((bytes ++ piece.now) ++ more)) fault) }
-    ensures room { OnOk result (scanner.new.room + length piece.now ≡ scanner.old.room) }
-    ensures writes { Writes writer.new ListenFault.Write result }
-{
-    let mut at = 0;
-    while at < piece.len() {
-        at += take_line(listener, &piece[at..], scanner, writer, batch)?;
-    }
-    Ok(())
-}
-
-/// Scans the bytes of a piece up to and with its first line feed, takes the line that it ends, and
-/// gives the batch what that prints. A line that is refused changes neither the listener nor the
-/// batch. Answers how many bytes there were.
-fn take_line<W: Write>(
-    listener: &mut Listener,
-    piece: &[u8],
-    scanner: &mut Scanner,
-    writer: &mut Counting<W>,
-    batch: &mut Batch,
-) -> Result<usize, ListenFault>
-    requires some { 0 < length piece.now }
+    requires line { SaysLatest (latest_of lines.now) (next.Line kind) }
     requires writer { writer.old.failures ≡ 0 }
-    ensures taken { (first : Listening) (old : Option (List ℕ)) (bytes : List ℕ)
-        → IsTaking StandsFrom first listener.old scanner.old old
-        (W.contents writer.old.inner) batch.old bytes
-        → MatchResult result
-        (λ count. IsTaking StandsFrom first listener.new scanner.new old
-        (W.contents writer.new.inner) batch.new
-        (bytes ++ take count piece.now))
-        (λ fault. (more : List ℕ) → StandsFor lines_fault
-        (ExplainsLines (line_run listener_taker first listener.new old
-        (W.contents writer.new.inner)) inside
-        (HasGiven old (W.contents writer.new.inner) batch.new)
-        ((bytes ++ piece.now) ++ more)) fault) }
-    ensures some { IfOk result (λ count. (0 < count) × (count ≤ length piece.now)
-        × (scanner.new.room + count ≡ scanner.old.room)) }
+    ensures taken { (first : Listening) (old : Option (List ℕ)) (before : List Line) (line : Line)
+        → latest_of lines.now ≡ Some line
+        → HasTaken StandsFrom first listener.old before
+        (HasGiven old (W.contents writer.old.inner) batch.old) → MatchResult result
+        (λ _. HasTaken StandsFrom first listener.new (before ++ line ∷ [])
+        (HasGiven old (W.contents writer.new.inner) batch.new))
+        (StopsAtLine (starts_of first)
+        record { before = old; after = W.contents writer.new.inner } before line
+        (lines_given lines.now)) }
     ensures writes { Writes writer.new ListenFault.Write result }
 {
-    let count = scanner.push_line(piece)?;
-    let Some(kind) = scanner.latest() else {
-        return Ok(count);
-    };
     let LineKind::Elements(mark) = kind else {
         return match take_setting(listener, kind) {
-            Ok(()) => Ok(count),
-            Err(why) => Err(ListenFault::of_refusal(scanner.lines(), why)),
+            Ok(()) => Ok(()),
+            Err(why) => Err(refuse(lines.lines(), why, writer, batch)),
         };
     };
     if !listener.has_moment() {
-        return Err(ListenFault::NoMoment {
-            line: scanner.lines(),
-        });
+        return Err(refuse(lines.lines(), LineRefusal::NoMoment, writer, batch));
     }
-    take_elements(listener, mark, scanner.elements(), writer, batch)?;
-    Ok(count)
+    take_elements(listener, mark, lines.elements(), writer, batch)?;
+    Ok(())
+}
+
+/// Writes what the lines before a refused one print. Answers the fault of the run: that of the
+/// line, or that of the write.
+#[cold]
+#[inline(never)]
+fn refuse<W: Write>(
+    number: u64,
+    why: LineRefusal,
+    writer: &mut Counting<W>,
+    batch: &mut Batch,
+) -> ListenFault
+    requires { writer.old.failures ≡ 0 }
+    ensures stops { (first now : Listening) (old : Option (List ℕ)) (before : List Line)
+        (line : Line) → RefusesLine (starts_of first) before line why
+        → HasTaken StandsFrom first now before
+        (HasGiven old (W.contents writer.old.inner) batch.old)
+        → StopsAtLine (starts_of first)
+        record { before = old; after = W.contents writer.new.inner } before line number result }
+    ensures writes { Writes {N = Unit {0}} writer.new ListenFault.Write (Err result) }
+{
+    match batch.send(writer) {
+        Ok(()) => ListenFault::of_refusal(number, why),
+        Err(lost) => ListenFault::from(lost),
+    }
 }

@@ -1,24 +1,19 @@
 //! Listening where the log isn't wanted: lines are heard, and nothing is given for them.
 
-ghost use Rattle.std.specs.Prelude.{◌≡◌, ◌+◌, ◌<◌, ◌≤◌, ℕ, Bool, true, false, List, [], ◌∷◌, ◌++◌, drop, length, take, Some, None, Err, IfOk, IfSome, MatchResult, OnOk};
+ghost use Rattle.std.specs.Prelude.{◌≡◌, Bool, true, false, List, [], ◌∷◌, ◌++◌, None, IfOk, MatchResult};
 ghost use Rattle.nx_fec.specs.air_files.AirFile.{IsLine, Line};
-ghost use Rattle.nx_fec.specs.air_files.LineRuns.{HearsLines, ExplainsLinesHeard};
-ghost use Rattle.nx_fec.specs.air_files.Scanner.{kind_kept};
-ghost use Rattle.nx_fec.specs.private.LineTaking.{IsHearing, inside};
+ghost use Rattle.nx_fec.specs.air_files.Scanner.{line_with};
 ghost use Rattle.nx_fec.specs.Transfers.{input};
 ghost use Rattle.nx_copies.specs.copies.Shares.{Given, Starts};
 ghost use Rattle.nx_receiver.specs.Listener.{Listening, then_elements};
-ghost use Rattle.nx_receiver.specs.private.Listener.{HasClosed, RefusesFrom, RefusesLine};
-ghost use Rattle.nx_receiver.specs.private.ListenFaults.{StandsFor, hearing_fault};
-ghost use Rattle.nx_receiver.specs.private.Unlogged.{HasHeard, HasHeardGiven, ListensUnlogged, StandsUnlogged};
+ghost use Rattle.nx_receiver.specs.private.Listener.{HasClosed, RefusesLine};
+ghost use Rattle.nx_receiver.specs.private.Unlogged.{HasHeard, HasHeardGiven, HearsLines, ListensUnlogged, StandsUnlogged};
 ghost use Rattle.nx_receiver.specs.declared.air_file_runs.listen_fault.ListenFault.TheVariants.{Memory};
 
 use crate::air_file_runs::listen_fault::{LineRefusal, ListenFault};
 use crate::air_file_runs::listening::{Report, take_setting};
 use crate::listener::Listener;
-use nx_fec::{
-    AIR_LIMIT, CHUNK, Channel, Counting, LineKind, PackedElements, Piece, Scanner, next_piece,
-};
+use nx_fec::{AIR_LIMIT, Channel, Counting, LineKind, LineReader, NextLine, PackedElements};
 use nx_memory::SavedSet;
 use std::alloc::{AllocError, Global};
 use std::io::Read;
@@ -52,93 +47,41 @@ fn hear_lines<R: Read>(
     listener: &mut Listener,
 ) -> Result<u64, ListenFault>
     requires { reader.old.failures ≡ 0 }
-    ensures { (first : Listening) → StandsUnlogged first listener.old [] → MatchResult result
-        (λ count. HearsLines (RefusesFrom first) (StandsUnlogged first listener.new)
-        (input R.remaining reader.old reader.new) (Ok count))
-        (StandsFor hearing_fault (λ why. HearsLines (RefusesFrom first)
-        (StandsUnlogged first listener.new) (input R.remaining reader.old reader.new)
-        (Err why))) }
+    ensures { (first : Listening) → StandsUnlogged first listener.old []
+        → HearsLines first listener.new (input R.remaining reader.old reader.new) result }
 {
-    let mut buffer = [0; CHUNK];
-    let mut scanner = Scanner::new(AIR_LIMIT);
+    let mut lines = LineReader::new(reader, AIR_LIMIT);
     loop {
-        match next_piece(reader, &mut buffer) {
-            Piece::Bytes(count) => hear_piece(listener, &buffer[..count], &mut scanner)?,
-            Piece::End => break,
-            Piece::Failed => return Err(ListenFault::Read),
+        let count = lines.lines();
+        match lines.next() {
+            Ok(NextLine::Line(kind)) => {
+                if let Err(why) = take_unlogged(listener, kind, lines.elements()) {
+                    return Err(ListenFault::of_refusal(lines.lines(), why));
+                }
+            }
+            Ok(NextLine::PieceOver) => {}
+            Ok(NextLine::End) => return Ok(count),
+            Err(fault) => return Err(ListenFault::from(fault)),
         }
     }
-    scanner.end()?;
-    Ok(scanner.lines())
 }
 
-/// Takes the lines that a piece of the file ends.
-fn hear_piece(
-    listener: &mut Listener,
-    piece: &[u8],
-    scanner: &mut Scanner,
-) -> Result<(), ListenFault>
-    ensures heard { (first : Listening) (bytes : List ℕ)
-        → IsHearing (StandsUnlogged first listener.old) scanner.old bytes
-        → MatchResult result
-        (λ _. IsHearing (StandsUnlogged first listener.new) scanner.new (bytes ++ piece.now))
-        (λ fault. (more : List ℕ) → StandsFor hearing_fault
-        (ExplainsLinesHeard (RefusesFrom first) (StandsUnlogged first listener.new) inside
-        ((bytes ++ piece.now) ++ more)) fault) }
-    ensures room { OnOk result (scanner.new.room + length piece.now ≡ scanner.old.room) }
-{
-    let mut at = 0;
-    while at < piece.len() {
-        at += hear_line(listener, &piece[at..], scanner)?;
-    }
-    Ok(())
-}
-
-/// Scans the bytes of a piece up to and with its first line feed, and takes the line that it
-/// ends. Answers how many bytes there were.
-fn hear_line(
-    listener: &mut Listener,
-    piece: &[u8],
-    scanner: &mut Scanner,
-) -> Result<usize, ListenFault>
-    requires { 0 < length piece.now }
-    ensures heard { (first : Listening) (bytes : List ℕ)
-        → IsHearing (StandsUnlogged first listener.old) scanner.old bytes
-        → MatchResult result
-        (λ count. IsHearing (StandsUnlogged first listener.new) scanner.new
-        (bytes ++ take count piece.now))
-        (λ fault. (more : List ℕ) → StandsFor hearing_fault
-        (ExplainsLinesHeard (RefusesFrom first) (StandsUnlogged first listener.new) inside
-        ((bytes ++ piece.now) ++ more)) fault) }
-    ensures some { IfOk result (λ count. (0 < count) × (count ≤ length piece.now)
-        × (scanner.new.room + count ≡ scanner.old.room)) }
-{
-    let count = scanner.push_line(piece)?;
-    let Some(kind) = scanner.latest() else {
-        return Ok(count);
-    };
-    match take_unlogged(listener, kind, scanner) {
-        Ok(()) => Ok(count),
-        Err(why) => Err(ListenFault::of_refusal(scanner.lines(), why)),
-    }
-}
-
-/// Takes the line that the scanner's last byte ended, which says this. A line that is refused
-/// changes nothing.
+/// Takes a line that says this and has these elements. A line that is refused changes nothing.
+#[inline(always)]
 fn take_unlogged(
     listener: &mut Listener,
     kind: LineKind,
-    scanner: &Scanner,
+    packed: &PackedElements,
 ) -> Result<(), LineRefusal>
-    requires kind { kind_kept scanner.now.latest ≡ Some kind }
-    requires line { IfSome scanner.now.latest IsLine }
-    ensures { (starts : Starts) (lines : List Line) (line : Line)
-        → scanner.now.latest ≡ Some line → HasHeard starts listener.old lines
-        → MatchResult result (λ _. HasHeard starts listener.new (lines ++ line ∷ []))
-        (λ why. RefusesLine starts lines line why × (listener.new ≡ listener.old)) }
+    requires { IsLine (line_with kind packed.now) }
+    ensures { (starts : Starts) (lines : List Line) → HasHeard starts listener.old lines
+        → MatchResult result
+        (λ _. HasHeard starts listener.new (lines ++ line_with kind packed.now ∷ []))
+        (λ why. RefusesLine starts lines (line_with kind packed.now) why
+        × (listener.new ≡ listener.old)) }
 {
     match kind {
-        LineKind::Elements(mark) => hear_unlogged(listener, Channel::of(mark), scanner.elements()),
+        LineKind::Elements(mark) => hear_unlogged(listener, Channel::of(mark), packed),
         _ => take_setting(listener, kind),
     }
 }

@@ -8,9 +8,9 @@ use Rattle.nx_receiver.specs.Listener.{starts_of}
 use Rattle.nx_receiver.specs.private.Listener.{StandsFrom}
 use Rattle.nx_receiver.specs.declared.air_file_runs.listen_fault.ListenFault.TheVariants.{Write}
 use Rattle.nx_receiver.proofs.lemmas.listening.From.{err-is, goes-nowhere, goes-on}
-use Rattle.nx_receiver.proofs.lemmas.listening.Faults.{not-memory}
 use Rattle.nx_receiver.proofs.lemmas.listening.Listener.{begins-from}
 use Rattle.nx_receiver.proofs.lemmas.listening.Runs.{err-of, listens-fault, listens-memory, listens-part}
+use Rattle.nx_receiver.proofs.lemmas.listening.Runs.{not-memory}
 use Rattle.nx_receiver.proofs.air_file_runs.listening.listen_from.Goals as goal
 
 pub returns-in_err-listener-clause-listens : goal.returns-in_err-listener-clause-listens
@@ -37,8 +37,7 @@ returns-in_err-read-clause-listens g c =
     goes-nowhere c.args.saved.now d made.result fault made.ensures.0
     (err-is made.result fault made.ensures.0 made.ensures.1)
     (subst (λ (starts : Starts). Listens starts d (Err fault)) c.in_ok-listener.ensures.start
-    (subst (λ why. Listens (starts_of first) d (Err why)) (sym ran.is)
-    (listens-fault first c.listen_lines.new.listener d ran.why ran.explained)))
+    (listens-fault first c.listen_lines.new.listener d fault ran))
 
 pub returns-in_err-read-clause-memory : goal.returns-in_err-read-clause-memory
 returns-in_err-read-clause-memory g c = λ error e.
@@ -49,7 +48,10 @@ returns-in_err-read-clause-memory g c = λ error e.
     let ran = c.in_err-read.ensures first begun in
     let made = c.from_residual-in_err-read in
     let p = err_from_is_err_and made.result made.ensures.1 in
-    absurd (not-memory ran.why error (sym ran.is ∙ sym p.2 ∙ err-of _ _ (sym p.1 ∙ e)))
+    absurd (not-memory first c.listen_lines.new.listener (devices g.R.Read.remaining
+    g.W.Write.contents c.args.reader.now c.listen_lines.new.reader c.args.writer.now
+    c.listen_lines.new.writer) c.in_err-read.field-0.0 error ran
+    (sym p.2 ∙ err-of _ _ (sym p.1 ∙ e)))
 
 pub close_log-requires : goal.close_log-requires
 close_log-requires g c =

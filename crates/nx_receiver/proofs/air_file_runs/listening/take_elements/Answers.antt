@@ -1,7 +1,8 @@
-use Rattle.std.proofs.Common.{◌≡◌, ◌∙◌, true, sym, take, subst, arith}
+use Rattle.std.proofs.Common.{◌≡◌, ◌∷◌, ◌++◌, ◌∙◌, [], true, sym, take, subst, arith}
 use Rattle.std.proofs.Common.{rules}
 use Rattle.std.proofs.lemmas.List.{take_all}
 use Rattle.std.proofs.lemmas.Result.{err_from_is_err_and}
+use Rattle.nx_fec.specs.air_files.AirFile.{elements}
 use Rattle.nx_fec.specs.air_files.LineRuns.{HasGiven}
 use Rattle.nx_receiver.specs.air_file_runs.Listen.{given_by, has_moment}
 use Rattle.nx_receiver.specs.Listener.{starts_of}
@@ -9,6 +10,7 @@ use Rattle.nx_receiver.specs.private.Listener.{HeardSome, HearsLog, IsHearing}
 use Rattle.nx_receiver.specs.Listener.{then_elements}
 use Rattle.nx_receiver.proofs.lemmas.listening.Listener.{begins-line, elements-next, elements-rest}
 use Rattle.nx_receiver.proofs.lemmas.listening.Listener.{heard-line, none-heard}
+use Rattle.nx_receiver.proofs.lemmas.listening.Moments.{logged-some}
 use Rattle.nx_receiver.proofs.air_file_runs.listening.take_elements.Goals as goal
 
 pub loop-at-preserved : goal.loop-at-preserved
@@ -66,11 +68,8 @@ returns-in_err-at-clause-taken g c = λ first old lines h.
       here = h.here;
     }))) in
     let p = err_from_is_err_and c.from_residual.result c.from_residual.ensures.1 in
-    rw p.1 (rw p.2 (record {
-      given = heard.bytes;
-      begun = begins-line
-          (starts_of first) lines c.args.mark c.of-channel.result c.args.packed.now heard.bytes
-          c.of-channel.ensures h.stood.taken some
-          heard.begun;
-      some = heard.some;
-    }))
+    rw p.1 (rw p.2 (logged-some (starts_of first) old (g.W.Write.contents
+    c.hear_next.new.writer.inner) c.in_err-at.field-0.0.written
+    (lines ++ elements c.args.mark c.args.packed.now ∷ []) heard.bytes
+    (begins-line (starts_of first) lines c.args.mark c.of-channel.result c.args.packed.now
+    heard.bytes c.of-channel.ensures h.stood.taken some heard.begun) heard.some))

@@ -1,21 +1,24 @@
-use Rattle.std.proofs.Common.{◌≡◌, ◌<◌, ℕ, List, [], length}
-use Rattle.std.specs.Io.KnownBytes.{Consumes}
-use Rattle.nx_fec.specs.private.LineTaking.{IsTaking}
+use Rattle.std.proofs.Common.{◌≡◌, true, List, []}
+use Rattle.nx_fec.specs.air_files.AirFile.{Line}
+use Rattle.nx_fec.specs.air_files.LineReading.{HasGivenLines, answers_left, counted_of, is_over}
+use Rattle.nx_fec.specs.air_files.LineRuns.{HasGiven, HasTaken}
 use Rattle.nx_receiver.specs.Listener.{Listening}
 use Rattle.nx_receiver.specs.private.Listener.{StandsFrom}
 use Rattle.nx_receiver.proofs.air_file_runs.listening.logged.listen_lines.Given as goal
 
--- all whole lines that were read were taken
-abbrev pub invariant-loop-reader : goal.invariant-loop-reader
-invariant-loop-reader g l = record {
-  reader : l.reader.failures ≡ 0;
+-- the lines so far were taken, and nothing waits where more is read
+abbrev pub invariant-loop-kind : goal.invariant-loop-kind
+invariant-loop-kind g l = record {
+  same : l.lines.reader.ghost_name ≡ l.initial.lines.reader.ghost_name;
+  reader : (counted_of l.lines).failures ≡ 0;
   writer : l.writer.failures ≡ 0;
-  chunk : 0 < length l.buffer;
-  taken : (first : Listening) → StandsFrom first l.fn.listener [] [] → (bytes : List ℕ)
-      × Consumes (g.R.Read.remaining l.fn.reader.inner) (g.R.Read.remaining l.reader.inner) bytes
-      × IsTaking StandsFrom first l.listener l.scanner
-      (g.W.Write.contents l.fn.writer.inner) (g.W.Write.contents l.writer.inner) l.batch bytes;
+  taken : (first : Listening) → StandsFrom first l.fn.listener [] [] → (lines : List Line)
+      × HasGivenLines g.R.Read.remaining 268435456 (g.R.Read.remaining l.fn.reader.inner) l.lines
+      lines
+      × HasTaken StandsFrom first l.listener lines (HasGiven
+      (g.W.Write.contents l.fn.writer.inner) (g.W.Write.contents l.writer.inner) l.batch);
+  sent : is_over l.lines ≡ true → l.batch.bytes ≡ [];
 }
 
-abbrev pub decreases-loop-reader : goal.decreases-loop-reader
-decreases-loop-reader g l = l.scanner.room
+abbrev pub decreases-loop-kind : goal.decreases-loop-kind
+decreases-loop-kind g l = answers_left l.lines

@@ -1,104 +1,88 @@
-use Rattle.std.proofs.Common.{◌++◌, [], length, take, subst, refl, append-nil, arith, ◌∙◌}
-use Rattle.std.proofs.lemmas.Result.{err_from_is_err_and}
-use Rattle.std.proofs.KnownBytes.{Consumes-trans, Consumes-kept}
-use Rattle.nx_fec.specs.air_files.Lines.{IsCause}
-use Rattle.nx_fec.specs.private.LineTaking.{inside}
-use Rattle.nx_fec.specs.air_files.LineRuns.{ExplainsLinesHeard}
-use Rattle.nx_fec.specs.air_files.HearFault as hear
-use Rattle.nx_fec.proofs.lemmas.line_runs.Hearing.{HearsLines-of, Line-unread}
-use Rattle.nx_fec.proofs.lemmas.line_runs.LineRun.{IsPlaced-end, StopsAt-end, ExplainsLinesHeard-not_read}
-use Rattle.nx_fec.proofs.lemmas.line_runs.LineRun.{ExplainsLinesHeard-piece, scanned-within}
-use Rattle.nx_fec.proofs.lemmas.devices.TransferLaws.{Ok-not_err, read_failed-none}
-use Rattle.nx_receiver.specs.private.Listener.{RefusesFrom}
-use Rattle.nx_receiver.specs.private.ListenFaults.{StandsFor, hearing_fault}
+use Rattle.std.proofs.Common.{rules, ◌≡◌, ◌∙◌, ◌++◌, ◌∷◌, [], subst, sym}
+use Rattle.nx_fec.specs.Transfers.{input}
+use Rattle.nx_fec.specs.air_files.AirFile.{Line}
+use Rattle.nx_fec.specs.air_files.LineReading.{GivesNext, SaysLatest}
+use Rattle.nx_fec.specs.air_files.Scanner.{line_with}
+use Rattle.nx_fec.specs.declared.air_files.line_reader.NextLine.TheVariants as line
+use Rattle.nx_fec.proofs.lemmas.line_runs.LineReading.{Given-not_read, next-line, unfailed}
+use Rattle.nx_receiver.specs.Listener.{starts_of}
 use Rattle.nx_receiver.specs.private.Unlogged.{StandsUnlogged}
+use Rattle.nx_receiver.proofs.lemmas.listening.Lines.{last-line, refused-heard}
+use Rattle.nx_receiver.proofs.lemmas.listening.Stops.{hears-all, hears-early, hears-to}
 use Rattle.nx_receiver.proofs.air_file_runs.listening.unlogged.hear_lines.Goals as goal
 
-pub loop-count-preserved : goal.loop-count-preserved
-loop-count-preserved g c = record {
-  reader = c.in-Bytes.ensures.3;
-  chunk = omega (arith, c.loop-count.invariant.chunk);
-  taken = λ first s.
-      let r = c.loop-count.invariant.taken first s in (
-        r.0 ++ take c.in-Bytes.count c.next_piece.new.buffer,
-        Consumes-trans _ _ _ _ _ r.1 c.in-Bytes.ensures.2,
-        c.in_ok-hear_piece-in-Bytes.ensures.heard first r.0 r.2,
-      );
-}
-
-pub returns-in_err-hear_piece-in-Bytes : goal.returns-in_err-hear_piece-in-Bytes
-returns-in_err-hear_piece-in-Bytes g c = λ first s.
-    let r = c.loop-count.invariant.taken first s in
-    let stands = StandsUnlogged first c.hear_piece.new.listener in
-    let piece = take c.in-Bytes.count c.next_piece.new.buffer in
-    let p = err_from_is_err_and c.from_residual.result c.from_residual.ensures.1 in
-    let stops = subst (λ l. StandsFor hearing_fault
-    (ExplainsLinesHeard (RefusesFrom first) stands inside
-    l) c.in_err-hear_piece-in-Bytes.field-0.0) (append-nil (r.0 ++ piece))
-    (c.in_err-hear_piece-in-Bytes.ensures.heard first r.0 r.2 []) in
-    rw p.1 (rw p.2 (record {
-      why = stops.why;
-      is = stops.is;
-      explained = HearsLines-of (RefusesFrom first) stands
-          _ _ (r.0 ++ piece) (Consumes-trans _ _ _ _ _ r.1 c.in-Bytes.ensures.2)
-          (ExplainsLinesHeard-piece (RefusesFrom first) stands _ (r.0 ++ piece) stops.why
-          stops.explained)
-          (read_failed-none _ _ _ (ExplainsLinesHeard-not_read (RefusesFrom first) stands
-          (r.0 ++ piece)
-          stops.why stops.explained) c.in-Bytes.ensures.3)
-          (omega (arith, c.in-Bytes.ensures.3));
-    }))
-
-pub returns-in-Failed : goal.returns-in-Failed
-returns-in-Failed g c = λ first s.
-    let r = c.loop-count.invariant.taken first s in
+pub loop-kind-preserved-in_default : goal.loop-kind-preserved-in_default
+loop-kind-preserved-in_default g c =
+    let next = c.in-Ok-Line.ensures in
+    let is : c.in-Ok-Line.field-0 ≡ line.Line c.in-Ok-Line.kind = search rules in
     record {
-      why = hear.Read;
-      is = refl;
-      explained = HearsLines-of (RefusesFrom first) (StandsUnlogged first c.loop-count.listener)
-          _ _ r.0 (Consumes-kept _ _ _ r.0 r.1 c.in-Failed.ensures.0)
-          (StopsAt-end 268435456 c.loop-count.scanner r.0 r.2.lines _ r.2.scans (
-            scanned-within 268435456 c.loop-count.scanner r.0 r.2.lines r.2.scans,
-            refl,
-            r.2.taken,
-          ))
-          (λ e. c.in-Failed.ensures.1, λ one. refl) (omega (arith, c.in-Failed.ensures.1));
+      same = next.same ∙ c.loop-kind.invariant.same;
+      reader = unfailed _ _ (Given-not_read _) next.failed next.once;
+      taken = λ first s.
+          let r = c.loop-kind.invariant.taken first s in
+          let n = next-line g.R.Read.remaining 268435456 _ c.next.new.self r.0 c.in-Ok-Line.kind
+          c.in-Ok-Line.field-0 is (next.gives 268435456 _ r.0 r.1) next.line in
+          let said = subst (SaysLatest c.next.new.self.scanner.latest) is next.line in (
+            r.0 ++ n.line ∷ [],
+            n.given,
+            subst (λ (l : Line). StandsUnlogged first c.take_unlogged.new.listener (r.0 ++ l ∷ []))
+                (sym (last-line _ c.in-Ok-Line.kind c.elements.result.now n.line said n.latest
+                c.elements.ensures))
+                (c.in_default.ensures (starts_of first) r.0 r.2),
+          );
     }
 
-pub returns-in_err-end : goal.returns-in_err-end
-returns-in_err-end g c = λ first s.
-    let r = c.loop-count.invariant.taken first s in
-    let fault = c.in_err-end.field-0.0 in
-    let p = err_from_is_err_and c.from_residual-in_err-end.result
-    c.from_residual-in_err-end.ensures.1 in
-    rw p.1 (rw p.2 (record {
-      why = hear.Line fault;
-      is = refl;
-      explained = HearsLines-of (RefusesFrom first) (StandsUnlogged first c.loop-count.listener)
-          _ _ r.0 (Consumes-kept _ _ _ r.0 r.1 c.in-End.ensures.0) (
-            IsPlaced-end _ fault c.in-End.ensures.1,
-            StopsAt-end 268435456 c.loop-count.scanner r.0 r.2.lines _ r.2.scans (
-              subst (λ l. IsCause 268435456 (length l) r.2.lines c.loop-count.scanner.part []
-                  fault) r.2.scans.splits.whole
-                  (c.in_err-end.ensures 268435456 r.0 r.2.lines r.2.scans),
-              r.2.taken,
-            ),
-          )
-          (read_failed-none _ _ _ (Line-unread _) c.in-End.ensures.2)
-          (omega (arith, c.in-End.ensures.2));
-    }))
+pub loop-kind-preserved : goal.loop-kind-preserved
+loop-kind-preserved g c =
+    let next = c.in-Ok-PieceOver.ensures in
+    let is : c.in-Ok-PieceOver.field-0 ≡ line.PieceOver = search rules in
+    record {
+      same = next.same ∙ c.loop-kind.invariant.same;
+      reader = unfailed _ _ (Given-not_read _) next.failed next.once;
+      taken = λ first s.
+          let r = c.loop-kind.invariant.taken first s in (
+            r.0,
+            subst (GivesNext g.R.Read.remaining 268435456
+                (g.R.Read.remaining c.args.reader.now.inner) c.next.new.self r.0) is
+                (next.gives 268435456 _ r.0 r.1),
+            r.2,
+          );
+    }
 
-pub returns : goal.returns
-returns g c = λ first s.
-    let r = c.loop-count.invariant.taken first s in
-    HearsLines-of (RefusesFrom first) (StandsUnlogged first c.loop-count.listener) _ _ r.0
-    (Consumes-kept _ _ _ r.0 r.1 c.in-End.ensures.0) (
-      c.in-End.ensures.1,
-      record {
-        lines = r.2.lines;
-        file = c.in_ok-end.ensures 268435456 r.0 r.2.lines r.2.scans;
-        here = r.2.taken;
-        counted = c.lines.ensures ∙ r.2.scans.count;
-      },
-    )
-    (read_failed-none _ _ _ (Ok-not_err _ _) c.in-End.ensures.2) (omega (arith, c.in-End.ensures.2))
+pub returns-in-Err-take_unlogged : goal.returns-in-Err-take_unlogged
+returns-in-Err-take_unlogged g c = λ first s.
+    let r = c.loop-kind.invariant.taken first s in
+    let next = c.in-Ok-Line.ensures in
+    let is : c.in-Ok-Line.field-0 ≡ line.Line c.in-Ok-Line.kind = search rules in
+    let n = next-line g.R.Read.remaining 268435456 _ c.next.new.self r.0 c.in-Ok-Line.kind
+    c.in-Ok-Line.field-0 is (next.gives 268435456 _ r.0 r.1) next.line in
+    let said = subst (SaysLatest c.next.new.self.scanner.latest) is next.line in
+    let why = c.in-Err-take_unlogged.why in
+    let now = c.take_unlogged.new.listener in
+    let refused = refused-heard (starts_of first) c.loop-kind.listener now r.0 n.line
+    (line_with c.in-Ok-Line.kind c.elements.result.now) why
+    (last-line _ c.in-Ok-Line.kind c.elements.result.now n.line said n.latest c.elements.ensures)
+    r.2 (c.in-Err-take_unlogged.ensures (starts_of first) r.0 r.2) in
+    rw c.of_refusal.ensures (rw c.lines.ensures (hears-to first now
+    (input g.R.Read.remaining c.args.reader.now _) c.next.new.self (search rules) r.0 n.line why
+    n.good n.given (unfailed _ _ (Given-not_read _) next.failed next.once) refused.0 refused.1))
+
+pub returns-in-Ok-End : goal.returns-in-Ok-End
+returns-in-Ok-End g c = λ first s.
+    let r = c.loop-kind.invariant.taken first s in
+    let next = c.in-Ok-End.ensures in
+    let is : c.in-Ok-End.field-0 ≡ line.End = search rules in
+    hears-all first c.loop-kind.listener (input g.R.Read.remaining c.args.reader.now _)
+    c.next.new.self (search rules) r.0 c.lines-count.result
+    (subst (GivesNext g.R.Read.remaining 268435456 (g.R.Read.remaining c.args.reader.now.inner)
+    c.next.new.self r.0) is (next.gives 268435456 _ r.0 r.1))
+    (unfailed _ _ (Given-not_read _) next.failed next.once) r.2
+    (c.lines-count.ensures ∙ r.1.scans.count)
+
+pub returns-in-Err : goal.returns-in-Err
+returns-in-Err g c = λ first s.
+    let r = c.loop-kind.invariant.taken first s in
+    let next = c.in-Err.ensures in
+    rw c.from.ensures (hears-early first c.loop-kind.listener
+    (input g.R.Read.remaining c.args.reader.now _) c.next.new.self (search rules) r.0
+    c.in-Err.fault (next.gives 268435456 _ r.0 r.1) next.failed next.once r.2)

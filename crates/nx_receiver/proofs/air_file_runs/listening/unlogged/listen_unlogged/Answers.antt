@@ -1,12 +1,12 @@
-use Rattle.std.proofs.Common.{◌∙◌, [], Err, subst, sym}
+use Rattle.std.proofs.Common.{◌∙◌, [], sym}
 use Rattle.nx_receiver.specs.air_file_runs.Listen.{given_by}
 use Rattle.nx_receiver.specs.Listener.{starts_of}
-use Rattle.nx_receiver.specs.private.Unlogged.{ListensUnlogged, StandsUnlogged, as_run_fault}
+use Rattle.nx_receiver.specs.private.Unlogged.{StandsUnlogged}
 use Rattle.std.proofs.lemmas.Result.{err_from_is_err_and}
-use Rattle.nx_receiver.proofs.lemmas.listening.Faults.{not-memory}
 use Rattle.nx_receiver.proofs.lemmas.listening.Listener.{begins-from}
 use Rattle.nx_receiver.proofs.lemmas.listening.Runs.{err-of}
-use Rattle.nx_receiver.proofs.lemmas.listening.Unlogged.{unlogged-fault, unlogged-memory, unlogged-ok}
+use Rattle.nx_receiver.proofs.lemmas.listening.Unlogged.{unlogged-fault, unlogged-held, unlogged-memory}
+use Rattle.nx_receiver.proofs.lemmas.listening.Unlogged.{unlogged-ok}
 use Rattle.nx_receiver.proofs.air_file_runs.listening.unlogged.listen_unlogged.Goals as goal
 
 pub returns-in_err-listener-clause-listens : goal.returns-in_err-listener-clause-listens
@@ -26,10 +26,8 @@ returns-in_err-lines-clause-listens g c =
     let ran = c.in_err-lines.ensures first begun in
     let p = err_from_is_err_and c.from_residual-in_err-lines.result
     c.from_residual-in_err-lines.ensures.1 in
-    rw p.1 (rw p.2 (subst (λ fault. ListensUnlogged c.args.saved.now g.R.Read.remaining
-    c.args.reader.now c.hear_lines.new.reader (Err fault)) (sym ran.is)
-    (unlogged-fault c.args.saved.now first c.hear_lines.new.listener _ _ _ ran.why
-    c.in_ok-listener.ensures.start ran.explained)))
+    rw p.1 (rw p.2 (unlogged-fault c.args.saved.now first c.hear_lines.new.listener _ _ _
+    c.in_err-lines.field-0.0 c.in_ok-listener.ensures.start ran))
 
 pub returns-in_err-lines-clause-memory : goal.returns-in_err-lines-clause-memory
 returns-in_err-lines-clause-memory g c = λ error e.
@@ -42,8 +40,9 @@ returns-in_err-lines-clause-memory g c = λ error e.
     let ran = c.in_err-lines.ensures first begun in
     let made = c.from_residual-in_err-lines in
     let p = err_from_is_err_and made.result made.ensures.1 in
-    absurd (not-memory (as_run_fault ran.why) error
-    (sym ran.is ∙ sym p.2 ∙ err-of _ _ (sym p.1 ∙ e)))
+    absurd (unlogged-held first c.hear_lines.new.listener g.R.Read.remaining c.args.reader.now
+    c.hear_lines.new.reader c.in_err-lines.field-0.0 error ran
+    (sym p.2 ∙ err-of _ _ (sym p.1 ∙ e)))
 
 pub returns-clause-listens : goal.returns-clause-listens
 returns-clause-listens g c =
