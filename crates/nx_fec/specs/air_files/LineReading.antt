@@ -55,6 +55,7 @@ pub record HasGivenAll {R : Type 0} (remaining : R → Option (List ℕ)) (limit
   pub consumed : Consumes first (remaining reader.reader.now.inner) bytes
   pub at_end : IsAtEnd (remaining reader.reader.now.inner)
   pub file : IsAirFile limit bytes lines
+  pub counted : lines_given reader ≡ length lines
 
 -- The bytes that were read have this fault, which is their first: it comes behind these lines, and
 -- the beginning of one more. A line is cut only at the end of the input.
