@@ -1,14 +1,12 @@
 -- What a reader of lines does where it reads, and where it doesn't.
-use Rattle.std.specs.Prelude.{◌≡◌, ℕ, ◌<◌, ◌≤◌, Bool, true, false, List, length, Option}
-use Rattle.nx_fec.specs.air_files.AirFile as file
+use Rattle.std.specs.Prelude.{◌≡◌, ℕ, ◌<◌, Bool, true, false, List, length, Option}
+use Rattle.nx_fec.specs.air_files.AirFile.{Line}
 use Rattle.nx_fec.specs.air_files.LineReading.{HasGivenAll, HasGivenLines, counted_of}
 use Rattle.nx_fec.specs.declared.air_files.line_reader.LineReader.{LineReader}
-use Rattle.nx_fec.specs.declared.air_files.line_reader.NextLine.{NextLine}
-use Rattle.nx_fec.specs.declared.air_files.line_reader.NextLine.TheVariants.{Line, PieceOver, End}
 
 -- it read more bytes, or the input was at its end
 abbrev pub HasReadOn : {R : Type 0} → (R → Option (List ℕ)) → ℕ → Option (List ℕ) → LineReader R
-    → List file.Line → Bool → Type 0
+    → List Line → Bool → Type 0
 HasReadOn remaining limit first reader lines true =
     HasGivenLines remaining limit first reader lines
 HasReadOn remaining limit first reader lines false =
@@ -20,9 +18,3 @@ IsReadOn old new true =
     (0 < length new.piece) × (new.scanner ≡ old.scanner) × (new.is_over ≡ false)
     × ((counted_of new).failures ≡ 0)
 IsReadOn old new false = (counted_of new).failures ≡ 0
-
--- the next line of a piece takes room, and there is no end in it
-abbrev pub TakesRoom : ℕ → ℕ → NextLine → Type 0
-TakesRoom before now (Line kind) = now < before
-TakesRoom before now PieceOver = now ≤ before
-TakesRoom before now End = ⊥

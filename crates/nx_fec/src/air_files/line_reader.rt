@@ -7,7 +7,7 @@ ghost use Rattle.nx_fec.specs.Transfers.{CountedDevice};
 ghost use Rattle.nx_fec.specs.air_files.AirFile.{Line, spelling};
 ghost use Rattle.nx_fec.specs.air_files.LineReading.{EndsEarly, GivesNext, HasFirstFault, HasGivenLines, HasPassed, HoldsSame, LeavesFewer, SaysLatest, SaysOver, answers_left, counted_of, is_over, latest_of, lines_given};
 ghost use Rattle.nx_fec.specs.air_files.Scanner.{elements_kept};
-ghost use Rattle.nx_fec.specs.private.PieceReading.{HasReadOn, IsReadOn, TakesRoom};
+ghost use Rattle.nx_fec.specs.private.PieceReading.{HasReadOn, IsReadOn};
 
 use crate::air_files::lines::{LineKind, MAX_ELEMENTS};
 use crate::air_files::packed_elements::PackedElements;
@@ -84,7 +84,12 @@ impl<'a, R: Read> LineReader<'a, R> {
             (answers_left self.new)) }
         ensures same { HoldsSame self.old self.new }
     {
-        if self.is_over {
+        // A line that waits is all that most answers need to know of.
+        if self.piece.is_empty() {
+            if !self.is_over {
+                self.is_over = true;
+                return Ok(NextLine::PieceOver);
+            }
             let has_more = self.read()?;
             if !has_more {
                 return Ok(NextLine::End);
@@ -98,10 +103,10 @@ impl<'a, R: Read> LineReader<'a, R> {
     /// false at the end of the file.
     #[inline(never)]
     fn read(&mut self) -> Result<bool, AirFault>
-        requires { (counted_of self.old).failures ≡ 0 }
+        requires none { (counted_of self.old).failures ≡ 0 }
+        requires passed { self.old.piece ≡ [] }
         ensures read { (limit : ℕ) (first : Option (List ℕ)) (lines : List Line)
-            → self.old.piece ≡ [] → HasGivenLines R.remaining limit first self.old lines
-            → MatchResult result
+            → HasGivenLines R.remaining limit first self.old lines → MatchResult result
             (HasReadOn R.remaining limit first self.new lines)
             (EndsEarly R.remaining limit first self.new lines) }
         ensures on { IfOk result (IsReadOn self.old self.new) }
@@ -122,31 +127,33 @@ impl<'a, R: Read> LineReader<'a, R> {
         }
     }
 
-    /// Gives the next line of the piece, or says that it is used up.
+    /// Gives the next line of the piece, of which some is left. Where none ends in it, says that
+    /// the piece is used up.
     #[inline(always)]
     fn next_of_piece(&mut self) -> Result<NextLine, LineFault>
-        requires { self.old.is_over ≡ false }
+        requires { 0 < length self.old.piece }
         ensures gives { (limit : ℕ) (first : Option (List ℕ)) (lines : List Line)
             → HasGivenLines R.remaining limit first self.old lines → MatchResult result
             (GivesNext R.remaining limit first self.new lines)
             (HasFirstFault R.remaining limit first self.new lines) }
         ensures line { IfOk result (SaysLatest (latest_of self.new)) }
         ensures over { IfOk result (SaysOver false (is_over self.new)) }
-        ensures room { IfOk result (TakesRoom self.old.scanner.room self.new.scanner.room) }
-        ensures some { OnOk result (0 < length self.old.piece
-            → self.new.scanner.room < self.old.scanner.room) }
+        ensures room { OnOk result (self.new.scanner.room < self.old.scanner.room) }
         ensures unread { counted_of self.new ≡ counted_of self.old }
         ensures same { HoldsSame self.old self.new }
     {
-        if !self.piece.is_empty() {
-            let count = self.scanner.push_line(self.piece.rest())?;
-            self.piece.pass(count);
-            if let Some(kind) = self.scanner.latest() {
-                return Ok(NextLine::Line(kind));
+        let count = self.scanner.push_line(self.piece.rest())?;
+        self.piece.pass(count);
+        match self.scanner.latest() {
+            Some(kind) => {
+                self.is_over = false;
+                Ok(NextLine::Line(kind))
+            }
+            None => {
+                self.is_over = true;
+                Ok(NextLine::PieceOver)
             }
         }
-        self.is_over = true;
-        Ok(NextLine::PieceOver)
     }
 
     /// Looks at the bytes that were read, and gives none of their lines. The fault is the first

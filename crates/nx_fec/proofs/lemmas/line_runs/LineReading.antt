@@ -16,7 +16,6 @@ use Rattle.nx_fec.specs.declared.air_files.lines.LineKind.{LineKind}
 use Rattle.nx_fec.specs.declared.air_files.line_reader.LineReader.{LineReader}
 use Rattle.nx_fec.specs.declared.air_files.line_reader.NextLine.{NextLine}
 use Rattle.nx_fec.specs.declared.air_files.line_reader.NextLine.TheVariants as next
-use Rattle.nx_fec.specs.private.PieceReading.{TakesRoom}
 use Rattle.nx_fec.specs.declared.fault.AirFault.{AirFault}
 use Rattle.nx_fec.specs.declared.fault.AirFault.TheVariants as air
 use Rattle.nx_fec.specs.declared.fault.LineFault.{LineFault}
@@ -130,45 +129,15 @@ pub taken-all : (piece rest new : List ℕ) (count : ℕ) → rest ≡ piece →
 taken-all piece rest new count is all dropped =
     dropped ∙ drop_all count piece (omega (arith, all, ap length is))
 
--- fewer answers are left behind the next one, where nothing was read for it
-pub fewer-on : {R : Type 0} (old new : LineReader R) (given : NextLine) → old.is_over ≡ false
-    → SaysOver false new.is_over given → TakesRoom old.scanner.room new.scanner.room given
-    → LeavesFewer (answers_left old) (answers_left new) given
-fewer-on old new (next.Line kind) was over less =
-    omega (
-      arith,
-      less,
-      ap {B = ℕ} (λ b. if b then 0 else 1) was,
-      ap {B = ℕ} (λ b. if b then 0 else 1) over,
-    )
-fewer-on old new next.PieceOver was over less =
-    omega (
-      arith,
-      less,
-      ap {B = ℕ} (λ b. if b then 0 else 1) was,
-      ap {B = ℕ} (λ b. if b then 0 else 1) over,
-    )
-fewer-on old new next.End was over less = absurd less
-
--- and where a piece was
-pub fewer-read : {R : Type 0} (old new : LineReader R) (given : NextLine) → old.is_over ≡ true
+-- fewer answers are left behind the next one of a piece
+pub fewer-on : {R : Type 0} (old new : LineReader R) (given : NextLine)
     → SaysOver false new.is_over given → new.scanner.room < old.scanner.room
     → LeavesFewer (answers_left old) (answers_left new) given
-fewer-read old new (next.Line kind) was over less =
-    omega (
-      arith,
-      less,
-      ap {B = ℕ} (λ b. if b then 0 else 1) was,
-      ap {B = ℕ} (λ b. if b then 0 else 1) over,
-    )
-fewer-read old new next.PieceOver was over less =
-    omega (
-      arith,
-      less,
-      ap {B = ℕ} (λ b. if b then 0 else 1) was,
-      ap {B = ℕ} (λ b. if b then 0 else 1) over,
-    )
-fewer-read old new next.End was over less = tt
+fewer-on old new (next.Line kind) over less =
+    omega (arith, less, ap {B = ℕ} (λ b. if b then 0 else 1) over)
+fewer-on old new next.PieceOver over less =
+    omega (arith, less, ap {B = ℕ} (λ b. if b then 0 else 1) over)
+fewer-on old new next.End over less = absurd (cc)
 
 -- a line that was given next, behind these
 pub record IsNextLine {R : Type 0} (remaining : R → Option (List ℕ)) (limit : ℕ)

@@ -3,7 +3,6 @@ use Rattle.std.proofs.lemmas.Result.{err_from_is_err_and}
 use Rattle.nx_fec.proofs.lemmas.line_runs.LineReading.{ended-line, ended-none, looked-on, no-latest}
 use Rattle.nx_fec.proofs.lemmas.line_runs.LineReading.{piece-fault, taken-all}
 use Rattle.nx_fec.proofs.air_files.line_reader.LineReader.next_of_piece.Goals as goal
-use Rattle.nx_fec.proofs.air_files.line_reader.LineReader.next_of_piece.Goals.{then-not-is_empty+in_ok-count+in_default, else-not-is_empty}
 
 pub returns-in_err-count-clause-gives : goal.returns-in_err-count-clause-gives
 returns-in_err-count-clause-gives g c = λ limit first lines h.
@@ -21,26 +20,15 @@ returns-in-Some-clause-gives g c = λ limit first lines h.
       ended.is,
       looked-on g.R.Read.remaining limit first _ _ lines _ c.rest.result.now c.in_ok-count.count
           refl c.rest.ensures.bytes c.pass.ensures h ended.scans
-          (λ over. let no : false ≡ true = sym c.requires ∙ over in absurd (cc)),
+          (λ over. let no : false ≡ true = over in absurd (cc)),
     )
 
-pub returns-clause-gives : goal.returns-clause-gives
-returns-clause-gives g c = λ limit first lines h.
-    elim c.if-not-is_empty.branch [
-      | then-not-is_empty+in_ok-count+in_default w ↦ rw w.self-is (
-          looked-on g.R.Read.remaining limit first _ _ lines _ w.rest.result.now
-          w.in_ok-count.count refl w.rest.ensures.bytes w.pass.ensures h
-          (ended-none limit _ _ lines w.push_line.new.self.latest
-          (sym w.in_default.is ∙ w.latest.ensures)
-          (w.in_ok-count.ensures.bytes limit h.looked_at lines h.scans))
-          (λ over. taken-all _ w.rest.result.now _ w.in_ok-count.count w.rest.ensures.bytes
-          (w.in_ok-count.ensures.whole (no-latest _ (sym w.in_default.is ∙ w.latest.ensures)))
-          w.pass.ensures)
-          )
-      | else-not-is_empty w ↦ rw w.self-is (record {
-        looked_at = h.looked_at;
-        scans = h.scans;
-        consumed = h.consumed;
-        spent = λ over. c.is_empty.ensures.empty w.if-not-is_empty.false;
-      })
-    ]
+pub returns-in-None-clause-gives : goal.returns-in-None-clause-gives
+returns-in-None-clause-gives g c = λ limit first lines h.
+    let none = sym c.in-None.is ∙ c.latest.ensures in
+    looked-on g.R.Read.remaining limit first _ _ lines _ c.rest.result.now c.in_ok-count.count refl
+    c.rest.ensures.bytes c.pass.ensures h
+    (ended-none limit _ _ lines c.push_line.new.self.latest none
+    (c.in_ok-count.ensures.bytes limit h.looked_at lines h.scans))
+    (λ over. taken-all _ c.rest.result.now _ c.in_ok-count.count c.rest.ensures.bytes
+    (c.in_ok-count.ensures.whole (no-latest _ none)) c.pass.ensures)
