@@ -176,12 +176,3 @@ ended_hunting taker bits moments given shown counts w none ends counted =
           locks = ap (λ k. k.0) counted ∙ locks_is;
           copies = ap (λ k. k.1) counted ∙ copies_is;
         }
-
--- the report that was ended, by the bytes that were written
-pub reported : (bits : List Bool) (moments given shown written : List ℕ) (counts : ℕ × ℕ)
-    (moment ending : ℕ) → written ≡ shown → moment ≡ ending
-    → HasEnded bits moments moment (given ++ shown) counts
-    → HasEnded bits moments ending (given ++ written) counts
-reported bits moments given shown written counts moment ending same at e =
-    subst (λ l. HasEnded bits moments ending (given ++ l) counts) (sym same)
-    (subst (λ m. HasEnded bits moments m (given ++ shown) counts) at e)

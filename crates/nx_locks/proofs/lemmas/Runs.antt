@@ -1,54 +1,53 @@
--- What a run over lines says, said of the report and in the faults of `listen`.
-use Rattle.std.proofs.Common.{◌≡◌, inl, inr, ℕ, ◌+◌, ◌<◌, ◌≤◌, Bool, List, [], ◌∷◌, ◌++◌, length}
-use Rattle.std.proofs.Common.{map, Option, Result, Ok, Err, IsErr, IsErrAnd, refl, ap, ◌∙◌, arith}
+-- What a run that shows locks answers, by what it took and what stopped the lines.
+use Rattle.std.proofs.Common.{◌≡◌, ◌↔◌, ◌∙◌, inl, inr, ℕ, ◌+◌, ◌<◌, ◌≤◌, Bool, List, [], ◌∷◌, ◌++◌, length}
+use Rattle.std.proofs.Common.{map, Option, Result, Ok, Err, IsErrOf, refl, sym, ap, subst, arith}
 use Rattle.std.proofs.Common.{length-append, codes}
 use Rattle.std.specs.Io.KnownBytes.{Appends}
 use Rattle.std.proofs.lemmas.List.{length-map}
-use Rattle.nx_fec.specs.air_files.AirFile.{Line, moment, elements, refuse_station, accept_station}
+use Rattle.nx_fec.specs.air_files.AirFile.{Line, IsLine, moment, elements, refuse_station, accept_station}
 use Rattle.nx_fec.specs.air_files.AirFile.{refuse_subject, accept_subject, element_digit, mark_bytes}
 use Rattle.nx_fec.specs.air_files.AirFile.{spelling}
 use Rattle.nx_fec.specs.air_files.Channels.{channel_of}
 use Rattle.nx_fec.specs.declared.air_files.channel.Channel.{Channel}
 use Rattle.nx_fec.specs.declared.air_files.channel.Channel.TheVariants.{Zero, One, Two}
-use Rattle.nx_fec.specs.Transfers.{CountedDevice, HasWritten}
-use Rattle.nx_fec.specs.air_files.LineRuns.{ExplainsLines, HasTaken, HasTakenAll, RunsLines, line_run}
-use Rattle.nx_fec.specs.air_files.Lines.{IsLineRefused, air_limit}
+use Rattle.nx_fec.specs.Transfers.{Contents, Devices, Extent, Reads, WroteSome, contents_of, input_of}
+use Rattle.nx_fec.specs.air_files.LineReading.{EndsEarly, GivesNext, HasGivenAll, HasGivenLines}
+use Rattle.nx_fec.specs.air_files.LineReading.{SaysLatest, latest_of, lines_given}
+use Rattle.nx_fec.specs.air_files.Scanner.{elements_kept, line_with}
+use Rattle.nx_fec.specs.declared.air_files.line_reader.NextLine.{NextLine}
+use Rattle.nx_fec.specs.declared.air_files.line_reader.NextLine.TheVariants as next
+use Rattle.nx_fec.specs.declared.air_files.lines.LineKind.{LineKind}
+use Rattle.nx_fec.specs.air_files.Lines.{IsAirFile, IsLineRefused, StopsAt, air_limit, elements_of}
 use Rattle.nx_fec.specs.air_files.Lines.{file_of, line_bytes}
-use Rattle.nx_fec.specs.Transfers.{Devices, Extent, devices, input, input_of}
+use Rattle.nx_fec.specs.declared.air_files.line_reader.LineReader.{LineReader}
+use Rattle.nx_fec.specs.declared.fault.AirFault.{AirFault}
+use Rattle.nx_fec.specs.declared.fault.AirFault.TheVariants as air
+use Rattle.nx_fec.specs.declared.fault.LineFault.{LineFault}
 use Rattle.nx_fec.specs.declared.fault.LineFault.TheVariants as file
-use Rattle.nx_fec.specs.declared.air_files.line_runs.LinesFault.{LinesFault}
-use Rattle.nx_fec.specs.declared.air_files.line_runs.LinesFault.TheVariants as run
-use Rattle.nx_fec.specs.declared.air_files.line_runs.LinesRead.{LinesRead}
-use Rattle.nx_fec.proofs.lemmas.devices.TransferLaws.{Ok-not_err, Reads-on, Writes-none}
+use Rattle.nx_fec.proofs.lemmas.devices.TransferLaws.{Ok-not_err, Writes-none}
+use Rattle.nx_fec.proofs.lemmas.line_runs.LineReading.{Line-not_read, next-line, unfailed}
+use Rattle.nx_fec.proofs.lemmas.line_runs.LineRun.{StopsAt-map, file_of-one}
+use Rattle.nx_fec.proofs.lemmas.line_runs.LinesRead.{IsBefore, IsFaulty, read-all, read-before, read-behind}
+use Rattle.nx_fec.proofs.lemmas.line_runs.LinesRead.{read-failed, read-fault}
 use Rattle.nx_copies.specs.Events as events
 use Rattle.nx_copies.specs.Events.{Command, command, elements_among}
-use Rattle.nx_receiver.specs.air_file_runs.Listen.{HasLoggedSome, events_on, given_of, lines_fault}
 use Rattle.nx_copies.specs.copies.Shares.{all_at_zero, events_for, to_one}
-use Rattle.nx_locks.specs.Run.{ExplainsShowing, HasShown, HasShownAll, IsReportOf, ShowsLocks}
-use Rattle.nx_locks.specs.private.ReportWriterBegins.{begins-report}
-use Rattle.nx_locks.specs.private.ReportWriter.{HasClosed, HasClosedSome, HasTooMany}
-use Rattle.nx_locks.specs.private.ReportWriter.{IsShowing, RefusesLine, StandsFrom}
-use Rattle.nx_locks.specs.private.ReportWriter.{as_lines_fault, report_taker}
-use Rattle.nx_locks.specs.private.Showing.{Showing}
+use Rattle.nx_copies.proofs.lemmas.printing.Logged.{bits_of-append}
+use Rattle.nx_receiver.specs.air_file_runs.Listen.{AreTaken, HasLoggedSome, RefusesAfter, events_on}
+use Rattle.nx_receiver.specs.air_file_runs.Listen.{file_fault, given_of, refusal_fault}
+use Rattle.nx_receiver.specs.private.Listener.{RefusesLine}
 use Rattle.nx_receiver.specs.declared.air_file_runs.listen_fault.ListenFault.{ListenFault}
 use Rattle.nx_receiver.specs.declared.air_file_runs.listen_fault.ListenFault.TheVariants.{Read, Write}
+use Rattle.nx_receiver.specs.declared.air_file_runs.listen_fault.LineRefusal.{LineRefusal}
 use Rattle.nx_receiver.specs.declared.air_file_runs.listen_fault.LineRefusal.TheVariants as reason
-use Rattle.nx_locks.specs.declared.report_writer.ReportRefusal.{ReportRefusal}
-use Rattle.nx_locks.specs.declared.report_writer.ReportRefusal.TheVariants as refusal
-use Rattle.nx_locks.specs.declared.lock_report.LocksReport.{LocksReport}
-use Rattle.nx_fec.proofs.lemmas.line_runs.LineRun.{StopsAt-map}
-use Rattle.nx_receiver.proofs.lemmas.listening.Runs.{as-err, err-of, next-refused}
-use Rattle.nx_receiver.proofs.lemmas.listening.Runs.{read-back, run-err-of, write-back}
-use Rattle.nx_receiver.proofs.lemmas.listening.Runs.{write-not_read}
-use Rattle.nx_copies.proofs.lemmas.printing.Logged.{bits_of-append}
+use Rattle.nx_receiver.proofs.lemmas.listening.Lines.{of-kind}
+use Rattle.nx_receiver.proofs.lemmas.listening.Runs.{next-refused}
 use Rattle.nx_receiver.proofs.lemmas.receiver.Events.{bits_of-more}
-
--- what the lines gave was written: their report so far
-shown : (first now : Showing) (old new : Option (List ℕ)) (lines : List Line)
-    → HasTaken StandsFrom first now lines (Appends old new)
-    → HasShown (record { before = old; after = new }) lines
-shown first now old new lines h =
-    record { bytes = h.given; report = begins-report now lines h.given h.stood; written = h.here }
+use Rattle.nx_locks.specs.Run.{AnswersShowing, ExplainsShowing, HasShown, HasShownAll, IsReportOf}
+use Rattle.nx_locks.specs.Run.{IsReportOfLines, ShowsLocks}
+use Rattle.nx_locks.specs.private.ReportWriter.{HasClosed, HasFew}
+use Rattle.nx_locks.specs.private.Reporting.{air_fault}
+use Rattle.nx_locks.specs.declared.lock_report.LocksReport.{LocksReport}
 
 -- lines have fewer elements of channel 0 than bytes
 some_elements : (channel : Channel) (bits : List Bool)
@@ -115,195 +114,315 @@ lines-fewer (line ∷ lines) =
           (file_of lines),
     )
 
--- there are never more elements than a counter counts
-not-too_many : (lines : List Line) (rest more : List ℕ) (number : ℕ)
-    → IsLineRefused (λ before line. RefusesLine before line refusal.TooMany) air_limit lines rest
-    more number → ⊥
-not-too_many lines rest more number h =
-    too_many h.line h.refused h.spelled
-  where
-    too_many : (line : Line) → HasTooMany lines line → rest ≡ spelling line → ⊥
-    too_many (elements mark bits) many e =
-        omega (
-          arith,
-          many,
-          h.within,
-          ap length e,
-          lines-fewer lines,
-          length-append (file_of lines)
-              rest,
-          longer-line mark bits,
-        )
-    too_many (moment n) many e = many
-    too_many (refuse_station mark letter) many e = many
-    too_many (accept_station mark letter) many e = many
-    too_many (refuse_subject mark letter) many e = many
-    too_many (accept_subject mark letter) many e = many
+elements-fewer : (line : Line) → length (elements_of line) ≤ length (line_bytes line)
+elements-fewer (moment n) = omega arith
+elements-fewer (elements mark bits) =
+    omega (
+      arith,
+      longer-line mark bits,
+      length-append (spelling (elements mark bits)) (10 ∷ []),
+    )
+elements-fewer (refuse_station mark letter) = omega arith
+elements-fewer (accept_station mark letter) = omega arith
+elements-fewer (refuse_subject mark letter) = omega arith
+elements-fewer (accept_subject mark letter) = omega arith
 
--- what a fault of the lines explains
-explains : (extent : Extent) (first now : Showing)
-    (old new : Option (List ℕ)) (bytes : List ℕ) (fault : LinesFault ReportRefusal)
-    → ExplainsLines (line_run report_taker first now old new) extent (Appends old new) bytes fault
-    → ExplainsShowing extent (record { before = old; after = new }) bytes
-    (lines_fault (as_lines_fault fault))
-explains extent first now old new bytes run.Read h =
-    StopsAt-map bytes _ _ (λ lines rest more p. (p.0, p.1, shown first now old new lines p.2)) h
-explains extent first now old new bytes (run.Line file.TooLong) h =
-    StopsAt-map bytes _ _ (λ lines rest more p. (p.0, shown first now old new lines p.1)) h.1
-explains extent first now old new bytes (run.Line (file.LineLong line)) h =
-    StopsAt-map bytes _ _ (λ lines rest more p. (p.0, shown first now old new lines p.1)) h.1
-explains extent first now old new bytes (run.Line (file.LineCut line)) h =
-    (h.0, StopsAt-map bytes _ _ (λ lines rest more p. (p.0, shown first now old new lines p.1)) h.1)
-explains extent first now old new bytes (run.Line (file.BadLine line)) h =
-    StopsAt-map bytes _ _ (λ lines rest more p. (p.0, shown first now old new lines p.1)) h.1
-explains extent first now old new bytes (run.Refused line (refusal.Line reason.NoMoment)) h =
-    StopsAt-map bytes _ _ (λ lines rest more p. (
-      next-refused all_at_zero line lines rest more reason.NoMoment p.0,
-      shown first now old new lines p.1,
-    )) h
-explains extent first now old new bytes (run.Refused line (refusal.Line (reason.Moment why))) h =
-    StopsAt-map bytes _ _ (λ lines rest more p. (
-      next-refused all_at_zero line lines rest more (reason.Moment why) p.0,
-      shown first now old new lines p.1,
-    )) h
-explains extent first now old new bytes (run.Refused line (refusal.Line (reason.Vital subject))) h =
-    StopsAt-map bytes _ _ (λ lines rest more p. (
-      next-refused all_at_zero line lines rest more (reason.Vital subject) p.0,
-      shown first now old new lines p.1,
-    )) h
-explains extent first now old new bytes (run.Refused line refusal.TooMany) h =
-    absurd (not-too_many h.lines h.rest h.more line h.here.0)
-explains extent first now old new bytes (run.Write written) h =
-    inl (StopsAt-map bytes _ _ (λ lines rest more p. (p.given, p.begun, p.some)) h)
+-- a file within its limit has no more elements than a counter counts
+pub has-few : {R : Type 0} (remaining : R → Option (List ℕ)) (first : Option (List ℕ))
+    (reader : LineReader R) (lines : List Line) (line : Line)
+    → HasGivenLines remaining 268435456 first reader (lines ++ line ∷ [])
+    → HasFew lines (elements_of line)
+has-few remaining first reader lines line h =
+    omega (
+      arith,
+      h.scans.room,
+      ap length h.scans.splits.whole,
+      length-append (file_of (lines ++ line ∷ [])) reader.scanner.part,
+      ap length (file_of-one lines line),
+      length-append (file_of lines) (line_bytes line),
+      lines-fewer lines,
+      elements-fewer line,
+    )
 
--- the faults of devices are those of devices
-read-of : (fault : LinesFault ReportRefusal) → as_lines_fault fault ≡ run.Read → fault ≡ run.Read
-read-of run.Read e = refl
-read-of (run.Write written) e = cc
-read-of (run.Line why) e = cc
-read-of (run.Refused line (refusal.Line why)) e = cc
-read-of (run.Refused line refusal.TooMany) e = cc
+-- the next line, as it is taken
+pub record IsTakenNext {R : Type 0} (remaining : R → Option (List ℕ)) (first : Option (List ℕ))
+    (reader : LineReader R) (lines : List Line) (kind : LineKind) (bits : List Bool) : Type 0 where
+  pub line : Line
+  pub good : IsLine line
+  pub is : line ≡ line_with kind bits
+  pub given : HasGivenLines remaining 268435456 first reader (lines ++ line ∷ [])
+  pub few : HasFew lines bits
 
-write-of : (fault : LinesFault ReportRefusal) (written : ℕ)
-    → as_lines_fault fault ≡ run.Write written → fault ≡ run.Write written
-write-of run.Read written e = cc
-write-of (run.Write n) written e =
-    let same : n ≡ written = cc in ap (λ (k : ℕ). run.Write k) same
-write-of (run.Line why) written e = cc
-write-of (run.Refused line (refusal.Line why)) written e = cc
-write-of (run.Refused line refusal.TooMany) written e = cc
-
-abbrev answer : LinesFault ReportRefusal → ListenFault
-answer fault = lines_fault (as_lines_fault fault)
-
--- a run over lines that ended early is a run that shows locks that did
-pub shows-fault : {R W : Type 0} (first now : Showing) (d : Devices R W)
-    (fault : LinesFault ReportRefusal)
-    → RunsLines report_taker first now d (Err fault)
-    → ShowsLocks d (Err (lines_fault (as_lines_fault fault)))
-shows-fault first now d fault h = record {
-  reads = Reads-on (input_of d) run.Read Read (Err fault) (Err (answer fault)) _ _ h.reads
-      (λ extent bytes k. explains extent first now _ _ bytes fault k)
-      (λ bytes k h. tt) (λ e. as-err _ _ (read-of fault (read-back _ (err-of _ _ e))))
-      (λ e. as-err _ _ (ap answer (run-err-of _ _ e)));
-  writes = record {
-    failed = (
-      λ w. h.writes.failed.0 (
-        w.0,
-        as-err _ _
-            (write-of fault w.0 (write-back _ w.0 (err-of _ _ w.1))),
-      ),
-      λ one. let w = h.writes.failed.1 one in
-          (w.0, as-err _ _ (ap answer (run-err-of _ _ w.1))),
-    );
-    once = h.writes.once;
-  };
-  unwritten = tt;
-}
-
--- the whole file was read, and its end printed
-shown_all : (first now : Showing) (old mid new : Option (List ℕ)) (bytes : List ℕ)
-    (read : LinesRead) (report : LocksReport)
-    → HasTakenAll (line_run report_taker first now old mid) bytes read
-    → ((lines : List Line) (given : List ℕ) → IsShowing now lines given
-    → HasWritten old mid given read.written → HasClosed old new lines report)
-    → report.lines ≡ read.lines
-    → HasShownAll (record { before = old; after = new }) bytes report
-shown_all first now old mid new bytes read report h closed counted =
-    let t = h.taken in
-    let e = closed h.lines t.given t.stood t.here in
+pub taken-next : {R : Type 0} (remaining : R → Option (List ℕ)) (first : Option (List ℕ))
+    (reader : LineReader R) (lines : List Line) (kind : LineKind) (bits : List Bool)
+    (given : NextLine) → given ≡ next.Line kind
+    → GivesNext remaining 268435456 first reader lines given → SaysLatest (latest_of reader) given
+    → bits ≡ elements_kept (latest_of reader) → IsTakenNext remaining first reader lines kind bits
+taken-next remaining first reader lines kind bits given is gives says are =
+    let n = next-line remaining 268435456 first reader lines kind given is gives says in
+    let same : elements_of n.line ≡ bits = sym (are ∙ ap elements_kept n.latest) in
     record {
-      lines = h.lines;
-      bytes = e.bytes;
-      report = record { file = h.file; taken = t.stood.taken; report = e.report };
-      written = e.written;
-      lines_counted = counted ∙ h.counted;
-      elements_counted = e.elements;
-      locks_counted = e.locks;
-      copies_counted = e.copies;
+      line = n.line;
+      good = n.good;
+      is = of-kind n.line kind kind (sym n.kind_is) refl ∙ ap (line_with kind) same;
+      given = n.given;
+      few = subst (HasFew lines) same (has-few remaining first reader lines n.line n.given);
     }
 
--- a run over lines that read its file to the end, and what the end prints, are a run that shows
--- locks
-pub shows-ok : {R W : Type 0} (remaining : R → Option (List ℕ)) (contents : W → Option (List ℕ))
-    (first now : Showing) (reader reader_after : CountedDevice R) (writer mid new : CountedDevice W)
-    (read : LinesRead) (report : LocksReport)
-    → RunsLines report_taker first now
-    (devices remaining contents reader reader_after writer mid) (Ok read)
-    → ((lines : List Line) (given : List ℕ) → IsShowing now lines given
-    → HasWritten (contents writer.inner) (contents mid.inner) given read.written
-    → HasClosed (contents writer.inner) (contents new.inner) lines report)
-    → report.lines ≡ read.lines → new.failures ≡ 0
-    → ShowsLocks (devices remaining contents reader reader_after writer new) (Ok report)
-shows-ok remaining contents first now reader reader_after writer mid new read report h closed
-    counted none = record {
-      reads = Reads-on (input remaining reader reader_after) run.Read Read (Ok read) (Ok report) _ _
-          h.reads
-          (λ extent bytes k. (
-            k.0,
-            shown_all first now _ _ _ bytes read report k.1 closed counted,
-          ))
-          (λ bytes k h. h) (λ e. absurd (Ok-not_err _ _ e)) (λ e. absurd (Ok-not_err _ _ e));
-      writes = Writes-none _ _ _ (λ written. Ok-not_err _ _) none;
+-- ---- faults of one kind are none of another
+
+file-not_read : (why : LineFault)
+    → ◌≡◌ {A = Result LocksReport ListenFault} (Err (file_fault why)) (Err Read) → ⊥
+file-not_read file.TooLong e = cc
+file-not_read (file.LineLong line) e = cc
+file-not_read (file.LineCut line) e = cc
+file-not_read (file.BadLine line) e = cc
+
+refusal-not_read : (number : ℕ) (why : LineRefusal)
+    → ◌≡◌ {A = Result LocksReport ListenFault} (Err (refusal_fault number why)) (Err Read) → ⊥
+refusal-not_read number reason.NoMoment e = cc
+refusal-not_read number (reason.Moment why) e = cc
+refusal-not_read number (reason.Vital subject) e = cc
+
+write-not_read : (written : ℕ)
+    → ◌≡◌ {A = Result LocksReport ListenFault} (Err (Write written)) (Err Read) → ⊥
+write-not_read written e = cc
+
+air-not_write : (fault : AirFault) (written : ℕ)
+    → ◌≡◌ {A = Result LocksReport ListenFault} (Err (air_fault fault)) (Err (Write written)) → ⊥
+air-not_write air.Read written e = cc
+air-not_write (air.Line file.TooLong) written e = cc
+air-not_write (air.Line (file.LineLong line)) written e = cc
+air-not_write (air.Line (file.LineCut line)) written e = cc
+air-not_write (air.Line (file.BadLine line)) written e = cc
+
+refusal-not_write : (number : ℕ) (why : LineRefusal) (written : ℕ)
+    → ◌≡◌ {A = Result LocksReport ListenFault} (Err (refusal_fault number why))
+    (Err (Write written)) → ⊥
+refusal-not_write number reason.NoMoment written e = cc
+refusal-not_write number (reason.Moment why) written e = cc
+refusal-not_write number (reason.Vital subject) written e = cc
+
+-- ---- what a fault says, behind lines whose report was written
+
+module _ (contents : Contents) (extent : Extent) (lines : List Line) (bytes : List ℕ) where
+  says-fault : (why : LineFault) → HasShown contents lines → IsFaulty 268435456 lines why extent bytes
+      → ExplainsShowing extent contents bytes (file_fault why)
+  says-fault file.TooLong shown k =
+      StopsAt-map bytes _ _ (λ before rest more p.
+      (p.0, subst (HasShown contents) (sym p.1) shown)) k.1
+  says-fault (file.LineLong line) shown k =
+      StopsAt-map bytes _ _ (λ before rest more p.
+      (p.0, subst (HasShown contents) (sym p.1) shown)) k.1
+  says-fault (file.LineCut line) shown k = (
+    k.0,
+    StopsAt-map bytes _ _ (λ before rest more p.
+        (p.0, subst (HasShown contents) (sym p.1) shown)) k.1,
+  )
+  says-fault (file.BadLine line) shown k =
+      StopsAt-map bytes _ _ (λ before rest more p.
+      (p.0, subst (HasShown contents) (sym p.1) shown)) k.1
+
+  -- the next line is refused
+  refused-here : (line : Line) (number : ℕ) (why : LineRefusal) (before : List Line)
+      (rest more : List ℕ) → RefusesLine all_at_zero lines line why
+      → IsLineRefused (λ front next. (front ≡ lines) × (next ≡ line)) 268435456 before rest more
+      number
+      → IsLineRefused (RefusesAfter all_at_zero (refusal_fault number why)) 268435456 before rest
+      more (length before + 1)
+  refused-here line number why before rest more refuses k =
+      next-refused all_at_zero number before rest more why (record {
+        line = k.line;
+        after = k.after;
+        good = k.good;
+        spelled = k.spelled;
+        ended = k.ended;
+        within = k.within;
+        counted = k.counted;
+        refused = subst (λ l. RefusesLine all_at_zero l k.line why) (sym k.refused.0)
+            (subst (λ x. RefusesLine all_at_zero lines x why) (sym k.refused.1) refuses);
+      })
+
+  says-refused : (line : Line) (number : ℕ) (why : LineRefusal)
+      → RefusesLine all_at_zero lines line why → HasShown contents lines
+      → IsBefore 268435456 lines line number bytes
+      → ExplainsShowing extent contents bytes (refusal_fault number why)
+  says-refused line number reason.NoMoment refuses shown k =
+      StopsAt-map bytes _ _ (λ before rest more p. (
+        refused-here line number reason.NoMoment before rest more refuses p.0,
+        subst (HasShown contents) (sym p.1) shown,
+      )) k
+  says-refused line number (reason.Moment why) refuses shown k =
+      StopsAt-map bytes _ _ (λ before rest more p. (
+        refused-here line number (reason.Moment why) before rest more refuses p.0,
+        subst (HasShown contents) (sym p.1) shown,
+      )) k
+  says-refused line number (reason.Vital subject) refuses shown k =
+      StopsAt-map bytes _ _ (λ before rest more p. (
+        refused-here line number (reason.Vital subject) before rest more refuses p.0,
+        subst (HasShown contents) (sym p.1) shown,
+      )) k
+
+-- ---- the outcomes, by what stopped the lines
+
+module _ {R W : Type 0} (d : Devices R W) (reader : LineReader R)
+    (same : reader.reader.now ≡ d.reader_after) (lines : List Line)
+  where
+    abbrev answers : Result LocksReport ListenFault → Extent → List ℕ → Type 0
+    answers outcome extent bytes = AnswersShowing extent (contents_of d) outcome bytes
+
+    abbrev first : Option (List ℕ)
+    first = d.remaining d.reader.inner
+
+    abbrev before_run : Option (List ℕ)
+    before_run = d.contents d.writer.inner
+
+    abbrev after_run : Option (List ℕ)
+    after_run = d.contents d.writer_after.inner
+
+    after : (failures : ℕ) → reader.reader.now.failures ≡ failures
+        → d.reader_after.failures ≡ failures
+    after failures is = ap (λ r. r.failures) (sym same) ∙ is
+
+    -- the report of the whole file was written
+    pub shows-all : (bytes : List ℕ) (report : LocksReport)
+        → HasGivenAll d.remaining 268435456 first reader lines → reader.reader.now.failures ≡ 0
+        → AreTaken all_at_zero lines → HasClosed lines bytes report
+        → report.lines ≡ lines_given reader → Appends before_run after_run bytes
+        → d.writer_after.failures ≡ 0 → ShowsLocks d (Ok report)
+    shows-all bytes report h none taken closed counted written well = record {
+      reads = read-all (input_of d) Read (λ fault bytes. Unit {0}) (Ok report)
+          (answers (Ok report)) 268435456 reader same lines h (after 0 none)
+          (Ok-not_err report Read) (λ bytes. tt)
+          (λ extent file end good. (
+            end,
+            record {
+              lines = lines;
+              bytes = bytes;
+              report = record { file = good; taken = taken; report = closed.report };
+              written = written;
+              lines_counted = counted ∙ h.counted;
+              elements_counted = closed.elements;
+              locks_counted = closed.locks;
+              copies_counted = closed.copies;
+            },
+          ));
+      writes = Writes-none _ _ _ (λ count. Ok-not_err report (Write count)) well;
       unwritten = tt;
     }
 
--- the whole file was read, and a write of what its end prints failed
-part-shown : (first now : Showing) (old mid new : Option (List ℕ)) (bytes : List ℕ)
-    (read : LinesRead) (written : ℕ)
-    → HasTakenAll (line_run report_taker first now old mid) bytes read
-    → ((lines : List Line) (given : List ℕ) → IsShowing now lines given
-    → HasWritten old mid given read.written → HasClosedSome old new lines written)
-    → HasLoggedSome (IsReportOf bytes) (record { before = old; after = new }) written
-part-shown first now old mid new bytes read written h closed =
-    let t = h.taken in
-    let e = closed h.lines t.given t.stood t.here in
-    (e.bytes, (h.lines, record { file = h.file; taken = t.stood.taken; report = e.report }), e.some)
-
-pub shows-part : {R W : Type 0} (remaining : R → Option (List ℕ)) (contents : W → Option (List ℕ))
-    (first now : Showing) (reader reader_after : CountedDevice R) (writer mid new : CountedDevice W)
-    (read : LinesRead) (written : ℕ)
-    → RunsLines report_taker first now
-    (devices remaining contents reader reader_after writer mid) (Ok read)
-    → ((lines : List Line) (given : List ℕ) → IsShowing now lines given
-    → HasWritten (contents writer.inner) (contents mid.inner) given read.written
-    → HasClosedSome (contents writer.inner) (contents new.inner) lines written)
-    → new.failures ≡ 1 → ShowsLocks (devices remaining contents reader reader_after writer new)
-    (Err (Write written))
-shows-part remaining contents first now reader reader_after writer mid new read written h closed
-    one = record {
-      reads = Reads-on (input remaining reader reader_after) run.Read Read (Ok read)
-          (Err (Write written)) _ _ h.reads
-          (λ extent bytes k.
-          inr (k.0, part-shown first now _ _ _ bytes read written k.1 closed))
-          (λ bytes k h. tt) (λ e. absurd (write-not_read written e))
-          (λ e. absurd (Ok-not_err _ _ e));
-      writes = record { failed = (λ w. one, λ k. (written, refl)); once = omega (arith, one) };
+    -- so was that of the lines before a fault
+    pub shows-early : {N : Type 0} (fault : AirFault)
+        → EndsEarly d.remaining 268435456 first reader lines fault
+        → IsErrOf {T = N} (Err fault) air.Read ↔ (reader.reader.now.failures ≡ 1)
+        → reader.reader.now.failures ≤ 1 → HasShown (contents_of d) lines
+        → d.writer_after.failures ≡ 0 → ShowsLocks d (Err (air_fault fault))
+    shows-early air.Read h failed once shown well = record {
+      reads = read-failed (input_of d) Read (λ fault bytes. Unit {0}) (Err Read)
+          (answers (Err Read)) 268435456 reader same lines h.0 h.1 (after 1 (failed.0 refl)) refl tt
+          (λ extent bytes k. StopsAt-map bytes _ _ (λ before rest more p. (
+            p.0,
+            p.1,
+            subst (HasShown (contents_of d)) (sym p.2) shown,
+          )) k);
+      writes = Writes-none _ _ _ (air-not_write air.Read) well;
+      unwritten = tt;
+    }
+    shows-early {N} (air.Line why) h failed once shown well = record {
+      reads = read-fault (input_of d) Read (λ fault bytes. Unit {0}) (Err (file_fault why))
+          (λ extent bytes. ExplainsShowing extent (contents_of d) bytes (file_fault why)) 268435456
+          reader same lines why h
+          (after 0 (unfailed {N = N} _ _ (Line-not_read why) failed once)) (file-not_read why)
+          (λ bytes. tt)
+          (λ extent bytes k. says-fault (contents_of d) extent lines bytes why shown k);
+      writes = Writes-none _ _ _ (air-not_write (air.Line why)) well;
       unwritten = tt;
     }
 
--- an outcome that is this fault
-pub err-is : (outcome : Result LocksReport ListenFault) (fault : ListenFault) → IsErr outcome
-    → IsErrAnd outcome (λ made. made ≡ fault) → outcome ≡ Err fault
-err-is (Ok x) fault h e = cc
-err-is (Err made) fault h e = cc
+    -- and before a line that is refused
+    pub shows-refused : (line : Line) (number : ℕ) (why : LineRefusal) → IsLine line
+        → HasGivenLines d.remaining 268435456 first reader (lines ++ line ∷ [])
+        → reader.reader.now.failures ≡ 0 → number ≡ lines_given reader
+        → RefusesLine all_at_zero lines line why → HasShown (contents_of d) lines
+        → d.writer_after.failures ≡ 0 → ShowsLocks d (Err (refusal_fault number why))
+    shows-refused line number why good h none is refuses shown well = record {
+      reads = read-before (input_of d) Read (λ fault bytes. Unit {0})
+          (Err (refusal_fault number why))
+          (λ extent bytes. ExplainsShowing extent (contents_of d) bytes (refusal_fault number why))
+          268435456 reader same lines line good h (after 0 none) (refusal-not_read number why)
+          (λ bytes. tt)
+          (λ extent bytes k. says-refused (contents_of d) extent lines bytes line number why refuses
+          shown (subst (λ n. IsBefore 268435456 lines line n bytes) (sym is) k));
+      writes = Writes-none _ _ _ (refusal-not_write number why) well;
+      unwritten = tt;
+    }
+
+    -- a write failed
+    lost : (written : ℕ)
+        → Reads {N = LocksReport} (input_of d) Read (λ fault bytes. Unit {0}) (Err (Write written))
+        (answers (Err (Write written))) → d.writer_after.failures ≡ 1
+        → ShowsLocks d (Err (Write written))
+    lost written reads one = record {
+      reads = reads;
+      writes = record {
+        failed = (λ w. one, λ o. (written, refl));
+        once = omega (arith, one);
+      };
+      unwritten = tt;
+    }
+
+    abbrev HasShownSome : List Line → ℕ → Type 0
+    HasShownSome front written = HasLoggedSome (IsReportOfLines front) (contents_of d) written
+
+    -- of what the whole file shows
+    pub shows-part : (bytes : List ℕ) (report : LocksReport) (written : ℕ)
+        → HasGivenAll d.remaining 268435456 first reader lines → reader.reader.now.failures ≡ 0
+        → AreTaken all_at_zero lines → HasClosed lines bytes report
+        → WroteSome before_run after_run bytes written → d.writer_after.failures ≡ 1
+        → ShowsLocks d (Err (Write written))
+    shows-part bytes report written h none taken closed some one =
+        lost written (read-all (input_of d) Read (λ fault bytes. Unit {0}) (Err (Write written))
+        (answers (Err (Write written))) 268435456 reader same lines h (after 0 none)
+        (write-not_read written) (λ bytes. tt)
+        (λ extent file end good. inr (
+          end,
+          (bytes, (lines, record { file = good; taken = taken; report = closed.report }), some),
+        ))) one
+
+    -- of what the lines show that were read by then
+    pub shows-lost : (written : ℕ) → HasGivenLines d.remaining 268435456 first reader lines
+        → reader.reader.now.failures ≡ 0 → HasShownSome lines written → d.writer_after.failures ≡ 1
+        → ShowsLocks d (Err (Write written))
+    shows-lost written h none some one =
+        lost written (read-behind (input_of d) Read (λ fault bytes. Unit {0}) (Err (Write written))
+        (answers (Err (Write written))) 268435456 reader same lines h (after 0 none)
+        (write-not_read written) (λ bytes. tt)
+        (λ extent bytes k. inl (StopsAt-map bytes _ _ (λ front rest more p.
+        subst (λ l. HasShownSome l written) (sym p) some) k))) one
+
+    -- of what the lines before a fault show
+    pub shows-lost-early : {N : Type 0} (fault : AirFault) (written : ℕ)
+        → EndsEarly d.remaining 268435456 first reader lines fault
+        → IsErrOf {T = N} (Err fault) air.Read ↔ (reader.reader.now.failures ≡ 1)
+        → reader.reader.now.failures ≤ 1 → (fault ≡ air.Read → ⊥) → HasShownSome lines written
+        → d.writer_after.failures ≡ 1 → ShowsLocks d (Err (Write written))
+    shows-lost-early air.Read written h failed once other some one = absurd (other refl)
+    shows-lost-early {N} (air.Line why) written h failed once other some one =
+        lost written (read-fault (input_of d) Read (λ fault bytes. Unit {0}) (Err (Write written))
+        (answers (Err (Write written))) 268435456 reader same lines why h
+        (after 0 (unfailed {N = N} _ _ (Line-not_read why) failed once)) (write-not_read written)
+        (λ bytes. tt)
+        (λ extent bytes k. inl (StopsAt-map bytes _ _ (λ front rest more p.
+        subst (λ l. HasShownSome l written) (sym p.1) some) k.1))) one
+
+    -- of what the lines before a refused one show
+    pub shows-lost-refused : (line : Line) (written : ℕ) → IsLine line
+        → HasGivenLines d.remaining 268435456 first reader (lines ++ line ∷ [])
+        → reader.reader.now.failures ≡ 0 → HasShownSome lines written → d.writer_after.failures ≡ 1
+        → ShowsLocks d (Err (Write written))
+    shows-lost-refused line written good h none some one =
+        lost written (read-before (input_of d) Read (λ fault bytes. Unit {0})
+        (Err (Write written)) (answers (Err (Write written))) 268435456 reader same lines line good
+        h (after 0 none) (write-not_read written) (λ bytes. tt)
+        (λ extent bytes k. inl (StopsAt-map bytes _ _ (λ front rest more p.
+        subst (λ l. HasShownSome l written) (sym p.1) some) k))) one

@@ -24,28 +24,23 @@ all_packed bits numbers count is counted =
     let many : count ≡ length bits - 0 = omega (arith, counted) in
     ap (packed_part numbers 0) many ∙ all_is bits numbers 0 is (omega arith)
 
--- what a synchroniser hears for its taker is shown, where the taker was cleared before
-pub hears_all : (before after : Held) (old cleared new : Taking) (has_moment : Bool)
-    (heard bits : List Bool) → cleared ≡ record old { shown = [] } → heard ≡ bits
-    → Hears before cleared heard after new
+-- what a synchroniser hears for its taker is shown, where nothing was shown before
+pub hears_all : (before after : Held) (old new : Taking) (has_moment : Bool)
+    (heard bits : List Bool) → old.shown ≡ [] → heard ≡ bits → Hears before old heard after new
     → HearsAll (showing before old has_moment) (showing after new has_moment) bits
-hears_all before after old cleared new has_moment heard bits clear all h =
-    let hears : Hears before (record old { shown = [] }) bits after new =
-    subst (λ xs. Hears before (record old { shown = [] }) xs after new) all
-    (subst (λ t. Hears before t heard after new) clear h) in
+hears_all before after old new has_moment heard bits empty all h =
+    let hears : Hears before old bits after new =
+    subst (λ xs. Hears before old xs after new) all h in
     record {
       moment = hears.moment;
       has_moment = refl;
       hears = λ bits' moments given w few.
-          let goes = hears.shows bits' moments given w.synchroniser (record {
-            elements = w.taker.elements;
-            room = w.taker.room;
-            shows = w.taker.shows;
-          }) few in
+          let goes = hears.shows bits' moments given w.synchroniser w.taker few in
           record {
             synchroniser = hears.stands bits' w.synchroniser;
             taker = subst (λ l. TakerShows new (bits' ++ bits)
-                (moments ++ all_at old.moment bits) (given ++ l)) (sym goes.grown) goes.shows;
+                (moments ++ all_at old.moment bits) (given ++ l))
+                (sym (goes.grown ∙ ap (λ l. l ++ goes.more) empty)) goes.shows;
           };
     }
 

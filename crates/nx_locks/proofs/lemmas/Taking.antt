@@ -1,29 +1,21 @@
 -- What a line does to a taker of lines.
-use Rattle.std.proofs.Common.{◌≡◌, ℕ, ◌+◌, ◌^◌, ◌<◌, ◌≤◌, Option, None, Some, IfSome, Result, Ok, Err}
-use Rattle.std.proofs.Common.{MatchResult, option_to_list, take}
-use Rattle.std.proofs.Common.{OnErr, Bool, true, false, arith, List, [], ◌∷◌, ◌++◌, map, length}
-use Rattle.std.proofs.Common.{refl, sym, ap, ◌∙◌, subst, subst₂, append-nil}
-use Rattle.std.specs.Prelude.{if◌then◌else◌}
+use Rattle.std.proofs.Common.{◌≡◌, ℕ, ◌+◌, ◌^◌, ◌<◌, ◌≤◌, Result, Ok, Err, MatchResult, Bool, true, false}
+use Rattle.std.proofs.Common.{List, [], ◌∷◌, ◌++◌, map, length, refl, sym, ap, ◌∙◌, subst, subst₂}
+use Rattle.std.proofs.Common.{append-nil, arith}
+use Rattle.std.specs.Prelude.{if◌then◌else◌, Option}
 use Rattle.std.proofs.lemmas.List.{map-append}
 use Rattle.nx_envelope.specs.Moment.{last_moment}
-use Rattle.nx_fec.specs.air_files.AirFile.{IsLine, Line, moment, elements, refuse_station, accept_station}
+use Rattle.nx_fec.specs.air_files.AirFile.{Line, moment, elements, refuse_station, accept_station}
 use Rattle.nx_fec.specs.air_files.AirFile.{refuse_subject, accept_subject}
 use Rattle.nx_fec.specs.air_files.Channels.{channel_of, same_channel}
-use Rattle.nx_fec.specs.air_files.LineRuns.{ExplainsLines, HasGiven, HasTaken, Waiting}
-use Rattle.nx_fec.specs.air_files.LineRuns.{line_run}
-use Rattle.nx_fec.specs.air_files.Lines.{Scanning, Scans, air_limit}
-use Rattle.nx_fec.specs.air_files.Scanner.{kind_kept}
-use Rattle.nx_fec.specs.private.LineTaking.{inside}
-use Rattle.nx_fec.proofs.lemmas.line_runs.LineRun.{explains-refused, explains-write}
 use Rattle.nx_fec.specs.declared.air_files.channel.Channel.{Channel}
 use Rattle.nx_fec.specs.declared.air_files.channel.Channel.TheVariants.{Zero, One, Two}
-use Rattle.nx_fec.specs.declared.air_files.line_runs.LinesFault.{LinesFault}
-use Rattle.nx_fec.specs.declared.air_files.line_runs.LinesFault.TheVariants as run
 use Rattle.nx_memory.specs.Selection.{is_vital}
 use Rattle.nx_copies.specs.Events as events
 use Rattle.nx_copies.specs.Events.{Command, Event, Setting, command, elements_among, element}
 use Rattle.nx_copies.specs.Events.{first_setting, setting_after, setting_after_all, settings}
 use Rattle.nx_receiver.specs.air_file_runs.Listen.{events_on, given_by, given_of, has_moment, moment_after}
+use Rattle.nx_receiver.specs.private.Listener.{RefusesLine}
 use Rattle.nx_receiver.specs.private.Taken.{AreTakenAfter, IsTakenAfter}
 use Rattle.nx_receiver.proofs.lemmas.listening.Taken.{are-taken}
 use Rattle.nx_copies.specs.copies.Shares.{all_at_zero, events_for, share, start_on, to_one}
@@ -33,11 +25,8 @@ use Rattle.nx_receiver.proofs.lemmas.listening.Listener.{given_by-one, moment-on
 use Rattle.nx_receiver.proofs.lemmas.listening.Listener.{taken-one}
 use Rattle.nx_copies.proofs.lemmas.printing.Logged.{bits_of-append, settings-append}
 use Rattle.nx_locks.specs.Run.{elements_on_0, ending_of, moments_on_0}
-use Rattle.nx_locks.specs.private.ReportWriter.{ExplainsLine, IsShowing, RefusesLine, StandsFrom}
-use Rattle.nx_locks.specs.private.ReportWriter.{BeginsFrom, RefusesFrom, report_taker}
+use Rattle.nx_locks.specs.private.ReportWriter.{IsShowing}
 use Rattle.nx_locks.specs.private.Showing.{HearsAll, Showing, ShowsSoFar}
-use Rattle.nx_locks.specs.declared.report_writer.ReportRefusal.{ReportRefusal}
-use Rattle.nx_locks.specs.declared.report_writer.ReportRefusal.TheVariants as refusal
 use Rattle.nx_receiver.specs.declared.air_file_runs.listen_fault.LineRefusal.{LineRefusal}
 use Rattle.nx_locks.specs.private.Taker.{TakerShows, Taking, all_at}
 
@@ -232,91 +221,51 @@ refuse_subject_line now lines mark letter given allowed h =
     (never_of_command (channel_of mark) (events.refuse_subject letter) (in_force lines))
     (moment-other lines (refuse_subject mark letter) _ h.has_moment refl) h.moment h.shows
 
--- a line that may be refused
-pub taken-line : (first before after : Showing) (old new : Option (List ℕ)) (batch : Waiting)
-    (lines : List Line) (line is : Line) (number found : ℕ)
-    (taken : Result (Unit {0}) LineRefusal) (result : Result (Unit {0}) (LinesFault ReportRefusal))
-    → line ≡ is → found ≡ number
-    → HasTaken StandsFrom first before lines (HasGiven old new batch)
-    → MatchResult taken (λ _. result ≡ Ok tt)
-    (λ why. result ≡ Err (run.Refused found (refusal.Line why)))
-    → ((given : List ℕ) → IsShowing before lines given
-    → MatchResult taken (λ _. IsShowing after (lines ++ is ∷ []) given)
-    (λ why. RefusesLine lines is (refusal.Line why)))
-    → OnErr taken (after ≡ before)
-    → MatchResult result (λ _. HasTaken StandsFrom first after (lines ++ line ∷ [])
-    (HasGiven old new batch))
-    (λ fault. ExplainsLine (line_run report_taker first after old new) batch lines line number
-    fault)
-taken-line first before after old new batch lines line is number found (Ok x) result same e h
-    answer takes unchanged =
-    subst (λ r. MatchResult r
-    (λ _. HasTaken StandsFrom first after (lines ++ line ∷ []) (HasGiven old new batch))
-    (λ fault. ExplainsLine (line_run report_taker first after old new) batch lines line number
-    fault)) (sym answer) (record {
-      given = h.given;
-      stood = subst (λ l. IsShowing after (lines ++ l ∷ []) h.given) (sym same)
-          (takes h.given h.stood);
-      here = h.here;
+-- what was shown before was cleared
+pub cleared : (old : Showing) (taker : Taking) (lines : List Line) (given : List ℕ)
+    → taker ≡ record old.taker { shown = [] } → IsShowing old lines given
+    → IsShowing (record old { taker = taker }) lines given
+cleared old taker lines given is h =
+    subst (λ (t : Taking). IsShowing (record old { taker = t }) lines given) (sym is) (record {
+      taken = h.taken;
+      has_moment = h.has_moment;
+      moment = h.moment;
+      shows = record {
+        synchroniser = h.shows.synchroniser;
+        taker = record {
+          elements = h.shows.taker.elements;
+          room = h.shows.taker.room;
+          shows = h.shows.taker.shows;
+        };
+      };
     })
-taken-line first before after old new batch lines line is number found (Err why) result same e h
-    answer takes unchanged =
-    subst (λ r. MatchResult r
-    (λ _. HasTaken StandsFrom first after (lines ++ line ∷ []) (HasGiven old new batch))
-    (λ fault. ExplainsLine (line_run report_taker first after old new) batch lines line number
-    fault)) (sym answer) (
-      e,
-      subst (λ l. RefusesLine lines l (refusal.Line why)) (sym same) (takes h.given h.stood),
-      record {
-        given = h.given;
-        stood =
-            subst (λ n. IsShowing n lines h.given) (sym unchanged) h.stood;
-        here = h.here;
-      },
-    )
 
--- what a fault of taking a line says of the file
-pub explains-taken : (first now : Showing) (s : Scanning) (old new : Option (List ℕ))
-    (batch : Waiting) (bytes piece : List ℕ) (count : ℕ) (lines : List Line) (latest : Option Line)
-    (fault : LinesFault ReportRefusal) → (kind_kept latest ≡ None → ⊥) → IfSome latest IsLine
-    → Scans air_limit s (bytes ++ take count piece) (lines ++ option_to_list latest)
-    → ((line : Line) → latest ≡ Some line
-    → ExplainsLine (line_run report_taker first now old new) batch lines line s.lines fault)
-    → (more : List ℕ) → ExplainsLines (line_run report_taker first now old new) inside
-    (HasGiven old new batch) ((bytes ++ piece) ++ more) fault
-explains-taken first now s old new batch bytes piece count lines None fault some good scans h more =
-    absurd (some refl)
-explains-taken first now s old new batch bytes piece count lines (Some line) run.Read some good
-    scans h more = absurd (h line refl)
-explains-taken first now s old new batch bytes piece count lines (Some line) (run.Line why) some
-    good scans h more = absurd (h line refl)
-explains-taken first now s old new batch bytes piece count lines (Some line)
-    (run.Refused number why) some good scans h more =
-    explains-refused StandsFrom BeginsFrom RefusesFrom first now s old new batch bytes piece count
-    number why lines (Some line) some good (h line refl).0 scans
-    (λ l is. ((h l is).1, (h l is).2)) more
-explains-taken first now s old new batch bytes piece count lines (Some line) (run.Write written)
-    some good scans h more =
-    explains-write StandsFrom BeginsFrom RefusesFrom first now s old new (HasGiven old new batch)
-    bytes piece count written lines (Some line) some scans h more
+-- nothing was shown
+pub nothing_more : (now : Showing) (lines : List Line) (given : List ℕ) → now.taker.shown ≡ []
+    → IsShowing now lines given → IsShowing now lines (given ++ now.taker.shown)
+nothing_more now lines given none h =
+    subst (IsShowing now lines) (sym (ap (λ l. given ++ l) none ∙ append-nil given)) h
 
--- a line that is taken always
-pub taken-always : (first now : Showing) (old new : Option (List ℕ)) (batch : Waiting)
-    (lines : List Line) (line is : Line) → line ≡ is
-    → HasTaken StandsFrom first now lines (HasGiven old new batch)
-    → ((given : List ℕ) → IsShowing now lines given → IsShowing now (lines ++ is ∷ []) given)
-    → HasTaken StandsFrom first now (lines ++ line ∷ []) (HasGiven old new batch)
-taken-always first now old new batch lines line is same h takes = record {
-  given = h.given;
-  stood = subst (λ l. IsShowing now (lines ++ l ∷ []) h.given) (sym same) (takes h.given h.stood);
-  here = h.here;
-}
+-- the refusal of a subject is taken, or refused itself
+pub subject_shown : (outcome : Result (Unit {0}) LineRefusal) (now : Showing) (lines : List Line)
+    (mark : Option Channel) (byte letter : ℕ) (given : List ℕ) → letter ≡ byte
+    → now.taker.shown ≡ [] → IsShowing now lines given
+    → MatchResult outcome (λ _. is_vital letter ≡ false)
+    (RefusesLine all_at_zero lines (refuse_subject mark letter))
+    → MatchResult outcome
+    (λ _. IsShowing now (lines ++ refuse_subject mark byte ∷ []) (given ++ now.taker.shown))
+    (RefusesLine all_at_zero lines (refuse_subject mark byte))
+subject_shown (Ok x) now lines mark byte letter given same none stood allowed =
+    nothing_more now _ given none
+    (refuse_subject_line now lines mark byte given (ap is_vital (sym same) ∙ allowed) stood)
+subject_shown (Err why) now lines mark byte letter given same none stood refused =
+    subst (λ (b : ℕ). RefusesLine all_at_zero lines (refuse_subject mark b) why) same refused
 
-pub match-map : {A E : Type 0} (r : Result A E) (P P' : A → Type 0) (Q Q' : E → Type 0)
-    → MatchResult r P Q → ((x : A) → P x → P' x) → ((e : E) → Q e → Q' e) → MatchResult r P' Q'
-match-map (Ok x) P P' Q Q' h f g = f x h
-match-map (Err e) P P' Q Q' h f g = g e h
-
-pub on-err : {A E : Type 0} (r : Result A E) (P : Type 0) → P → OnErr r P
-on-err (Ok x) P h = tt
-on-err (Err e) P h = h
+-- what a line shows was read
+pub next_shown : (now : Showing) (lines : List Line) (line is : Line) (given shown : List ℕ)
+    → line ≡ is → shown ≡ now.taker.shown
+    → IsShowing now (lines ++ is ∷ []) (given ++ now.taker.shown)
+    → IsShowing now (lines ++ line ∷ []) (given ++ shown)
+next_shown now lines line is given shown same read h =
+    subst (λ l. IsShowing now (lines ++ l ∷ []) (given ++ shown)) (sym same)
+    (subst (λ b. IsShowing now (lines ++ is ∷ []) (given ++ b)) (sym read) h)
