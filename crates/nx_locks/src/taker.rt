@@ -1,8 +1,12 @@
 //! What takes what the elements bring, and shows their locks. What runs for each word is inlined
 //! always; what opens or closes a lock never is.
 
-ghost use Rattle.std.specs.Prelude.{◌≡◌, ◌+◌, ◌*◌, ◌≤◌, [], ◌++◌, length};
+ghost use Rattle.std.specs.Prelude.{◌≡◌, ◌+◌, ◌*◌, ◌≤◌, [], ◌∷◌, ◌++◌, length};
+ghost use Rattle.std.specs.List.{flat_map};
 ghost use Rattle.nx_code.specs.Packed.{packed_elements, packed_part};
+ghost use Rattle.nx_code.specs.Word.{elements};
+ghost use Rattle.nx_sync.specs.Ahead.{BringsWords};
+ghost use Rattle.nx_sync.specs.Synchroniser.{Held};
 ghost use Rattle.nx_envelope.specs.Moment.{last_moment};
 ghost use Rattle.nx_locks.specs.ReportText.{last_line};
 ghost use Rattle.nx_locks.specs.private.Taker.{Closes, HasRoom, Hears, Opens, ReadsWord, ShowsStep, TakerShows};
@@ -202,6 +206,20 @@ impl LockTaker {
     {
         let (_all, None) = hear_elements(self, synchroniser, numbers, 0, count);
     }
+
+    /// Takes two words of a lock that bring no change, a DX word and an RX word. Never inlined: few
+    /// words go this way, and a loop over words has the registers to itself. They are handed over
+    /// by value, so that the words at once needn't stand in memory for it.
+    #[inline(never)]
+    fn take_pair(&mut self, dx: Word, rx: Word)
+        requires room { HasRoom self.old 14 }
+        ensures { (old new : Held) → BringsWords old new (dx ∷ rx ∷ [])
+            → Hears old self.old (flat_map elements (dx ∷ rx ∷ [])) new self.new }
+    {
+        self.elements = self.elements.saturating_add(2 * ELEMENTS as u64);
+        self.reader.hear_word(dx, Role::Dx, &mut self.shown);
+        self.reader.hear_word(rx, Role::Rx, &mut self.shown);
+    }
 }
 
 impl WordTaker for LockTaker {
@@ -232,12 +250,9 @@ impl WordTaker for LockTaker {
         true
     }
 
-    // Few words go this way, and a loop over words has the registers to itself.
-    #[inline(never)]
+    #[inline(always)]
     fn take_pairs(&mut self, words: &[Word]) -> (usize, Option<Infallible>) {
-        self.elements = self.elements.saturating_add(2 * ELEMENTS as u64);
-        self.reader.hear_word(words[0], Role::Dx, &mut self.shown);
-        self.reader.hear_word(words[1], Role::Rx, &mut self.shown);
+        self.take_pair(words[0], words[1]);
         (2, None)
     }
 
