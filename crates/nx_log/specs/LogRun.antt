@@ -1,10 +1,11 @@
 -- A run over a log: what it reads, what it writes of it, and what it answers (this profile).
-use Rattle.std.specs.Prelude.{◌≡◌, ◌⊎◌, ◌↔◌, ℕ, ◌-◌, ◌^◌, ◌≤◌, Bool, true, false, List, [], ◌++◌, length, Some}
+use Rattle.std.specs.Prelude.{◌≡◌, ◌⊎◌, ◌↔◌, ℕ, ◌-◌, ◌^◌, ◌≤◌, Bool, true, false, List, [], ◌∷◌, ◌++◌, length, Some}
 use Rattle.std.specs.Prelude.{Result, Ok, Err, IsErrOf}
 use Rattle.std.specs.List.{AllZip, concat}
 use Rattle.std.specs.Io.KnownBytes.{Appends, Consumes}
 use Rattle.nx_fec.specs.Transfers.{Contents, Devices, IsReadOut, WroteSome, contents_of}
 use Rattle.nx_copies.specs.copies.Shares.{MarkedCopy}
+use Rattle.nx_kept.specs.Kept.{closed_gate, open_gate}
 use Rattle.nx_log.specs.Json.{IsJsonLine}
 use Rattle.nx_log.specs.Logged.{IsLoggedAs}
 use Rattle.nx_log.specs.Query.{chosen}
@@ -14,7 +15,7 @@ use Rattle.nx_log.specs.Salvage.{Salvage, SalvageToEnd, Stretch, first_line}
 use Rattle.nx_log.specs.declared.damage.Damaged.{Damaged}
 use Rattle.nx_log.specs.declared.damage.Damaged.TheVariants.{PassedOver, Refused}
 use Rattle.nx_log.specs.declared.writing.form.Form.{Form}
-use Rattle.nx_log.specs.declared.writing.form.Form.TheVariants.{Log, Json}
+use Rattle.nx_log.specs.declared.writing.form.Form.TheVariants.{Log, Json, Kept}
 use Rattle.nx_log.specs.declared.log_fault.LogFault.{LogFault}
 use Rattle.nx_log.specs.declared.log_fault.LogFault.TheVariants.{Read, Write, BadLog, Memory}
 use Rattle.nx_log.specs.declared.queries.query.Query.{Query}
@@ -23,10 +24,24 @@ use Rattle.nx_log.specs.declared.queries.query.Query.{Query}
 abbrev pub most_read : ℕ
 most_read = 2 ^ 63 - 1
 
--- the text of an entry in this form: its bytes in a log, or its line of JSON
+-- what an entry is in a kept log: its bytes behind an open gate
+abbrev pub IsBehindGate : MarkedCopy → List ℕ → Type 0
+IsBehindGate one text = (bytes : List ℕ) × IsLoggedAs one bytes × (text ≡ open_gate ∷ bytes)
+
+-- the text of an entry in this form: its bytes in a log, its line of JSON, or what it is in a kept
+-- log
 abbrev pub IsInForm : Form → MarkedCopy → List ℕ → Type 0
 IsInForm Log one text = IsLoggedAs one text
 IsInForm Json one text = IsJsonLine one text
+IsInForm Kept one text = IsBehindGate one text
+
+-- what stands behind the last of entries in this form: behind those of a kept log, where there are
+-- any, a closed gate
+abbrev pub end_of : Form → List MarkedCopy → List ℕ
+end_of Log entries = []
+end_of Json entries = []
+end_of Kept [] = []
+end_of Kept (one ∷ entries) = closed_gate ∷ []
 
 -- Output of entries: the texts of those that the query chooses, in order, and nothing between.
 pub record IsOutput (query : Query) (form : Form) (entries : List MarkedCopy) (output : List ℕ)
@@ -58,13 +73,22 @@ pub record WroteOutput (query : Query) (form : Form) (contents : Contents)
   pub is_output : IsOutput query form entries output
   pub written : Appends contents.before contents.after output
 
--- a write of the output of these entries failed: some first bytes of it were written, but not all,
+-- the same, and what stands behind the last of those that are chosen
+pub record WroteToEnd (query : Query) (form : Form) (contents : Contents)
+    (entries : List MarkedCopy) : Type 0 where
+  pub output : List ℕ
+  pub is_output : IsOutput query form entries output
+  pub written : Appends contents.before contents.after
+      (output ++ end_of form (chosen query entries))
+
+-- a write of these failed: some first bytes of the output and of its end were written, but not all,
 -- and `written` counts them
 pub record WrotePart (query : Query) (form : Form) (contents : Contents)
     (entries : List MarkedCopy) (written : ℕ) : Type 0 where
   pub output : List ℕ
   pub is_output : IsOutput query form entries output
-  pub part : WroteSome contents.before contents.after output written
+  pub part : WroteSome contents.before contents.after
+      (output ++ end_of form (chosen query entries)) written
 
 -- A run over a log by this query, in this form, on these devices.
 module _ {R W : Type 0} (query : Query) (form : Form) (d : Devices R W) (n : Notices) where
@@ -86,23 +110,23 @@ module _ {R W : Type 0} (query : Query) (form : Form) (d : Devices R W) (n : Not
       × Appends (contents_of d).before (contents_of d).after [] × HaveToldTorn n torn
 
   -- What it answers of the bytes that it read, and what it told. Where they are all and a log, it
-  -- is how many of their entries the query chooses; the output of all was written, and each torn
-  -- one was told. After a failed read the output of all whole entries of the bytes was written, and
-  -- each torn one told, so both come before each further read. A bad log stops being one at this
-  -- line; the output of the entries before that was written, and each torn one told. After a failed
-  -- write the first bytes were written of the output of entries with which they begin, and what was
-  -- told is that of the same front.
+  -- is how many of their entries the query chooses; the output of all was written to its end, and
+  -- each torn one was told. After a failed read the output of all whole entries of the bytes was
+  -- written, and each torn one told, so both come before each further read. A bad log stops being
+  -- one at this line; the output of the entries before that was written to its end, and each torn
+  -- one told. After a failed write the first bytes were written of the output of entries with which
+  -- they begin, and what was told is that of the same front.
   abbrev pub AnswersLogRun : Result ℕ LogFault → List ℕ → Type 0
   AnswersLogRun (Ok count) bytes =
       AreAll bytes × (entries : List MarkedCopy) × (torn : List ℕ)
-      × HoldEntriesToEnd bytes entries torn × WroteOutput query form (contents_of d) entries
+      × HoldEntriesToEnd bytes entries torn × WroteToEnd query form (contents_of d) entries
       × HaveToldTorn n torn × (count ≡ length (chosen query entries))
   AnswersLogRun (Err Read) bytes =
       (entries : List MarkedCopy) × (torn : List ℕ) × HoldEntries bytes entries torn
       × WroteOutput query form (contents_of d) entries × HaveToldTorn n torn
   AnswersLogRun (Err (BadLog line)) bytes =
       (entries : List MarkedCopy) × (torn : List ℕ) × StopAtLine bytes entries torn line
-      × WroteOutput query form (contents_of d) entries × HaveToldTorn n torn
+      × WroteToEnd query form (contents_of d) entries × HaveToldTorn n torn
   AnswersLogRun (Err (Write written)) bytes =
       (entries : List MarkedCopy) × (torn : List ℕ) × BeginWithEntries bytes entries torn
       × WrotePart query form (contents_of d) entries written × HaveToldTorn n torn
@@ -117,8 +141,9 @@ module _ {R W : Type 0} (query : Query) (form : Form) (d : Devices R W) (n : Not
 
   -- The same where it passes over what is not of a log. Where the bytes are a log it answers as
   -- above. Else it reads them all, and answers at their end: `BadLog` has the first line that isn't
-  -- of a log, the output of all entries that were salvaged was written, and each stretch and each
-  -- torn entry was told. After a failed read or write that is said of what was read by then.
+  -- of a log, the output of all entries that were salvaged was written to its end, and each stretch
+  -- and each torn entry was told. After a failed read or write that is said of what was read by
+  -- then.
   abbrev pub AnswersSalvage : Result ℕ LogFault → List ℕ → Type 0
   AnswersSalvage (Ok count) bytes = AnswersLogRun (Ok count) bytes
   AnswersSalvage (Err Read) bytes =
@@ -128,7 +153,7 @@ module _ {R W : Type 0} (query : Query) (form : Form) (d : Devices R W) (n : Not
   AnswersSalvage (Err (BadLog line)) bytes =
       AreAll bytes × (stretches : List Stretch) × (entries : List MarkedCopy)
       × (told : List Notice) × SalvageToEnd stretches bytes entries told
-      × WroteOutput query form (contents_of d) entries × HaveToldAll n told
+      × WroteToEnd query form (contents_of d) entries × HaveToldAll n told
       × (first_line stretches ≡ Some line)
   AnswersSalvage (Err (Write written)) bytes =
       (stretches : List Stretch) × (entries : List MarkedCopy) × (told : List Notice)

@@ -38,6 +38,10 @@ const MAX_READ: u64 = 9_223_372_036_854_775_807;
 /// stops after 2^63 - 1 bytes, as at an end. What is read may be the log of a run that listens, a
 /// kept log, also one that was torn, or what is shown of one that grows.
 ///
+/// With `Form::Kept` what is written is a kept log of these entries: a newline before each, and at
+/// the end a space, where there is an entry. The space is written too where `BadLog` is answered,
+/// but not after a failed read.
+///
 /// An entry that was torn is passed over, and told on `notices` by its line, whatever the query
 /// asks for, before the next read. A failed write of it is passed over.
 ///
@@ -75,7 +79,7 @@ pub fn log_run<R: Read, W: Write, N: Write>(
     let mut run = LogRun::new(alloc, damaged);
     let mut buffer = vec![in alloc; 0; CHUNK]?;
     run.read_log(reader, writer, notices, query, form, &mut buffer)?;
-    run.end(writer, notices)
+    run.end(writer, notices, form)
 }
 
 /// What a run holds of the bytes so far.
@@ -348,7 +352,7 @@ impl LogRun {
             Pushed::All => Ok(part.len()),
             Pushed::Bad(BadLine { line }) => match self.damaged {
                 Damaged::Refused => {
-                    self.output.finish(writer)?;
+                    self.output.close(writer, form)?;
                     Err(LogFault::BadLog { line })
                 }
                 Damaged::PassedOver => {
@@ -389,15 +393,17 @@ impl LogRun {
         self.is_passing = true;
     }
 
-    /// Ends the input: writes what waits or is held, tells of a torn entry at the end, and answers
-    /// how many entries were written, or which line is the first that is not of a log.
+    /// Ends the input: writes what waits or is held and what stands behind it in this form, tells
+    /// of a torn entry at the end, and answers how many entries were written, or which line is the
+    /// first that is not of a log.
     fn end<W: Write, N: Write>(
         &mut self,
         writer: &mut Counting<W>,
         notices: &mut Counting<N>,
+        form: Form,
     ) -> Result<u64, LogFault>
         requires writer { writer.old.failures ≡ 0 }
-        ensures ended { (query : TheQuery) (form : TheForm) (damaged : WithDamaged)
+        ensures ended { (query : TheQuery) (damaged : WithDamaged)
             (old told : Option (List ℕ)) (bytes : List ℕ)
             → length bytes ≤ most_read
             → IsRunning query form damaged old self.old (W.contents writer.old.inner)
@@ -408,7 +414,7 @@ impl LogRun {
         ensures unread { IsErrOf result ReadFailed → ⊥ }
         ensures writes { Writes writer.new LogFault.Write result }
     {
-        self.output.finish(writer)?;
+        self.output.close(writer, form)?;
         self.tell_last(notices);
         match self.first_bad {
             Some(line) => Err(LogFault::BadLog { line }),

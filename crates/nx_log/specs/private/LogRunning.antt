@@ -8,7 +8,7 @@ use Rattle.nx_fec.specs.air_files.LineRuns.{HasGiven}
 use Rattle.nx_copies.specs.copies.Shares.{MarkedCopy}
 use Rattle.nx_log.specs.LogReading.{LogReading}
 use Rattle.nx_log.specs.LogReader.{IsAt, StopAt}
-use Rattle.nx_log.specs.LogRun.{BeginSalvage, IsInForm, WroteOutput, WrotePart}
+use Rattle.nx_log.specs.LogRun.{BeginSalvage, IsInForm, WroteOutput, WrotePart, WroteToEnd}
 use Rattle.nx_log.specs.Notices.{HaveToldAll, HaveToldTorn, Notice, Notices}
 use Rattle.nx_log.specs.Query.{chosen}
 use Rattle.nx_log.specs.Reading.{HoldEntriesToEnd}
@@ -126,7 +126,7 @@ pub record StopsRun (query : Query) (form : Form) (damaged : Damaged) (contents 
   pub entries : List MarkedCopy
   pub torn : List ℕ
   pub stop : StopAt bytes entries torn (record { line = line })
-  pub wrote : WroteOutput query form contents entries
+  pub wrote : WroteToEnd query form contents entries
   pub told : HaveToldTorn n torn
   pub refused : damaged ≡ Refused
 
@@ -147,15 +147,15 @@ pub record EndsTold (n : Notices) (stretches : List Stretch) (rest : List ℕ)
   pub hold : HoldEntriesToEnd rest last torn
   pub told : HaveToldAll n (told_of stretches torn)
 
--- all bytes were salvaged, the output of their entries was written, and this is the first line that
--- isn't of a log
+-- all bytes were salvaged, the output of their entries was written to its end, and this is the first
+-- line that isn't of a log
 pub record HasRunOver (query : Query) (form : Form) (damaged : Damaged) (contents : Contents)
     (n : Notices) (bytes : List ℕ) (entries : List MarkedCopy) (first_bad : Option ℕ)
     : Type 0 where
   pub stretches : List Stretch
   pub told : List Notice
   pub salvage : SalvageToEnd stretches bytes entries told
-  pub wrote : WroteOutput query form contents entries
+  pub wrote : WroteToEnd query form contents entries
   pub was_told : HaveToldAll n told
   pub first : first_line stretches ≡ first_bad
   pub stands : StandsIn damaged stretches

@@ -7,4 +7,6 @@ pub enum Form {
     Log,
     /// Each as one line of JSON, as `json_line` gives it.
     Json,
+    /// As a kept log: each behind an open gate, and a closed gate behind the last one.
+    Kept,
 }

@@ -3,7 +3,7 @@
 ghost use Rattle.std.specs.Prelude.{◌≡◌, ◌+◌, ◌-◌, ◌^◌, true, false, ℕ, List, [], ◌∷◌, ◌++◌, length, min, Option, IsErrOf, MatchResult, OnOk};
 ghost use Rattle.nx_fec.specs.Transfers.{FailsOnce, Writes};
 ghost use Rattle.nx_log.specs.Entries.{IsWholeEntry};
-ghost use Rattle.nx_log.specs.LogRun.{IsInForm, WroteOutput, WrotePart};
+ghost use Rattle.nx_log.specs.LogRun.{IsInForm, WroteOutput, WrotePart, WroteToEnd, end_of as the_end_of};
 ghost use Rattle.nx_log.specs.Logged.{IsLoggedAs};
 ghost use Rattle.nx_log.specs.Query.{admits, chosen};
 ghost use Rattle.nx_log.specs.private.Held.{SaysHead};
@@ -19,6 +19,7 @@ use crate::log_fault::LogFault;
 use crate::queries::query::Query;
 use crate::writing::form::Form;
 use crate::writing::json_text::json_line;
+use crate::writing::kept_text::{CLOSED_GATE, kept_text};
 use crate::writing::last_entries::LastEntries;
 use nx_fec::{Batch, Counting, WriteFault};
 use std::alloc::Global;
@@ -85,6 +86,7 @@ impl Output {
         match form {
             Form::Log => self.take(alloc, view.head, bytes, query, writer),
             Form::Json => self.take(alloc, view.head, json_line(&view).as_slice(), query, writer),
+            Form::Kept => self.take(alloc, view.head, kept_text(bytes).as_slice(), query, writer),
         }
     }
 
@@ -138,7 +140,7 @@ impl Output {
         self.batch.send(writer)
     }
 
-    /// Writes all that waits or is held, where no entry comes any more.
+    /// Writes all that waits or is held, where a read failed.
     pub(crate) fn finish<W: Write>(&mut self, writer: &mut Counting<W>) -> Result<(), WriteFault>
         requires unused { writer.old.failures ≡ 0 }
         ensures written { (query : TheQuery) (form : TheForm) (old : Option (List ℕ))
@@ -160,5 +162,45 @@ impl Output {
         let batch = &mut self.batch;
         self.held.give_to(batch, writer)?;
         batch.send(writer)
+    }
+
+    /// Writes all that waits or is held, where no entry comes any more, and what stands behind the
+    /// last one in this form.
+    pub(crate) fn close<W: Write>(
+        &mut self,
+        writer: &mut Counting<W>,
+        form: Form,
+    ) -> Result<(), WriteFault>
+        requires unused { writer.old.failures ≡ 0 }
+        ensures written { (query : TheQuery) (old : Option (List ℕ)) (entries : List MarkedCopy)
+            → HasGivenOutput query form old (W.contents writer.old.inner) self.old entries
+            → MatchResult result
+            (λ _. WroteToEnd query form
+            (record { before = old; after = W.contents writer.new.inner }) entries)
+            (λ fault. WrotePart query form
+            (record { before = old; after = W.contents writer.new.inner }) entries
+            fault.written) }
+        ensures same { (query : TheQuery) (old : Option (List ℕ)) (entries : List MarkedCopy)
+            → HasGivenOutput query form old (W.contents writer.old.inner) self.old entries
+            → min (self.new.passed + length self.new.held.entries.items) (2 ^ 64 - 1)
+            ≡ min (length (chosen query entries)) (2 ^ 64 - 1) }
+        ensures counts { FailsOnce writer.new result }
+    {
+        let end = end_of(form, self.count());
+        let batch = &mut self.batch;
+        self.held.give_to(batch, writer)?;
+        batch.give(writer, end)?;
+        batch.send(writer)
+    }
+}
+
+/// What stands behind the last of so many entries in this form.
+fn end_of(form: Form, count: u64) -> &'static [u8]
+    ensures { (entries : List MarkedCopy) → count ≡ min (length entries) (2 ^ 64 - 1)
+        → result.now ≡ the_end_of form entries }
+{
+    match form {
+        Form::Kept if count > 0 => CLOSED_GATE,
+        Form::Log | Form::Json | Form::Kept => b"",
     }
 }

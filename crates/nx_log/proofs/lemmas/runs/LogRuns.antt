@@ -14,7 +14,7 @@ use Rattle.nx_fec.specs.Transfers.{Contents, Devices, contents_of}
 use Rattle.nx_copies.specs.copies.Shares.{MarkedCopy}
 use Rattle.nx_log.specs.LogReading.{LogReading}
 use Rattle.nx_log.specs.LogReader.{IsAt, StopAt, Takes, most_lines}
-use Rattle.nx_log.specs.LogRun.{AnswersLogRun, AnswersRun, AreAll, BeginSalvage, RanOut, SalvageRanOut, WroteOutput, WrotePart, most_read}
+use Rattle.nx_log.specs.LogRun.{AnswersLogRun, AnswersRun, AreAll, BeginSalvage, RanOut, SalvageRanOut, WroteOutput, WrotePart, WroteToEnd, most_read}
 use Rattle.nx_log.specs.Logged.{IsLoggedAs}
 use Rattle.nx_log.specs.Query.{chosen}
 use Rattle.nx_log.specs.Notices.{HaveTold, HaveToldAll, HaveToldTorn, Notice, Notices, damaged_at, notice_texts, notices_of, torn_notice, torn_notices}
@@ -386,7 +386,7 @@ module _ (query : Query) (form : Form) (damaged : Damaged) (old : Option (List �
     -- the bytes stop being a log, which is refused
     pub stops : (part : List ℕ) (line : ℕ) (after : Option (List ℕ)) → run.damaged ≡ Refused
         → StopAt (h.rest ++ part) h.last h.torn (record { line = line })
-        → WroteOutput query form (record { before = old; after = after })
+        → WroteToEnd query form (record { before = old; after = after })
         (entries_in h.stretches ++ h.last)
         → StopsRun query form damaged (record { before = old; after = after }) n (bytes ++ part)
         line
@@ -399,7 +399,7 @@ module _ (query : Query) (form : Form) (damaged : Damaged) (old : Option (List �
           torn = h.torn;
           stop = subst (λ l. StopAt (l ++ part) h.last h.torn (record { line = line })) (sym same)
               stop;
-          wrote = subst (λ ss. WroteOutput query form (record { before = old; after = after })
+          wrote = subst (λ ss. WroteToEnd query form (record { before = old; after = after })
               (entries_in ss ++ h.last)) none wrote;
           told = all-torn n h.torn (subst (λ ss. HaveToldAll n (told_of ss h.torn)) none h.told);
           refused = mode;

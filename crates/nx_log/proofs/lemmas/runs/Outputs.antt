@@ -4,6 +4,7 @@ use Rattle.std.proofs.Common.{refl, sym, ap, ◌∙◌, subst, arith, append-nil
 use Rattle.std.specs.Prelude.{MatchResult, OnOk, map}
 use Rattle.std.specs.List.{AllZip, concat}
 use Rattle.std.specs.Io.KnownBytes.{Appends}
+use Rattle.std.proofs.lemmas.List.{take-append-le}
 use Rattle.std.proofs.lemmas.List.Elements.{filter-append}
 use Rattle.std.proofs.lemmas.List.Folds.{concat-append}
 use Rattle.std.proofs.lemmas.List.Sums.{count_by-le-length, length-filter}
@@ -13,7 +14,7 @@ use Rattle.nx_fec.specs.air_files.LineRuns.{HasGiven, Waiting}
 use Rattle.nx_fec.specs.declared.fault.WriteFault.{WriteFault}
 use Rattle.nx_copies.specs.copies.Shares.{MarkedCopy}
 use Rattle.nx_log.specs.Last.{last_entries}
-use Rattle.nx_log.specs.LogRun.{IsInForm, IsOutput, WroteOutput, WrotePart}
+use Rattle.nx_log.specs.LogRun.{IsInForm, IsOutput, WroteOutput, WrotePart, WroteToEnd, end_of}
 use Rattle.nx_log.specs.Query.{admits, admitted, chosen, chosen_so}
 use Rattle.nx_envelope.specs.Copies.{errors_of}
 use Rattle.nx_log.specs.View.{copy_said}
@@ -126,6 +127,17 @@ head-said view one same errors =
       errors = errors ∙ ap errors_of text;
     }
 
+-- some first bytes of a text are some of a longer one
+part-longer : (old new : Option (List ℕ)) (text more : List ℕ) (written : ℕ)
+    → WroteSome old new text written → WroteSome old new (text ++ more) written
+part-longer old new text more written part = record {
+  taken = part.taken;
+  fewer = omega (arith, part.fewer, length-append text more);
+  counted = part.counted;
+  appended = subst (Appends old new) (sym (take-append-le part.taken text more
+      (omega (arith, part.fewer)))) part.appended;
+}
+
 -- nothing is given yet
 pub nothing-given : (query : Query) (form : Form) (old : Option (List ℕ)) (output : Output)
     → HasGiven old old output.batch [] → output.passed ≡ 0 → output.held.entries.items ≡ []
@@ -222,7 +234,8 @@ module _ (query : Query) (form : Form) (old now : Option (List ℕ)) (before : O
       joined = ap (λ l. concat h.texts ++ l) (sym (append-nil text))
           ∙ sym (concat-append h.texts (text ∷ []));
     };
-    part = part;
+    part = part-longer old new (concat h.texts ++ text)
+        (end_of form (chosen query (entries ++ one ∷ []))) written part;
   }
 
   nothing-written : query.last ≡ true → concat h.texts ≡ []
@@ -320,7 +333,8 @@ module _ (query : Query) (form : Form) (old now : Option (List ℕ)) (before : O
           each = subst (λ l. AllZip (IsInForm form) l h.texts) (sym (all-passed at_once)) h.each;
           joined = refl;
         };
-        part = k;
+        part = part-longer old new (concat h.texts) (end_of form (chosen query entries))
+            fault.written k;
       }
 
   -- all that waits and all that is held
@@ -341,8 +355,11 @@ module _ (query : Query) (form : Form) (old now : Option (List ℕ)) (before : O
 
   pub part-finished : (new : Option (List ℕ)) (written : ℕ) → WroteSome old new last_texts written
       → WrotePart query form (record { before = old; after = new }) entries written
-  part-finished new written part =
-      record { output = last_texts; is_output = all-output; part = part }
+  part-finished new written part = record {
+    output = last_texts;
+    is_output = all-output;
+    part = part-longer old new last_texts (end_of form (chosen query entries)) written part;
+  }
 
   pub finished : {R : Type 0} (r : Result R WriteFault) (new : Option (List ℕ)) (batch : Waiting)
       → MatchResult r (λ _. HasGiven old new batch last_texts)
@@ -358,6 +375,33 @@ module _ (query : Query) (form : Form) (old now : Option (List ℕ)) (before : O
         (sym (k.whole ∙ ap (λ l. k.done ++ l) empty ∙ append-nil k.done)) k.written.appended;
   }
   finished (Err fault) new batch k empty = part-finished new fault.written k
+
+  -- and what stands behind it
+  pub part-closed : (new : Option (List ℕ)) (end : List ℕ) (written : ℕ)
+      → end ≡ end_of form (chosen query entries) → WroteSome old new (last_texts ++ end) written
+      → WrotePart query form (record { before = old; after = new }) entries written
+  part-closed new end written is part = record {
+    output = last_texts;
+    is_output = all-output;
+    part = subst (λ e. WroteSome old new (last_texts ++ e) written) is part;
+  }
+
+  pub closed : {R : Type 0} (r : Result R WriteFault) (new : Option (List ℕ)) (batch : Waiting)
+      (end : List ℕ) → end ≡ end_of form (chosen query entries)
+      → MatchResult r (λ _. HasGiven old new batch (last_texts ++ end))
+      (λ fault. WroteSome old new (last_texts ++ end) fault.written)
+      → OnOk r (batch.bytes ≡ [])
+      → MatchResult r
+      (λ _. WroteToEnd query form (record { before = old; after = new }) entries)
+      (λ fault. WrotePart query form (record { before = old; after = new }) entries fault.written)
+  closed (Ok a) new batch end is k empty = record {
+    output = last_texts;
+    is_output = all-output;
+    written = subst (Appends old new)
+        (sym (k.whole ∙ ap (λ l. k.done ++ l) empty ∙ append-nil k.done)
+        ∙ ap (λ l. last_texts ++ l) is) k.written.appended;
+  }
+  closed (Err fault) new batch end is k empty = part-closed new end fault.written is k
 
   pub counted-all : (passed : ℕ) → passed ≡ before.passed
       → min (passed + length before.held.entries.items) (2 ^ 64 - 1)

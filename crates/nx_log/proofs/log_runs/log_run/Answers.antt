@@ -88,7 +88,7 @@ returns g c =
       within = r.2;
       answer = finished-answer c.args.query.now c.args.form d n r.0 r.2 c.args.damaged c.end.result
           r.3.0
-          (c.end.ensures.ended c.args.query.now c.args.form c.args.damaged old told r.0 r.2 r.3.1);
+          (c.end.ensures.ended c.args.query.now c.args.damaged old told r.0 r.2 r.3.1);
       unread = λ e. absurd (c.end.ensures.unread e);
       read_failed = λ one. elim (c.in_ok-read_log.ensures.read_failed one) [
         | inl e ↦ absurd (Ok-not_err _ _ e)

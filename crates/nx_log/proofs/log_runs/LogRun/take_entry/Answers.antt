@@ -170,22 +170,22 @@ returns-in-All-clause-reading g c =
     let r = c.requires.reading in
     (r.0 ++ c.args.part.now, r.1, r.2, c.in-All.ensures r.0 r.1 r.2 r.3)
 
-pub returns-in_err-finish-in-Refused-clause-taken
-    : goal.returns-in_err-finish-in-Refused-clause-taken
-returns-in_err-finish-in-Refused-clause-taken g c = λ damaged old told bytes within h.
-    let p = err_from_is_err_and c.from_residual-in_err-finish-in-Refused.result
-    c.from_residual-in_err-finish-in-Refused.ensures.1 in
+pub returns-in_err-close-in-Refused-clause-taken
+    : goal.returns-in_err-close-in-Refused-clause-taken
+returns-in_err-close-in-Refused-clause-taken g c = λ damaged old told bytes within h.
+    let p = err_from_is_err_and c.from_residual-in_err-close-in-Refused.result
+    c.from_residual-in_err-close-in-Refused.ensures.1 in
     rw p.1 (rw p.2 (part-at c.args.query.now c.args.form damaged old c.args.self.now _ _ bytes h
     c.args.part.now _ _
-    (c.in_err-finish-in-Refused.ensures.written c.args.query.now c.args.form old
+    (c.in_err-close-in-Refused.ensures.written c.args.query.now old
     (entries_in h.stretches ++ h.last) h.given)))
 
-pub returns-in_ok-finish-in-Refused-clause-taken
-    : goal.returns-in_ok-finish-in-Refused-clause-taken
-returns-in_ok-finish-in-Refused-clause-taken g c = λ damaged old told bytes within h.
+pub returns-in_ok-close-in-Refused-clause-taken
+    : goal.returns-in_ok-close-in-Refused-clause-taken
+returns-in_ok-close-in-Refused-clause-taken g c = λ damaged old told bytes within h.
     stops c.args.query.now c.args.form damaged old c.args.self.now _ _ bytes h c.args.part.now
     c.in-Bad.field-0.line _ c.in-Refused.is (c.in-Bad.ensures h.rest h.last h.torn h.at)
-    (c.in_ok-finish-in-Refused.ensures.written c.args.query.now c.args.form old
+    (c.in_ok-close-in-Refused.ensures.written c.args.query.now old
     (entries_in h.stretches ++ h.last) h.given)
 
 pub returns-in-PassedOver-clause-taken : goal.returns-in-PassedOver-clause-taken

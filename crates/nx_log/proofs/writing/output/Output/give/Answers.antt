@@ -1,7 +1,8 @@
 use Rattle.std.proofs.Common.{sym, ap, ◌∙◌, subst}
 use Rattle.nx_log.specs.Query.{admits}
 use Rattle.nx_log.specs.Json.{IsJsonLine}
-use Rattle.nx_log.specs.LogRun.{IsInForm}
+use Rattle.nx_log.specs.LogRun.{IsBehindGate, IsInForm}
+use Rattle.nx_log.proofs.lemmas.reading.Entries.{entry_bounded}
 use Rattle.nx_log.proofs.lemmas.runs.LogRuns.{view-is}
 use Rattle.nx_log.proofs.lemmas.runs.Outputs.{given-same, head-said}
 use Rattle.nx_log.proofs.writing.output.Output.give.Goals as goal
@@ -38,6 +39,23 @@ returns-in-Json-clause-given g c = λ one old entries is h.
     (subst (λ o. IsJsonLine o c.json_line.result.items) same c.json_line.ensures) in
     c.take-in-Json.ensures.given c.args.form one old entries (head-said view one same v.errors)
     (subst (λ f. IsInForm f one line) (sym c.in-Json.is) spelled)
+    (ap (admits c.args.query.now) (sym same)
+    ∙ sym (c.admits.ensures view.text.now v.errors v.characters)
+    ∙ c.if-not-admits.false) h
+
+pub kept_text-requires : goal.kept_text-requires
+kept_text-requires g c = entry_bounded c.requires.whole.0 c.args.bytes.now c.requires.whole.1
+
+pub returns-in-Kept-clause-given : goal.returns-in-Kept-clause-given
+returns-in-Kept-clause-given g c = λ one old entries is h.
+    let view = c.whole_entry-view.result in
+    let v = c.whole_entry-view.ensures in
+    let same = view-is one c.args.bytes.now view is v in
+    let text = c.as_slice-in-Kept.result.now in
+    let spelled : IsBehindGate one text =
+    (c.args.bytes.now, is, c.as_slice-in-Kept.ensures.value ∙ c.kept_text.ensures) in
+    c.take-in-Kept.ensures.given c.args.form one old entries (head-said view one same v.errors)
+    (subst (λ f. IsInForm f one text) (sym c.in-Kept.is) spelled)
     (ap (admits c.args.query.now) (sym same)
     ∙ sym (c.admits.ensures view.text.now v.errors v.characters)
     ∙ c.if-not-admits.false) h
