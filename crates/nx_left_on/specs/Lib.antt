@@ -5,3 +5,4 @@ pub mod LeftOn
 pub mod ReadBack
 pub mod Example
 pub mod Bounds
+pub mod Written

@@ -5,3 +5,4 @@
 pub mod bounds;
 pub mod laws;
 pub mod reading;
+pub mod writing;

@@ -3,3 +3,4 @@ pub mod Among
 pub mod Quiet
 pub mod Reaches
 pub mod Rests
+pub mod Written
