@@ -236,7 +236,7 @@ pub record LacksKind (arguments : List Text) : Type 0 where
   pub no_kind : (kind : DamageKind) → ¬ IsKind values kind
 
 -- clap takes the arguments, which enter the command `log`, and an option was given a text that
--- names nothing, as this report says
+-- names nothing, or two options exclude each other, as this report says
 pub record LacksValue (arguments : List Text) (report : Text) : Type 0 where
   pub taken : fault_of navtex arguments ≡ []
   pub values : List Row
@@ -273,12 +273,13 @@ pub record LacksMoment (arguments : List Text) (report : Text) : Type 0 where
   pub takes : TakesMoment name
   pub reported : IsReportedMoment values report
 
--- a text that was given as a value says nothing, as this report says: an option's, or MOMENT
+-- a text that was given as a value says nothing, as this report says: an option's, or MOMENT; or
+-- options exclude each other
 abbrev pub HasUnfitValue : List Text → Text → Type 0
 HasUnfitValue arguments report = LacksValue arguments report ⊎ LacksMoment arguments report
 
--- the arguments are refused, by clap, for their station, for their kind of damage, or for the value
--- of an option or of MOMENT
+-- the arguments are refused, by clap, for their station, for their kind of damage, for the value of
+-- an option or of MOMENT, or for options that exclude each other
 abbrev pub IsRefused : List Text → Type 0
 IsRefused arguments =
     IsRefusedByClap arguments

@@ -1,5 +1,5 @@
 -- What the options of `navtex log` ask for, as clap reads them (this profile).
-use Rattle.std.specs.Prelude.{◌≡◌, ◌∷◌, ◌+◌, ◌++◌, ⊤, ℕ, Bool, List, [], Option, Some, None, codes, true, false}
+use Rattle.std.specs.Prelude.{◌≡◌, ◌⊎◌, ◌∷◌, ◌+◌, ◌++◌, ⊤, ℕ, Bool, List, [], Option, Some, None, codes, true, false}
 use Rattle.std.specs.FinSet as set
 use Rattle.std.specs.Option.{option_map_or}
 use Rattle.std.specs.Ordering.{nat_cmp}
@@ -16,6 +16,8 @@ use Rattle.nx_log.specs.declared.damage.Damaged.TheVariants as damage
 use Rattle.nx_log.specs.declared.writing.form.Form.{Form}
 use Rattle.nx_log.specs.declared.writing.form.Form.TheVariants as form
 use Rattle.nx_log.specs.declared.queries.query.Query.{Query}
+use Rattle.nx_program.specs.declared.log_arguments.Clash.{Clash}
+use Rattle.nx_program.specs.declared.log_arguments.Clash.TheVariants.{JsonAndKeep}
 use Rattle.nx_program.specs.declared.log_arguments.LogOption.{LogOption}
 use Rattle.nx_program.specs.declared.log_arguments.LogOption.TheVariants.{Channel as OfChannel}
 use Rattle.nx_program.specs.declared.log_arguments.LogOption.TheVariants.{Since, Station, Subject}
@@ -71,7 +73,8 @@ log_tree name =
     let with_good = with_rule with_until (flag_rule (codes "good")) in
     let with_last = with_rule with_good (flag_rule (codes "last")) in
     let with_json = with_rule with_last (flag_rule (codes "json")) in
-    with_rule with_json (flag_rule (codes "salvage"))
+    let with_keep = with_rule with_json (flag_rule (codes "keep")) in
+    with_rule with_keep (flag_rule (codes "salvage"))
 
 -- the text names these letters and no others
 abbrev pub NamesLetters : Text → set.FinSet nat_cmp → Type 0
@@ -118,13 +121,18 @@ pub record IsQuery (values : List Row) (query : Query) : Type 0 where
   pub good : query.good ≡ has_flag (codes "good") values
   pub last : query.last ≡ has_flag (codes "last") values
 
--- the form that they ask for
-abbrev pub form_of : Bool → Form
-form_of true = form.Json
-form_of false = form.Log
+-- the form that they ask for, of which one needs `json`, and one `keep`; there is none for both
+abbrev pub form_of : Bool → Bool → Option Form
+form_of false false = Some form.Log
+form_of true false = Some form.Json
+form_of false true = Some form.Kept
+form_of true true = None
+
+abbrev pub form_asked : List Row → Option Form
+form_asked values = form_of (has_flag (codes "json") values) (has_flag (codes "keep") values)
 
 abbrev pub IsForm : List Row → Form → Type 0
-IsForm values form = form ≡ form_of (has_flag (codes "json") values)
+IsForm values form = form_asked values ≡ Some form
 
 -- what they ask to do with bytes that are not of a log
 abbrev pub damaged_of : Bool → Damaged
@@ -156,8 +164,29 @@ value_report option text =
     ++ newline ∷ newline ∷ codes "For more information, try '--help'." ++ newline ∷ []
 
 -- an option was given a text that names nothing, and this is its report
-pub record IsReported (values : List Row) (report : Text) : Type 0 where
+pub record IsReportedValue (values : List Row) (report : Text) : Type 0 where
   pub option : LogOption
   pub text : Text
   pub unfit : IsUnfit values option text
   pub told : report ≡ value_report option text
+
+-- two options that exclude each other were given
+abbrev pub HasClash : List Row → Clash → Type 0
+HasClash values JsonAndKeep =
+    (has_flag (codes "json") values ≡ true) × (has_flag (codes "keep") values ≡ true)
+
+-- the text that reports it, as clap reports one
+abbrev pub clash_report : Clash → Text
+clash_report JsonAndKeep =
+    codes "error: the argument '--json' cannot be used with '--keep'" ++ newline ∷ newline
+    ∷ codes "For more information, try '--help'." ++ newline ∷ []
+
+-- they were given, and this is their report
+pub record IsReportedClash (values : List Row) (report : Text) : Type 0 where
+  pub clash : Clash
+  pub given : HasClash values clash
+  pub told : report ≡ clash_report clash
+
+-- the options ask for nothing, as this report says
+abbrev pub IsReported : List Row → Text → Type 0
+IsReported values report = IsReportedValue values report ⊎ IsReportedClash values report

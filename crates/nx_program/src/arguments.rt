@@ -102,7 +102,8 @@ pub enum ArgumentsFault {
     Station,
     /// The kind of damage is none of those that there are.
     Kind,
-    /// The value of an option, or MOMENT, says nothing, as this text says.
+    /// The value of an option, or MOMENT, says nothing, or options exclude each other, as this text
+    /// says.
     Value(String),
     /// Memory ran out while the arguments were read.
     Memory(AllocError),
@@ -114,8 +115,8 @@ const MOMENT_TIP: &str =
 
 /// The call that the arguments name, of which the first is the program's name. `Help` and `Version`
 /// where they ask for these, `Refused` where clap doesn't understand them, `Station` and `Kind`
-/// where that value is none, `Value` where an option's value or MOMENT says nothing, and `Memory`
-/// where it ran out.
+/// where that value is none, `Value` where an option's value or MOMENT says nothing or options
+/// exclude each other, and `Memory` where it ran out.
 pub fn call_of<'a, S: AsStr>(alloc: Global, arguments: &'a [S]) -> Result<Call<'a>, ArgumentsFault>
     ensures named { IfOk result (Names (map S.text arguments.now)) }
     ensures refused { IfErr result (ExplainsArguments (map S.text arguments.now)) }
@@ -172,19 +173,24 @@ fn moment_report(alloc: Global, text: &str) -> Result<String, AllocError>
     Ok(report)
 }
 
-/// The call of the options of `log`. `Value` where the value of one of them names nothing.
+/// The call of the options of `log`. `Value` where the value of one of them names nothing, or two
+/// exclude each other.
 fn log_call<'a>(alloc: Global, values: &ArgMatches) -> Result<Call<'a>, ArgumentsFault>
     ensures named { IfOk result (λ call. (command_name call ≡ codes "log")
         × HasValues call (rows_of (found_of values.now))) }
     ensures refused { IfErr result (ExplainsOptions (rows_of (found_of values.now))) }
 {
-    match query_in(values) {
-        Ok(query) => Ok(Call::Log {
+    let query = match query_in(values) {
+        Ok(query) => query,
+        Err(option) => return Err(ArgumentsFault::Value(unfit_report(alloc, values, option)?)),
+    };
+    match form_in(values) {
+        Ok(form) => Ok(Call::Log {
             query,
-            form: form_in(values),
+            form,
             damaged: damaged_in(values),
         }),
-        Err(option) => Err(ArgumentsFault::Value(unfit_report(alloc, values, option)?)),
+        Err(clash) => Err(ArgumentsFault::Value(clash.report(alloc)?)),
     }
 }
 

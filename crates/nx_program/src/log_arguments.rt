@@ -3,8 +3,8 @@
 ghost use Rattle.std.specs.Prelude.{◌≡◌, IfErr, IfNone, IfOk, IfSome, option_map, string_bytes};
 ghost use Rattle.clap.specs.Words.{found_of, rows_of};
 ghost use Rattle.nx_log.specs.Times.{IsSince, IsUntil};
-ghost use Rattle.nx_program.specs.LogArguments.{Asks, IsDamaged, IsForm, IsQuery, IsReported, NamesChannel, NamesLetters};
-ghost use Rattle.nx_program.specs.LogArguments.{given_to, has_flag, option_name};
+ghost use Rattle.nx_program.specs.LogArguments.{Asks, HasClash, IsDamaged, IsForm, IsQuery, IsReported, NamesChannel, NamesLetters};
+ghost use Rattle.nx_program.specs.LogArguments.{clash_report as the_clash_report, given_to, has_flag, option_name};
 ghost use Rattle.nx_program.specs.LogArguments.{value_name as the_value_name, value_report as the_report};
 ghost use Rattle.nx_program.specs.LogArguments.{value_wanted as the_value_wanted};
 ghost use Rattle.nx_program.specs.private.LogReading.{IsUnfitAs, IsWrong};
@@ -29,6 +29,13 @@ pub enum LogOption {
     Since,
     /// The last moment.
     Until,
+}
+
+/// Options of `log` that exclude each other.
+#[derive(Clone, Copy, Debug, PartialEq, Eq)]
+pub enum Clash {
+    /// `--json` and `--keep`: entries are written in one form.
+    JsonAndKeep,
 }
 
 /// What a TIME has to be.
@@ -105,6 +112,20 @@ impl LogOption {
         report.push_str(self.value_name())?;
         report.push_str(">'\n\n  tip: ")?;
         report.push_str(self.value_wanted())?;
+        report.push_str("\n\nFor more information, try '--help'.\n")?;
+        Ok(report)
+    }
+}
+
+impl Clash {
+    /// The text that reports that both were given.
+    pub fn report(self, alloc: Global) -> Result<String, AllocError>
+        ensures { IfOk result (λ report. string_bytes report ≡ the_clash_report self) }
+    {
+        let mut report = String::new(alloc);
+        report.push_str(match self {
+            Clash::JsonAndKeep => "error: the argument '--json' cannot be used with '--keep'",
+        })?;
         report.push_str("\n\nFor more information, try '--help'.\n")?;
         Ok(report)
     }
@@ -212,14 +233,16 @@ pub fn query_in(values: &ArgMatches) -> Result<Query, LogOption>
     })
 }
 
-/// The form that the options ask for.
-pub fn form_in(values: &ArgMatches) -> Form
-    ensures { IsForm (rows_of (found_of values.now)) result }
+/// The form that the options ask for. `Err` where they ask for two.
+pub fn form_in(values: &ArgMatches) -> Result<Form, Clash>
+    ensures asked { IfOk result (IsForm (rows_of (found_of values.now))) }
+    ensures clash { IfErr result (HasClash (rows_of (found_of values.now))) }
 {
-    if is_flagged(values, "json") {
-        Form::Json
-    } else {
-        Form::Log
+    match (is_flagged(values, "json"), is_flagged(values, "keep")) {
+        (false, false) => Ok(Form::Log),
+        (true, false) => Ok(Form::Json),
+        (false, true) => Ok(Form::Kept),
+        (true, true) => Err(Clash::JsonAndKeep),
     }
 }
 

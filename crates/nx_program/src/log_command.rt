@@ -44,6 +44,10 @@ With --json each entry is one line, an object with the keys channel, characters,
 end (full, cut or long), errors, good, identity, moment, number, station,
 subject, text and time.
 
+With --keep a log is written as watch keeps it, with these entries: a newline
+before each, and a space behind the last. So a log is shortened, or several are
+joined, and the next watch goes on from it. Not with --json.
+
 With --last an entry is left out where one behind it, of those that the other
 options choose, has its identity and channel, comes less than 66 hours later, and
 isn't worse: an entry is worse where it isn't full and the other is, or else
@@ -68,6 +72,9 @@ pub const LOG_EXAMPLE: &str = "Example:
 
 /// What help says of `--last`.
 const LAST_HELP: &str = "The last entry of each message alone";
+
+/// What help says of `--keep`.
+const KEEP_HELP: &str = "The log of a watch, with these entries";
 
 /// What help says of `--salvage`.
 const SALVAGE_HELP: &str = "Pass over what is not of a log, and go on behind it";
@@ -120,5 +127,6 @@ pub fn log_command<'a>(alloc: Global, name: &'a str) -> Result<Command<'a>, Allo
     let with_good = with_flag(alloc, with_until, "good", "Good entries alone")?;
     let with_last = with_flag(alloc, with_good, "last", LAST_HELP)?;
     let with_json = with_flag(alloc, with_last, "json", "Each entry as a line of JSON")?;
-    with_flag(alloc, with_json, "salvage", SALVAGE_HELP)
+    let with_keep = with_flag(alloc, with_json, "keep", KEEP_HELP)?;
+    with_flag(alloc, with_keep, "salvage", SALVAGE_HELP)
 }

@@ -5,8 +5,9 @@ ghost use Rattle.clap.specs.Words.{Text};
 ghost use Rattle.nx_fec.specs.declared.air_files.channel.Channel.TheVariants.{One};
 ghost use Rattle.nx_log.specs.declared.damage.Damaged.TheVariants as damage;
 ghost use Rattle.nx_log.specs.declared.writing.form.Form.TheVariants as form;
-ghost use Rattle.nx_program.specs.LogArguments.{all_entries, value_report};
+ghost use Rattle.nx_program.specs.LogArguments.{all_entries, clash_report, value_report};
 ghost use Rattle.nx_program.specs.Arguments.{IsRefusedByClap, LacksValue, Names};
+ghost use Rattle.nx_program.specs.declared.log_arguments.Clash.TheVariants.{JsonAndKeep};
 ghost use Rattle.nx_program.specs.declared.log_arguments.LogOption.TheVariants.{Since, Station};
 ghost use Rattle.nx_program.specs.declared.arguments.Call.TheVariants.{Log};
 
@@ -20,6 +21,12 @@ pub fn log_in_examples()
     ensures last { (program : Text)
         → Names (program ∷ codes "log" ∷ codes "--last" ∷ [])
         (Log (record all_entries { last = true }) form.Log damage.Refused) }
+    ensures keep { (program : Text)
+        → Names (program ∷ codes "log" ∷ codes "--keep" ∷ [])
+        (Log all_entries form.Kept damage.Refused) }
+    ensures two_forms { (program : Text)
+        → LacksValue (program ∷ codes "log" ∷ codes "--json" ∷ codes "--keep" ∷ [])
+        (clash_report JsonAndKeep) }
     ensures salvage { (program : Text)
         → Names (program ∷ codes "log" ∷ codes "--salvage" ∷ [])
         (Log all_entries form.Log damage.PassedOver) }

@@ -97,9 +97,40 @@ fn gives_the_last_entries(rt: HostRuntime) {
     }
 }
 
+/// The log of EA01 as a watch keeps it, and of both entries.
+const FIRST_KEPT: &[u8] = b"\n[EA01 2025-01-01 00:40:00 full 0/5]\nTEST\n\n ";
+
+const BOTH_KEPT: &[u8] =
+    b"\n[EA01 2025-01-01 00:40:00 full 0/5]\nTEST\n\n\n[FB02/1 2025-01-01 00:50:00 cut 1/3]\nA*B\n\n ";
+
+#[test]
+fn keeps_entries(rt: HostRuntime) {
+    assert_eq!(rt; FIRST_KEPT.len(), 44);
+    let rows: [(&[&str], &[u8], &[u8]); 6] = [
+        (&["navtex", "log", "--keep"], FIRST, FIRST_KEPT),
+        (&["navtex", "log", "--keep"], BOTH, BOTH_KEPT),
+        (&["navtex", "log", "--keep"], BOTH_KEPT, BOTH_KEPT),
+        (&["navtex", "log", "--keep", "--good"], BOTH, FIRST_KEPT),
+        (&["navtex", "log", "--keep", "--last"], BOTH, BOTH_KEPT),
+        (&["navtex", "log", "--keep", "--channel=2"], BOTH, b""),
+    ];
+    for (arguments, log, kept) in rows {
+        let row = arguments[arguments.len() - 1];
+        expect_output(&rt, rt.alloc(), row, arguments, log, kept);
+    }
+    let bad = join(&rt, rt.alloc(), &[FIRST, b"TEST\n"]);
+    let line = b"navtex: line 4 is not of a log\n";
+    let ended = run_on(rt.alloc(), &["navtex", "log", "--keep"], &bad);
+    ended.expect(&rt, "a bad log", 2, FIRST_KEPT, line);
+    let passed = b"navtex: line 4 is not of a log, and was passed over\n\
+        navtex: line 4 is not of a log\n";
+    let ended = run_on(rt.alloc(), &["navtex", "log", "--keep", "--salvage"], &bad);
+    ended.expect(&rt, "mended", 2, FIRST_KEPT, passed);
+}
+
 #[test]
 fn refuses_values_and_bytes(rt: HostRuntime) {
-    static ROWS: [(&[&str], u8, &str); 7] = [
+    static ROWS: [(&[&str], u8, &str); 8] = [
         (
             &["navtex", "log", "--since", "now"],
             64,
@@ -124,6 +155,11 @@ fn refuses_values_and_bytes(rt: HostRuntime) {
             &["navtex", "log", "--subject="],
             64,
             "error: invalid value '' for '--subject <LETTERS>'\n\n  tip: LETTERS are one letter A to Z or more, as AE\n\nFor more information, try '--help'.\n",
+        ),
+        (
+            &["navtex", "log", "--keep", "--json"],
+            64,
+            "error: the argument '--json' cannot be used with '--keep'\n\nFor more information, try '--help'.\n",
         ),
         (&["navtex", "log"], 2, "navtex: line 1 is not of a log\n"),
         (

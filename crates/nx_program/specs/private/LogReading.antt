@@ -16,8 +16,8 @@ IsWrong {T} Means values option wrong =
 abbrev pub IsUnfitAs : List Row → LogOption → Type 0
 IsUnfitAs values option = (text : Text) × IsUnfit values option text
 
--- why the options make no query: one of them was given a text that names nothing, which the report
--- tells; or memory ran out
+-- why the options ask for nothing: one of them was given a text that names nothing, or two exclude
+-- each other, which the report tells; or memory ran out
 abbrev pub ExplainsOptions : List Row → ArgumentsFault → Type 0
 ExplainsOptions values (Value report) = IsReported values (string_bytes report)
 ExplainsOptions values (Memory want) = ⊤

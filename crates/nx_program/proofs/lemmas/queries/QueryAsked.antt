@@ -1,6 +1,6 @@
 -- What the options of `log` ask for: at most one query, and an option that names nothing where
 -- there is none.
-use Rattle.std.proofs.Common.{◌≡◌, ◌≢◌, ◌∙◌, ◌⊎◌, ◌+◌, ℕ, Bool, List, [], ◌∷◌, Option, Some, None}
+use Rattle.std.proofs.Common.{◌≡◌, ◌≢◌, ◌∙◌, ◌⊎◌, ◌+◌, ℕ, Bool, true, false, List, [], ◌∷◌, Option, Some, None}
 use Rattle.std.proofs.Common.{IfSome, ap, codes, inl, inr, length, refl, sym}
 use Rattle.std.specs.FinSet as set
 use Rattle.std.specs.Cmp.{nat_cmp_total}
@@ -17,10 +17,13 @@ use Rattle.nx_log.specs.declared.damage.Damaged.{Damaged}
 use Rattle.nx_log.specs.declared.writing.form.Form.{Form}
 use Rattle.nx_log.specs.declared.queries.query.Query.{Query}
 use Rattle.nx_memory.proofs.lemmas.Letters.{contains-insert, contains-none}
+use Rattle.nx_program.specs.declared.log_arguments.Clash.{Clash}
+use Rattle.nx_program.specs.declared.log_arguments.Clash.TheVariants.{JsonAndKeep}
 use Rattle.nx_program.specs.declared.log_arguments.LogOption.{LogOption}
 use Rattle.nx_program.specs.declared.log_arguments.LogOption.TheVariants as option
-use Rattle.nx_program.specs.LogArguments.{Asks, IsDamaged, IsForm, IsQuery, IsUnfit, NamesChannel}
-use Rattle.nx_program.specs.LogArguments.{NamesLetters, damaged_of, form_of, given_to, has_flag}
+use Rattle.nx_program.specs.LogArguments.{Asks, HasClash, IsDamaged, IsForm, IsQuery, IsUnfit}
+use Rattle.nx_program.specs.LogArguments.{NamesChannel, NamesLetters, damaged_of, form_asked}
+use Rattle.nx_program.specs.LogArguments.{form_of, given_to, has_flag}
 use Rattle.nx_program.specs.declared.arguments.Call.{Call}
 use Rattle.nx_program.proofs.lemmas.arguments.CallValues.{IsDecided, differ}
 use Rattle.nx_program.proofs.lemmas.Known.{at_most, both, each, same_text}
@@ -203,12 +206,38 @@ query_not_unfit rows query option.Since text is unfit =
 query_not_unfit rows query option.Until text is unfit =
     asks-nothing IsUntil _ _ is.until (text, unfit.given, unfit.nothing)
 
+-- the forms exclude each other
+abbrev pub IsAnyClash : List Row → Type 0
+IsAnyClash rows = (clash : Clash) × HasClash rows clash
+
+both-forms : (json keep : Bool) → form_of json keep ≡ None → (json ≡ true) × (keep ≡ true)
+both-forms true true e = (refl, refl)
+both-forms true false e = absurd (cc)
+both-forms false true e = absurd (cc)
+both-forms false false e = absurd (cc)
+
+pub no_form : (rows : List Row) → form_asked rows ≡ None → IsAnyClash rows
+no_form rows none =
+    (JsonAndKeep, both-forms (has_flag (codes "json") rows) (has_flag (codes "keep") rows) none)
+
+pub form_not_clash : (rows : List Row) (form : Form) (clash : Clash) → IsForm rows form
+    → HasClash rows clash → ⊥
+form_not_clash rows form JsonAndKeep is clash =
+    let none : form_asked rows ≡ None = ap (λ b. form_of b (has_flag (codes "keep") rows)) clash.0
+    ∙ ap (form_of true) clash.1 in
+    let bad : None ≡ Some form = sym none ∙ is in
+    absurd (cc)
+
 -- the call of a query, a form and what is done with damaged bytes
+abbrev with_form : (Form → Call) → Option Form → Option Call
+with_form make None = None
+with_form make (Some form) = Some (make form)
+
 abbrev made_of : (make : Query → Form → Damaged → Call) (rows : List Row)
     → ((query : Query) × IsQuery rows query) ⊎ IsAnyUnfit rows → Option Call
 made_of make rows (inl is) =
-    Some (make is.0 (form_of (has_flag (codes "json") rows))
-    (damaged_of (has_flag (codes "salvage") rows)))
+    with_form (λ form. make is.0 form (damaged_of (has_flag (codes "salvage") rows)))
+    (form_asked rows)
 made_of make rows (inr unfit) = None
 
 abbrev pub query_call : (Query → Form → Damaged → Call) → List Row → Option Call
@@ -222,7 +251,9 @@ query_call-only make rows query form damaged is is_form is_damaged = go (query_o
   where
     go : (d : ((query : Query) × IsQuery rows query) ⊎ IsAnyUnfit rows)
         → made_of make rows d ≡ Some (make query form damaged)
-    go (inl found) = rw (query_once rows found.0 query found.1 is, ← is_form, ← is_damaged) refl
+    go (inl found) =
+        ap (with_form (λ f. make found.0 f (damaged_of (has_flag (codes "salvage") rows)))) is_form
+        ∙ (rw (query_once rows found.0 query found.1 is, ← is_damaged) refl)
     go (inr unfit) = absurd (query_not_unfit rows query unfit.0 unfit.1 is unfit.2)
 
 pub query_call-is : (make : Query → Form → Damaged → Call) (rows : List Row) (P : Call → Type 0)
@@ -231,13 +262,19 @@ pub query_call-is : (make : Query → Form → Damaged → Call) (rows : List Ro
     → IfSome (query_call make rows) P
 query_call-is make rows P has = go (query_or_unfit rows)
   where
+    of : (query : Query) → IsQuery rows query → (asked : Option Form) → form_asked rows ≡ asked
+        → IfSome (with_form (λ form. make query form
+        (damaged_of (has_flag (codes "salvage") rows))) asked) P
+    of query is None e = tt
+    of query is (Some form) e =
+        has query form (damaged_of (has_flag (codes "salvage") rows)) is e refl
+
     go : (d : ((query : Query) × IsQuery rows query) ⊎ IsAnyUnfit rows)
         → IfSome (made_of make rows d) P
-    go (inl found) = has found.0 (form_of (has_flag (codes "json") rows))
-        (damaged_of (has_flag (codes "salvage") rows)) found.1 refl refl
+    go (inl found) = of found.0 found.1 (form_asked rows) refl
     go (inr unfit) = tt
 
--- where there is such a call, there is a query
+-- where there is such a call, there is a query, and a form
 pub query_call-query : (make : Query → Form → Damaged → Call) (rows : List Row) (call : Call)
     → query_call make rows ≡ Some call → (query : Query) × IsQuery rows query
 query_call-query make rows call made = go (query_or_unfit rows) made
@@ -245,4 +282,20 @@ query_call-query make rows call made = go (query_or_unfit rows) made
     go : (d : ((query : Query) × IsQuery rows query) ⊎ IsAnyUnfit rows)
         → made_of make rows d ≡ Some call → (query : Query) × IsQuery rows query
     go (inl found) e = found
+    go (inr unfit) e = absurd (cc)
+
+pub query_call-form : (make : Query → Form → Damaged → Call) (rows : List Row) (call : Call)
+    → query_call make rows ≡ Some call → (form : Form) × IsForm rows form
+query_call-form make rows call made = go (query_or_unfit rows) made
+  where
+    of : (query : Query) (asked : Option Form) → form_asked rows ≡ asked
+        → with_form (λ form. make query form (damaged_of (has_flag (codes "salvage") rows))) asked
+        ≡ Some call
+        → (form : Form) × IsForm rows form
+    of query None e is = absurd (cc)
+    of query (Some form) e is = (form, e)
+
+    go : (d : ((query : Query) × IsQuery rows query) ⊎ IsAnyUnfit rows)
+        → made_of make rows d ≡ Some call → (form : Form) × IsForm rows form
+    go (inl found) e = of found.0 (form_asked rows) refl e
     go (inr unfit) e = absurd (cc)

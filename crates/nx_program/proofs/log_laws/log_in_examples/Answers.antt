@@ -16,6 +16,7 @@ use Rattle.nx_envelope.specs.Moment.{IsShownAs}
 use Rattle.nx_log.proofs.lemmas.texts.TimeTexts.{shown-length, time-long}
 use Rattle.nx_log.specs.Times.{IsSince, WritesTime}
 use Rattle.nx_program.specs.LogArguments.{NamesLetters}
+use Rattle.nx_program.specs.declared.log_arguments.Clash.TheVariants.{JsonAndKeep}
 use Rattle.nx_program.specs.declared.log_arguments.LogOption.TheVariants.{Since, Station}
 use Rattle.nx_program.proofs.lemmas.arguments.GivenValues.{given}
 use Rattle.nx_program.proofs.lemmas.arguments.Arguments.{conflict_is_refusal}
@@ -32,7 +33,9 @@ off name = record {
 }
 
 abbrev all_off : List Row
-all_off = off (codes "good") ∷ off (codes "last") ∷ off (codes "json") ∷ off (codes "salvage") ∷ []
+all_off =
+    off (codes "good") ∷ off (codes "last") ∷ off (codes "json") ∷ off (codes "keep")
+    ∷ off (codes "salvage") ∷ []
 
 first_second : IsShownAs 1735689600 (codes "2025-01-01 00:00:00")
 first_second = record {
@@ -148,7 +151,7 @@ returns c = record {
   flags = λ program. record {
     taken = refl;
     values = given (codes "json") (codes "true") ∷ given (codes "good") (codes "true")
-        ∷ off (codes "last") ∷ off (codes "salvage") ∷ [];
+        ∷ off (codes "last") ∷ off (codes "keep") ∷ off (codes "salvage") ∷ [];
     command = refl;
     given = (
       record {
@@ -167,7 +170,7 @@ returns c = record {
   last = λ program. record {
     taken = refl;
     values = given (codes "last") (codes "true") ∷ off (codes "good") ∷ off (codes "json")
-        ∷ off (codes "salvage") ∷ [];
+        ∷ off (codes "keep") ∷ off (codes "salvage") ∷ [];
     command = refl;
     given = (
       record {
@@ -183,10 +186,36 @@ returns c = record {
       refl,
     );
   };
+  keep = λ program. record {
+    taken = refl;
+    values = given (codes "keep") (codes "true") ∷ off (codes "good") ∷ off (codes "last")
+        ∷ off (codes "json") ∷ off (codes "salvage") ∷ [];
+    command = refl;
+    given = (
+      record {
+        stations = tt;
+        subjects = tt;
+        channel = tt;
+        since = tt;
+        until = tt;
+        good = refl;
+        last = refl;
+      },
+      refl,
+      refl,
+    );
+  };
+  two_forms = λ program. record {
+    taken = refl;
+    values = given (codes "json") (codes "true") ∷ given (codes "keep") (codes "true")
+        ∷ off (codes "good") ∷ off (codes "last") ∷ off (codes "salvage") ∷ [];
+    entered = refl;
+    reported = inr (record { clash = JsonAndKeep; given = (refl, refl); told = refl });
+  };
   salvage = λ program. record {
     taken = refl;
     values = given (codes "salvage") (codes "true") ∷ off (codes "good") ∷ off (codes "last")
-        ∷ off (codes "json") ∷ [];
+        ∷ off (codes "json") ∷ off (codes "keep") ∷ [];
     command = refl;
     given = (
       record {
@@ -278,34 +307,34 @@ returns c = record {
     taken = refl;
     values = given (codes "since") (codes "2025") ∷ all_off;
     entered = refl;
-    reported = record {
+    reported = inl (record {
       option = Since;
       text = codes "2025";
       unfit = record { given = refl; nothing = year_is_none };
       told = refl;
-    };
+    });
   };
   no_time = λ program. record {
     taken = refl;
     values = given (codes "since") (codes "now") ∷ all_off;
     entered = refl;
-    reported = record {
+    reported = inl (record {
       option = Since;
       text = codes "now";
       unfit = record { given = refl; nothing = now_is_none };
       told = refl;
-    };
+    });
   };
   small_letter = λ program. record {
     taken = refl;
     values = given (codes "station") (codes "e") ∷ all_off;
     entered = refl;
-    reported = record {
+    reported = inl (record {
       option = Station;
       text = codes "e";
       unfit = record { given = refl; nothing = small_e_is_none };
       told = refl;
-    };
+    });
   };
   flag_twice = λ program. (kind.ArgumentConflict, conflict_is_refusal, inl refl);
   option_twice = λ program. (kind.ArgumentConflict, conflict_is_refusal, inl refl);
