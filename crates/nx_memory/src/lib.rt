@@ -14,6 +14,8 @@ pub use memories::entry::MemoryEntry;
 pub use memories::listed::Listed;
 pub use memories::plain_recall::PlainRecall;
 pub use memories::recall::{CAPACITY, LIFETIME, Recall};
+pub use memories::renewing::Renewing;
+pub use memories::renewing_recall::RenewingRecall;
 pub use memories::ring_recall::RingRecall;
 pub use selection::{Selection, Vital, is_vital_subject};
 pub use state::saved::Saved;

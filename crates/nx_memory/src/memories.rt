@@ -5,4 +5,6 @@ pub(crate) mod listed;
 pub(crate) mod moment_table;
 pub(crate) mod plain_recall;
 pub(crate) mod recall;
+pub(crate) mod renewing;
+pub(crate) mod renewing_recall;
 pub(crate) mod ring_recall;

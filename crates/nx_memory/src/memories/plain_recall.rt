@@ -1,11 +1,10 @@
-//! A memory that keeps its entries in order in a fixed array.
+//! A memory that keeps its entries in order in a fixed array, and enters nothing that it knows.
 
 ghost use Rattle.std.specs.Prelude.{◌≡◌, []};
 
-use crate::memories::entry::MemoryEntry;
 use crate::memories::listed::Listed;
-use crate::memories::recall::{CAPACITY, LIFETIME, Recall};
-use arrayvec::ArrayVec;
+use crate::memories::recall::Recall;
+use crate::memories::renewing_recall::RenewingRecall;
 use nx_envelope::Identity;
 use std::marker::Model;
 
@@ -13,7 +12,7 @@ use std::marker::Model;
 /// it holds nothing else.
 #[derive(Drop)]
 pub struct PlainRecall {
-    entries: ArrayVec<MemoryEntry, CAPACITY>,
+    entries: RenewingRecall,
 }
 
 impl Model for PlainRecall {
@@ -23,11 +22,11 @@ impl Model for PlainRecall {
 
     ghost Value = { List MemoryEntry };
 
-    ghost view = { λ memory. memory.entries.items };
+    ghost view = { λ memory. memory.entries };
 
-    ghost invariant = { λ memory. IsContent memory.entries.items };
+    ghost invariant = { λ memory. IsContent memory.entries };
 
-    ghost inverse = { λ content. record { entries = record { items = content } } };
+    ghost inverse = { λ content. record { entries = content } };
 }
 
 impl PlainRecall {
@@ -37,7 +36,7 @@ impl PlainRecall {
     {
         prove!(size_of::<PlainRecall>() == 3208);
         PlainRecall {
-            entries: ArrayVec::new(),
+            entries: RenewingRecall::new(),
         }
     }
 }
@@ -55,30 +54,25 @@ impl Recall for PlainRecall {
     ghost content = { λ memory. memory };
 
     fn newest(&self) -> Option<u64> {
-        self.entries.as_slice().last().map(|entry| entry.moment)
+        self.entries.newest()
     }
 
     fn knows(&self, identity: &Identity, moment: u64) -> bool {
-        self.entries.as_slice().iter().any(|entry| {
-            entry.identity == *identity && moment.saturating_sub(entry.moment) < LIFETIME
-        })
+        self.entries.knows(identity, moment)
     }
 
     fn enter(&mut self, identity: Identity, moment: u64) {
-        if self.entries.is_full() {
-            self.entries.remove(0);
-        }
-        self.entries.push(MemoryEntry { identity, moment });
+        self.entries.enter(identity, moment);
     }
 }
 
 impl Listed for PlainRecall {
     fn count(&self) -> usize {
-        self.entries.len()
+        self.entries.entries().len()
     }
 
     fn entry(&self, place: usize) -> Option<(Identity, u64)> {
-        let entry = self.entries.as_slice().get(place)?;
+        let entry = self.entries.entries().get(place)?;
         Some((entry.identity, entry.moment))
     }
 }

@@ -1,0 +1,87 @@
+//! A memory in a fixed array, in which what is known can be entered once more.
+
+ghost use Rattle.std.specs.Prelude.{◌≡◌, []};
+ghost use Rattle.nx_memory.specs.Memory.{content_after};
+
+use crate::memories::entry::MemoryEntry;
+use crate::memories::recall::{CAPACITY, LIFETIME, Recall};
+use crate::memories::renewing::Renewing;
+use arrayvec::ArrayVec;
+use nx_envelope::Identity;
+use std::marker::Model;
+
+/// A memory that looks through all its entries, of which several may bear one identity. So it has
+/// nothing that a forgotten entry could take from a later one. Contracts see it as their list,
+/// oldest first, and it holds nothing else.
+#[derive(Drop)]
+pub struct RenewingRecall {
+    entries: ArrayVec<MemoryEntry, CAPACITY>,
+}
+
+impl Model for RenewingRecall {
+    ghost use Rattle.std.specs.Prelude.{List, length, ◌≤◌};
+    ghost use Rattle.nx_memory.specs.declared.memories.entry.MemoryEntry.{MemoryEntry};
+    ghost use Rattle.nx_memory.specs.Memory.{most_entries};
+
+    ghost Value = { List MemoryEntry };
+
+    ghost view = { λ memory. memory.entries.items };
+
+    ghost invariant = { λ memory. length memory.entries.items ≤ most_entries };
+
+    ghost inverse = { λ content. record { entries = record { items = content } } };
+}
+
+impl RenewingRecall {
+    /// A memory with no entry.
+    pub fn new() -> Self
+        ensures { result ≡ [] }
+    {
+        prove!(size_of::<RenewingRecall>() == 3208);
+        RenewingRecall {
+            entries: ArrayVec::new(),
+        }
+    }
+
+    /// The entries, oldest first.
+    pub(crate) fn entries(&self) -> &[MemoryEntry]
+        ensures { result.now ≡ self.now }
+    {
+        self.entries.as_slice()
+    }
+
+    /// Enters the identity with the moment; where there are 200 entries already the oldest is
+    /// forgotten.
+    pub(crate) fn push(&mut self, identity: Identity, moment: u64)
+        ensures { self.new ≡ content_after self.old identity moment }
+    {
+        if self.entries.is_full() {
+            self.entries.remove(0);
+        }
+        self.entries.push(MemoryEntry { identity, moment });
+    }
+}
+
+impl Recall for RenewingRecall {
+    ghost content = { λ memory. memory };
+
+    fn newest(&self) -> Option<u64> {
+        self.entries.as_slice().last().map(|entry| entry.moment)
+    }
+
+    fn knows(&self, identity: &Identity, moment: u64) -> bool {
+        self.entries.as_slice().iter().any(|entry| {
+            entry.identity == *identity && moment.saturating_sub(entry.moment) < LIFETIME
+        })
+    }
+
+    fn enter(&mut self, identity: Identity, moment: u64) {
+        self.push(identity, moment);
+    }
+}
+
+impl Renewing for RenewingRecall {
+    fn renew(&mut self, identity: Identity, moment: u64) {
+        self.push(identity, moment);
+    }
+}
