@@ -9,9 +9,9 @@ use Rattle.nx_sync.specs.Locks.{IsNow, Lock, Now}
 use Rattle.nx_copies.specs.Events.{Event, Start, elements_among, first_setting}
 use Rattle.nx_copies.specs.copies.FoundCopies.{TaggedCopy}
 use Rattle.nx_copies.specs.copies.Log.{Printing}
-use Rattle.nx_copies.specs.copies.Printing.{entry_of, is_good, is_printed, is_remembered}
+use Rattle.nx_copies.specs.copies.Printing.{entry_of, is_better, is_good, is_printed, is_remembered}
 use Rattle.nx_combine.specs.CopyPositions.{PlacedCopy, ended_placed, heard_copies, placed_to_end}
-use Rattle.nx_combine.specs.Families.{CombinedCopy, combined_copies, is_better}
+use Rattle.nx_combine.specs.Families.{CombinedCopy, combined_copies}
 
 -- the two are of one family
 abbrev pub are_of_one_family : CombinedCopy → CombinedCopy → Bool

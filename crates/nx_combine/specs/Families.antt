@@ -1,16 +1,15 @@
 -- Families of copies, and what the copies of one come to together (this profile). The copies are
 -- those of one channel, in the order of their headers.
-use Rattle.std.specs.Prelude.{ℕ, ◌-◌, nat_lt, nat_le, Bool, false, not, ◌&&◌, ◌||◌}
+use Rattle.std.specs.Prelude.{ℕ, ◌-◌, nat_lt, nat_le, Bool, false, not, ◌&&◌}
 use Rattle.std.specs.Prelude.{if◌then◌else◌, List, [], ◌∷◌, ◌++◌, length, position}
 use Rattle.std.specs.Prelude.{slice_get, slice_set, Option, Some, None, unwrap_or}
 use Rattle.std.specs.Option.{option_and_then, option_map, option_map_or}
 use Rattle.nx_code.specs.Reading.{Reception}
-use Rattle.nx_envelope.specs.Copies.{errors_of}
 use Rattle.nx_envelope.specs.Identity.{same_identity}
 use Rattle.nx_envelope.specs.declared.identity.Identity.{Identity}
 use Rattle.nx_memory.specs.Memory.{most_entries, seconds_known}
 use Rattle.nx_copies.specs.copies.FoundCopies.{TaggedCopy}
-use Rattle.nx_copies.specs.copies.Printing.{is_full, is_number_00}
+use Rattle.nx_copies.specs.copies.Printing.{is_better, is_number_00}
 use Rattle.nx_combine.specs.CopyPositions.{HeardCopy}
 use Rattle.nx_combine.specs.Joining.{is_of_one_text, joined}
 use Rattle.nx_combine.specs.PositionEnds.{ending_by, up_to_end}
@@ -89,17 +88,6 @@ families_after families heard =
     option_map_or (joined_at families heard) (index_joined families heard)
     (begun_by heard ∷ families)
     else families
-
--- the one copy has fewer errors than the other
-abbrev pub has_fewer_errors : TaggedCopy → TaggedCopy → Bool
-has_fewer_errors one other = nat_lt (errors_of one.text) (errors_of other.text)
-
--- One copy is better than another where it is full and the other isn't; or where both are full, or
--- neither is, and it has fewer errors.
-abbrev pub is_better : TaggedCopy → TaggedCopy → Bool
-is_better one other =
-    if is_full other.how then is_full one.how && has_fewer_errors one other
-    else is_full one.how || has_fewer_errors one other
 
 -- the copy as the positions of its family give it: they say how it ended, and its text
 unfoldable pub given_by : List Reception → TaggedCopy → TaggedCopy

@@ -5,6 +5,7 @@ ghost use Rattle.nx_code.specs.Reading.{Reception};
 ghost use Rattle.nx_envelope.specs.Copies.{errors_of};
 ghost use Rattle.nx_envelope.specs.declared.identity.Identity.{Identity as TheIdentity};
 ghost use Rattle.nx_copies.specs.copies.FoundCopies.{TaggedCopy, headed_copy};
+ghost use Rattle.nx_copies.specs.copies.Printing as printing;
 ghost use Rattle.nx_combine.specs.Families as spec;
 ghost use Rattle.nx_combine.specs.Combining.{heard_of, meant};
 ghost use Rattle.nx_combine.specs.PositionEnds.{HasRead};
@@ -40,7 +41,7 @@ fn has_family(head: &EntryHead, selected: bool, positions: &[Position]) -> bool
 pub fn is_better(one: &EntryHead, other: &EntryHead) -> bool
     ensures { (a b : TaggedCopy) → a.how ≡ one.now.how → one.now.errors ≡ errors_of a.text
         → b.how ≡ other.now.how → other.now.errors ≡ errors_of b.text
-        → result ≡ spec.is_better a b }
+        → result ≡ printing.is_better a b }
 {
     let fewer = one.errors < other.errors;
     if other.how == How::Full {

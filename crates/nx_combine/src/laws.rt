@@ -4,11 +4,11 @@ ghost use Rattle.std.specs.Prelude.{◌≡◌, ◌+◌, ◌<◌, ◌++◌, ℕ, 
 ghost use Rattle.nx_code.specs.Reading.{Reception, combination};
 ghost use Rattle.nx_combine.specs.CopyPositions.{HeardCopy};
 ghost use Rattle.nx_envelope.specs.declared.identity.Identity.{Identity as TheIdentity};
-ghost use Rattle.nx_combine.specs.Families.{CombinedCopy, Family, combined_copies, combined_copy, given_by, is_better};
+ghost use Rattle.nx_combine.specs.Families.{CombinedCopy, Family, combined_copies, combined_copy, given_by};
 ghost use Rattle.nx_combine.specs.Families.{families_after, last_index};
 ghost use Rattle.nx_combine.specs.Laws.{AreSendings, FewBegun, IsGivenBy, IsSending, bears, families_behind, positions_heard};
 ghost use Rattle.nx_memory.specs.declared.memories.entry.MemoryEntry.{MemoryEntry};
-ghost use Rattle.nx_copies.specs.copies.Printing.{is_remembered};
+ghost use Rattle.nx_copies.specs.copies.Printing.{is_better, is_remembered};
 ghost use Rattle.nx_combine.specs.CombinedPrinting.{if_printed_combined, is_printed_combined};
 ghost use Rattle.nx_combine.specs.Laws.{IsLastWhole, IsOfPrinted, IsWholeCopy};
 ghost use Rattle.nx_combine.specs.Joining.{is_of_one_text, joined};

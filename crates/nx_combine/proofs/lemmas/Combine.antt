@@ -12,12 +12,13 @@ use Rattle.nx_envelope.specs.declared.finder.Finder.{Finder}
 use Rattle.nx_envelope.specs.declared.found.FoundHead.{FoundHead}
 use Rattle.nx_envelope.specs.declared.identity.Identity.{Identity}
 use Rattle.nx_copies.specs.copies.FoundCopies.{TaggedCopy, headed_copy}
+use Rattle.nx_copies.specs.copies.Printing.{is_better}
 use Rattle.nx_copies.specs.declared.entry.EntryHead.{EntryHead}
 use Rattle.nx_combine.specs.Combining.{IsCombined, meant}
 use Rattle.nx_combine.specs.CopyPositions.{HeardCopy}
 use Rattle.nx_combine.specs.Families.{CombinedCopy, Family, begun_by, combined, combined_copy}
 use Rattle.nx_combine.specs.Families.{families_after, given_by}
-use Rattle.nx_combine.specs.Families.{has_family, index_joined, is_better, joined_at, joined_by}
+use Rattle.nx_combine.specs.Families.{has_family, index_joined, joined_at, joined_by}
 use Rattle.nx_combine.specs.PositionEnds.{HasRead, ending_by}
 use Rattle.nx_combine.proofs.lemmas.Held.{begins_one, index_joined-take}
 use Rattle.nx_combine.proofs.lemmas.Held.{joined_at-take, joined_at_index, joins_one, no_family}

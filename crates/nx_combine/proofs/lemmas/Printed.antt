@@ -10,10 +10,10 @@ use Rattle.nx_envelope.specs.declared.found.How.{How}
 use Rattle.nx_envelope.specs.declared.found.How.TheVariants.{Cut, Full, Long}
 use Rattle.nx_memory.specs.declared.memories.entry.MemoryEntry.{MemoryEntry}
 use Rattle.nx_copies.specs.copies.FoundCopies.{TaggedCopy}
-use Rattle.nx_copies.specs.copies.Printing.{is_full, is_number_00, is_printed, is_remembered}
+use Rattle.nx_copies.specs.copies.Printing.{has_fewer_errors, is_better, is_full, is_number_00, is_printed, is_remembered}
 use Rattle.nx_combine.specs.CombinedPrinting.{are_of_one_family, if_printed_combined}
 use Rattle.nx_combine.specs.CombinedPrinting.{is_better_than_before, is_printed_combined}
-use Rattle.nx_combine.specs.Families.{CombinedCopy, has_fewer_errors, is_better}
+use Rattle.nx_combine.specs.Families.{CombinedCopy}
 use Rattle.nx_combine.specs.Laws.{IsLastWhole, IsOfPrinted, IsWholeCopy}
 use Rattle.nx_combine.proofs.lemmas.Sendings.{and_false, none_better}
 

@@ -19,10 +19,10 @@ use Rattle.nx_envelope.specs.declared.found.How.TheVariants.{Full}
 use Rattle.nx_envelope.specs.declared.identity.Identity.{Identity}
 use Rattle.nx_envelope.proofs.lemmas.headers.Identities.{same_identity-true, same_itself}
 use Rattle.nx_copies.specs.copies.FoundCopies.{TaggedCopy}
-use Rattle.nx_copies.specs.copies.Printing.{is_full}
+use Rattle.nx_copies.specs.copies.Printing.{has_fewer_errors, is_better, is_full}
 use Rattle.nx_combine.specs.CopyPositions.{HeardCopy}
 use Rattle.nx_combine.specs.Families.{CombinedCopy, Family, begun_by, combined_copy, families_after}
-use Rattle.nx_combine.specs.Families.{combined, given_by, has_family, has_fewer_errors, is_better}
+use Rattle.nx_combine.specs.Families.{combined, given_by, has_family}
 use Rattle.nx_combine.specs.Families.{index_joined, joined_by, joins_at, last_index, takes_in}
 use Rattle.nx_combine.specs.Joining.{is_of_one_text, joined}
 use Rattle.nx_combine.specs.PositionEnds.{ending_by, up_to_end}

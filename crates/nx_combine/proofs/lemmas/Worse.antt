@@ -8,10 +8,10 @@ use Rattle.std.specs.Option.{option_map_or}
 use Rattle.nx_code.specs.Reading.{Reception, combination, idle, lost}
 use Rattle.nx_envelope.specs.Copies.{errors_of}
 use Rattle.nx_copies.specs.copies.FoundCopies.{TaggedCopy}
-use Rattle.nx_copies.specs.copies.Printing.{is_full}
+use Rattle.nx_copies.specs.copies.Printing.{has_fewer_errors, is_better, is_full}
 use Rattle.nx_combine.specs.CopyPositions.{HeardCopy}
 use Rattle.nx_combine.specs.Families.{CombinedCopy, Family, alone, combined, combined_at, combined_copy}
-use Rattle.nx_combine.specs.Families.{given_by, has_family, has_fewer_errors, index_joined, is_better}
+use Rattle.nx_combine.specs.Families.{given_by, has_family, index_joined}
 use Rattle.nx_combine.specs.Families.{joined_by, together}
 use Rattle.nx_combine.specs.Joining.{joined, joined_position}
 use Rattle.nx_combine.specs.Laws.{AreAllTakenAlike, AreTakenAlike, joined_where}

@@ -28,6 +28,17 @@ abbrev pub is_good : TaggedCopy → Bool
 is_good copy =
     is_full copy.how && nat_lt (good_share * errors_of copy.text) (max 1 (length copy.text))
 
+-- the one copy has fewer errors than the other
+abbrev pub has_fewer_errors : TaggedCopy → TaggedCopy → Bool
+has_fewer_errors one other = nat_lt (errors_of one.text) (errors_of other.text)
+
+-- One copy is better than another where it is full and the other isn't; or where both are full, or
+-- neither is, and it has fewer errors.
+abbrev pub is_better : TaggedCopy → TaggedCopy → Bool
+is_better one other =
+    if is_full other.how then is_full one.how && has_fewer_errors one other
+    else is_full one.how || has_fewer_errors one other
+
 -- the copy is numbered 00
 abbrev pub is_number_00 : TaggedCopy → Bool
 is_number_00 copy = copy.identity.number == 0
