@@ -1,5 +1,5 @@
 -- What the calls that combine copies take and answer.
-use Rattle.std.specs.Prelude.{◌≡◌, ℕ, ◌-◌, Bool, List, Option, IfSome, length}
+use Rattle.std.specs.Prelude.{◌≡◌, ℕ, ◌-◌, Bool, if◌then◌else◌, List, Option, IfSome, length}
 use Rattle.std.specs.Option.{option_map, option_map_or}
 use Rattle.nx_code.specs.Reading.{Reception}
 use Rattle.nx_envelope.specs.Copies.{errors_of}
@@ -15,6 +15,10 @@ heard_of head text selected positions = record {
   copy = headed_copy head text selected;
   positions = positions;
 }
+
+-- how many families a copy begins
+abbrev pub begun_with : Bool → ℕ
+begun_with begins = if begins then 1 else 0
 
 -- the copy that is meant: that of the head that is given, and the text that is read; or where none
 -- is given, the copy itself

@@ -22,6 +22,8 @@ pub struct Combined {
     /// The index of its family among those that are held, the newest first; `None` where it has no
     /// family.
     pub family: Option<usize>,
+    /// Whether it begins that family.
+    pub begins: bool,
     /// The head of what its family gives in place of the copy, whose text the finder has. `None`
     /// where it is the copy itself.
     pub given: Option<EntryHead>,
@@ -80,9 +82,9 @@ fn given_in_place(head: &EntryHead, finder: &Finder) -> Option<EntryHead>
 }
 
 impl Families {
-    ghost use Rattle.std.specs.Prelude.{◌∷◌};
+    ghost use Rattle.std.specs.Prelude.{◌∷◌, ◌+◌, ◌<◌};
     ghost use Rattle.nx_combine.specs.Families.{Family, most_families};
-    ghost use Rattle.nx_combine.specs.Combining.{IsCombined};
+    ghost use Rattle.nx_combine.specs.Combining.{IsCombined, begun_with};
 
     /// Takes a copy to the families, and answers what it comes to. It is the copy itself where it
     /// has no family, or begins one. Where it joins one, its family gives the copy, unless the copy
@@ -109,10 +111,17 @@ impl Families {
             (spec.combined_copy families (heard_of head.now text.now selected positions.now))
             (spec.families_after families (heard_of head.now text.now selected positions.now))
             finder.new.text result }
+        ensures begins { (families : List Family)
+            → self.old ≡ take most_families families
+            → length
+            (spec.families_after families (heard_of head.now text.now selected positions.now))
+            ≡ length families + begun_with result.begins }
+        ensures within { IfSome result.family (λ index. index < length self.new) }
     {
         if !has_family(head, selected, positions) {
             return Combined {
                 family: None,
+                begins: false,
                 given: None,
             };
         }
@@ -120,12 +129,14 @@ impl Families {
             self.begin(head, positions);
             return Combined {
                 family: Some(0),
+                begins: true,
                 given: None,
             };
         };
         self.join_at(index, positions, finder);
         Combined {
             family: Some(index),
+            begins: false,
             given: given_in_place(head, finder),
         }
     }

@@ -1,6 +1,7 @@
 -- What a call that combines a copy answers, by what becomes of the copy.
-use Rattle.std.proofs.Common.{◌≡◌, ℕ, ◌-◌, Bool, true, false, if◌then◌else◌, Option, Some, None}
+use Rattle.std.proofs.Common.{◌≡◌, ℕ, ◌+◌, ◌-◌, Bool, true, false, if◌then◌else◌, Option, Some, None}
 use Rattle.std.proofs.Common.{List, ◌∷◌, length, take, refl, sym, ap, ap₂, ◌∙◌, arith}
+use Rattle.std.specs.Option.{option_map_or}
 use Rattle.std.proofs.Math.ListN.{set}
 use Rattle.std.proofs.lemmas.List.{length-set}
 use Rattle.std.specs.Prelude.{slice_get, IfSome}
@@ -14,7 +15,7 @@ use Rattle.nx_envelope.specs.declared.identity.Identity.{Identity}
 use Rattle.nx_copies.specs.copies.FoundCopies.{TaggedCopy, headed_copy}
 use Rattle.nx_copies.specs.copies.Printing.{is_better}
 use Rattle.nx_copies.specs.declared.entry.EntryHead.{EntryHead}
-use Rattle.nx_combine.specs.Combining.{IsCombined, meant}
+use Rattle.nx_combine.specs.Combining.{IsCombined, begun_with, meant}
 use Rattle.nx_combine.specs.CopyPositions.{HeardCopy}
 use Rattle.nx_combine.specs.Families.{CombinedCopy, Family, begun_by, combined, combined_copy}
 use Rattle.nx_combine.specs.Families.{families_after, given_by}
@@ -102,14 +103,15 @@ given_chosen positions head found text read selected b gives read_is is fails =
 -- The three things that may become of a copy. The families that are held are the last 200.
 
 pub record Answers (families held : List Family) (heard : HeardCopy) (read : List ℕ)
-    (family : Option ℕ) (given : Option EntryHead) : Type 0 where
+    (family : Option ℕ) (begins : Bool) (given : Option EntryHead) : Type 0 where
   pub after : held ≡ take 200 (families_after families heard)
   pub combined : IsCombined (combined_copy families heard) (families_after families heard) read
-      (record { family = family; given = given })
+      (record { family = family; begins = begins; given = given })
+  pub count : length (families_after families heard) ≡ length families + begun_with begins
 
 pub answers_none : (families held : List Family) (heard : HeardCopy) (read : List ℕ)
     → held ≡ take 200 families → has_family heard ≡ false
-    → Answers families held heard read None None
+    → Answers families held heard read None false None
 answers_none families held heard read stands is =
     let none = no_family families heard is in
     record {
@@ -121,11 +123,12 @@ answers_none families held heard read stands is =
         errors =
             tt;
       };
+      count = ap length none.after ∙ omega arith;
     }
 
 pub answers_begun : (families held new : List Family) (heard : HeardCopy) (read : List ℕ)
     → held ≡ take 200 families → has_family heard ≡ true → index_joined held heard ≡ None
-    → new ≡ take 200 (begun_by heard ∷ held) → Answers families new heard read (Some 0) None
+    → new ≡ take 200 (begun_by heard ∷ held) → Answers families new heard read (Some 0) true None
 answers_begun families held new heard read stands is none begun =
     let joins_none : index_joined families heard ≡ None =
     sym (index_joined-take families heard) ∙ ap (λ l. index_joined l heard) (sym stands) ∙ none in
@@ -145,7 +148,18 @@ answers_begun families held new heard read stands is none begun =
         errors =
             tt;
       };
+      count = ap length begins.after ∙ omega arith;
     }
+
+joined-length : (held : List Family) (heard : HeardCopy) (index : ℕ) (there : Option Family)
+    → length (option_map_or (λ (f : Family). set held index (joined_by heard f)) there held)
+    ≡ length held
+joined-length held heard index None = refl
+joined-length held heard index (Some family) = length-set held index (joined_by heard family)
+
+pub joined_at-length : (held : List Family) (heard : HeardCopy) (index : ℕ)
+    → length (joined_at held heard index) ≡ length held
+joined_at-length held heard index = joined-length held heard index (slice_get held index)
 
 pub answers_joined : (families held new : List Family) (heard : HeardCopy) (read : List ℕ)
     (index : ℕ) (given : Option EntryHead) → held ≡ take 200 families → has_family heard ≡ true
@@ -153,7 +167,7 @@ pub answers_joined : (families held new : List Family) (heard : HeardCopy) (read
     → ((family : Family) → slice_get held index ≡ Some family
     → (combined (joined_by heard family).positions heard.copy ≡ meant given read heard.copy)
     × IfSome given (λ head. head.errors ≡ errors_of read))
-    → Answers families new heard read (Some index) given
+    → Answers families new heard read (Some index) false given
 answers_joined families held new heard read index given stands is joins joined gives =
     let joins_it : index_joined families heard ≡ Some index =
     sym (index_joined-take families heard) ∙ ap (λ l. index_joined l heard) (sym stands) ∙ joins in
@@ -179,4 +193,5 @@ answers_joined families held new heard read index given stands is joins joined g
             ∙ ap (λ (o : CombinedCopy). meant given read o.own.copy) (sym one.one);
         errors = what.1;
       };
+      count = ap length one.after ∙ sym long ∙ omega arith;
     }

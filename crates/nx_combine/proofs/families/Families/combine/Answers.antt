@@ -1,7 +1,7 @@
-use Rattle.std.proofs.Common.{◌≡◌, ℕ, Option, Some, None, refl, sym, ◌∙◌}
+use Rattle.std.proofs.Common.{◌≡◌, ◌<◌, ℕ, List, length, Option, Some, None, refl, sym, ap, ◌∙◌, subst, arith}
 use Rattle.nx_combine.specs.Combining.{heard_of}
-use Rattle.nx_combine.specs.Families.{joined_by}
-use Rattle.nx_combine.proofs.lemmas.Combine.{answers_begun, answers_joined, answers_none}
+use Rattle.nx_combine.specs.Families.{Family, joined_by}
+use Rattle.nx_combine.proofs.lemmas.Combine.{answers_begun, answers_joined, answers_none, joined_at-length}
 use Rattle.nx_combine.proofs.families.Families.combine.Goals as goal
 
 none_if : (o : Option ℕ) → ((x : ℕ) → o ≡ Some x → ⊥) → o ≡ None
@@ -67,3 +67,46 @@ returns-clause-combined c = λ families stands.
           c.args.text.now c.args.selected read c.requires.errors,
       c.given_in_place.ensures.errors (joined_by heard family).positions family.identity read,
     ))).combined
+
+pub returns-then-not-has_family-clause-begins : goal.returns-then-not-has_family-clause-begins
+returns-then-not-has_family-clause-begins c = λ families stands.
+    let heard = heard_of c.args.head.now c.args.text.now c.args.selected c.args.positions.now in
+    (answers_none families c.args.self.now heard c.args.finder.now.text stands
+    (sym (c.has_family.ensures.has c.args.text.now) ∙ c.if-not-has_family.true)).count
+
+pub returns-in_default-clause-begins : goal.returns-in_default-clause-begins
+returns-in_default-clause-begins c = λ families stands.
+    let heard = heard_of c.args.head.now c.args.text.now c.args.selected c.args.positions.now in
+    (answers_begun families c.args.self.now c.begin.new.self heard c.index_joined.new.finder.text
+    stands (sym (c.has_family.ensures.has c.args.text.now) ∙ c.if-not-has_family.false)
+    (sym (c.index_joined.ensures.joined c.args.text.now c.args.selected)
+    ∙ none_if c.index_joined.result c.in_default.not-Some)
+    (c.begin.ensures c.args.text.now c.args.selected)).count
+
+pub returns-clause-begins : goal.returns-clause-begins
+returns-clause-begins c = λ families stands.
+    let heard = heard_of c.args.head.now c.args.text.now c.args.selected c.args.positions.now in
+    (answers_joined families c.args.self.now c.join_at.new.self heard c.join_at.new.finder.text
+    c.in-Some.index c.given_in_place.result stands
+    (sym (c.has_family.ensures.has c.args.text.now) ∙ c.if-not-has_family.false)
+    (sym (c.in-Some.ensures.joined c.args.text.now c.args.selected))
+    (c.join_at.ensures.joined heard refl)
+    (λ family there.
+    let read = c.join_at.ensures.read heard family refl there in (
+      c.given_in_place.ensures.copy (joined_by heard family).positions family.identity
+          c.args.text.now c.args.selected read c.requires.errors,
+      c.given_in_place.ensures.errors (joined_by heard family).positions family.identity read,
+    ))).count
+
+pub returns-in_default-clause-within : goal.returns-in_default-clause-within
+returns-in_default-clause-within c =
+    subst (λ (l : List Family). 0 < length l)
+    (sym (c.begin.ensures c.args.text.now c.args.selected)) (omega arith)
+
+pub returns-clause-within : goal.returns-clause-within
+returns-clause-within c =
+    let heard = heard_of c.args.head.now c.args.text.now c.args.selected c.args.positions.now in
+    let long : length c.join_at.new.self ≡ length c.args.self.now =
+    ap length (c.join_at.ensures.joined heard refl)
+    ∙ joined_at-length c.args.self.now heard c.in-Some.index in
+    subst (λ n. c.in-Some.index < n) (sym long) c.in-Some.ensures.within
