@@ -8,6 +8,7 @@ pub mod Examples
 pub mod Held
 pub mod Invented
 pub mod Joined
+pub mod Judged
 pub mod PlacedOn
 pub mod Printed
 pub mod ReadOn

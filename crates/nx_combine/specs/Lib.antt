@@ -3,6 +3,7 @@ pub mod Combining
 pub mod CopyPositions
 pub mod Families
 pub mod Joining
+pub mod Judging
 pub mod Laws
 pub mod PositionEnds
 pub mod private

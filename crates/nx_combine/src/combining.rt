@@ -1,6 +1,6 @@
 //! What a copy comes to together with the others of its family.
 
-ghost use Rattle.std.specs.Prelude.{◌≡◌, ◌≤◌, ℕ, List, Bool, IfSome, IsTrue, length, take};
+ghost use Rattle.std.specs.Prelude.{◌≡◌, ◌≤◌, ◌<◌, ℕ, List, Bool, IfSome, IsTrue, length, take};
 ghost use Rattle.nx_code.specs.Reading.{Reception};
 ghost use Rattle.nx_envelope.specs.Copies.{errors_of};
 ghost use Rattle.nx_envelope.specs.declared.identity.Identity.{Identity as TheIdentity};
@@ -34,6 +34,7 @@ fn has_family(head: &EntryHead, selected: bool, positions: &[Position]) -> bool
     ensures has { (text : List ℕ)
         → result ≡ spec.has_family (heard_of head.now text selected positions.now) }
     ensures short { IsTrue result → length positions.now ≤ MAX_POSITIONS }
+    ensures numbered { IsTrue result → 0 < head.now.identity.number }
 {
     selected && head.identity.number() != 0 && positions.len() <= MAX_POSITIONS
 }
@@ -64,6 +65,8 @@ fn given_in_place(head: &EntryHead, finder: &Finder) -> Option<EntryHead>
     ensures errors { (positions : List Reception) (identity : TheIdentity)
         → HasRead finder.now identity positions
         → IfSome result (λ given. given.errors ≡ errors_of finder.now.text) }
+    ensures head { IfSome result (λ given. (given.identity ≡ head.now.identity)
+        × (given.moment ≡ head.now.moment)) }
 {
     let Some(found) = finder.ready_head() else {
         return None;
@@ -82,7 +85,7 @@ fn given_in_place(head: &EntryHead, finder: &Finder) -> Option<EntryHead>
 }
 
 impl Families {
-    ghost use Rattle.std.specs.Prelude.{◌∷◌, ◌+◌, ◌<◌};
+    ghost use Rattle.std.specs.Prelude.{◌∷◌, ◌+◌};
     ghost use Rattle.nx_combine.specs.Families.{Family, most_families};
     ghost use Rattle.nx_combine.specs.Combining.{IsCombined, begun_with};
 
@@ -116,7 +119,12 @@ impl Families {
             → length
             (spec.families_after families (heard_of head.now text.now selected positions.now))
             ≡ length families + begun_with result.begins }
+        ensures errors { IfSome result.given
+            (λ given. given.errors ≡ errors_of finder.new.text) }
+        ensures head { IfSome result.given (λ given. (given.identity ≡ head.now.identity)
+            × (given.moment ≡ head.now.moment)) }
         ensures within { IfSome result.family (λ index. index < length self.new) }
+        ensures numbered { IfSome result.family (λ index. 0 < head.now.identity.number) }
     {
         if !has_family(head, selected, positions) {
             return Combined {

@@ -11,7 +11,7 @@ pub const MAX_POSITIONS: usize = 8192;
 
 /// Two lists are of one text where this many times the indices at which they differ is less than
 /// those at which they are the same.
-const GOOD_SHARE: usize = 25;
+pub(crate) const GOOD_SHARE: usize = 25;
 
 /// Whether two lists of positions are of one text (this profile; 4 per cent is the share of ITU-R
 /// M.540). As far as both go, 25 times the indices at which they took two combinations are fewer

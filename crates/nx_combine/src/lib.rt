@@ -1,6 +1,7 @@
 //! Several sendings of a message taken together, position by position.
 #![tactic(auto)]
 
+mod combiner;
 mod combining;
 mod families;
 mod joining;
@@ -8,6 +9,7 @@ pub mod laws;
 mod position;
 mod reading;
 
+pub use combiner::{Combiner, PrintedCopy};
 pub use combining::{Combined, is_better};
 pub use families::{Families, MAX_FAMILIES};
 pub use joining::{MAX_POSITIONS, is_of_one_text, join};

@@ -1,4 +1,5 @@
 use Rattle.std.proofs.Common.{◌≡◌, ◌<◌, ℕ, List, length, Option, Some, None, refl, sym, ap, ◌∙◌, subst, arith}
+use Rattle.circular_buffer.proofs.Places.{slice_get-some}
 use Rattle.nx_combine.specs.Combining.{heard_of}
 use Rattle.nx_combine.specs.Families.{Family, joined_by}
 use Rattle.nx_combine.proofs.lemmas.Combine.{answers_begun, answers_joined, answers_none, joined_at-length}
@@ -110,3 +111,10 @@ returns-clause-within c =
     ap length (c.join_at.ensures.joined heard refl)
     ∙ joined_at-length c.args.self.now heard c.in-Some.index in
     subst (λ n. c.in-Some.index < n) (sym long) c.in-Some.ensures.within
+
+pub returns-clause-errors : goal.returns-clause-errors
+returns-clause-errors c =
+    let heard = heard_of c.args.head.now c.args.text.now c.args.selected c.args.positions.now in
+    let there = slice_get-some c.args.self.now c.in-Some.index c.in-Some.ensures.within in
+    c.given_in_place.ensures.errors (joined_by heard there.0).positions there.0.identity
+    (c.join_at.ensures.read heard there.0 refl there.1)

@@ -1,0 +1,275 @@
+use Rattle.std.proofs.Common.{◌≡◌, ◌-◌, ◌<◌, true, List, [], ◌∷◌, ◌++◌}
+use Rattle.std.proofs.Common.{length, sym, ap, ap₂, ◌∙◌, subst}
+use Rattle.std.specs.Prelude.{is_some}
+use Rattle.nx_envelope.specs.Copies.{errors_of}
+use Rattle.nx_envelope.specs.FinderView.{FinderView}
+use Rattle.nx_memory.specs.declared.memories.entry.MemoryEntry.{MemoryEntry}
+use Rattle.nx_copies.specs.copies.FoundCopies.{TaggedCopy, headed_copy}
+use Rattle.nx_copies.specs.copies.Printing.{entry_of, is_good}
+use Rattle.nx_copies.proofs.lemmas.printing.Judging.{content_grows, content_stays, newest_is_last}
+use Rattle.nx_combine.specs.CombinedPrinting.{entry_made_combined, is_printed_combined}
+use Rattle.nx_combine.specs.Combining.{meant}
+use Rattle.nx_combine.specs.Families.{CombinedCopy, combined_copy, families_after}
+use Rattle.nx_combine.specs.Judging.{StandsCombined, all_copies, text_printed}
+use Rattle.nx_combine.proofs.lemmas.Judged.{comes_as, made_alone, made_bad, made_good, made_unprinted}
+use Rattle.nx_combine.proofs.lemmas.Judged.{numbered_some, printed, still_none, still_some, unprinted}
+use Rattle.nx_combine.proofs.combiner.Combiner.judge.Goals as goal
+use Rattle.nx_combine.proofs.combiner.Combiner.judge.Goals.{else-is_some-via-then-is_some+else-is_good, else-is_some-via-else-is_some}
+
+pub returns-then-not-prints-clause-stands : goal.returns-then-not-prints-clause-stands
+returns-then-not-prints-clause-stands g c = λ entries families before heard is held stands.
+    let head = c.args.head.now in
+    let own = c.args.text.now in
+    let selected = c.args.selected in
+    let read = c.take-combined.new.self.finder.text in
+    let shown = c.printed_as-one.result in
+    let text = text_printed shown read own in
+    let after = families_after families heard in
+    let one = combined_copy families heard in
+    let stood = c.take-combined.ensures.stands families before heard is stands in
+    let errors : shown.head.errors ≡ errors_of text =
+    c.printed_as-one.ensures.errors read own c.requires.errors c.take-combined.ensures.errors in
+    let comes = comes_as one after c.take-combined.result.family
+    (meant c.take-combined.result.given read (headed_copy head own selected))
+    (headed_copy shown.head text selected)
+    (c.take-combined.ensures.comes_to families before heard is stands)
+    (c.printed_as-one.ensures.copy read own selected) in
+    let prints : c.prints.result ≡ is_printed_combined entries before one =
+    c.prints.ensures entries after before one text held stood errors comes in
+    subst (λ (l : List CombinedCopy). StandsCombined c.take-combined.new.self after (l ++ before))
+    (sym (unprinted entries before one (sym prints ∙ c.if-not-prints.true))) stood
+
+pub returns-then-not-prints-clause-entered : goal.returns-then-not-prints-clause-entered
+returns-then-not-prints-clause-entered g c = λ entries families before heard is held stands.
+    let head = c.args.head.now in
+    let own = c.args.text.now in
+    let selected = c.args.selected in
+    let read = c.take-combined.new.self.finder.text in
+    let shown = c.printed_as-one.result in
+    let text = text_printed shown read own in
+    let after = families_after families heard in
+    let one = combined_copy families heard in
+    let stood = c.take-combined.ensures.stands families before heard is stands in
+    let errors : shown.head.errors ≡ errors_of text =
+    c.printed_as-one.ensures.errors read own c.requires.errors c.take-combined.ensures.errors in
+    let comes = comes_as one after c.take-combined.result.family
+    (meant c.take-combined.result.given read (headed_copy head own selected))
+    (headed_copy shown.head text selected)
+    (c.take-combined.ensures.comes_to families before heard is stands)
+    (c.printed_as-one.ensures.copy read own selected) in
+    let prints : c.prints.result ≡ is_printed_combined entries before one =
+    c.prints.ensures entries after before one text held stood errors comes in
+    content_stays entries (entry_made_combined entries before one)
+    (g.M.Recall.content c.args.memory.now) held
+    (made_unprinted entries before one (sym prints ∙ c.if-not-prints.true))
+
+pub returns-then-not-prints-clause-printed : goal.returns-then-not-prints-clause-printed
+returns-then-not-prints-clause-printed g c = λ entries families before heard is held stands.
+    let head = c.args.head.now in
+    let own = c.args.text.now in
+    let selected = c.args.selected in
+    let read = c.take-combined.new.self.finder.text in
+    let shown = c.printed_as-one.result in
+    let text = text_printed shown read own in
+    let after = families_after families heard in
+    let one = combined_copy families heard in
+    let stood = c.take-combined.ensures.stands families before heard is stands in
+    let errors : shown.head.errors ≡ errors_of text =
+    c.printed_as-one.ensures.errors read own c.requires.errors c.take-combined.ensures.errors in
+    let comes = comes_as one after c.take-combined.result.family
+    (meant c.take-combined.result.given read (headed_copy head own selected))
+    (headed_copy shown.head text selected)
+    (c.take-combined.ensures.comes_to families before heard is stands)
+    (c.printed_as-one.ensures.copy read own selected) in
+    let prints : c.prints.result ≡ is_printed_combined entries before one =
+    c.prints.ensures entries after before one text held stood errors comes in
+    ap all_copies (unprinted entries before one (sym prints ∙ c.if-not-prints.true))
+
+pub renew-requires-clause-numbered : goal.renew-requires-clause-numbered
+renew-requires-clause-numbered g c =
+    numbered_some c.take-combined.result.family (0 < c.args.head.now.identity.number)
+    (sym c.is_some.ensures ∙ c.if-is_some.true) c.take-combined.ensures.numbered
+
+pub returns-then-is_good-clause-stands : goal.returns-then-is_good-clause-stands
+returns-then-is_good-clause-stands g c = λ entries families before heard is held stands.
+    let head = c.args.head.now in
+    let own = c.args.text.now in
+    let selected = c.args.selected in
+    let read = c.take-combined.new.self.finder.text in
+    let shown = c.printed_as-one.result in
+    let text = text_printed shown read own in
+    let after = families_after families heard in
+    let one = combined_copy families heard in
+    let stood = c.take-combined.ensures.stands families before heard is stands in
+    let errors : shown.head.errors ≡ errors_of text =
+    c.printed_as-one.ensures.errors read own c.requires.errors c.take-combined.ensures.errors in
+    let comes = comes_as one after c.take-combined.result.family
+    (meant c.take-combined.result.given read (headed_copy head own selected))
+    (headed_copy shown.head text selected)
+    (c.take-combined.ensures.comes_to families before heard is stands)
+    (c.printed_as-one.ensures.copy read own selected) in
+    let prints : c.prints.result ≡ is_printed_combined entries before one =
+    c.prints.ensures entries after before one text held stood errors comes in
+    subst (λ (l : List CombinedCopy). StandsCombined c.note.new.self after (l ++ before))
+    (sym (printed entries before one (sym prints ∙ c.if-not-prints.false)))
+    (c.note.ensures.stands after before one text selected stood errors comes)
+
+pub returns-then-is_good-clause-entered : goal.returns-then-is_good-clause-entered
+returns-then-is_good-clause-entered g c = λ entries families before heard is held stands.
+    let head = c.args.head.now in
+    let own = c.args.text.now in
+    let selected = c.args.selected in
+    let read = c.take-combined.new.self.finder.text in
+    let shown = c.printed_as-one.result in
+    let text = text_printed shown read own in
+    let after = families_after families heard in
+    let one = combined_copy families heard in
+    let stood = c.take-combined.ensures.stands families before heard is stands in
+    let errors : shown.head.errors ≡ errors_of text =
+    c.printed_as-one.ensures.errors read own c.requires.errors c.take-combined.ensures.errors in
+    let comes = comes_as one after c.take-combined.result.family
+    (meant c.take-combined.result.given read (headed_copy head own selected))
+    (headed_copy shown.head text selected)
+    (c.take-combined.ensures.comes_to families before heard is stands)
+    (c.printed_as-one.ensures.copy read own selected) in
+    let prints : c.prints.result ≡ is_printed_combined entries before one =
+    c.prints.ensures entries after before one text held stood errors comes in
+    let same : c.text_of.result.now ≡ text =
+    c.text_of.ensures.text
+    ∙ ap (λ (f : FinderView). text_printed shown f.text own) c.note.ensures.finder in
+    let good : c.is_good.result ≡ is_good one.copy =
+    c.is_good.ensures selected (errors ∙ ap errors_of (sym same))
+    ∙ ap (λ t. is_good (headed_copy shown.head t selected)) same
+    ∙ ap is_good (sym comes.is) in
+    let of : is_some one.family ≡ true =
+    ap is_some comes.of_family
+    ∙ still_some (λ i. length after - 1 - i) c.take-combined.result.family
+    (sym c.is_some.ensures ∙ c.if-is_some.true) in
+    let entry : MemoryEntry = record { identity = head.identity; moment = head.moment } in
+    let named : entry_of one.copy ≡ entry =
+    ap entry_of comes.is
+    ∙ ap₂ (λ i m. let made : MemoryEntry = record { identity = i; moment = m } in made)
+    c.printed_as-one.ensures.identity c.printed_as-one.ensures.moment in
+    content_grows entries (entry_made_combined entries before one)
+    (g.M.Recall.content c.args.memory.now) (g.M.Recall.content c.renew.new.self) entry held
+    c.renew.ensures
+    (made_good entries before one (sym prints ∙ c.if-not-prints.false) (sym good ∙ c.if-is_good.true)
+    of ∙ ap (λ (e : MemoryEntry). e ∷ []) named)
+
+pub returns-then-is_good-clause-printed : goal.returns-then-is_good-clause-printed
+returns-then-is_good-clause-printed g c = λ entries families before heard is held stands.
+    let head = c.args.head.now in
+    let own = c.args.text.now in
+    let selected = c.args.selected in
+    let read = c.take-combined.new.self.finder.text in
+    let shown = c.printed_as-one.result in
+    let text = text_printed shown read own in
+    let after = families_after families heard in
+    let one = combined_copy families heard in
+    let stood = c.take-combined.ensures.stands families before heard is stands in
+    let errors : shown.head.errors ≡ errors_of text =
+    c.printed_as-one.ensures.errors read own c.requires.errors c.take-combined.ensures.errors in
+    let comes = comes_as one after c.take-combined.result.family
+    (meant c.take-combined.result.given read (headed_copy head own selected))
+    (headed_copy shown.head text selected)
+    (c.take-combined.ensures.comes_to families before heard is stands)
+    (c.printed_as-one.ensures.copy read own selected) in
+    let prints : c.prints.result ≡ is_printed_combined entries before one =
+    c.prints.ensures entries after before one text held stood errors comes in
+    ap all_copies (printed entries before one (sym prints ∙ c.if-not-prints.false))
+    ∙ ap (λ (t : TaggedCopy). t ∷ []) comes.is
+    ∙ ap (λ (f : FinderView). headed_copy shown.head (text_printed shown f.text own) selected ∷ [])
+    (sym c.note.ensures.finder)
+
+pub returns-then-is_good-clause-not_before : goal.returns-then-is_good-clause-not_before
+returns-then-is_good-clause-not_before g c =
+    newest_is_last (g.M.Recall.content c.args.memory.now) (g.M.Recall.content c.renew.new.self)
+    c.args.head.now.identity c.args.head.now.moment c.renew.ensures
+
+pub returns-else-is_some-clause-stands : goal.returns-else-is_some-clause-stands
+returns-else-is_some-clause-stands g c = λ entries families before heard is held stands.
+    let head = c.args.head.now in
+    let own = c.args.text.now in
+    let selected = c.args.selected in
+    let read = c.take-combined.new.self.finder.text in
+    let shown = c.printed_as-one.result in
+    let text = text_printed shown read own in
+    let after = families_after families heard in
+    let one = combined_copy families heard in
+    let stood = c.take-combined.ensures.stands families before heard is stands in
+    let errors : shown.head.errors ≡ errors_of text =
+    c.printed_as-one.ensures.errors read own c.requires.errors c.take-combined.ensures.errors in
+    let comes = comes_as one after c.take-combined.result.family
+    (meant c.take-combined.result.given read (headed_copy head own selected))
+    (headed_copy shown.head text selected)
+    (c.take-combined.ensures.comes_to families before heard is stands)
+    (c.printed_as-one.ensures.copy read own selected) in
+    let prints : c.prints.result ≡ is_printed_combined entries before one =
+    c.prints.ensures entries after before one text held stood errors comes in
+    subst (λ (l : List CombinedCopy). StandsCombined c.note.new.self after (l ++ before))
+    (sym (printed entries before one (sym prints ∙ c.if-not-prints.false)))
+    (c.note.ensures.stands after before one text selected stood errors comes)
+
+pub returns-else-is_some-clause-entered : goal.returns-else-is_some-clause-entered
+returns-else-is_some-clause-entered g c = λ entries families before heard is held stands.
+    let head = c.args.head.now in
+    let own = c.args.text.now in
+    let selected = c.args.selected in
+    let read = c.take-combined.new.self.finder.text in
+    let shown = c.printed_as-one.result in
+    let text = text_printed shown read own in
+    let after = families_after families heard in
+    let one = combined_copy families heard in
+    let stood = c.take-combined.ensures.stands families before heard is stands in
+    let errors : shown.head.errors ≡ errors_of text =
+    c.printed_as-one.ensures.errors read own c.requires.errors c.take-combined.ensures.errors in
+    let comes = comes_as one after c.take-combined.result.family
+    (meant c.take-combined.result.given read (headed_copy head own selected))
+    (headed_copy shown.head text selected)
+    (c.take-combined.ensures.comes_to families before heard is stands)
+    (c.printed_as-one.ensures.copy read own selected) in
+    let prints : c.prints.result ≡ is_printed_combined entries before one =
+    c.prints.ensures entries after before one text held stood errors comes in
+    let passes = sym prints ∙ c.if-not-prints.false in
+    content_stays entries (entry_made_combined entries before one)
+    (g.M.Recall.content c.args.memory.now) held
+    (elim c.else-is_some.branch [
+      | else-is_some-via-then-is_some+else-is_good w ↦
+          let same : w.text_of.result.now ≡ text =
+          w.text_of.ensures.text
+          ∙ ap (λ (f : FinderView). text_printed shown f.text own) c.note.ensures.finder in
+          let good : w.is_good.result ≡ is_good one.copy =
+          w.is_good.ensures selected (errors ∙ ap errors_of (sym same))
+          ∙ ap (λ t. is_good (headed_copy shown.head t selected)) same
+          ∙ ap is_good (sym comes.is) in
+          made_bad entries before one passes (sym good ∙ w.if-is_good.false)
+      | else-is_some-via-else-is_some w ↦
+          made_alone entries before one passes
+          (comes.of_family ∙ still_none (λ i. length after - 1 - i) c.take-combined.result.family
+          (sym c.is_some.ensures ∙ w.if-is_some.false))
+    ])
+
+pub returns-else-is_some-clause-printed : goal.returns-else-is_some-clause-printed
+returns-else-is_some-clause-printed g c = λ entries families before heard is held stands.
+    let head = c.args.head.now in
+    let own = c.args.text.now in
+    let selected = c.args.selected in
+    let read = c.take-combined.new.self.finder.text in
+    let shown = c.printed_as-one.result in
+    let text = text_printed shown read own in
+    let after = families_after families heard in
+    let one = combined_copy families heard in
+    let stood = c.take-combined.ensures.stands families before heard is stands in
+    let errors : shown.head.errors ≡ errors_of text =
+    c.printed_as-one.ensures.errors read own c.requires.errors c.take-combined.ensures.errors in
+    let comes = comes_as one after c.take-combined.result.family
+    (meant c.take-combined.result.given read (headed_copy head own selected))
+    (headed_copy shown.head text selected)
+    (c.take-combined.ensures.comes_to families before heard is stands)
+    (c.printed_as-one.ensures.copy read own selected) in
+    let prints : c.prints.result ≡ is_printed_combined entries before one =
+    c.prints.ensures entries after before one text held stood errors comes in
+    ap all_copies (printed entries before one (sym prints ∙ c.if-not-prints.false))
+    ∙ ap (λ (t : TaggedCopy). t ∷ []) comes.is
+    ∙ ap (λ (f : FinderView). headed_copy shown.head (text_printed shown f.text own) selected ∷ [])
+    (sym c.note.ensures.finder)

@@ -1,0 +1,86 @@
+-- What judges combined copies holds, and which copies leave it so (this profile).
+use Rattle.std.specs.Prelude.{◌≡◌, ℕ, zero, suc, ◌-◌, ◌<◌, ◌==◌, Bool, false, if◌then◌else◌}
+use Rattle.std.specs.Prelude.{List, [], ◌∷◌, length, map, take, Option, Some}
+use Rattle.std.specs.List.{AllByRecursion, find}
+use Rattle.std.specs.Option.{option_map, option_map_or}
+use Rattle.nx_code.specs.Reading.{Reception}
+use Rattle.nx_envelope.specs.Copies.{errors_of}
+use Rattle.nx_envelope.specs.FinderView.{FinderView}
+use Rattle.nx_copies.specs.copies.FoundCopies.{TaggedCopy, headed_copy}
+use Rattle.nx_copies.specs.declared.entry.EntryHead.{EntryHead}
+use Rattle.nx_combine.specs.CopyPositions.{HeardCopy}
+use Rattle.nx_combine.specs.Families.{CombinedCopy, Family, most_families, most_positions}
+use Rattle.nx_combine.specs.declared.combiner.PrintedCopy.{PrintedCopy}
+
+-- what the line that heads an entry says of a copy
+abbrev pub head_of : TaggedCopy → EntryHead
+head_of copy = record {
+  identity = copy.identity;
+  moment = copy.moment;
+  how = copy.how;
+  errors = errors_of copy.text;
+}
+
+-- the combined copy is of the family of this number: so many were begun before that
+abbrev pub is_of_number : ℕ → CombinedCopy → Bool
+is_of_number number one = option_map_or (λ own. number == own) one.family false
+
+-- the head of the last combined copy of that family that was printed, of these, newest first
+unfoldable pub last_printed : List CombinedCopy → ℕ → Option EntryHead
+last_printed before number =
+    option_map (λ one. head_of one.copy) (find (is_of_number number) before)
+
+-- the same of each of so many families, newest first
+unfoldable pub all_last_printed : List CombinedCopy → ℕ → List (Option EntryHead)
+all_last_printed before zero = []
+all_last_printed before (suc number) = last_printed before number ∷ all_last_printed before number
+
+-- what a combiner holds: families, newest first; of each the head of its last combined copy that
+-- was printed, if one was; and the finder that reads joined positions
+pub record CombinerView : Type 0 where
+  pub families : List Family
+  pub printed : List (Option EntryHead)
+  pub finder : FinderView
+
+-- where the combined copy has a family, that is one of the first so many
+abbrev pub IsOfBegun : ℕ → CombinedCopy → Type 0
+IsOfBegun count one = (number : ℕ) → one.family ≡ Some number → number < count
+
+-- A combiner stands so after copies: these are all families that were begun, and these the combined
+-- copies that were printed, each of one of these, both newest first. It holds the last 200 families.
+pub record StandsCombined (combiner : CombinerView) (families : List Family)
+    (before : List CombinedCopy)
+    : Type 0 where
+  pub held : combiner.families ≡ take most_families families
+  pub printed : combiner.printed
+      ≡ take most_families (all_last_printed before (length families))
+  pub begun : AllByRecursion (IsOfBegun (length families)) before
+
+-- where these families were begun, the combined copy is of the one of this index, newest first, and
+-- comes to this copy
+pub record ComesTo (one : CombinedCopy) (families : List Family) (family : Option ℕ)
+    (copy : TaggedCopy)
+    : Type 0 where
+  pub of_family : one.family ≡ option_map (λ index. length families - 1 - index) family
+  pub is : one.copy ≡ copy
+
+-- The copy that was heard is this one. Of positions that are too many not more are given than show
+-- it.
+pub record IsGivenAs (heard : HeardCopy) (copy : TaggedCopy) (positions : List Reception) : Type 0
+  where
+    pub heard_copy : heard.copy ≡ copy
+    pub given : positions ≡ take (suc most_positions) heard.positions
+
+-- the text of a copy that is printed: that which was read of its family's positions, or its own
+abbrev pub text_printed : PrintedCopy → List ℕ → List ℕ → List ℕ
+text_printed printed read own = if printed.is_given then read else own
+
+-- the copy that is printed, if one is, selected or not
+abbrev pub copies_printed : Option PrintedCopy → List ℕ → List ℕ → Bool → List TaggedCopy
+copies_printed answer read own selected =
+    option_map_or
+    (λ printed. headed_copy printed.head (text_printed printed read own) selected ∷ []) answer []
+
+-- the copies that some combined copies come to
+abbrev pub all_copies : List CombinedCopy → List TaggedCopy
+all_copies combined = map (λ one. one.copy) combined

@@ -1,0 +1,298 @@
+//! What judges the copies of a channel together with the others of their families.
+
+ghost use Rattle.std.specs.Prelude.{◌≡◌, ◌≤◌, ◌<◌, ◌++◌, ◌∷◌, ℕ, List, [], Bool, IfOk, IfSome};
+ghost use Rattle.std.specs.Prelude.{length};
+ghost use Rattle.nx_code.specs.Lists.{last_of};
+ghost use Rattle.nx_envelope.specs.Copies.{errors_of};
+ghost use Rattle.nx_memory.specs.declared.memories.entry.MemoryEntry.{MemoryEntry};
+ghost use Rattle.nx_memory.specs.Memory.{most_entries, newest_moment};
+ghost use Rattle.nx_copies.specs.copies.FoundCopies.{headed_copy};
+ghost use Rattle.nx_copies.specs.copies.Printing as printing;
+ghost use Rattle.nx_combine.specs.CombinedPrinting.{entry_made_combined, if_printed_combined};
+ghost use Rattle.nx_combine.specs.CombinedPrinting.{is_better_than_before, is_printed_combined};
+ghost use Rattle.nx_combine.specs.Combining.{meant};
+ghost use Rattle.nx_combine.specs.CopyPositions.{HeardCopy};
+ghost use Rattle.nx_combine.specs.Families.{CombinedCopy, Family as OneFamily, combined_copy, families_after};
+ghost use Rattle.nx_combine.specs.Judging.{ComesTo, IsGivenAs, StandsCombined};
+ghost use Rattle.nx_combine.specs.Judging.{all_copies, copies_printed, text_printed};
+
+use crate::combining::{Combined, is_better};
+use crate::families::{Families, MAX_FAMILIES};
+use crate::joining::GOOD_SHARE;
+use crate::position::Position;
+use circular_buffer::HeapCircularBuffer;
+use nx_copies::EntryHead;
+use nx_envelope::{Finder, How, MAX_FOUND};
+use nx_memory::Renewing;
+use std::alloc::{AllocError, Global};
+use std::marker::Model;
+use std::mem::size_of;
+
+/// A copy that is printed.
+#[derive(Clone, Copy, Debug)]
+pub struct PrintedCopy {
+    /// What the line that heads its entry says.
+    pub head: EntryHead,
+    /// Whether its text is what its family gives, which the combiner has; else it is the copy's
+    /// own.
+    pub is_given: bool,
+}
+
+/// Judges the copies of a channel, each together with those of its family that were heard before.
+///
+/// It holds the last 200 families, of each the head of its last combined copy that was printed, and
+/// the finder that reads joined positions. Its blocks are taken when it is made, and no call takes
+/// memory after that.
+#[derive(Drop)]
+pub struct Combiner {
+    families: Families,
+    printed: HeapCircularBuffer<Option<EntryHead>>,
+    finder: Finder,
+}
+
+impl Model for Combiner {
+    ghost use Rattle.std.specs.Prelude.{◌≡◌};
+    ghost use Rattle.std.proofs.Common.{sym, ap};
+    ghost use Rattle.circular_buffer.specs.Buffer.{buffer};
+    ghost use Rattle.nx_combine.specs.Judging.{CombinerView};
+
+    ghost Value = { CombinerView };
+
+    ghost view = { λ all. record {
+      families = all.families;
+      printed = all.printed.items;
+      finder = all.finder;
+    } };
+
+    ghost invariant = { λ all. all.printed.capacity ≡ 200 };
+
+    ghost inverse = { λ held. record {
+      families = held.families;
+      printed = buffer held.printed 200;
+      finder = held.finder;
+    } };
+
+    ghost inverse_ok = { λ all is i. record {
+      families = all.families;
+      printed = buffer all.printed.items (sym is i);
+      finder = all.finder;
+    } };
+}
+
+impl Combiner {
+    /// A combiner that has judged nothing. Fails where memory ran out.
+    pub fn new(alloc: Global) -> Result<Combiner, AllocError>
+        ensures { IfOk result (λ combiner. StandsCombined combiner [] []) }
+    {
+        prove!(size_of::<Combiner>() == 4192);
+        Ok(Combiner {
+            families: Families::new(alloc)?,
+            printed: HeapCircularBuffer::with_capacity(alloc, MAX_FAMILIES)?,
+            finder: Finder::new(),
+        })
+    }
+
+    /// Judges a copy that was heard: answers whether it is printed, and as what. It is what the
+    /// copy comes to together with the others of its family. It is printed where it is selected,
+    /// and is numbered 00 or unknown, or better than the last one of its family that was printed.
+    /// Where it is printed, good and has a family, it is entered into the memory. Of positions that
+    /// are more than 8,192 the first 8,193 suffice. A copy that isn't selected changes nothing.
+    ///
+    /// The combiner stands after all copies so far, and the memory holds the last 200 of all the
+    /// entries made so far, whichever they are.
+    pub fn judge<M: Renewing>(
+        &mut self,
+        head: &EntryHead,
+        text: &[u8],
+        selected: bool,
+        positions: &[Position],
+        memory: &mut M,
+    ) -> Option<PrintedCopy>
+        requires newest { newest_moment (M.content memory.old) ≤ head.now.moment }
+        requires errors { head.now.errors ≡ errors_of text.now }
+        ensures stands { (entries : List MemoryEntry) (families : List OneFamily)
+            (before : List CombinedCopy) (heard : HeardCopy)
+            → IsGivenAs heard (headed_copy head.now text.now selected) positions.now
+            → M.content memory.old ≡ last_of most_entries entries
+            → StandsCombined self.old families before
+            → StandsCombined self.new (families_after families heard)
+            (if_printed_combined entries before (combined_copy families heard) ++ before) }
+        ensures entered { (entries : List MemoryEntry) (families : List OneFamily)
+            (before : List CombinedCopy) (heard : HeardCopy)
+            → IsGivenAs heard (headed_copy head.now text.now selected) positions.now
+            → M.content memory.old ≡ last_of most_entries entries
+            → StandsCombined self.old families before
+            → M.content memory.new ≡ last_of most_entries
+            (entries ++ entry_made_combined entries before (combined_copy families heard)) }
+        ensures printed { (entries : List MemoryEntry) (families : List OneFamily)
+            (before : List CombinedCopy) (heard : HeardCopy)
+            → IsGivenAs heard (headed_copy head.now text.now selected) positions.now
+            → M.content memory.old ≡ last_of most_entries entries
+            → StandsCombined self.old families before
+            → all_copies (if_printed_combined entries before (combined_copy families heard))
+            ≡ copies_printed result self.new.finder.text text.now selected }
+        ensures errors { IfSome result (λ printed. printed.head.errors
+            ≡ errors_of (text_printed printed self.new.finder.text text.now)) }
+        ensures head { IfSome result (λ printed. (printed.head.identity ≡ head.now.identity)
+            × (printed.head.moment ≡ head.now.moment)) }
+        ensures not_before { newest_moment (M.content memory.new) ≤ head.now.moment }
+    {
+        let combined = self.take(head, text, selected, positions);
+        let one = printed_as(head, &combined);
+        if !self.prints(&one.head, selected, combined.family, memory) {
+            return None;
+        }
+        self.note(combined.family, one.head);
+        if combined.family.is_some() && is_good(&one.head, self.text_of(&one, text)) {
+            memory.renew(head.identity, head.moment);
+        }
+        Some(one)
+    }
+
+    /// The text of a copy that was judged last and is printed, by its own text.
+    pub fn text_of<'a>(&'a self, printed: &PrintedCopy, own: &'a [u8]) -> &'a [u8]
+        ensures text { result.now ≡ text_printed printed.now self.now.finder.text own.now }
+        ensures short { length own.now ≤ MAX_FOUND → length result.now ≤ MAX_FOUND }
+    {
+        if printed.is_given {
+            self.finder.text()
+        } else {
+            own
+        }
+    }
+
+    /// Takes a copy to the families, and answers what it comes to. Nothing was printed yet of a
+    /// family that it begins.
+    fn take(
+        &mut self,
+        head: &EntryHead,
+        text: &[u8],
+        selected: bool,
+        positions: &[Position],
+    ) -> Combined
+        requires errors { head.now.errors ≡ errors_of text.now }
+        ensures stands { (families : List OneFamily) (before : List CombinedCopy)
+            (heard : HeardCopy)
+            → IsGivenAs heard (headed_copy head.now text.now selected) positions.now
+            → StandsCombined self.old families before
+            → StandsCombined self.new (families_after families heard) before }
+        ensures comes_to { (families : List OneFamily) (before : List CombinedCopy)
+            (heard : HeardCopy)
+            → IsGivenAs heard (headed_copy head.now text.now selected) positions.now
+            → StandsCombined self.old families before
+            → ComesTo (combined_copy families heard) (families_after families heard) result.family
+            (meant result.given self.new.finder.text (headed_copy head.now text.now selected)) }
+        ensures errors { IfSome result.given
+            (λ given. given.errors ≡ errors_of self.new.finder.text) }
+        ensures head { IfSome result.given (λ given. (given.identity ≡ head.now.identity)
+            × (given.moment ≡ head.now.moment)) }
+        ensures within { IfSome result.family (λ index. index < length self.new.families) }
+        ensures numbered { IfSome result.family (λ index. 0 < head.now.identity.number) }
+    {
+        let combined = self
+            .families
+            .combine(head, text, selected, positions, &mut self.finder);
+        if combined.begins {
+            let _forgotten = self.printed.push_front(None);
+        }
+        combined
+    }
+
+    /// Whether a combined copy is printed, by its head, and the index of its family.
+    fn prints<M: Renewing>(
+        &self,
+        head: &EntryHead,
+        selected: bool,
+        family: Option<usize>,
+        memory: &M,
+    ) -> bool
+        requires newest { newest_moment (M.content memory.now) ≤ head.now.moment }
+        requires within { IfSome family (λ index. index < length self.now.families) }
+        ensures { (entries : List MemoryEntry) (families : List OneFamily)
+            (before : List CombinedCopy) (one : CombinedCopy) (text : List ℕ)
+            → M.content memory.now ≡ last_of most_entries entries
+            → StandsCombined self.now families before → head.now.errors ≡ errors_of text
+            → ComesTo one families family (headed_copy head.now text selected)
+            → result ≡ is_printed_combined entries before one }
+    {
+        if memory.knows(&head.identity, head.moment) {
+            selected && head.identity.number == 0 || self.is_better_than_before(head, family)
+        } else {
+            selected
+        }
+    }
+
+    /// Whether a combined copy is better than the last one of its family that was printed, by its
+    /// head, and the index of its family.
+    fn is_better_than_before(&self, head: &EntryHead, family: Option<usize>) -> bool
+        requires within { IfSome family (λ index. index < length self.now.families) }
+        ensures { (families : List OneFamily) (before : List CombinedCopy) (one : CombinedCopy)
+            (text : List ℕ) (selected : Bool) → StandsCombined self.now families before
+            → head.now.errors ≡ errors_of text
+            → ComesTo one families family (headed_copy head.now text selected)
+            → result ≡ is_better_than_before before one }
+    {
+        let Some(index) = family else {
+            return false;
+        };
+        let Some(printed) = self.printed.get(index) else {
+            return false;
+        };
+        match printed {
+            Some(last) => is_better(head, last),
+            None => false,
+        }
+    }
+
+    /// Notes that a combined copy of the family of this index is printed.
+    fn note(&mut self, family: Option<usize>, head: EntryHead)
+        requires within { IfSome family (λ index. index < length self.old.families) }
+        ensures stands { (families : List OneFamily) (before : List CombinedCopy)
+            (one : CombinedCopy) (text : List ℕ) (selected : Bool)
+            → StandsCombined self.old families before → head.errors ≡ errors_of text
+            → ComesTo one families family (headed_copy head text selected)
+            → StandsCombined self.new families (one ∷ before) }
+        ensures finder { self.new.finder ≡ self.old.finder }
+    {
+        let Some(index) = family else {
+            return;
+        };
+        if let Some(last) = self.printed.get_mut(index) {
+            *last = Some(head);
+        }
+    }
+}
+
+/// What is printed of a copy, by what it comes to.
+fn printed_as(head: &EntryHead, combined: &Combined) -> PrintedCopy
+    requires head { IfSome combined.now.given (λ given. (given.identity ≡ head.now.identity)
+        × (given.moment ≡ head.now.moment)) }
+    ensures copy { (read own : List ℕ) (selected : Bool)
+        → meant combined.now.given read (headed_copy head.now own selected)
+        ≡ headed_copy result.head (text_printed result read own) selected }
+    ensures errors { (read own : List ℕ) → head.now.errors ≡ errors_of own
+        → IfSome combined.now.given (λ given. given.errors ≡ errors_of read)
+        → result.head.errors ≡ errors_of (text_printed result read own) }
+    ensures identity { result.head.identity ≡ head.now.identity }
+    ensures moment { result.head.moment ≡ head.now.moment }
+{
+    match combined.given {
+        Some(given) => PrintedCopy {
+            head: given,
+            is_given: true,
+        },
+        None => PrintedCopy {
+            head: *head,
+            is_given: false,
+        },
+    }
+}
+
+/// Whether a copy is good, by its head and its text: it is full, and fewer than 4 per cent of its
+/// characters are errors. An empty text counts as one character.
+fn is_good(head: &EntryHead, text: &[u8]) -> bool
+    ensures { (selected : Bool) → head.now.errors ≡ errors_of text.now
+        → result ≡ printing.is_good (headed_copy head.now text.now selected) }
+{
+    head.how == How::Full && GOOD_SHARE * usize::from(head.errors) < text.len().max(1)
+}
