@@ -15,9 +15,9 @@ help:
 	@echo 'make install              put the built program, man pages, completion, the tools for sound, a service and examples below PREFIX ($(PREFIX))'
 	@echo 'make install-lib          put the built library for C, its header and navtex.pc there'
 	@echo 'make uninstall            take them all away, but for the settings in /etc/default'
-	@echo 'make deb                  a Debian package of a static program, out/navtex_VERSION_amd64.deb; it installs nothing'
-	@echo 'make deb-arm64            the same for arm64, a Raspberry Pi among them; it proves and builds the program for it first'
-	@echo 'make deb-lib              the same of the library for C, out/libnavtex-dev_VERSION_amd64.deb'
+	@echo 'make deb                  a Debian package for x86-64, out/navtex_VERSION_amd64.deb: proves and builds the program for any such processor, and installs nothing'
+	@echo 'make deb-arm64            the same for arm64, a Raspberry Pi among them'
+	@echo 'make deb-lib              a Debian package of the built library for C, out/libnavtex-dev_VERSION_amd64.deb'
 	@echo 'make live                 the receiver without a heap for many machines, in out/live/; ci/live --check tries it'
 	@echo 'make clean                remove what rt keeps and makes in out/'
 	@echo "The program is built by (cd crates/nx_cli && rt run -- code), which proves it first."
@@ -62,10 +62,11 @@ uninstall:
 	rm -rf $(DESTDIR)$(PREFIX)/share/doc/navtex
 
 deb:
-	package/deb
+	package/object amd64
+	package/deb amd64
 
 deb-arm64:
-	package/arm64-object
+	package/object arm64
 	package/deb arm64
 
 deb-lib:
