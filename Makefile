@@ -4,7 +4,7 @@ PROGRAM = crates/nx_cli/out/nx_cli
 CRATE =
 MODULE = out/live/navtex32.wasm
 
-.PHONY: help check test ci bench live page install install-lib uninstall deb deb-arm64 deb-lib clean
+.PHONY: help check test ci bench live page install install-lib uninstall deb deb-arm64 deb-lib dist clean
 
 help:
 	@echo 'make check CRATE=nx_sync  prove one crate, and those below it that have changed'
@@ -18,6 +18,7 @@ help:
 	@echo 'make deb                  a Debian package for x86-64, out/navtex_VERSION_amd64.deb: proves and builds the program for any such processor, and installs nothing'
 	@echo 'make deb-arm64            the same for arm64, a Raspberry Pi among them'
 	@echo 'make deb-lib              a Debian package of the built library for C, out/libnavtex-dev_VERSION_amd64.deb'
+	@echo 'make dist                 proves, builds and makes all that lies ready made in dist/; ci/dist --check tries it'
 	@echo 'make live                 the receiver without a heap for many machines, in out/live/; ci/live --check tries it'
 	@echo 'make clean                remove what rt keeps and makes in out/'
 	@echo "The program is built by (cd crates/nx_cli && rt run -- code), which proves it first."
@@ -71,6 +72,14 @@ deb-arm64:
 
 deb-lib:
 	package/deb-library
+
+# Begins only where each file is in a commit, whose number stands in dist/README.md.
+dist:
+	@[ -z "$$(git status --porcelain -- . ':!dist')" ] || { echo 'some files are in no commit: git status' >&2; exit 1; }
+	package/object amd64
+	package/object arm64
+	ci/live --modules
+	package/dist
 
 live:
 	ci/live
