@@ -20,9 +20,9 @@ export class Chromium {
         return browser;
     }
 
-    /** A new empty tab. */
-    async tab() {
-        const { targetId } = await this.send('Target.createTarget', { url: 'about:blank' });
+    /** A new empty tab, or one in a window of its own, so that it isn't behind the others. */
+    async tab({ isWindow = false } = {}) {
+        const { targetId } = await this.send('Target.createTarget', { url: 'about:blank', newWindow: isWindow });
         const { sessionId } = await this.send('Target.attachToTarget', { targetId, flatten: true });
         const tab = new ChromiumTab(this, sessionId, targetId);
         this.#tabs.set(sessionId, tab);
@@ -75,11 +75,17 @@ export class Chromium {
     }
 }
 
+const MARK = 'navtex tasks'; // by which the thread of a page is known
+const TASK = 'ThreadControllerImpl::RunTask';
+const TRACED = { transferMode: 'ReportEvents', traceConfig: { includedCategories: ['toplevel', 'blink.user_timing'] } };
+
 class ChromiumTab extends Tab {
     #browser;
     #session;
     #target;
     #onLoaded = () => {};
+    #traced = [];
+    #onTraced = () => {};
 
     constructor(browser, session, target) {
         super();
@@ -146,6 +152,25 @@ class ChromiumTab extends Tab {
         }
     }
 
+    /** From here on the tasks of the page's thread are looked at. */
+    async watchTasks() {
+        this.#traced = [];
+        await this.call('Tracing.start', TRACED);
+        await this.value(`performance.mark(${JSON.stringify(MARK)})`, false);
+    }
+
+    /** The milliseconds of a processor that each of them took. */
+    async tasks() {
+        const whole = new Promise((resolve) => { this.#onTraced = resolve; });
+        await this.call('Tracing.end');
+        await whole;
+        const { pid, tid } = this.#traced.find(({ name }) => name === MARK);
+        const tasks = this.#traced.filter((one) => one.pid === pid && one.tid === tid && one.name === TASK
+            && one.tdur !== undefined);
+        this.#traced = [];
+        return tasks.map(({ tdur }) => tdur / 1000);
+    }
+
     async picture(width, height, isPhone) {
         await this.call('Emulation.setDeviceMetricsOverride', { width, height, deviceScaleFactor: 1, mobile: isPhone });
         await new Promise((resolve) => setTimeout(resolve, 300));
@@ -159,6 +184,8 @@ class ChromiumTab extends Tab {
             this.errors.push(exception?.description ?? text);
         }
         if (method === 'Page.loadEventFired') this.#onLoaded();
+        if (method === 'Tracing.dataCollected') this.#traced.push(...params.value);
+        if (method === 'Tracing.tracingComplete') this.#onTraced();
         if (method === 'Page.javascriptDialogOpening') {
             this.asked.push(params.message);
             this.call('Page.handleJavaScriptDialog', { accept: this.agrees }).catch(() => {});

@@ -43,10 +43,10 @@ export class Firefox {
         return browser;
     }
 
-    /** The tab that it begins with, and later a new one. */
-    async tab() {
+    /** The tab that it begins with, and later a new one, in a window of its own where that is asked. */
+    async tab({ isWindow = false } = {}) {
         const handle = this.#count === 1 ? await this.send('WebDriver:GetWindowHandle')
-            : (await this.send('WebDriver:NewWindow', { type: 'tab' })).handle;
+            : (await this.send('WebDriver:NewWindow', { type: isWindow ? 'window' : 'tab' })).handle;
         return new FirefoxTab(this, handle.value ?? handle);
     }
 
@@ -137,8 +137,10 @@ class FirefoxTab extends Tab {
         return this.call('WebDriver:Refresh');
     }
 
-    close() {
-        return this.call('WebDriver:CloseWindow');
+    /** Another one is led from then on, since a new one is asked for there. */
+    async close() {
+        const left = await this.call('WebDriver:CloseWindow');
+        await this.#browser.send('WebDriver:SwitchToWindow', { handle: (left.value ?? left)[0], focus: false });
     }
 
     async value(expression) {

@@ -2,62 +2,73 @@
 // meanwhile; other formats that are too long are told.
 import assert from 'node:assert/strict';
 import { setTimeout as pause } from 'node:timers/promises';
+import { answersDuring, expectSoon, isSoon } from '../answers.mjs';
 import { headOf, bitsOf, example, tonesOf, writeLong } from '../waves.mjs';
 import { writeFileSync } from 'node:fs';
 
 const HOURS = 2;
-const WATCHED = 10000;  // milliseconds
-const ANSWER = 100;     // milliseconds in which the page answers
-const LATE = 0.02;      // the part of all answers that may come later, also of a page that does nothing
+const WATCHED = 15000;  // milliseconds
 const MEMORY = 200e6;   // bytes that the page may take more
-
-/** Asks the page each 10 ms, and keeps how late each answer is. */
-const ASKING = `(() => {
-    window.late = [];
-    let due = performance.now() + 10;
-    window.asking = setInterval(() => {
-        const now = performance.now();
-        window.late.push(Math.max(0, now - due));
-        due = now + 10;
-    }, 10);
-})()`;
-
-/** How late the page answered, in milliseconds, while it was asked. */
-async function answers(tab) {
-    await tab.value(ASKING);
-    await pause(WATCHED);
-    return tab.value('(clearInterval(window.asking), window.late)');
-}
-
-/** The part of answers that came too late. */
-const lateOf = (late) => late.filter((one) => one > ANSWER).length / late.length;
+const ROUGH = 5000;     // samples a second, which the page doesn't read itself
+const HEARING = "document.getElementById('source').textContent.startsWith('Hearing')";
 
 /** The one at the beginning of a long recording, and the one at its end. */
 const emissions = () => ['ea01.air', 'refused.air'].map((name) => tonesOf(bitsOf(example(name))));
 
-async function triesTwoHours({ tab, room, kind }) {
+/** A page that is kept busy is told from one that answers, on this machine too. */
+async function triesSlowPage({ browser, tab }) {
+    await tab.value(`window.slow = setInterval(() => {
+        const begun = performance.now();
+        while (performance.now() < begun + 400);
+    }, 1000)`);
+    const found = await answersDuring(browser, tab, () => pause(WATCHED / 3));
+    await tab.value('clearInterval(window.slow)');
+    assert.ok(!isSoon(found), `a page that is kept busy: ${found.words}`);
+    assert.ok(!isSoon({ ...found, tasks: null }), `by its answers alone: ${found.words}`);
+    if (found.tasks) assert.ok(!isSoon({ ...found, page: 0 }), `by its tasks alone: ${found.words}`);
+}
+
+async function triesTwoHours({ browser, tab, room, kind }) {
     const [first, last] = emissions();
     writeLong(`${room}/two-hours.wav`, HOURS * 3600, first, last);
     const memory = () => tab.value('performance.memory?.usedJSHeapSize ?? 0');
     const before = await memory();
-    await tab.value("(window.busy = new Worker(URL.createObjectURL(new Blob(['for (;;) Math.random();']))), true)");
-    const usual = lateOf(await answers(tab));
-    await tab.value('(window.busy.terminate(), true)');
-    await tab.giveFiles('#file', `${room}/two-hours.wav`);
+    await isHeardSoon(kind, browser, tab, `${room}/two-hours.wav`);
     await tab.until("document.querySelectorAll('#list li').length === 1");
-    const all = await answers(tab);
-    if (usual > LATE) {
-        console.log('ci/web: answers while sound is heard: left out, this machine does too much else');
-    } else {
-        const part = (100 * lateOf(all)).toFixed(1);
-        assert.ok(lateOf(all) <= LATE, `${kind}: of ${all.length} answers ${part} % came after ${ANSWER} ms`);
-    }
     assert.ok(await memory() - before < MEMORY);
     assert.ok(await tab.value("document.getElementById('progress').value > 0"));
     assert.match(await tab.textOf('left'), /^\d+ %, some \d+ (s|min) left$/);
     await tab.press('#stop');
     await tab.untilIdle();
     assert.match((await tab.ended())[0], /^two-hours.wav, stopped: 1 message heard: 1 new/);
+}
+
+/** The page answers while a recording is read and heard, from when it is opened on. */
+async function isHeardSoon(kind, browser, tab, file) {
+    const said = await expectSoon(browser, tab, file.split('/').at(-1), async () => {
+        await tab.giveFiles('#file', file);
+        await pause(WATCHED);
+        await tab.until(HEARING);
+    });
+    console.log(`ci/web: ${kind}: ${said}`);
+}
+
+/** So it does with one that only the browser decodes, from when it is heard on. Before that the browser holds
+ *  up the page once, as it hands over the sound of all the hours: how long, is told. */
+async function triesDecoded({ browser, tab, room, kind }) {
+    const length = HOURS * 3600 * ROUGH;
+    const head = headOf({ rate: ROUGH, length, bits: 8 });
+    writeFileSync(`${room}/decoded-hours.wav`, Buffer.concat([head, Buffer.alloc(length, 128)]));
+    const { words } = await answersDuring(browser, tab, async () => {
+        await tab.giveFiles('#file', `${room}/decoded-hours.wav`);
+        await tab.until(HEARING);
+    });
+    console.log(`ci/web: ${kind}: two hours that the browser decodes, until they are heard: ${words}`);
+    const said = await expectSoon(browser, tab, 'decoded-hours.wav', () => pause(WATCHED / 3));
+    console.log(`ci/web: ${kind}: ${said}`);
+    await tab.press('#stop');
+    await tab.untilIdle();
+    await tab.forgetFaults();
 }
 
 /** The end of a long recording is heard too: here a minute of silence is between. */
@@ -83,4 +94,4 @@ async function triesTooLong({ tab, room }) {
     await tab.forgetFaults();
 }
 
-export const trials = () => [triesTwoHours, triesItsEnd, triesTooLong];
+export const trials = () => [triesSlowPage, triesTwoHours, triesDecoded, triesItsEnd, triesTooLong];
