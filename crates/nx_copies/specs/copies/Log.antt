@@ -1,7 +1,7 @@
 -- The log: what is printed of all that a receiver was given, and its bytes (this profile).
-use Rattle.std.specs.Prelude.{◌≡◌, ℕ, ◌-◌, ◌==◌, Bool, true, if◌then◌else◌, List, [], ◌∷◌, ◌++◌}
-use Rattle.std.specs.Prelude.{length, codes, decimal, slice_get, unwrap_or}
-use Rattle.std.specs.List.{concat, AllZip}
+use Rattle.std.specs.Prelude.{◌≡◌, ℕ, ◌-◌, ◌≤◌, ◌==◌, Bool, true, if◌then◌else◌, List, [], ◌∷◌}
+use Rattle.std.specs.Prelude.{◌++◌, length, codes, decimal, slice_get, unwrap_or, ⊤}
+use Rattle.std.specs.List.{All, AllZip, concat}
 use Rattle.std.specs.Option.{option_map}
 use Rattle.nx_envelope.specs.Copies.{errors_of}
 use Rattle.nx_envelope.specs.Identity.{identity_bytes}
@@ -12,7 +12,8 @@ use Rattle.nx_envelope.specs.declared.found.How.TheVariants.{Full, Cut, Long}
 use Rattle.nx_fec.specs.declared.air_files.channel.Channel.{Channel}
 use Rattle.nx_fec.specs.declared.air_files.channel.Channel.TheVariants.{Zero, One, Two}
 use Rattle.nx_sync.specs.Locks.{Lock, Now, IsNow}
-use Rattle.nx_copies.specs.Events.{Event, Start, elements_among, first_setting}
+use Rattle.nx_copies.specs.Events.{Event, Start, at_moment, command, element, elements_among}
+use Rattle.nx_copies.specs.Events.{first_setting}
 use Rattle.nx_copies.specs.copies.FoundCopies.{FoundCopy, ended_so_far, found_to_end, TaggedCopy}
 use Rattle.nx_copies.specs.copies.FoundCopies.{tagged_copies}
 use Rattle.nx_copies.specs.copies.Printing.{printed_copies}
@@ -93,9 +94,15 @@ pub record Printing : Type 1 where
 abbrev pub plain : Printing
 plain = record { so_far = HasPrinted; to_end = PrintsToEnd }
 
+-- an event that is a moment isn't past this one
+abbrev pub IsUpTo : ℕ → Event → Type 0
+IsUpTo last (at_moment n) = n ≤ last
+IsUpTo last (element bit) = ⊤
+IsUpTo last (command c) = ⊤
+
 -- The laws of a printing. Of any events there is one log, so far and to the end. No event prints
 -- nothing, and events without elements print nothing more. What is printed so far stays, whatever
--- comes later, and the end adds to it.
+-- comes later, and the end adds to it. What is printed has no moment past all that were given.
 pub record IsPrinting (printing : Printing) : Type 0 where
   pub some : (start : Start) (events : List Event)
       → (log : List TaggedCopy) × printing.so_far start events log
@@ -115,3 +122,6 @@ pub record IsPrinting (printing : Printing) : Type 0 where
   pub stays_to_end : (start : Start) (events : List Event) (log whole : List TaggedCopy)
       → printing.so_far start events log → printing.to_end start events whole
       → (rest : List TaggedCopy) × (whole ≡ log ++ rest)
+  pub up_to : (start : Start) (events : List Event) (log : List TaggedCopy) (last : ℕ)
+      → start.moment ≤ last → All (IsUpTo last) events → printing.to_end start events log
+      → All (λ (copy : TaggedCopy). copy.moment ≤ last) log
