@@ -58,7 +58,6 @@ pub(super) fn listen_lines<R: Read, W: Write>(
 
 /// Takes the line that was given last, which says this, and gives the batch what it prints. A line
 /// that is refused changes nothing, and what the lines before it print is written.
-#[inline(always)]
 fn take_line<R, W: Write>(
     listener: &mut Listener,
     kind: LineKind,

@@ -67,7 +67,6 @@ fn hear_lines<R: Read>(
 }
 
 /// Takes a line that says this and has these elements. A line that is refused changes nothing.
-#[inline(always)]
 fn take_unlogged(
     listener: &mut Listener,
     kind: LineKind,
