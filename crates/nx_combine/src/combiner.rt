@@ -1,7 +1,7 @@
 //! What judges the copies of a channel together with the others of their families.
 
-ghost use Rattle.std.specs.Prelude.{◌≡◌, ◌≤◌, ◌<◌, ◌++◌, ◌∷◌, ℕ, List, [], Bool, IfOk, IfSome};
-ghost use Rattle.std.specs.Prelude.{length};
+ghost use Rattle.std.specs.Prelude.{◌≡◌, ◌≤◌, ◌<◌, ◌&&◌, ◌++◌, ◌∷◌, ℕ, List, [], Bool, IfOk, IfSome};
+ghost use Rattle.std.specs.Prelude.{is_some, length};
 ghost use Rattle.nx_code.specs.Lists.{last_of};
 ghost use Rattle.nx_envelope.specs.Copies.{errors_of};
 ghost use Rattle.nx_memory.specs.declared.memories.entry.MemoryEntry.{MemoryEntry};
@@ -143,7 +143,7 @@ impl Combiner {
             return None;
         }
         self.note(combined.family, one.head);
-        if combined.family.is_some() && is_good(&one.head, self.text_of(&one, text)) {
+        if is_entered(&one.head, self.text_of(&one, text), combined.family) {
             memory.renew(head.identity, head.moment);
         }
         Some(one)
@@ -288,11 +288,13 @@ fn printed_as(head: &EntryHead, combined: &Combined) -> PrintedCopy
     }
 }
 
-/// Whether a copy is good, by its head and its text: it is full, and fewer than 4 per cent of its
-/// characters are errors. An empty text counts as one character.
-fn is_good(head: &EntryHead, text: &[u8]) -> bool
+/// Whether a copy that is printed is entered: it has a family, is full, and fewer than 4 per cent of
+/// its characters are errors. An empty text counts as one character.
+fn is_entered(head: &EntryHead, text: &[u8], family: Option<usize>) -> bool
     ensures { (selected : Bool) → head.now.errors ≡ errors_of text.now
-        → result ≡ printing.is_good (headed_copy head.now text.now selected) }
+        → result ≡ (printing.is_good (headed_copy head.now text.now selected) && is_some family) }
 {
-    head.how == How::Full && GOOD_SHARE * usize::from(head.errors) < text.len().max(1)
+    head.how == How::Full
+        && GOOD_SHARE * usize::from(head.errors) < text.len().max(1)
+        && family.is_some()
 }

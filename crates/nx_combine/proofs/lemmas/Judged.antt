@@ -520,53 +520,31 @@ pub printed : (entries : List MemoryEntry) (before : List CombinedCopy) (one : C
 unfolding if_printed_combined
 printed entries before one passes = ap (λ b. if b then one ∷ [] else []) passes
 
-made_by : (entries : List MemoryEntry) (before : List CombinedCopy) (one : CombinedCopy)
-    (p g s : Bool) → is_printed_combined entries before one ≡ p → is_good one.copy ≡ g
-    → is_some one.family ≡ s
-    → entry_made_combined entries before one ≡ (if p && g && s then entry_of one.copy ∷ [] else [])
-unfolding entry_made_combined is_entered_combined
-made_by entries before one p g s is good some = rw (is, good, some) refl
-
 pub made_unprinted : (entries : List MemoryEntry) (before : List CombinedCopy)
     (one : CombinedCopy) → is_printed_combined entries before one ≡ false
     → entry_made_combined entries before one ≡ []
-made_unprinted entries before one fails =
-    made_by entries before one false (is_good one.copy) (is_some one.family) fails refl refl
+unfolding entry_made_combined is_entered_combined
+made_unprinted entries before one fails = rw fails refl
 
-pub made_bad : (entries : List MemoryEntry) (before : List CombinedCopy) (one : CombinedCopy)
-    → is_printed_combined entries before one ≡ true → is_good one.copy ≡ false
-    → entry_made_combined entries before one ≡ []
-made_bad entries before one passes bad =
-    made_by entries before one true false (is_some one.family) passes bad refl
-
-made_if_none : (o : Option ℕ) (x : CombinedCopy) → o ≡ None
-    → (g : Bool) → (if true && g && is_some o then entry_of x.copy ∷ [] else []) ≡ []
-made_if_none None x is true = refl
-made_if_none None x is false = refl
-made_if_none (Some n) x is g = absurd (let contra : Some n ≡ None = is in cc)
-
-pub made_alone : (entries : List MemoryEntry) (before : List CombinedCopy) (one : CombinedCopy)
-    → is_printed_combined entries before one ≡ true → one.family ≡ None
-    → entry_made_combined entries before one ≡ []
-made_alone entries before one passes none =
-    made_by entries before one true (is_good one.copy) (is_some one.family) passes refl refl
-    ∙ made_if_none one.family one none (is_good one.copy)
-
-pub made_good : (entries : List MemoryEntry) (before : List CombinedCopy) (one : CombinedCopy)
-    → is_printed_combined entries before one ≡ true → is_good one.copy ≡ true
-    → is_some one.family ≡ true → entry_made_combined entries before one ≡ entry_of one.copy ∷ []
-made_good entries before one passes good some =
-    made_by entries before one true true true passes good some
+pub made_printed : (entries : List MemoryEntry) (before : List CombinedCopy) (one : CombinedCopy)
+    (entered : Bool) → is_printed_combined entries before one ≡ true
+    → entered ≡ (is_good one.copy && is_some one.family)
+    → entry_made_combined entries before one ≡ (if entered then entry_of one.copy ∷ [] else [])
+unfolding entry_made_combined is_entered_combined
+made_printed entries before one entered passes is =
+    ap (λ p. if p && is_good one.copy && is_some one.family then entry_of one.copy ∷ [] else [])
+    passes
+    ∙ ap (λ b. if b then entry_of one.copy ∷ [] else []) (sym is)
 
 -- What is said of an index, where there is one.
 
-pub still_some : (f : ℕ → ℕ) (o : Option ℕ) → is_some o ≡ true → is_some (option_map f o) ≡ true
-still_some f None is = is
-still_some f (Some i) is = refl
+pub some_as : (f : ℕ → ℕ) (o : Option ℕ) → is_some (option_map f o) ≡ is_some o
+some_as f None = refl
+some_as f (Some i) = refl
 
-pub still_none : (f : ℕ → ℕ) (o : Option ℕ) → is_some o ≡ false → option_map f o ≡ None
-still_none f None is = refl
-still_none f (Some i) is = absurd (let contra : true ≡ false = is in cc)
+pub and_second : (a b : Bool) → (a && b) ≡ true → b ≡ true
+and_second true b is = is
+and_second false b is = absurd (let contra : false ≡ true = is in cc)
 
 pub numbered_some : (o : Option ℕ) (P : Type 0) → is_some o ≡ true → IfSome o (λ i. P) → P
 numbered_some None P is h = absurd (let contra : false ≡ true = is in cc)

@@ -1,4 +1,4 @@
-use Rattle.std.proofs.Common.{◌≡◌, ◌-◌, ◌<◌, true, List, [], ◌∷◌, ◌++◌}
+use Rattle.std.proofs.Common.{◌≡◌, ◌-◌, ◌<◌, ◌&&◌, if◌then◌else◌, true, List, [], ◌∷◌, ◌++◌}
 use Rattle.std.proofs.Common.{length, sym, ap, ap₂, ◌∙◌, subst}
 use Rattle.std.specs.Prelude.{is_some}
 use Rattle.nx_envelope.specs.Copies.{errors_of}
@@ -11,10 +11,9 @@ use Rattle.nx_combine.specs.CombinedPrinting.{entry_made_combined, is_printed_co
 use Rattle.nx_combine.specs.Combining.{meant}
 use Rattle.nx_combine.specs.Families.{CombinedCopy, combined_copy, families_after}
 use Rattle.nx_combine.specs.Judging.{StandsCombined, all_copies, text_printed}
-use Rattle.nx_combine.proofs.lemmas.Judged.{comes_as, made_alone, made_bad, made_good, made_unprinted}
-use Rattle.nx_combine.proofs.lemmas.Judged.{numbered_some, printed, still_none, still_some, unprinted}
+use Rattle.nx_combine.proofs.lemmas.Judged.{and_second, comes_as, made_printed, made_unprinted}
+use Rattle.nx_combine.proofs.lemmas.Judged.{numbered_some, printed, some_as, unprinted}
 use Rattle.nx_combine.proofs.combiner.Combiner.judge.Goals as goal
-use Rattle.nx_combine.proofs.combiner.Combiner.judge.Goals.{else-is_some-via-then-is_some+else-is_good, else-is_some-via-else-is_some}
 
 pub returns-then-not-prints-clause-stands : goal.returns-then-not-prints-clause-stands
 returns-then-not-prints-clause-stands g c = λ entries families before heard is held stands.
@@ -87,11 +86,24 @@ returns-then-not-prints-clause-printed g c = λ entries families before heard is
 
 pub renew-requires-clause-numbered : goal.renew-requires-clause-numbered
 renew-requires-clause-numbered g c =
-    numbered_some c.take-combined.result.family (0 < c.args.head.now.identity.number)
-    (sym c.is_some.ensures ∙ c.if-is_some.true) c.take-combined.ensures.numbered
+    let shown = c.printed_as-one.result in
+    let read = c.take-combined.new.self.finder.text in
+    let same : c.text_of.result.now ≡ text_printed shown read c.args.text.now =
+    c.text_of.ensures.text
+    ∙ ap (λ (f : FinderView). text_printed shown f.text c.args.text.now) c.note.ensures.finder in
+    let errors = c.printed_as-one.ensures.errors read c.args.text.now c.requires.errors
+    c.take-combined.ensures.errors in
+    let of : is_some c.take-combined.result.family ≡ true =
+    and_second
+    (is_good (headed_copy shown.head c.text_of.result.now c.args.selected))
+    (is_some c.take-combined.result.family)
+    (sym (c.is_entered.ensures c.args.selected (errors ∙ ap errors_of (sym same)))
+    ∙ c.if-is_entered.true) in
+    numbered_some c.take-combined.result.family (0 < c.args.head.now.identity.number) of
+    c.take-combined.ensures.numbered
 
-pub returns-then-is_good-clause-stands : goal.returns-then-is_good-clause-stands
-returns-then-is_good-clause-stands g c = λ entries families before heard is held stands.
+pub returns-then-is_entered-clause-stands : goal.returns-then-is_entered-clause-stands
+returns-then-is_entered-clause-stands g c = λ entries families before heard is held stands.
     let head = c.args.head.now in
     let own = c.args.text.now in
     let selected = c.args.selected in
@@ -114,8 +126,8 @@ returns-then-is_good-clause-stands g c = λ entries families before heard is hel
     (sym (printed entries before one (sym prints ∙ c.if-not-prints.false)))
     (c.note.ensures.stands after before one text selected stood errors comes)
 
-pub returns-then-is_good-clause-entered : goal.returns-then-is_good-clause-entered
-returns-then-is_good-clause-entered g c = λ entries families before heard is held stands.
+pub returns-then-is_entered-clause-entered : goal.returns-then-is_entered-clause-entered
+returns-then-is_entered-clause-entered g c = λ entries families before heard is held stands.
     let head = c.args.head.now in
     let own = c.args.text.now in
     let selected = c.args.selected in
@@ -137,14 +149,13 @@ returns-then-is_good-clause-entered g c = λ entries families before heard is he
     let same : c.text_of.result.now ≡ text =
     c.text_of.ensures.text
     ∙ ap (λ (f : FinderView). text_printed shown f.text own) c.note.ensures.finder in
-    let good : c.is_good.result ≡ is_good one.copy =
-    c.is_good.ensures selected (errors ∙ ap errors_of (sym same))
-    ∙ ap (λ t. is_good (headed_copy shown.head t selected)) same
-    ∙ ap is_good (sym comes.is) in
-    let of : is_some one.family ≡ true =
-    ap is_some comes.of_family
-    ∙ still_some (λ i. length after - 1 - i) c.take-combined.result.family
-    (sym c.is_some.ensures ∙ c.if-is_some.true) in
+    let entered : c.is_entered.result ≡ (is_good one.copy && is_some one.family) =
+    c.is_entered.ensures selected (errors ∙ ap errors_of (sym same))
+    ∙ ap (λ t. is_good (headed_copy shown.head t selected) && is_some c.take-combined.result.family)
+    same
+    ∙ ap₂ (λ (t : TaggedCopy) b. is_good t && b) (sym comes.is)
+    (sym (ap is_some comes.of_family
+    ∙ some_as (λ i. length after - 1 - i) c.take-combined.result.family)) in
     let entry : MemoryEntry = record { identity = head.identity; moment = head.moment } in
     let named : entry_of one.copy ≡ entry =
     ap entry_of comes.is
@@ -153,11 +164,12 @@ returns-then-is_good-clause-entered g c = λ entries families before heard is he
     content_grows entries (entry_made_combined entries before one)
     (g.M.Recall.content c.args.memory.now) (g.M.Recall.content c.renew.new.self) entry held
     c.renew.ensures
-    (made_good entries before one (sym prints ∙ c.if-not-prints.false) (sym good ∙ c.if-is_good.true)
-    of ∙ ap (λ (e : MemoryEntry). e ∷ []) named)
+    (made_printed entries before one c.is_entered.result (sym prints ∙ c.if-not-prints.false) entered
+    ∙ ap (λ b. if b then entry_of one.copy ∷ [] else []) c.if-is_entered.true
+    ∙ ap (λ (e : MemoryEntry). e ∷ []) named)
 
-pub returns-then-is_good-clause-printed : goal.returns-then-is_good-clause-printed
-returns-then-is_good-clause-printed g c = λ entries families before heard is held stands.
+pub returns-then-is_entered-clause-printed : goal.returns-then-is_entered-clause-printed
+returns-then-is_entered-clause-printed g c = λ entries families before heard is held stands.
     let head = c.args.head.now in
     let own = c.args.text.now in
     let selected = c.args.selected in
@@ -181,13 +193,13 @@ returns-then-is_good-clause-printed g c = λ entries families before heard is he
     ∙ ap (λ (f : FinderView). headed_copy shown.head (text_printed shown f.text own) selected ∷ [])
     (sym c.note.ensures.finder)
 
-pub returns-then-is_good-clause-not_before : goal.returns-then-is_good-clause-not_before
-returns-then-is_good-clause-not_before g c =
+pub returns-then-is_entered-clause-not_before : goal.returns-then-is_entered-clause-not_before
+returns-then-is_entered-clause-not_before g c =
     newest_is_last (g.M.Recall.content c.args.memory.now) (g.M.Recall.content c.renew.new.self)
     c.args.head.now.identity c.args.head.now.moment c.renew.ensures
 
-pub returns-else-is_some-clause-stands : goal.returns-else-is_some-clause-stands
-returns-else-is_some-clause-stands g c = λ entries families before heard is held stands.
+pub returns-else-is_entered-clause-stands : goal.returns-else-is_entered-clause-stands
+returns-else-is_entered-clause-stands g c = λ entries families before heard is held stands.
     let head = c.args.head.now in
     let own = c.args.text.now in
     let selected = c.args.selected in
@@ -210,8 +222,8 @@ returns-else-is_some-clause-stands g c = λ entries families before heard is hel
     (sym (printed entries before one (sym prints ∙ c.if-not-prints.false)))
     (c.note.ensures.stands after before one text selected stood errors comes)
 
-pub returns-else-is_some-clause-entered : goal.returns-else-is_some-clause-entered
-returns-else-is_some-clause-entered g c = λ entries families before heard is held stands.
+pub returns-else-is_entered-clause-entered : goal.returns-else-is_entered-clause-entered
+returns-else-is_entered-clause-entered g c = λ entries families before heard is held stands.
     let head = c.args.head.now in
     let own = c.args.text.now in
     let selected = c.args.selected in
@@ -230,27 +242,23 @@ returns-else-is_some-clause-entered g c = λ entries families before heard is he
     (c.printed_as-one.ensures.copy read own selected) in
     let prints : c.prints.result ≡ is_printed_combined entries before one =
     c.prints.ensures entries after before one text held stood errors comes in
-    let passes = sym prints ∙ c.if-not-prints.false in
+    let same : c.text_of.result.now ≡ text =
+    c.text_of.ensures.text
+    ∙ ap (λ (f : FinderView). text_printed shown f.text own) c.note.ensures.finder in
+    let entered : c.is_entered.result ≡ (is_good one.copy && is_some one.family) =
+    c.is_entered.ensures selected (errors ∙ ap errors_of (sym same))
+    ∙ ap (λ t. is_good (headed_copy shown.head t selected) && is_some c.take-combined.result.family)
+    same
+    ∙ ap₂ (λ (t : TaggedCopy) b. is_good t && b) (sym comes.is)
+    (sym (ap is_some comes.of_family
+    ∙ some_as (λ i. length after - 1 - i) c.take-combined.result.family)) in
     content_stays entries (entry_made_combined entries before one)
     (g.M.Recall.content c.args.memory.now) held
-    (elim c.else-is_some.branch [
-      | else-is_some-via-then-is_some+else-is_good w ↦
-          let same : w.text_of.result.now ≡ text =
-          w.text_of.ensures.text
-          ∙ ap (λ (f : FinderView). text_printed shown f.text own) c.note.ensures.finder in
-          let good : w.is_good.result ≡ is_good one.copy =
-          w.is_good.ensures selected (errors ∙ ap errors_of (sym same))
-          ∙ ap (λ t. is_good (headed_copy shown.head t selected)) same
-          ∙ ap is_good (sym comes.is) in
-          made_bad entries before one passes (sym good ∙ w.if-is_good.false)
-      | else-is_some-via-else-is_some w ↦
-          made_alone entries before one passes
-          (comes.of_family ∙ still_none (λ i. length after - 1 - i) c.take-combined.result.family
-          (sym c.is_some.ensures ∙ w.if-is_some.false))
-    ])
+    (made_printed entries before one c.is_entered.result (sym prints ∙ c.if-not-prints.false) entered
+    ∙ ap (λ b. if b then entry_of one.copy ∷ [] else []) c.if-is_entered.false)
 
-pub returns-else-is_some-clause-printed : goal.returns-else-is_some-clause-printed
-returns-else-is_some-clause-printed g c = λ entries families before heard is held stands.
+pub returns-else-is_entered-clause-printed : goal.returns-else-is_entered-clause-printed
+returns-else-is_entered-clause-printed g c = λ entries families before heard is held stands.
     let head = c.args.head.now in
     let own = c.args.text.now in
     let selected = c.args.selected in
