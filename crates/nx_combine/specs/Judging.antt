@@ -1,15 +1,18 @@
 -- What judges combined copies holds, and which copies leave it so (this profile).
 use Rattle.std.specs.Prelude.{◌≡◌, ℕ, zero, suc, ◌-◌, ◌<◌, ◌==◌, Bool, false, if◌then◌else◌}
-use Rattle.std.specs.Prelude.{List, [], ◌∷◌, length, map, take, Option, Some}
+use Rattle.std.specs.Prelude.{List, [], ◌∷◌, ◌++◌, fold, length, map, take, Option, Some}
 use Rattle.std.specs.List.{AllByRecursion, find}
 use Rattle.std.specs.Option.{option_map, option_map_or}
 use Rattle.nx_code.specs.Reading.{Reception}
 use Rattle.nx_envelope.specs.Copies.{errors_of}
 use Rattle.nx_envelope.specs.FinderView.{FinderView}
+use Rattle.nx_memory.specs.declared.memories.entry.MemoryEntry.{MemoryEntry}
 use Rattle.nx_copies.specs.copies.FoundCopies.{TaggedCopy, headed_copy}
 use Rattle.nx_copies.specs.declared.entry.EntryHead.{EntryHead}
+use Rattle.nx_combine.specs.CombinedPrinting.{entry_made_combined, if_printed_combined}
 use Rattle.nx_combine.specs.CopyPositions.{HeardCopy}
-use Rattle.nx_combine.specs.Families.{CombinedCopy, Family, most_families, most_positions}
+use Rattle.nx_combine.specs.Families.{CombinedCopy, Family, combined_copy, families_after}
+use Rattle.nx_combine.specs.Families.{most_families, most_positions}
 use Rattle.nx_combine.specs.declared.combiner.PrintedCopy.{PrintedCopy}
 
 -- what the line that heads an entry says of a copy
@@ -34,6 +37,37 @@ last_printed before number =
 unfoldable pub all_last_printed : List CombinedCopy → ℕ → List (Option EntryHead)
 all_last_printed before zero = []
 all_last_printed before (suc number) = last_printed before number ∷ all_last_printed before number
+
+-- what copies left that were judged so far: the entries that were made, oldest first; and all
+-- families that were begun and the combined copies that were printed, newest first
+pub record Judged : Type 0 where
+  pub entries : List MemoryEntry
+  pub families : List Family
+  pub printed : List CombinedCopy
+
+-- the combined copy of one more, if it is printed
+abbrev pub printed_by : Judged → HeardCopy → List CombinedCopy
+printed_by so_far heard =
+    if_printed_combined so_far.entries so_far.printed (combined_copy so_far.families heard)
+
+-- what is left after one more
+abbrev pub judged_after : Judged → HeardCopy → Judged
+judged_after so_far heard = record {
+  entries = so_far.entries
+      ++ entry_made_combined so_far.entries so_far.printed (combined_copy so_far.families heard);
+  families = families_after so_far.families heard;
+  printed = printed_by so_far heard ++ so_far.printed;
+}
+
+-- and after more of them
+abbrev pub judged_behind : Judged → List HeardCopy → Judged
+judged_behind so_far copies = fold judged_after so_far copies
+
+-- the combined copies that are printed of more of them, in order
+abbrev pub all_printed : Judged → List HeardCopy → List CombinedCopy
+all_printed so_far [] = []
+all_printed so_far (heard ∷ later) =
+    printed_by so_far heard ++ all_printed (judged_after so_far heard) later
 
 -- what a combiner holds: families, newest first; of each the head of its last combined copy that
 -- was printed, if one was; and the finder that reads joined positions

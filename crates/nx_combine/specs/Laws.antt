@@ -1,5 +1,5 @@
 -- What the laws of combined copies say.
-use Rattle.std.specs.Prelude.{◌≡◌, ◌⊎◌, ℕ, ◌+◌, ◌-◌, ◌<◌, ◌≤◌, Bool, true, List, [], ◌∷◌, ◌++◌, length, slice_get}
+use Rattle.std.specs.Prelude.{◌≡◌, ◌⊎◌, ℕ, ◌+◌, ◌-◌, ◌<◌, ◌≤◌, Bool, true, false, List, [], ◌∷◌, ◌++◌, length, slice_get}
 use Rattle.std.specs.Prelude.{Contains, Option, Some, None, fold, map}
 use Rattle.std.specs.List.{AllByRecursion, filter, find}
 use Rattle.nx_code.specs.Reading.{Reception, combination, idle, lost}
@@ -7,13 +7,15 @@ use Rattle.nx_envelope.specs.Copies.{errors_of}
 use Rattle.nx_envelope.specs.Identity.{same_identity}
 use Rattle.nx_envelope.specs.declared.found.How.TheVariants.{Full}
 use Rattle.nx_envelope.specs.declared.identity.Identity.{Identity}
+use Rattle.nx_memory.specs.Memory.{most_entries}
 use Rattle.nx_memory.specs.declared.memories.entry.MemoryEntry.{MemoryEntry}
 use Rattle.nx_copies.specs.copies.Printing.{is_remembered}
 use Rattle.nx_combine.specs.CombinedPrinting.{are_of_one_family}
 use Rattle.nx_combine.specs.CopyPositions.{HeardCopy}
 use Rattle.nx_combine.specs.Families.{CombinedCopy, Family, families_after, has_family, most_families}
-use Rattle.nx_combine.specs.Families.{combined, seconds_joined}
+use Rattle.nx_combine.specs.Families.{combined, given_by, index_joined, seconds_joined}
 use Rattle.nx_combine.specs.Joining.{joined, joined_position}
+use Rattle.nx_combine.specs.Judging.{Judged, judged_after}
 use Rattle.nx_combine.specs.PositionEnds.{ending_by}
 
 -- what two lists have at an index, where each has something or ends before it
@@ -161,3 +163,71 @@ pub record IsOfPrinted (entries : List MemoryEntry) (before : List CombinedCopy)
   pub numbered : 0 < one.copy.identity.number
   pub printed : is_remembered entries one.copy ≡ true
       → (last : CombinedCopy) × (find (are_of_one_family one) before ≡ Some last)
+
+-- where so many entries were made up to a first copy, fewer than 200 are made between it and each of
+-- these copies that bears the identity
+abbrev pub FewMade : Identity → ℕ → Judged → List HeardCopy → Type 0
+FewMade identity first so_far [] = Unit {0}
+FewMade identity first so_far (heard ∷ later) =
+    (bears identity heard ≡ true → length so_far.entries < first + most_entries)
+    × FewMade identity first (judged_after so_far heard) later
+
+-- at no index at which something was sent the position is idle
+abbrev pub IsNeverIdle : List ℕ → List Reception → Type 0
+IsNeverIdle sent positions =
+    (index number : ℕ) → slice_get sent index ≡ Some number → slice_get positions index ≡ Some idle
+    → ⊥
+
+-- A copy arrives as what was sent: where something was sent, nothing is idle; and where the copy is
+-- full, or its positions give a full text, it is what they give.
+pub record Arrives (sent : List ℕ) (heard : HeardCopy) : Type 0 where
+  pub never_idle : IsNeverIdle sent heard.positions
+  pub full : heard.copy.how ≡ Full → heard.copy ≡ given_by heard.positions heard.copy
+  pub read : (ending_by heard.positions).how ≡ Full
+      → heard.copy ≡ given_by heard.positions heard.copy
+
+-- the text that was sent
+abbrev pub text_sent : List ℕ → List ℕ
+text_sent sent = (ending_by (map combination sent)).text
+
+-- What has to be met, so that a message is printed whole once, whatever else is heard. These copies
+-- were judged so far, then comes the first one that bears its identity, and then these.
+pub record AreHeardTogether (sent : List ℕ) (behind : ℕ → ℕ) (identity : Identity)
+    (so_far : Judged) (first : HeardCopy) (copies : List HeardCopy)
+    : Type 0 where
+  -- The first copy begins a family, and no entry of its identity is live.
+  pub begins : index_joined so_far.families first ≡ None
+  pub unknown : is_remembered so_far.entries first.copy ≡ false
+  -- The first copy and all others of the identity are sendings of the message, which arrive as what
+  -- was sent, none before the first one.
+  pub first_bears : bears identity first ≡ true
+  pub first_sending : IsSending sent behind first.copy.moment first
+  pub first_arrives : Arrives sent first
+  pub sendings : AreSendings sent behind first.copy.moment identity copies
+  pub arrive : AllByRecursion (λ heard. bears identity heard ≡ true → Arrives sent heard) copies
+  pub in_turn : AllByRecursion
+      (λ heard. bears identity heard ≡ true → first.copy.moment ≤ heard.copy.moment) copies
+  -- 200 families and 200 entries suffice.
+  pub few_begun : FewBegun identity (length so_far.families + 1)
+      (families_after so_far.families first) copies
+  pub few_made : FewMade identity (length (judged_after so_far first).entries)
+      (judged_after so_far first) copies
+
+-- the combined copy bears the identity
+abbrev pub is_named : Identity → CombinedCopy → Bool
+is_named identity one = same_identity one.copy.identity identity
+
+-- One of the printed copies is whole, bears the identity, and has this text. Before it no such one was printed, and
+-- behind it, also among those that are printed later, none of the identity is.
+pub record IsWholeOnce (identity : Identity) (text : List ℕ) (printed later : List CombinedCopy)
+    : Type 0 where
+  pub before : List CombinedCopy
+  pub one : CombinedCopy
+  pub after : List CombinedCopy
+  pub among : printed ≡ before ++ one ∷ after
+  pub named : is_named identity one ≡ true
+  pub whole : IsWholeCopy one
+  pub letters : one.copy.text ≡ text
+  pub not_before : AllByRecursion (λ other. is_named identity other ≡ true → ¬ IsWholeCopy other)
+      before
+  pub nothing_behind : AllByRecursion (λ other. is_named identity other ≡ false) (after ++ later)

@@ -9,7 +9,9 @@ ghost use Rattle.nx_combine.specs.Families.{families_after, last_index};
 ghost use Rattle.nx_combine.specs.Laws.{AreSendings, FewBegun, IsGivenBy, IsSending, bears, families_behind, positions_heard};
 ghost use Rattle.nx_memory.specs.declared.memories.entry.MemoryEntry.{MemoryEntry};
 ghost use Rattle.nx_copies.specs.copies.Printing.{is_better, is_remembered};
-ghost use Rattle.nx_combine.specs.CombinedPrinting.{if_printed_combined, is_printed_combined};
+ghost use Rattle.nx_combine.specs.CombinedPrinting.{if_printed_combined, is_printed_combined, printed_combined};
+ghost use Rattle.nx_combine.specs.Judging.{Judged, all_printed, judged_behind};
+ghost use Rattle.nx_combine.specs.Laws.{AreHeardTogether, IsWholeOnce, text_sent};
 ghost use Rattle.nx_combine.specs.Laws.{IsLastWhole, IsOfPrinted, IsWholeCopy};
 ghost use Rattle.nx_combine.specs.Joining.{is_of_one_text, joined};
 ghost use Rattle.nx_combine.specs.PositionEnds.{ending_by, has_ended, up_to_end};
@@ -96,4 +98,26 @@ pub fn whole_copies_are_printed_once()
         (one : CombinedCopy) → IsLastWhole before one → 0 < one.copy.identity.number
         → is_remembered entries one.copy ≡ true
         → is_printed_combined entries before one ≡ false }
+{}
+
+/// What is left of copies that are judged one after the other is what the definition of the log
+/// says of all of them: the combined copies that are printed are those of the list.
+pub fn copies_are_judged_in_order()
+    ensures { (so_far : Judged) (copies : List HeardCopy) → all_printed so_far copies
+        ≡ printed_combined so_far.entries so_far.printed (combined_copies so_far.families copies) }
+{}
+
+/// A message is printed whole once, letter for letter, and nothing of it afterwards, whatever else
+/// is heard. Its copies are sendings that are heard together, and with one of them the last of its
+/// combinations came through.
+pub fn a_message_is_printed_whole_once()
+    ensures { (sent : List ℕ) (behind : ℕ → ℕ) (identity : TheIdentity) (so_far : Judged)
+        (first : HeardCopy) (copies : List HeardCopy)
+        → AreHeardTogether sent behind identity so_far first copies
+        → has_ended (map combination sent) ≡ true → IsWhole (map combination sent)
+        → (mid later : List HeardCopy) (one : HeardCopy) → first ∷ copies ≡ mid ++ one ∷ later
+        → bears identity one ≡ true
+        → CameThrough sent (positions_heard identity (mid ++ one ∷ []))
+        → IsWholeOnce identity (text_sent sent) (all_printed so_far (mid ++ one ∷ []))
+        (all_printed (judged_behind so_far (mid ++ one ∷ [])) later) }
 {}

@@ -241,7 +241,7 @@ all_last-same before one (suc n) other =
     (last-other before one n (other n (omega arith)))
     (all_last-same before one n (λ number below. other number (omega arith)))
 
-is_not : (one : CombinedCopy) (own number : ℕ) → one.family ≡ Some own → (number ≡ own → ⊥)
+pub is_not : (one : CombinedCopy) (own number : ℕ) → one.family ≡ Some own → (number ≡ own → ⊥)
     → is_of_number number one ≡ false
 is_not one own number is apart = rw is (ne_eqb number own apart)
 

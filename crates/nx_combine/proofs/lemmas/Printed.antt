@@ -18,11 +18,11 @@ use Rattle.nx_combine.specs.Laws.{IsLastWhole, IsOfPrinted, IsWholeCopy}
 use Rattle.nx_combine.proofs.lemmas.Sendings.{and_false, none_better}
 
 -- it isn't numbered 00
-not_00 : (copy : TaggedCopy) → 0 < copy.identity.number → is_number_00 copy ≡ false
+pub not_00 : (copy : TaggedCopy) → 0 < copy.identity.number → is_number_00 copy ≡ false
 not_00 copy numbered = ne_eqb copy.identity.number 0 (λ is. omega arith)
 
 -- a full copy is the only one that says so
-full_is : (how : How) → is_full how ≡ true → how ≡ Full
+pub full_is : (how : How) → is_full how ≡ true → how ≡ Full
 full_is Full is = refl
 full_is Cut is = cc
 full_is Long is = cc

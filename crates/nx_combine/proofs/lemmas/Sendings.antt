@@ -101,17 +101,17 @@ last_bears identity families at family last there =
 
 -- What stands of the sendings so far: one family, with their positions.
 
-record Stands (sent : List ℕ) (behind : ℕ → ℕ) (identity : Identity) (moment first : ℕ)
+pub record Stands (sent : List ℕ) (behind : ℕ → ℕ) (identity : Identity) (moment first : ℕ)
     (families : List Family) (done : List (List Reception)) : Type 0 where
-  index : ℕ
-  family : Family
-  last : last_index identity families ≡ Some index
-  there : slice_get families index ≡ Some family
-  positions : family.positions ≡ joined_all done
-  began : family.moment ≡ moment
-  count : index + first ≡ length families
-  as_sent : AllByRecursion (IsHeardOf sent) done
-  runs_on : AllByRecursion (RunsOnAs sent behind) done
+  pub index : ℕ
+  pub family : Family
+  pub last : last_index identity families ≡ Some index
+  pub there : slice_get families index ≡ Some family
+  pub positions : family.positions ≡ joined_all done
+  pub began : family.moment ≡ moment
+  pub count : index + first ≡ length families
+  pub as_sent : AllByRecursion (IsHeardOf sent) done
+  pub runs_on : AllByRecursion (RunsOnAs sent behind) done
 
 -- Lists with one more at the end.
 
@@ -120,7 +120,7 @@ fold-push : (so_far : List Reception) (xs : List (List Reception)) (y : List Rec
 fold-push so_far [] y = refl
 fold-push so_far (x ∷ xs) y = fold-push (joined so_far x) xs y
 
-all-push : {A : Type 0} (P : A → Type 0) (xs : List A) (y : A) → AllByRecursion P xs → P y
+pub all-push : {A : Type 0} (P : A → Type 0) (xs : List A) (y : A) → AllByRecursion P xs → P y
     → AllByRecursion P (xs ++ y ∷ [])
 all-push P [] y each last = (last, tt)
 all-push P (x ∷ xs) y each last = (each.0, all-push P xs y each.1 last)
@@ -142,7 +142,7 @@ joined_last_if families heard None index is = absurd (let contra : None ≡ Some
 joined_last_if families heard (Some k) index is =
     ap Some (from_if (joins_at families heard k) k index is).1
 
-joined_last : (families : List Family) (heard : HeardCopy) (index : ℕ)
+pub joined_last : (families : List Family) (heard : HeardCopy) (index : ℕ)
     → index_joined families heard ≡ Some index
     → last_index heard.copy.identity families ≡ Some index
 unfolding index_joined
@@ -150,7 +150,7 @@ joined_last families heard index is =
     joined_last_if families heard (last_index heard.copy.identity families) index is
 
 module _ (sent : List ℕ) (behind : ℕ → ℕ) (identity : Identity) (moment first : ℕ) where
-  abbrev Now : List Family → List (List Reception) → Type 0
+  abbrev pub Now : List Family → List (List Reception) → Type 0
   Now = Stands sent behind identity moment first
 
   -- one that begins a family of another identity
@@ -191,7 +191,7 @@ module _ (sent : List ℕ) (behind : ℕ → ℕ) (identity : Identity) (moment 
   }
 
   -- the family of a copy of another identity isn't that one
-  stands_apart : (families : List Family) (done : List (List Reception)) (heard : HeardCopy)
+  pub stands_apart : (families : List Family) (done : List (List Reception)) (heard : HeardCopy)
       (at : ℕ) (family : Family) → (stands : Now families done) → bears identity heard ≡ false
       → last_index heard.copy.identity families ≡ Some at → slice_get families at ≡ Some family
       → stands.index ≢ at
@@ -223,7 +223,7 @@ module _ (sent : List ℕ) (behind : ℕ → ℕ) (identity : Identity) (moment 
       (stands_apart families done heard at j.family stands other
       (joined_last families heard at joins) j.there))
 
-  other_if : (families : List Family) (done : List (List Reception)) (heard : HeardCopy) (b : Bool)
+  pub other_if : (families : List Family) (done : List (List Reception)) (heard : HeardCopy) (b : Bool)
       → Now families done → bears identity heard ≡ false → has_family heard ≡ b
       → Now (families_after families heard) done
   other_if families done heard true stands other has =
@@ -237,7 +237,7 @@ module _ (sent : List ℕ) (behind : ℕ → ℕ) (identity : Identity) (moment 
   identity_is : (heard : HeardCopy) → bears identity heard ≡ true → heard.copy.identity ≡ identity
   identity_is heard is = same_identity-true heard.copy.identity identity is
 
-  joins_it : (families : List Family) (done : List (List Reception)) (heard : HeardCopy)
+  pub joins_it : (families : List Family) (done : List (List Reception)) (heard : HeardCopy)
       → (stands : Now families done) → bears identity heard ≡ true
       → IsSending sent behind moment heard → length families < first + 200
       → index_joined families heard ≡ Some stands.index
@@ -257,7 +257,7 @@ module _ (sent : List ℕ) (behind : ℕ → ℕ) (identity : Identity) (moment 
       index_joined-at families heard stands.index stands.family true last stands.there low
       (sym takes)
 
-  sending_joins : (families : List Family) (done : List (List Reception)) (heard : HeardCopy)
+  pub sending_joins : (families : List Family) (done : List (List Reception)) (heard : HeardCopy)
       → Now families done → bears identity heard ≡ true → IsSending sent behind moment heard
       → length families < first + 200
       → Now (families_after families heard) (done ++ heard.positions ∷ [])
@@ -282,7 +282,7 @@ module _ (sent : List ℕ) (behind : ℕ → ℕ) (identity : Identity) (moment 
             all-push (RunsOnAs sent behind) done heard.positions stands.runs_on sending.runs_on;
       })
 
-  sending_gives : (families : List Family) (done : List (List Reception)) (heard : HeardCopy)
+  pub sending_gives : (families : List Family) (done : List (List Reception)) (heard : HeardCopy)
       → Now families done → bears identity heard ≡ true → IsSending sent behind moment heard
       → length families < first + 200
       → IsGivenBy (joined_all (done ++ heard.positions ∷ [])) (combined_copy families heard)
@@ -298,7 +298,7 @@ module _ (sent : List ℕ) (behind : ℕ → ℕ) (identity : Identity) (moment 
       (record { joined = all; copy = ap (λ p. combined p heard.copy) all })
 
   -- one more copy, whichever it is
-  copy_more : (families : List Family) (done : List (List Reception)) (heard : HeardCopy) (b : Bool)
+  pub copy_more : (families : List Family) (done : List (List Reception)) (heard : HeardCopy) (b : Bool)
       → Now families done → bears identity heard ≡ b
       → (bears identity heard ≡ true → IsSending sent behind moment heard)
       → (bears identity heard ≡ true → length families < first + 200)
@@ -358,16 +358,14 @@ module _ (sent : List ℕ) (behind : ℕ → ℕ) (identity : Identity) (moment 
       (positions_more done heard mid (bears identity heard) refl) after)
 
 -- the first sending begins the family
-first_begins : (sent : List ℕ) (behind : ℕ → ℕ) (identity : Identity) (families : List Family)
-    (heard : HeardCopy) → last_index identity families ≡ None → bears identity heard ≡ true
+pub first_begins : (sent : List ℕ) (behind : ℕ → ℕ) (identity : Identity) (families : List Family)
+    (heard : HeardCopy) → index_joined families heard ≡ None → bears identity heard ≡ true
     → IsSending sent behind heard.copy.moment heard
     → Stands sent behind identity heard.copy.moment (length families + 1)
     (families_after families heard) (heard.positions ∷ [])
 unfolding joined
 first_begins sent behind identity families heard none is sending =
-    let equal = same_identity-true heard.copy.identity identity is in
-    let joins = index_joined-none families heard (ap (λ i. last_index i families) equal ∙ none) in
-    let begins = begins_one families heard sending.family joins in
+    let begins = begins_one families heard sending.family none in
     subst (λ l. Stands sent behind identity heard.copy.moment (length families + 1) l
     (heard.positions ∷ [])) (sym begins.after) (record {
       index = 0;
@@ -381,6 +379,23 @@ first_begins sent behind identity families heard none is sending =
       runs_on = (sending.runs_on, tt);
     })
 
+pub family_of_first : (sent : List ℕ) (behind : ℕ → ℕ) (identity : Identity)
+    (families : List Family) (heard : HeardCopy) (copies : List HeardCopy)
+    → index_joined families heard ≡ None → bears identity heard ≡ true
+    → IsSending sent behind heard.copy.moment heard
+    → AreSendings sent behind heard.copy.moment identity copies
+    → FewBegun identity (length families + 1) (families_after families heard) copies
+    → (mid later : List HeardCopy) (one : HeardCopy) → copies ≡ mid ++ one ∷ later
+    → bears identity one ≡ true
+    → IsGivenBy
+    (joined_all ((heard.positions ∷ positions_heard identity mid) ++ one.positions ∷ []))
+    (combined_copy (families_behind (families_after families heard) mid) one)
+family_of_first sent behind identity families heard copies none is sending sendings few =
+    gives_all sent behind identity heard.copy.moment (length families + 1)
+    (families_after families heard) (heard.positions ∷ []) copies
+    (first_begins sent behind identity families heard none is sending) sendings few
+
+-- so it is where no family of its identity was begun
 pub family_of_sendings : (sent : List ℕ) (behind : ℕ → ℕ) (identity : Identity)
     (families : List Family) (heard : HeardCopy) (copies : List HeardCopy)
     → last_index identity families ≡ None → bears identity heard ≡ true
@@ -393,9 +408,10 @@ pub family_of_sendings : (sent : List ℕ) (behind : ℕ → ℕ) (identity : Id
     (joined_all ((heard.positions ∷ positions_heard identity mid) ++ one.positions ∷ []))
     (combined_copy (families_behind (families_after families heard) mid) one)
 family_of_sendings sent behind identity families heard copies none is sending sendings few =
-    gives_all sent behind identity heard.copy.moment (length families + 1)
-    (families_after families heard) (heard.positions ∷ []) copies
-    (first_begins sent behind identity families heard none is sending) sendings few
+    let equal = same_identity-true heard.copy.identity identity is in
+    family_of_first sent behind identity families heard copies
+    (index_joined-none families heard (ap (λ i. last_index i families) equal ∙ none)) is sending
+    sendings few
 
 -- What is given whole.
 

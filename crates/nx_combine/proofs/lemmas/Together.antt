@@ -46,7 +46,7 @@ right_at number (Some (combination taken)) heard =
 right_at number (Some idle) heard = refl
 right_at number (Some lost) heard = refl
 
-heard_joined : (sent : List ℕ) (first second : List Reception) → IsHeardOf sent first
+pub heard_joined : (sent : List ℕ) (first second : List Reception) → IsHeardOf sent first
     → IsHeardOf sent second → IsHeardOf sent (joined first second)
 heard_joined sent first second one other = λ index number taken there is.
     elim (split_where (slice_get first index) (slice_get second index) taken
@@ -90,7 +90,7 @@ known sent so_far (c ∷ copies) index number heard each there (inr (inr later))
     known sent (joined so_far c) copies index number (heard_joined sent so_far c heard each.0)
     each.1 there (inr later)
 
-nothing_heard : (sent : List ℕ) → IsHeardOf sent []
+pub nothing_heard : (sent : List ℕ) → IsHeardOf sent []
 nothing_heard sent = λ index number taken there is.
     absurd (let contra : None ≡ Some (combination taken) = is in cc)
 
