@@ -74,9 +74,9 @@ export class Windows {
     leave() {
         if (!this.owns) return;
         this.owns = false;
-        keepName(this.#window);
-        this.#store.own(this.#window, undefined).catch(() => {});
         this.#tell({ left: this.#window });
+        this.#store.own(this.#window, undefined).catch(() => {});
+        keepName(this.#window); // last, since Firefox may end the script of a closed window here
     }
 
     #isThere(owner) {

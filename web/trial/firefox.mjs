@@ -3,6 +3,7 @@ import { spawn } from 'node:child_process';
 import { mkdirSync, readFileSync, writeFileSync } from 'node:fs';
 import { connect } from 'node:net';
 import { setTimeout as pause } from 'node:timers/promises';
+import { Script } from 'node:vm';
 import { PATIENCE, Tab } from './tab.mjs';
 
 const ELEMENT = 'element-6066-11e4-a52e-4f735466cecf'; // how WebDriver names an element
@@ -38,7 +39,7 @@ export class Firefox {
             { stdio: 'ignore', env: { ...process.env, HOME: folder } });
         process.once('exit', () => browser.#process.kill('SIGKILL')); // it would go on alone
         await browser.#connect(`${folder}/MarionetteActivePort`);
-        const alwaysMatch = { unhandledPromptBehavior: 'accept' };
+        const alwaysMatch = { unhandledPromptBehavior: 'ignore' };
         await browser.send('WebDriver:NewSession', { capabilities: { alwaysMatch } });
         return browser;
     }
@@ -114,6 +115,15 @@ export class Firefox {
     }
 }
 
+/** Whether a text is one expression, and no row of statements. */
+function isExpression(text) {
+    try {
+        return Boolean(new Script(`async () => (${text}\n)`));
+    } catch {
+        return false;
+    }
+}
+
 class FirefoxTab extends Tab {
     #browser;
     #handle;
@@ -143,13 +153,21 @@ class FirefoxTab extends Tab {
         await this.#browser.send('WebDriver:SwitchToWindow', { handle: (left.value ?? left)[0], focus: false });
     }
 
+    /** The value of an expression in the page; several statements are run, and have none. */
     async value(expression) {
         const script = `const [done] = [...arguments].slice(-1);
-            (async () => (${expression}))()
+            (async () => ${isExpression(expression) ? `(${expression})` : `{ ${expression} }`})()
                 .then((value) => done({ value }), (fault) => done({ fault: String(fault) }));`;
-        const { value: { value, fault } } = await this.call('WebDriver:ExecuteAsyncScript', { script, args: [] });
+        const { value: told } = await this.call('WebDriver:ExecuteAsyncScript', { script, args: [] });
+        if (told === null) return this.#answer(); // the page asked something by it
+        const { value, fault } = told;
         if (fault !== undefined) throw new Error(`${expression}: ${fault}`);
         return value;
+    }
+
+    async #answer() {
+        this.asked.push((await this.call('WebDriver:GetAlertText')).value);
+        await this.call(this.agrees ? 'WebDriver:AcceptAlert' : 'WebDriver:DismissAlert');
     }
 
     async giveFiles(selector, ...files) {

@@ -2,7 +2,8 @@
 // chromium.mjs and firefox.mjs.
 import { setTimeout as pause } from 'node:timers/promises';
 
-export const PATIENCE = 180000; // milliseconds, since the machine may do other things too
+/** Milliseconds, since the machine may do other things too. */
+export const PATIENCE = Number(process.env.PATIENCE ?? 180000);
 
 export class Tab {
     errors = [];   // what the page told of errors

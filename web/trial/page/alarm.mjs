@@ -17,6 +17,25 @@ const WATCHED = `
 
 const ringing = "document.getElementById('alarm').hidden === false";
 
+/** How many sounds there are where the alarm rings: one; none where the machine has no sound, of which
+ *  Chromium makes one by itself. Then the page has to say that it can't ring. */
+async function soundsOfOne(tab, kind) {
+    if (kind === 'chromium') return 1;
+    const canSound = await tab.value(`new Promise((resolve) => {
+        const context = new AudioContext();
+        context.resume().then(() => resolve(true));
+        setTimeout(resolve, 4000, false);
+    })`);
+    if (!canSound) console.log(`ci/web: ${kind}: alarm: this machine has no sound, and the page says so`);
+    return canSound ? 1 : 0;
+}
+
+/** The alarm is on: it sounds, or the page says that it can't. */
+async function untilRinging(tab, sounds) {
+    await tab.until(`window.sounding === ${sounds}`);
+    assert.equal(await tab.value("document.getElementById('can-ring').hidden", false), sounds === 1);
+}
+
 async function triesRinging({ tab, kind }) {
     await tab.value(WATCHED, false);
     assert.equal(await tab.value(ringing, false), false);
@@ -30,10 +49,10 @@ async function triesRinging({ tab, kind }) {
         assert.equal(await tab.value("document.getElementById('can-ring').hidden", false), false);
     }
     await tab.touch();
-    await tab.until('window.sounding === 1');
-    assert.equal(await tab.value("document.getElementById('can-ring').hidden", false), true);
+    const sounds = await soundsOfOne(tab, kind);
+    await untilRinging(tab, sounds);
     for (let left = 3; left > 0; left--) {
-        assert.equal(await tab.value('window.sounding'), 1);
+        assert.equal(await tab.value('window.sounding'), sounds);
         await tab.press('.unread button');
     }
     assert.equal(await tab.value('window.sounding'), 0);
@@ -55,20 +74,21 @@ async function triesChoice({ tab }) {
 }
 
 /** What wasn't marked rings again after a reload, once the page is touched. */
-async function triesReload({ tab }) {
+async function triesReload({ tab, kind }) {
     await tab.press("#rings input[value='A']");
     await tab.until(ringing);
     await tab.loadAgain();
     await tab.value(WATCHED, false);
     assert.equal(await tab.value(ringing), true);
     await tab.touch();
-    await tab.until('window.sounding === 1');
+    const sounds = await soundsOfOne(tab, kind);
+    await untilRinging(tab, sounds);
     await tab.press('#try-alarm');
-    assert.equal(await tab.value('window.sounding'), 1);
+    assert.equal(await tab.value('window.sounding'), sounds);
     await tab.press('#read-all');
     await tab.until('window.sounding === 0');
     await tab.press('#try-alarm');
-    assert.equal(await tab.value('window.sounding'), 1);
+    assert.equal(await tab.value('window.sounding'), sounds);
     await tab.until('window.sounding === 0');
 }
 
