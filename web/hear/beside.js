@@ -15,7 +15,7 @@ export class Beside {
     #onTold;
 
     /** `script` is that of the worker, `given` what it begins with: tuning, rows and side; of
-     *  a recording its rate, and the layout of a WAV file.
+     *  a recording its rate, the layout of a WAV file, or what a decoder of MP3 is told.
      *  `onTold` gets what live sound tells, and `onFault` what ends it. */
     constructor(script, given, { onTold = () => {}, onFault = () => {} } = {}) {
         this.#onTold = onTold;

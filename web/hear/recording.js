@@ -4,6 +4,7 @@ import { Beside } from './beside.js';
 import { decodedOf } from './decoded.js';
 import { kindOf, linesOf, logOf } from './files.js';
 import { Look } from './look.js';
+import { mp3Of } from './mp3.js';
 import { Stopped, unlessStopped } from './queue.js';
 import { clock, Sound } from './sound.js';
 import { layoutOf } from './wave.js';
@@ -77,6 +78,7 @@ export class Recording extends Sound {
             tuning: this.#given.tuningOf(channel),
             rows: source.seconds > LONG ? 1 : ROWS,
             layout: source.layout,
+            packed: source.packed,
             side: this.#given.side,
         });
         try {
@@ -108,9 +110,11 @@ export class Recording extends Sound {
         }
     }
 
-    /** The sound: a WAV file in slices, any other one as the browser decodes it. */
+    /** The sound: a WAV or MP3 file in slices, any other one as the browser decodes it. */
     async #open() {
         const layout = await layoutOf(this.#file);
+        const packed = layout === null ? await mp3Of(this.#file, PIECE) : null;
+        if (packed !== null) return packed;
         if (layout === null || layout.rate < RATES[0] || layout.rate > RATES[1]) {
             return decodedOf(this.#file, this.#given.side);
         }

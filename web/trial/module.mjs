@@ -6,6 +6,7 @@ import { readFileSync, readdirSync } from 'node:fs';
 import { kindOf, linesOf, logOf } from '../hear/files.js';
 import { Look } from '../hear/look.js';
 import { Ring } from '../worker/ring.js';
+import { frameAt, framesIn } from '../hear/mp3.js';
 import { layoutOf, samplesOf } from '../hear/wave.js';
 import { choicesOf, USUAL_TUNING } from '../keep/choices.js';
 import { KeptReceiver } from '../keep/kept.js';
@@ -331,6 +332,24 @@ async function triesWaves() {
     assert.equal(await layoutOf(fileOf(Buffer.alloc(100))), null);
 }
 
+/** Heads of MP3 frames: 128 kbit a second of 44100 have 417 bytes, and one more where they are padded. */
+function triesMp3() {
+    const headed = (...head) => frameAt(Uint8Array.from(head), 0);
+    assert.deepEqual(headed(0xff, 0xfb, 0x90, 0x64), { length: 417, samples: 1152, rate: 44100, sides: 2 });
+    assert.equal(headed(0xff, 0xfb, 0x92, 0xc4).length, 418);
+    assert.equal(headed(0xff, 0xfb, 0x92, 0xc4).sides, 1);
+    for (const head of [[0xff, 0xfb, 0x00, 0], [0xff, 0xfb, 0xf0, 0], [0xff, 0xfd, 0x90, 0], [0xff, 0xeb, 0x90, 0], [0xff, 0xfb, 0x9c, 0],
+        [0xff, 0xfb, 0x90]]) {
+        assert.equal(headed(...head), null);
+    }
+    const file = readFileSync(new URL('slip.mp3', import.meta.url)); // 16 kbit a second of 16000, so 72 bytes a frame
+    const frames = [...framesIn(file, 16000)];
+    assert.equal(frames.length, file.length / 72);
+    assert.ok(frames.every(({ at, length, samples }, number) => at === 72 * number && length === 72 && samples === 576));
+    assert.equal([...framesIn(file.subarray(0, -1), 16000)].length, frames.length - 1);
+    assert.equal([...framesIn(Buffer.concat([Buffer.alloc(99), file]), 16000)].length, frames.length);
+}
+
 function triesRing() {
     const ring = new Ring(5);
     ring.push(Float32Array.of(1, 2, 3));
@@ -371,6 +390,7 @@ triesLogs();
 triesLook();
 triesChoices();
 triesRing();
+triesMp3();
 await triesFiles();
 await triesWaves();
 await triesExamples();

@@ -25,7 +25,7 @@ function sidesOf(frame) {
 }
 
 /** The page hears of a fault where it is an error of the whole worker. */
-function tellFault(fault) {
+export function tellFault(fault) {
     setTimeout(() => { throw fault; });
 }
 

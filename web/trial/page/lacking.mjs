@@ -20,6 +20,11 @@ async function triesLacking({ tab, room }) {
         shown(/lacks WebAssembly, without which there is no receiver/));
     await tab.loadWith('delete window.OfflineAudioContext', () =>
         expect(/can't decode sound/, () => give(`${room}/decoded.wav`)));
+    await tab.loadWith('delete window.AudioDecoder', async () => {
+        await tab.ready();
+        const mp3 = new URL('../slip.mp3', import.meta.url).pathname;
+        assert.match((await tab.hear(mp3))[0], /^slip.mp3: 1 message heard/, 'the browser decodes it whole');
+    });
     await tab.loadWith('delete window.Worker', () =>
         expect(/lacks what sound needs here/, () => give(`${room}/slices.wav`)));
     const mixed = 'delete window.MediaStreamTrackProcessor;'; // the sound comes by the browser's mixer

@@ -4,11 +4,12 @@ import assert from 'node:assert/strict';
 import { setTimeout as pause } from 'node:timers/promises';
 import { answersDuring, expectSoon, isSoon } from '../answers.mjs';
 import { headOf, bitsOf, example, tonesOf, writeLong } from '../waves.mjs';
-import { writeFileSync } from 'node:fs';
+import { readFileSync, writeFileSync } from 'node:fs';
 
 const HOURS = 2;
 const WATCHED = 15000;  // milliseconds
 const MEMORY = 200e6;   // bytes that the page may take more
+const SLIP = 16.5;      // seconds of slip.mp3
 const ROUGH = 5000;     // samples a second, which the page doesn't read itself
 const HEARING = "document.getElementById('source').textContent.startsWith('Hearing')";
 
@@ -53,6 +54,27 @@ async function isHeardSoon(kind, browser, tab, file) {
     console.log(`ci/web: ${kind}: ${said}`);
 }
 
+/** An MP3 file is read in slices too, where the browser has a decoder that takes its frames: the page answers
+ *  through two hours of it, and takes no memory for them. A tag, and a frame that is cut, spoil nothing. */
+async function triesMp3({ browser, tab, room, kind }) {
+    const once = readFileSync(new URL('../slip.mp3', import.meta.url));
+    const hours = Buffer.concat(Array(Math.ceil((HOURS * 3600) / SLIP)).fill(once));
+    writeFileSync(`${room}/two-hours.mp3`, hours);
+    await isHeardSoon(kind, browser, tab, `${room}/two-hours.mp3`);
+    await tab.until("document.querySelectorAll('#list li').length > 0");
+    assert.match(await tab.textOf('left'), /^\d+ %, some \d+ (s|min) left$/);
+    await tab.press('#stop');
+    await tab.untilIdle();
+    assert.match((await tab.ended())[0], /^two-hours.mp3, stopped: \d+ messages? heard/);
+    const tag = Buffer.from([...Buffer.from('ID3'), 4, 0, 0, 0, 0, 7, 104, ...Buffer.alloc(1000, 255)]);
+    writeFileSync(`${room}/thrice.mp3`, Buffer.concat([tag, once, once.subarray(0, -20), once]));
+    await tab.value('(window.whole = window.OfflineAudioContext, delete window.OfflineAudioContext)');
+    const [line] = await tab.hear(`${room}/thrice.mp3`);
+    await tab.value('(window.OfflineAudioContext = window.whole, true)');
+    assert.match(line, /^thrice.mp3: 1 message heard: 0 new, 1 known, 0 refused\. The demodulator heard NAVTEX/);
+    await tab.forgetFaults();
+}
+
 /** So it does with one that only the browser decodes, from when it is heard on. Before that the browser holds
  *  up the page once, as it hands over the sound of all the hours: how long, is told. */
 async function triesDecoded({ browser, tab, room, kind }) {
@@ -94,4 +116,4 @@ async function triesTooLong({ tab, room }) {
     await tab.forgetFaults();
 }
 
-export const trials = () => [triesSlowPage, triesTwoHours, triesDecoded, triesItsEnd, triesTooLong];
+export const trials = () => [triesSlowPage, triesTwoHours, triesMp3, triesDecoded, triesItsEnd, triesTooLong];

@@ -3,6 +3,7 @@ import assert from 'node:assert/strict';
 import { setTimeout as pause } from 'node:timers/promises';
 import { path, writeWave } from '../waves.mjs';
 
+const NUMBER_00 = 'number-00.air'; // whose messages are printed each time
 const AT_ONCE = 2000; // milliseconds in which Stop has an effect, on a machine that does other things too
 const WATCHED = `
     window.tracks = [];
@@ -19,9 +20,10 @@ function soundsIn(room) {
     writeWave(`${room}/slices.wav`, 'slip.air');
     writeWave(`${room}/decoded.wav`, 'refused.air', { rate: 5000 }); // a rate that only the browser reads
     return {
-        air: { file: path('number-00.air'), name: 'number-00.air', messages: 3 },
-        slices: { file: `${room}/slices.wav`, name: 'slices.wav', messages: 1 },
-        decoded: { file: `${room}/decoded.wav`, name: 'decoded.wav', messages: 2 },
+        air: { file: path('number-00.air'), name: 'number-00.air', of: NUMBER_00, messages: 3 },
+        slices: { file: `${room}/slices.wav`, name: 'slices.wav', of: 'slip.air', messages: 1 },
+        mp3: { file: new URL('../slip.mp3', import.meta.url).pathname, name: 'slip.mp3', of: 'slip.air', messages: 1 },
+        decoded: { file: `${room}/decoded.wav`, name: 'decoded.wav', of: 'refused.air', messages: 2 },
         microphone: { name: 'The microphone', messages: 0 },
     };
 }
@@ -95,7 +97,7 @@ async function expectPair(tab, what, first, second) {
     }
     if (first.messages > 0 && second.messages > 0) {
         const facts = await tab.textsOf('#list .facts');
-        const count = first === second && first.name !== 'number-00.air' ? first.messages
+        const count = first.of === second.of && first.of !== NUMBER_00 ? first.messages
             : first.messages + second.messages;
         assert.equal(facts.length, count, `${what}: ${lines}`);
         assert.ok(facts.every((fact) => fact.includes('complete, none of')), `${what}: ${facts}`);
