@@ -76,8 +76,7 @@ deb-lib:
 # Begins only where each file is in a commit, whose number stands in dist/README.md.
 dist:
 	@[ -z "$$(git status --porcelain -- . ':!dist')" ] || { echo 'some files are in no commit: git status' >&2; exit 1; }
-	package/object amd64
-	package/object arm64
+	package/object amd64 arm64
 	ci/live --modules
 	package/dist
 
