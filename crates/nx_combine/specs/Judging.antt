@@ -81,7 +81,8 @@ abbrev pub IsOfBegun : ℕ → CombinedCopy → Type 0
 IsOfBegun count one = (number : ℕ) → one.family ≡ Some number → number < count
 
 -- A combiner stands so after copies: these are all families that were begun, and these the combined
--- copies that were printed, each of one of these, both newest first. It holds the last 200 families.
+-- copies that were printed, each of one of these, both newest first. It holds the last 200
+-- families.
 pub record StandsCombined (combiner : CombinerView) (families : List Family)
     (before : List CombinedCopy)
     : Type 0 where

@@ -164,8 +164,8 @@ pub record IsOfPrinted (entries : List MemoryEntry) (before : List CombinedCopy)
   pub printed : is_remembered entries one.copy ≡ true
       → (last : CombinedCopy) × (find (are_of_one_family one) before ≡ Some last)
 
--- where so many entries were made up to a first copy, fewer than 200 are made between it and each of
--- these copies that bears the identity
+-- where so many entries were made up to a first copy, fewer than 200 are made between it and each
+-- of these copies that bears the identity
 abbrev pub FewMade : Identity → ℕ → Judged → List HeardCopy → Type 0
 FewMade identity first so_far [] = Unit {0}
 FewMade identity first so_far (heard ∷ later) =
@@ -217,8 +217,8 @@ pub record AreHeardTogether (sent : List ℕ) (behind : ℕ → ℕ) (identity :
 abbrev pub is_named : Identity → CombinedCopy → Bool
 is_named identity one = same_identity one.copy.identity identity
 
--- One of the printed copies is whole, bears the identity, and has this text. Before it no such one was printed, and
--- behind it, also among those that are printed later, none of the identity is.
+-- One of the printed copies is whole, bears the identity, and has this text. Before it no such
+-- one was printed, and behind it, also among those that are printed later, none of the identity is.
 pub record IsWholeOnce (identity : Identity) (text : List ℕ) (printed later : List CombinedCopy)
     : Type 0 where
   pub before : List CombinedCopy

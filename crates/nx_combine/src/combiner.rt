@@ -288,8 +288,8 @@ fn printed_as(head: &EntryHead, combined: &Combined) -> PrintedCopy
     }
 }
 
-/// Whether a copy that is printed is entered: it has a family, is full, and fewer than 4 per cent of
-/// its characters are errors. An empty text counts as one character.
+/// Whether a copy that is printed is entered: it has a family, is full, and fewer than 4 per cent
+/// of its characters are errors. An empty text counts as one character.
 fn is_entered(head: &EntryHead, text: &[u8], family: Option<usize>) -> bool
     ensures { (selected : Bool) → head.now.errors ≡ errors_of text.now
         → result ≡ (printing.is_good (headed_copy head.now text.now selected) && is_some family) }

@@ -1,4 +1,5 @@
-//! A receiver of one channel, of whatever kind: what a listener calls of it, and what it may rely on.
+//! A receiver of one channel, of whatever kind: what a listener calls of it, and what it may rely
+//! on.
 
 ghost use Rattle.std.specs.Prelude.{◌≡◌, ◌↔◌, ℕ, ◌+◌, ◌<◌, ◌≤◌, List, [], ◌++◌, length, take, drop, IfErr, IfOk, IfSome, IsErr, IsNone, IsTrue, None, OnErr, OnOk};
 ghost use Rattle.nx_envelope.specs.Moment.{last_moment};

@@ -33,7 +33,8 @@ use std::marker::Model;
 /// Three receivers, one for each channel, that hear elements as they come. A moment belongs to all
 /// of them, elements and commands to one. `listen` hears the lines of an air file with it.
 ///
-/// It holds what its receivers hold, whether there was a moment, and two counts. Its receivers judge
+/// It holds what its receivers hold, whether there was a moment, and two counts. Its receivers
+/// judge
 /// each copy alone, over memories that are rings with a table, which take a heap; or over others,
 /// as the plain one, which takes none; or they are receivers of another kind.
 #[derive(Drop)]
@@ -176,7 +177,8 @@ impl<R: ChannelReceiver> Listener<R> {
             (at_moment moment)) }
         ensures taken { OnOk result
             (((R.kind.start_of self.old.on_0).moment ≤ moment) × (moment ≤ last_moment)) }
-        ensures refused { (R.kind.start_of self.old.on_1).moment ≡ (R.kind.start_of self.old.on_0).moment
+        ensures refused { (R.kind.start_of self.old.on_1).moment
+            ≡ (R.kind.start_of self.old.on_0).moment
             → (R.kind.start_of self.old.on_2).moment ≡ (R.kind.start_of self.old.on_0).moment
             → IfErr result (λ fault.
             Refuses (R.kind.start_of self.old.on_0).moment moment fault × (self.new ≡ self.old)) }

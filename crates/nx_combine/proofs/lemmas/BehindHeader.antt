@@ -279,7 +279,8 @@ print_header taken header stands =
         ap (λ l. text l Letters) last ∙ text-push front x Letters in
         ap (λ l. shift_after_all l Letters) last
         ∙ shift_after_all-append front (x ∷ []) Letters
-        ∙ by_byte (byte_of x shift) refl (ap length whole) (subst (λ l. EndsWithHeader l header.identity)
+        ∙ by_byte (byte_of x shift) refl (ap length whole) (subst (λ l. EndsWithHeader l
+        header.identity)
         (sym print ∙ whole) stands.spelled)
       where
         by_byte : (o : Option ℕ)
@@ -294,7 +295,8 @@ print_header taken header stands =
             let enough = are.enough in
             absurd (omega arith)
         by_byte (Some b) is long ends =
-            digit_in_figures _ _ b (ends_with_digit (text (take m taken) Letters) b header.identity ends)
+            digit_in_figures _ _ b (ends_with_digit (text (take m taken) Letters) b
+                header.identity ends)
             is
 
 -- What stands behind a header of a text is what the positions behind it print, from figures.

@@ -54,7 +54,8 @@ printed-on entries before (x ∷ xs) ys =
     (printed-on (entries ++ entry_made_combined entries before x)
     (if_printed_combined entries before x ++ before) xs ys)
 
-map-on : {X Y : Type 0} (f : X → Y) (xs ys : List X) → GoesOnAs xs ys → GoesOnAs (map f xs) (map f ys)
+map-on : {X Y : Type 0} (f : X → Y) (xs ys : List X) → GoesOnAs xs ys
+    → GoesOnAs (map f xs) (map f ys)
 map-on f xs ys g =
     record { rest = map f g.rest; whole = ap (map f) g.whole ∙ map-append f xs g.rest }
 

@@ -83,7 +83,8 @@ pub last_past : (before : List CombinedCopy) (number count : ℕ)
     → AllByRecursion (IsOfBegun count) before → count ≤ number → last_printed before number ≡ None
 unfolding last_printed
 last_past before number count begun past =
-    ap (option_map (λ (one : CombinedCopy). head_of one.copy)) (find_past before number count begun past)
+    ap (option_map (λ (one : CombinedCopy). head_of one.copy)) (find_past before number count
+        begun past)
 
 -- what was begun so far stays so
 pub still_begun : (before : List CombinedCopy) (count more : ℕ)
@@ -122,7 +123,8 @@ stands_begun families more held new before printed now was is stands held_is cou
       held = held_is;
       printed = now_is
           ∙ ap (λ (l : List (Option EntryHead)). take 200 (None ∷ l)) stands.printed
-          ∙ ap (λ (l : List (Option EntryHead)). None ∷ l) (take-take 199 (all_last_printed before n))
+          ∙ ap (λ (l : List (Option EntryHead)). None ∷ l) (take-take 199 (all_last_printed
+          before n))
           ∙ ap (take 200) (sym (all_last-begun before n stands.begun))
           ∙ ap (λ m. take 200 (all_last_printed before m)) long;
       begun = still_begun before n (length more) stands.begun (omega arith);
@@ -156,7 +158,8 @@ all_last-at before (suc n) (suc index) below =
 -- what stands at the index of a family that is held
 pub last_at : (families held : List Family) (before : List CombinedCopy)
     (printed : List (Option EntryHead)) (finder : FinderView) (index : ℕ)
-    → StandsCombined (record { families = held; printed = printed; finder = finder }) families before
+    → StandsCombined (record { families = held; printed = printed; finder = finder }) families
+    before
     → index < length held
     → slice_get printed index ≡ Some (last_printed before (length families - 1 - index))
 last_at families held before printed finder index stands below =
@@ -277,7 +280,8 @@ stands_noted families held before one printed now was is index stands below of n
     record {
       held = stands.held;
       printed = noted
-          ∙ ap (λ (l : List (Option EntryHead)). set l index (Some (head_of one.copy))) stands.printed
+          ∙ ap (λ (l : List (Option EntryHead)). set l index (Some (head_of one.copy)))
+          stands.printed
           ∙ sym (take-set-lt 200 (all_last_printed before n) index (Some (head_of one.copy))
           (omega arith))
           ∙ ap (take 200) (sym (all_last-noted before one n index (omega arith) of));
@@ -420,11 +424,13 @@ within_some family index count is within =
 pub found_at : (families held : List Family) (before : List CombinedCopy) (one : CombinedCopy)
     (printed : List (Option EntryHead)) (finder : FinderView) (family : Option ℕ) (index : ℕ)
     (copy : TaggedCopy) (found : Option (Option EntryHead))
-    → StandsCombined (record { families = held; printed = printed; finder = finder }) families before
+    → StandsCombined (record { families = held; printed = printed; finder = finder }) families
+    before
     → ComesTo one families family copy → family ≡ Some index
     → IfSome family (λ i. i < length held) → found ≡ slice_get printed index
     → FoundAt families before one index found
-found_at families held before one printed finder family index copy found stands comes is within there =
+found_at families held before one printed finder family index copy found stands comes is within
+    there =
     record {
       of = comes.of_family ∙ ap (option_map (λ i. length families - 1 - i)) is;
       is = there ∙ last_at families held before printed finder index stands

@@ -62,7 +62,8 @@ unselected_by entries before one fails none =
     ∙ and_false (is_remembered entries one.copy)
 
 unselected : (so_far : Judged) (heard : HeardCopy) → heard.copy.selected ≡ false
-    → is_printed_combined so_far.entries so_far.printed (combined_copy so_far.families heard) ≡ false
+    → is_printed_combined so_far.entries so_far.printed (combined_copy so_far.families heard)
+    ≡ false
 unselected so_far heard fails =
     let has : has_family heard ≡ false = rw fails refl in
     let one = (no_family so_far.families heard has).one in
@@ -87,7 +88,8 @@ in_order_if so_far heard later false is rest =
     let none = unprinted so_far.entries so_far.printed one fails in
     ap (λ l. l ++ all_printed (judged_after so_far heard) later) none
     ∙ rest
-    ∙ ap₂ (λ e p. printed_combined e p (combined_copies (families_after so_far.families heard) later))
+    ∙ ap₂ (λ e p. printed_combined e p (combined_copies (families_after so_far.families heard)
+    later))
     (ap (λ m. so_far.entries ++ m) (made_unprinted so_far.entries so_far.printed one fails)
     ∙ append-nil so_far.entries)
     (ap (λ l. l ++ so_far.printed) none)
@@ -155,7 +157,8 @@ named_as identity families heard =
     ap (λ i. same_identity i identity) (tagged_as families heard).identity
 
 -- What holds behind the first sending: the sendings so far make the family of this number, one of
--- its copies was printed last, and where that is good an entry of it was made behind the first ones.
+-- its copies was printed last, and where that is good an entry of it was made behind the first
+-- ones.
 
 abbrev pub is_own : Identity → ℕ → MemoryEntry → Bool
 is_own identity moment entry =
@@ -420,9 +423,11 @@ not_whole_if one is whole =
     let contra : true ≡ false = sym yes_it ∙ is in cc
 
 -- what was printed before, none of which is such a copy
-pub once_behind : (identity : Identity) (text : List ℕ) (front printed_now later : List CombinedCopy)
+pub once_behind : (identity : Identity) (text : List ℕ) (front printed_now later : List
+    CombinedCopy)
     → AllByRecursion (λ other. is_named identity other ≡ true → ¬ IsWholeCopy other) front
-    → IsWholeOnce identity text printed_now later → IsWholeOnce identity text (front ++ printed_now) later
+    → IsWholeOnce identity text printed_now later → IsWholeOnce identity text (front
+    ++ printed_now) later
 once_behind identity text front printed_now later none once = record {
   before = front ++ once.before;
   one = once.one;
@@ -562,7 +567,8 @@ module _ (sent : List ℕ) (behind : ℕ → ℕ) (identity : Identity) (moment 
       (all-push (IsNeverIdle sent) done heard.positions goes.never_idle arrives.never_idle))
       sending.as_sent arrives ended
 
-  at_one : has_ended (map combination sent) ≡ true → (so_far : Judged) (done : List (List Reception)) (last : CombinedCopy)
+  at_one : has_ended (map combination sent) ≡ true
+      → (so_far : Judged) (done : List (List Reception)) (last : CombinedCopy)
       (heard : HeardCopy) (later : List HeardCopy) (b : Bool) → Going so_far done last
       → ¬ IsWholeCopy last → Meets so_far (heard ∷ later) → bears identity heard ≡ true
       → IsWholeCopy (combined_copy so_far.families heard)
@@ -582,7 +588,8 @@ module _ (sent : List ℕ) (behind : ℕ → ℕ) (identity : Identity) (moment 
         not_before = tt;
         nothing_behind = silent (judged_after so_far heard) (done ++ heard.positions ∷ []) one later
             (goes_printed sent behind identity moment number first so_far done last heard goes is
-            (meets.sendings.0 is) (meets.few_begun.0 is) (meets.in_turn.0 is) (meets.arrive.0 is).never_idle passes)
+            (meets.sendings.0 is) (meets.few_begun.0 is) (meets.in_turn.0 is) (meets.arrive.0
+            is).never_idle passes)
             whole (meets_more so_far heard later meets);
       }
   at_one ended so_far done last heard later false goes not_yet meets is whole fails =
@@ -671,7 +678,8 @@ module _ (sent : List ℕ) (behind : ℕ → ℕ) (identity : Identity) (moment 
       IsWholeOnce identity (text_sent sent) (all_printed so_far (mid ++ this ∷ []))
       (all_printed (judged_behind so_far (mid ++ this ∷ [])) later)
 
-  one_more_printed : has_ended (map combination sent) ≡ true → (so_far : Judged) (done : List (List Reception)) (last : CombinedCopy)
+  one_more_printed : has_ended (map combination sent) ≡ true
+      → (so_far : Judged) (done : List (List Reception)) (last : CombinedCopy)
       (heard : HeardCopy) (mid : List HeardCopy) (this : HeardCopy) (later : List HeardCopy)
       (b : Bool) → Going so_far done last → ¬ IsWholeCopy last
       → Meets so_far (heard ∷ (mid ++ this ∷ later)) → bears identity heard ≡ true
@@ -680,18 +688,21 @@ module _ (sent : List ℕ) (behind : ℕ → ℕ) (identity : Identity) (moment 
       → Going (judged_after so_far heard) next one → ¬ IsWholeCopy one
       → Behind (judged_after so_far heard) mid this later)
       → Behind so_far (heard ∷ mid) this later
-  one_more_printed ended so_far done last heard mid this later true goes not_yet meets is passes rest =
+  one_more_printed ended so_far done last heard mid this later true goes not_yet meets is passes
+      rest =
       let one = combined_copy so_far.families heard in
       let next = done ++ heard.positions ∷ [] in
       let goes_on = goes_printed sent behind identity moment number first so_far done last heard
-      goes is (meets.sendings.0 is) (meets.few_begun.0 is) (meets.in_turn.0 is) (meets.arrive.0 is).never_idle passes in
+      goes is (meets.sendings.0 is) (meets.few_begun.0 is) (meets.in_turn.0 is) (meets.arrive.0
+          is).never_idle passes in
       after_printed so_far next one heard mid this later (is_whole one.copy)
       (printed so_far.entries so_far.printed one passes)
       (named_as identity so_far.families heard ∙ is)
       (letters_of so_far done last heard (mid ++ this ∷ later) ended goes meets is) goes_on
       (meets_more so_far heard (mid ++ this ∷ later) meets) refl
       (λ not_it. rest next one goes_on not_it)
-  one_more_printed ended so_far done last heard mid this later false goes not_yet meets is fails rest =
+  one_more_printed ended so_far done last heard mid this later false goes not_yet meets is fails
+      rest =
       let one = combined_copy so_far.families heard in
       let after = judged_after so_far heard in
       let up_to : List HeardCopy = mid ++ this ∷ [] in
@@ -703,7 +714,8 @@ module _ (sent : List ℕ) (behind : ℕ → ℕ) (identity : Identity) (moment 
       (goes_unprinted sent behind identity moment number first so_far done last heard goes is
       (meets.sendings.0 is) (meets.few_begun.0 is) (meets.arrive.0 is).never_idle fails) not_yet)
 
-  one_more : has_ended (map combination sent) ≡ true → (so_far : Judged) (done : List (List Reception)) (last : CombinedCopy)
+  one_more : has_ended (map combination sent) ≡ true
+      → (so_far : Judged) (done : List (List Reception)) (last : CombinedCopy)
       (heard : HeardCopy) (mid : List HeardCopy) (this : HeardCopy) (later : List HeardCopy)
       (b : Bool) → Going so_far done last → ¬ IsWholeCopy last
       → Meets so_far (heard ∷ (mid ++ this ∷ later)) → bears identity heard ≡ b
@@ -726,7 +738,8 @@ module _ (sent : List ℕ) (behind : ℕ → ℕ) (identity : Identity) (moment 
       (rest done last
       (goes_other sent behind identity moment number first so_far done last heard goes is) not_yet)
 
-  pub becomes_whole : has_ended (map combination sent) ≡ true → (so_far : Judged) (done : List (List Reception)) (last : CombinedCopy)
+  pub becomes_whole : has_ended (map combination sent) ≡ true
+      → (so_far : Judged) (done : List (List Reception)) (last : CombinedCopy)
       (mid : List HeardCopy) (this : HeardCopy) (later : List HeardCopy) → Going so_far done last
       → ¬ IsWholeCopy last → Meets so_far (mid ++ this ∷ later) → bears identity this ≡ true
       → IsWholeCopy (combined_copy (families_behind so_far.families mid) this)
@@ -736,8 +749,10 @@ module _ (sent : List ℕ) (behind : ℕ → ℕ) (identity : Identity) (moment 
       (is_printed_combined so_far.entries so_far.printed (combined_copy so_far.families this)) goes
       not_yet meets is whole refl
   becomes_whole ended so_far done last (heard ∷ mid) this later goes not_yet meets is whole =
-      one_more ended so_far done last heard mid this later (bears identity heard) goes not_yet meets refl
-      (λ next one goes_on not_it. becomes_whole ended (judged_after so_far heard) next one mid this later
+      one_more ended so_far done last heard mid this later (bears identity heard) goes not_yet
+          meets refl
+      (λ next one goes_on not_it. becomes_whole ended (judged_after so_far heard) next one mid
+      this later
       goes_on not_it (meets_more so_far heard (mid ++ this ∷ later) meets) is whole)
 
 -- The first copy, and all of them.
@@ -855,7 +870,8 @@ module _ (sent : List ℕ) (behind : ℕ → ℕ) (identity : Identity) (so_far 
             t.first_sending;
         found = ap (λ l. find (is_of_number number_first) (l ++ so_far.printed))
             (printed so_far.entries so_far.printed one_first shows_first)
-            ∙ ap (λ c. cond c (Some one_first) (find (is_of_number number_first) so_far.printed)) own;
+            ∙ ap (λ c. cond c (Some one_first) (find (is_of_number number_first) so_far.printed))
+            own;
         made = more;
         entries = refl;
         never_idle = (t.first_arrives.never_idle, tt);
@@ -1003,6 +1019,7 @@ module _ (sent : List ℕ) (behind : ℕ → ℕ) (identity : Identity) (so_far 
       ≡ (first.positions ∷ positions_heard identity mid) ++ one.positions ∷ [] =
       heard_first identity first (mid ++ one ∷ []) t.first_bears
       ∙ ap (λ l. first.positions ∷ l) (heard_push identity mid one bears_it) in
-      subst (λ (h : HeardCopy). IsWholeOnce identity (text_sent sent) (all_printed so_far (h ∷ (mid ++ one ∷ [])))
+      subst (λ (h : HeardCopy). IsWholeOnce identity (text_sent sent) (all_printed so_far (h ∷
+          (mid ++ one ∷ [])))
       (all_printed (judged_behind (judged_after so_far h) (mid ++ one ∷ [])) later)) same
       (once_later ended whole mid later one rest bears_it (subst (CameThrough sent) heard here))

@@ -1,5 +1,5 @@
--- The copies that have ended, with their positions: more bits leave them, and later ones come behind
--- them.
+-- The copies that have ended, with their positions: more bits leave them, and later ones come
+-- behind them.
 use Rattle.std.proofs.Common.{◌≡◌, ℕ, zero, suc, ◌+◌, ◌*◌, ◌-◌, ◌<◌, ◌≤◌, Bool, true, List, [], ◌∷◌}
 use Rattle.std.proofs.Common.{◌++◌, map, Option, Some, None, refl, sym, ap, ◌∙◌, subst, arith}
 use Rattle.std.proofs.Common.{is_some, cond, length, add-zero, add-suc, append_assoc, take}
@@ -127,7 +127,8 @@ lock_positions-more bits more t n here h =
       taken = taken;
       alike = alike (first_role bits t) (word_of_lock (bits ++ more) t) n;
     })
-    (positions-same (first_role bits t) (word_of_lock (bits ++ more) t) (word_of_lock bits t) n words)
+    (positions-same (first_role bits t) (word_of_lock (bits
+    ++ more) t) (word_of_lock bits t) n words)
     ∙ ap (λ marks. record {
       taken = positions (first_role bits t) (word_of_lock bits t) n;
       alike = marks;

@@ -223,7 +223,8 @@ module _ (sent : List ℕ) (behind : ℕ → ℕ) (identity : Identity) (moment 
       (stands_apart families done heard at j.family stands other
       (joined_last families heard at joins) j.there))
 
-  pub other_if : (families : List Family) (done : List (List Reception)) (heard : HeardCopy) (b : Bool)
+  pub other_if : (families : List Family) (done : List (List Reception)) (heard : HeardCopy) (b :
+      Bool)
       → Now families done → bears identity heard ≡ false → has_family heard ≡ b
       → Now (families_after families heard) done
   other_if families done heard true stands other has =
@@ -298,7 +299,8 @@ module _ (sent : List ℕ) (behind : ℕ → ℕ) (identity : Identity) (moment 
       (record { joined = all; copy = ap (λ p. combined p heard.copy) all })
 
   -- one more copy, whichever it is
-  pub copy_more : (families : List Family) (done : List (List Reception)) (heard : HeardCopy) (b : Bool)
+  pub copy_more : (families : List Family) (done : List (List Reception)) (heard : HeardCopy) (b
+      : Bool)
       → Now families done → bears identity heard ≡ b
       → (bears identity heard ≡ true → IsSending sent behind moment heard)
       → (bears identity heard ≡ true → length families < first + 200)

@@ -206,7 +206,8 @@ refusal-not_write number (reason.Vital subject) written e = cc
 -- ---- what a fault says, behind lines whose report was written
 
 module _ (contents : Contents) (extent : Extent) (lines : List Line) (bytes : List ℕ) where
-  says-fault : (why : LineFault) → HasShown contents lines → IsFaulty 268435456 lines why extent bytes
+  says-fault : (why : LineFault) → HasShown contents lines
+      → IsFaulty 268435456 lines why extent bytes
       → ExplainsShowing extent contents bytes (file_fault why)
   says-fault file.TooLong shown k =
       StopsAt-map bytes _ _ (λ before rest more p.

@@ -147,8 +147,8 @@ pub record EndsTold (n : Notices) (stretches : List Stretch) (rest : List ℕ)
   pub hold : HoldEntriesToEnd rest last torn
   pub told : HaveToldAll n (told_of stretches torn)
 
--- all bytes were salvaged, the output of their entries was written to its end, and this is the first
--- line that isn't of a log
+-- all bytes were salvaged, the output of their entries was written to its end, and this is the
+-- first line that isn't of a log
 pub record HasRunOver (query : Query) (form : Form) (damaged : Damaged) (contents : Contents)
     (n : Notices) (bytes : List ℕ) (entries : List MarkedCopy) (first_bad : Option ℕ)
     : Type 0 where

@@ -90,7 +90,8 @@ header_kept : (h : Header) (o : Option Ending) (c : Copy) → option_map (copy_w
 header_kept h None c e = cc
 header_kept h (Some ending) c e = cc
 
-pub ended_header : (text : List ℕ) (h : Header) (c : Copy) → ended_copy text h ≡ Some c → h ≡ c.header
+pub ended_header : (text : List ℕ) (h : Header) (c : Copy) → ended_copy text h ≡ Some c → h
+    ≡ c.header
 unfolding ended_copy
 ended_header text h c e = header_kept h (ending_of (raw_text text h)) c e
 

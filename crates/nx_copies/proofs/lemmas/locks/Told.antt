@@ -1,4 +1,5 @@
--- What is told of the locks in bits, lock by lock: more bits leave it as it was, and add to its end.
+-- What is told of the locks in bits, lock by lock: more bits leave it as it was, and add to its
+-- end.
 use Rattle.std.proofs.Common.{◌≡◌, ℕ, ◌+◌, ◌*◌, ◌≤◌, Bool, List, [], ◌∷◌, ◌++◌, length, refl, sym}
 use Rattle.std.proofs.Common.{ap, ◌∙◌, subst, arith, inl, inr, append-nil}
 use Rattle.std.proofs.lemmas.List.{length-append}
@@ -37,11 +38,13 @@ pub record AddsToEnd {A : Type 0} (telling : Telling A) : Type 0 where
   pub past_more : (bits more : List Bool) (lock : Lock) (p : ℕ) → IsPast bits lock p
       → telling.past (bits ++ more) lock ≡ telling.past bits lock
   pub standing_more : (bits more : List Bool) (t n : ℕ) → IsPattern bits t → whole_words bits t ≤ n
-      → GoesOnAs (telling.standing bits t (whole_words bits t)) (telling.standing (bits ++ more) t n)
+      → GoesOnAs (telling.standing bits t (whole_words bits t)) (telling.standing (bits
+      ++ more) t n)
   pub over : (bits : List Bool) (lock : Lock)
       → GoesOnAs (telling.standing bits lock.at (lock.last + 1)) (telling.past bits lock)
 
-pub told_past-more : {A : Type 0} (telling : Telling A) → AddsToEnd telling → (bits more : List Bool)
+pub told_past-more : {A : Type 0} (telling : Telling A) → AddsToEnd telling
+    → (bits more : List Bool)
     (locks : List Lock) (p : ℕ) → Past bits locks p
     → told_past telling (bits ++ more) locks ≡ told_past telling bits locks
 unfolding told_past Past

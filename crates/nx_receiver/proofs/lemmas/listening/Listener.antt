@@ -640,7 +640,8 @@ none-before {R} {kind} starts old mid given channel part bits n copies next h he
     (append-nil copies)
     (in_turn-other starts given (to_one channel (fed.elements part))
     (to_one channel (fed.elements (part ++ take k bits))) copies [] h.in_turn
-    (grows-on (λ other es log. kind.printing.so_far (start_on starts other) es log) given channel part
+    (grows-on (λ other es log. kind.printing.so_far (start_on starts other) es log) given channel
+    part
     (take k bits) copies []
     (subst (kind.printing.so_far start (was ++ fed.elements (take k bits))) (sym (append-nil mine))
     (hears.first start was mine (h.receivers channel) k lt))

@@ -345,7 +345,8 @@ unlogged-air starts extent bytes air.Read h = h
 unlogged-air starts extent bytes (air.Line why) h = unlogged-line starts extent bytes why h
 
 unlogged-refusal : (starts : Starts) (extent : Extent) (bytes : List ℕ) (number : ℕ)
-    (why : LineRefusal) → ExplainsLog starts unknown_contents extent bytes (refusal_fault number why)
+    (why : LineRefusal) → ExplainsLog starts unknown_contents extent bytes (refusal_fault number
+    why)
     → ExplainsUnlogged starts extent bytes (refusal_fault number why)
 unlogged-refusal starts extent bytes number refusal.NoMoment h = h
 unlogged-refusal starts extent bytes number (refusal.Moment why) h = h

@@ -176,9 +176,11 @@ heard_then history packed from n m =
     (sym (drop-drop n from packed)) ∙ elements-more history (drop from packed) n m
 
 -- where nothing was printed before the last of either, none was before the last of all
-pub printed_then : (printing : Printing) (start : Start) (history : List Event) (log : List TaggedCopy)
+pub printed_then : (printing : Printing) (start : Start) (history : List Event) (log : List
+    TaggedCopy)
     (packed : List Bool) (from n m : ℕ)
-    → ((k : ℕ) → k < n → printing.so_far start (history ++ elements (take k (drop from packed))) log)
+    → ((k : ℕ) → k < n → printing.so_far start (history
+    ++ elements (take k (drop from packed))) log)
     → ((k : ℕ) → k < m → printing.so_far start ((history ++ elements (take n (drop from packed)))
     ++ elements (take k (drop (from + n) packed))) log)
     → (k : ℕ) → k < n + m

@@ -164,7 +164,8 @@ returns-then-is_entered-clause-entered g c = λ entries families before heard is
     content_grows entries (entry_made_combined entries before one)
     (g.M.Recall.content c.args.memory.now) (g.M.Recall.content c.renew.new.self) entry held
     c.renew.ensures
-    (made_printed entries before one c.is_entered.result (sym prints ∙ c.if-not-prints.false) entered
+    (made_printed entries before one c.is_entered.result (sym prints
+    ∙ c.if-not-prints.false) entered
     ∙ ap (λ b. if b then entry_of one.copy ∷ [] else []) c.if-is_entered.true
     ∙ ap (λ (e : MemoryEntry). e ∷ []) named)
 
@@ -254,7 +255,8 @@ returns-else-is_entered-clause-entered g c = λ entries families before heard is
     ∙ some_as (λ i. length after - 1 - i) c.take-combined.result.family)) in
     content_stays entries (entry_made_combined entries before one)
     (g.M.Recall.content c.args.memory.now) held
-    (made_printed entries before one c.is_entered.result (sym prints ∙ c.if-not-prints.false) entered
+    (made_printed entries before one c.is_entered.result (sym prints
+    ∙ c.if-not-prints.false) entered
     ∙ ap (λ b. if b then entry_of one.copy ∷ [] else []) c.if-is_entered.false)
 
 pub returns-else-is_entered-clause-printed : goal.returns-else-is_entered-clause-printed

@@ -50,7 +50,8 @@ returns-in_default-clause-first g c = λ starts given part copies h k lt.
     none-before starts c.args.self.now call.new.self given c.args.channel part bits call.result.0
     copies [] h
     (hears-quiet g.R.ChannelReceiver.awaits c.args.channel c.args.self.now call.new.self bits
-    call.result.0 call.result.1 g.met.R.ChannelReceiver.none_awaited c.in_default.is (λ start history log s. call.ensures.stands start history log s)
+    call.result.0 call.result.1 g.met.R.ChannelReceiver.none_awaited c.in_default.is (λ start
+        history log s. call.ensures.stands start history log s)
     (λ start history log s k lt. call.ensures.first start history log s k lt)) k lt
 
 pub returns-in_default-clause-moment : goal.returns-in_default-clause-moment
@@ -106,7 +107,8 @@ returns-clause-heard g c = λ starts given part copies h.
     })
     (then_elements given channel (part ++ take (n + m) bits))
     (copies ++ map (marked channel) (headed_list head t)))
-    (sym (text-counted g.R.ChannelReceiver.kind last now channel c.saturating_add-self-inside-2.result
+    (sym (text-counted g.R.ChannelReceiver.kind last now channel
+    c.saturating_add-self-inside-2.result
     c.saturating_add-self-inside-3.result c.self-2.view_is)) heard
 
 pub returns-clause-first : goal.returns-clause-first
