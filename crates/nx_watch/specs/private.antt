@@ -2,6 +2,7 @@
 pub mod Effects
 pub mod Running
 pub mod Scanning
+pub mod AnyReading
 pub mod Keeping
 pub mod Remembering
 pub mod Cutting

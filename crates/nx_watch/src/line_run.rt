@@ -1,7 +1,7 @@
 //! A run over the lines of any bytes, which goes on behind those that aren't understood. What runs
 //! for each line is inlined always; what is done for one that isn't understood never is.
 
-ghost use Rattle.std.specs.Prelude.{◌≡◌, ◌+◌, ◌<◌, ◌≤◌, ◌↔◌, ◌⊎◌, ℕ, true, false, List, [], ◌∷◌, ◌++◌, Option, IsErrOf, IsSome, IsSomeAnd, IfOk, OnOk, MatchResult, None, Some, length, take, ◌^◌};
+ghost use Rattle.std.specs.Prelude.{◌≡◌, ◌+◌, ◌<◌, ◌≤◌, ◌↔◌, ◌⊎◌, ℕ, true, false, List, [], ◌∷◌, ◌++◌, Option, IsErrOf, IsSome, IfOk, OnOk, MatchResult, None, Some, drop, length, take, ◌^◌};
 ghost use Rattle.std.specs.Io.KnownBytes.{Consumes, IsAtEnd};
 ghost use Rattle.nx_fec.specs.air_files.AirFile.{IsLine, Line};
 ghost use Rattle.nx_fec.specs.air_files.Scanner.{kind_of};
@@ -14,19 +14,21 @@ ghost use Rattle.nx_watch.specs.private.Running.{EndsInput, EndsRun, HasToldLine
 ghost use Rattle.nx_receiver.specs.Listener.{starts_of};
 ghost use Rattle.nx_watch.specs.Stamps.{IsFresh, counted_of, stamps_of};
 ghost use Rattle.nx_watch.specs.private.LoggingListener.{KeepsLines, LoggingTo, TakesLines, logging_to};
+ghost use Rattle.nx_watch.specs.private.AnyReading.{GoesOn, SaysLine};
 ghost use Rattle.nx_watch.specs.private.Scanning.{IsScanning};
+ghost use Rattle.nx_watch.specs.declared.lines.any_lines.AnyLine.TheVariants.{Known};
 ghost use Rattle.nx_watch.specs.private.Stamping.{RunsStamped, StandsStamped, telling};
 ghost use Rattle.nx_watch.specs.declared.lines.line_effects.StartMoments.{StartMoments as TheStart};
 ghost use Rattle.nx_watch.specs.declared.logging_listener.LoggingListener.{LoggingListener as TheLoggingListener};
 ghost use Rattle.nx_watch.specs.declared.line_run.WatchEnd.TheVariants.{Read as ReadFailed, Write as WriteEnd};
 
-use crate::lines::any_scanner::{AnyScanner, Ended};
+use crate::lines::any_lines::{AnyLine, AnyLines, More};
 use crate::lines::line_effects::{Effect, LineEffects, LinesWatched, StartMoments};
 use crate::lines::no_effect::NoEffect;
 use crate::lines::telling::{tell_failed_put, tell_first, tell_number};
 use crate::logging_listener::LoggingListener;
 use crate::stamped::StampedReader;
-use nx_fec::{CHUNK, Counting, LineKind, Piece};
+use nx_fec::{Counting, LineKind};
 use nx_kept::DiskFile;
 use std::io::{Read, Write};
 
@@ -85,13 +87,13 @@ pub(crate) fn watch_lines<R: Read, D: DiskFile + Drop, W: Write, F: Write>(
     ensures unwritten { IsErrOf result WriteEnd ↔ (writer.new.failures ≡ 1) }
     ensures written_once { writer.new.failures ≤ 1 }
 {
-    // What is held from piece to piece doesn't grow.
-    prove!(size_of::<LineRun>() == size_of::<AnyScanner>() + size_of::<LineEffects>());
+    // What is held from line to line doesn't grow.
+    prove!(size_of::<LineRun>() == size_of::<AnyLines>() + size_of::<LineEffects>());
     let mut run = LineRun {
-        scanner: AnyScanner::new(),
+        lines: AnyLines::new(limit),
         effects: LineEffects::new(first),
     };
-    match run.read_lines(reader, writer, notices, logging, limit) {
+    match run.read_lines(reader, writer, notices, logging) {
         Ok(()) => Ok(run.end(notices)),
         Err(end) => {
             run.count(notices);
@@ -100,28 +102,28 @@ pub(crate) fn watch_lines<R: Read, D: DiskFile + Drop, W: Write, F: Write>(
     }
 }
 
-/// What a run holds of the bytes so far.
+/// What a run holds of the lines so far.
 #[derive(Drop)]
 struct LineRun {
-    scanner: AnyScanner,
+    lines: AnyLines,
     effects: LineEffects,
 }
 
 impl LineRun {
-    /// Reads the input to its end or its limit, or until the run is over: asks for a piece, takes
-    /// its lines, and only then asks for more.
+    /// Takes all lines of the input up to its end or its limit, or until the run is over. Lets more
+    /// be read only where all lines so far are taken, and what there is to tell is told.
     fn read_lines<R: Read, D: DiskFile + Drop, W: Write, F: Write>(
         &mut self,
         reader: &mut StampedReader<R, D, Counting<W>, Counting<F>>,
         writer: &mut Counting<W>,
         notices: &mut Counting<F>,
         logging: &mut LoggingListener<D>,
-        limit: u64,
     ) -> Result<(), WatchEnd>
         requires reader { IsFresh reader.old }
         requires writer { writer.old.failures ≡ 0 }
-        requires limit { limit ≤ most_bytes }
-        requires room { self.old.scanner.scanner.room ≡ most_bytes }
+        requires limit { self.old.lines.room ≤ most_bytes }
+        requires piece { self.old.lines.piece ≡ [] }
+        requires room { self.old.lines.scanner.scanner.room ≡ most_bytes }
         requires lines { self.old.effects.lines ≡ 0 }
         requires fewer { self.old.effects.without_effect ≡ 0 }
         ensures read { (start : LoggingTo D W) (first : TheStart) (old : ToldBefore)
@@ -133,10 +135,11 @@ impl LineRun {
             → (bytes : List ℕ)
             × Consumes (R.remaining (counted_of reader.old).inner)
             (R.remaining (counted_of reader.new).inner) bytes
-            × (length bytes ≤ limit)
+            × (length bytes ≤ self.old.lines.room)
             × (told : ToldBeside) × IsBeside old logging.new.keeper.has_failed told
             × MatchResult result
-            (λ _. (IsAtEnd (R.remaining (counted_of reader.new).inner) ⊎ (length bytes ≡ limit))
+            (λ _. (IsAtEnd (R.remaining (counted_of reader.new).inner)
+            ⊎ (length bytes ≡ self.old.lines.room))
             × RunsStamped (telling D.DiskFile W.contents F.contents old) first bytes
             self.new.effects.lines start
             (λ since. IsRunning (TakesLines D.DiskFile W.contents) since
@@ -155,177 +158,82 @@ impl LineRun {
         ensures unwritten { IsErrOf result WriteEnd ↔ (writer.new.failures ≡ 1) }
         ensures written_once { writer.new.failures ≤ 1 }
     {
-        let mut buffer = [0; CHUNK];
-        let mut room = limit;
-        while room > 0 {
-            let most = (CHUNK as u64).min(room) as usize;
-            let disk = &logging.keeper.log.device;
-            let count = match reader.next_piece(disk, writer, notices, &mut buffer[..most]) {
-                Piece::Bytes(count) => count,
-                Piece::End => return Ok(()),
-                Piece::Failed => return Err(WatchEnd::Read),
-            };
-            if let Err(end) = self.take_piece(&buffer[..count], writer, notices, logging) {
-                return Err(end);
+        let mut had_failed = logging.keeper.has_failed;
+        loop {
+            match self.take_next(writer, notices, logging) {
+                Ok(true) => {}
+                Ok(false) => {
+                    let has_failed = logging.keeper.has_failed;
+                    tell_failed_put(had_failed, has_failed, notices);
+                    had_failed = has_failed;
+                    let disk = &logging.keeper.log.device;
+                    match self.lines.read(reader, disk, writer, notices) {
+                        More::Bytes => {}
+                        More::End => return Ok(()),
+                        More::Failed => return Err(WatchEnd::Read),
+                    }
+                }
+                Err(end) => {
+                    tell_failed_put(had_failed, logging.keeper.has_failed, notices);
+                    return Err(end);
+                }
             }
-            room -= count as u64;
         }
-        Ok(())
     }
 
-    /// Takes the lines of a piece, and tells of a put that failed at one of them.
-    fn take_piece<D: DiskFile + Drop, W: Write, F: Write>(
+    /// Takes the next line. Answers false where all lines are taken of the bytes that were read.
+    #[inline(always)]
+    fn take_next<D: DiskFile + Drop, W: Write, F: Write>(
         &mut self,
-        piece: &[u8],
         writer: &mut Counting<W>,
         notices: &mut Counting<F>,
         logging: &mut LoggingListener<D>,
-    ) -> Result<(), WatchEnd>
-        requires short { length piece.now ≤ CHUNK }
+    ) -> Result<bool, WatchEnd>
         requires writer { writer.old.failures ≡ 0 }
-        requires room { length piece.now ≤ self.old.scanner.scanner.room }
-        requires within { self.old.scanner.scanner.room ≤ most_bytes }
-        requires few { self.old.effects.lines + length piece.now ≤ most_bytes }
+        requires room { length self.old.lines.piece ≤ self.old.lines.scanner.scanner.room }
+        requires within { self.old.lines.scanner.scanner.room ≤ most_bytes }
+        requires few { self.old.effects.lines + length self.old.lines.piece ≤ most_bytes }
         requires fewer { self.old.effects.without_effect ≤ self.old.effects.lines }
-        ensures taken { (base : ToldBefore) (old : ToldBeside)
-            → IsBeside base logging.old.keeper.has_failed old
-            → (told : ToldBeside) × IsBeside base logging.new.keeper.has_failed told
-            × ((start : LoggingTo D W) (first : TheStart) (bytes : List ℕ)
-            → (starts_of start.logging.listener).moment ≡ first.newest
-            → IsRunning (TakesLines D.DiskFile W.contents) start
-            (logging_to logging.old writer.old) first self.old old
-            (F.contents notices.old.inner) notices.old.failures bytes
-            → MatchResult result
-            (λ _. IsRunning (TakesLines D.DiskFile W.contents) start
-            (logging_to logging.new writer.new) first self.new told
-            (F.contents notices.new.inner) notices.new.failures (bytes ++ piece.now))
-            (λ end. (more : List ℕ) → EndsRun (TakesLines D.DiskFile W.contents) start
-            (logging_to logging.new writer.new) first self.new.effects told
-            (F.contents notices.new.inner) notices.new.failures end
-            ((bytes ++ piece.now) ++ more))) }
-        ensures room { OnOk result
-            (self.old.scanner.scanner.room ≤ self.new.scanner.scanner.room + length piece.now) }
-        ensures within { OnOk result (self.new.scanner.scanner.room ≤ most_bytes) }
-        ensures few { OnOk result
-            (self.new.effects.lines ≤ self.old.effects.lines + length piece.now) }
-        ensures fewer { OnOk result (self.new.effects.without_effect ≤ self.new.effects.lines) }
-        ensures grows { self.old.effects.lines ≤ self.new.effects.lines }
-        ensures unread { IsErrOf result ReadFailed → ⊥ }
-        ensures open { OnOk result (writer.new.failures ≡ 0) }
-        ensures unwritten { IsErrOf result WriteEnd ↔ (writer.new.failures ≡ 1) }
-        ensures written_once { writer.new.failures ≤ 1 }
-    {
-        let had_failed = logging.keeper.has_failed;
-        let taken = self.take_lines(piece, writer, notices, logging);
-        tell_failed_put(had_failed, logging.keeper.has_failed, notices);
-        taken
-    }
-
-    /// Takes the lines that a piece ends, one after the other.
-    fn take_lines<D: DiskFile + Drop, W: Write, F: Write>(
-        &mut self,
-        piece: &[u8],
-        writer: &mut Counting<W>,
-        notices: &mut Counting<F>,
-        logging: &mut LoggingListener<D>,
-    ) -> Result<(), WatchEnd>
-        requires short { length piece.now ≤ CHUNK }
-        requires writer { writer.old.failures ≡ 0 }
-        requires room { length piece.now ≤ self.old.scanner.scanner.room }
-        requires within { self.old.scanner.scanner.room ≤ most_bytes }
-        requires few { self.old.effects.lines + length piece.now ≤ most_bytes }
-        requires fewer { self.old.effects.without_effect ≤ self.old.effects.lines }
-        ensures taken { (start : LoggingTo D W) (first : TheStart) (old : ToldBeside)
-            (bytes : List ℕ)
+        ensures taken { (count : ℕ) × (count ≤ length self.old.lines.piece)
+            × (self.new.lines.piece ≡ drop count self.old.lines.piece)
+            × ((start : LoggingTo D W) (first : TheStart) (old : ToldBeside) (bytes : List ℕ)
             → (starts_of start.logging.listener).moment ≡ first.newest
             → IsRunning (TakesLines D.DiskFile W.contents) start (logging_to logging.old writer.old)
             first self.old old (F.contents notices.old.inner) notices.old.failures bytes
             → MatchResult result
             (λ _. IsRunning (TakesLines D.DiskFile W.contents) start
             (logging_to logging.new writer.new) first self.new old
-            (F.contents notices.new.inner) notices.new.failures (bytes ++ piece.now))
+            (F.contents notices.new.inner) notices.new.failures
+            (bytes ++ take count self.old.lines.piece))
             (λ end. (more : List ℕ) → EndsRun (TakesLines D.DiskFile W.contents) start
             (logging_to logging.new writer.new) first self.new.effects old
             (F.contents notices.new.inner) notices.new.failures end
-            ((bytes ++ piece.now) ++ more)) }
-        ensures room { OnOk result
-            (self.old.scanner.scanner.room ≤ self.new.scanner.scanner.room + length piece.now) }
-        ensures within { OnOk result (self.new.scanner.scanner.room ≤ most_bytes) }
-        ensures few { OnOk result
-            (self.new.effects.lines ≤ self.old.effects.lines + length piece.now) }
+            ((bytes ++ self.old.lines.piece) ++ more))) }
+        ensures on { IfOk result (GoesOn self.old.lines.piece self.new.lines.piece) }
+        ensures unread { self.new.lines.room ≡ self.old.lines.room }
+        ensures room { OnOk result (self.old.lines.scanner.scanner.room
+            + length self.new.lines.piece
+            ≤ self.new.lines.scanner.scanner.room + length self.old.lines.piece) }
+        ensures within { OnOk result (self.new.lines.scanner.scanner.room ≤ most_bytes) }
+        ensures few { OnOk result (self.new.effects.lines + length self.new.lines.piece
+            ≤ self.old.effects.lines + length self.old.lines.piece) }
         ensures fewer { OnOk result (self.new.effects.without_effect ≤ self.new.effects.lines) }
         ensures grows { self.old.effects.lines ≤ self.new.effects.lines }
-        ensures unread { IsErrOf result ReadFailed → ⊥ }
+        ensures read { IsErrOf result ReadFailed → ⊥ }
         ensures open { OnOk result (writer.new.failures ≡ 0) }
         ensures unwritten { IsErrOf result WriteEnd ↔ (writer.new.failures ≡ 1) }
         ensures written_once { writer.new.failures ≤ 1 }
         ensures failed { logging.old.keeper.has_failed ≡ true
             → logging.new.keeper.has_failed ≡ true }
     {
-        let mut at = 0;
-        while at < piece.len() {
-            match self.take_line(&piece[at..], writer, notices, logging) {
-                Ok(count) => at += count,
-                Err(end) => return Err(end),
-            }
-        }
-        Ok(())
-    }
-
-    /// Takes the bytes of a piece up to and with its first line feed, and the line that it ends.
-    /// Answers how many bytes there were.
-    fn take_line<D: DiskFile + Drop, W: Write, F: Write>(
-        &mut self,
-        piece: &[u8],
-        writer: &mut Counting<W>,
-        notices: &mut Counting<F>,
-        logging: &mut LoggingListener<D>,
-    ) -> Result<usize, WatchEnd>
-        requires some { 0 < length piece.now }
-        requires short { length piece.now ≤ CHUNK }
-        requires writer { writer.old.failures ≡ 0 }
-        requires room { length piece.now ≤ self.old.scanner.scanner.room }
-        requires within { self.old.scanner.scanner.room ≤ most_bytes }
-        requires few { self.old.effects.lines + length piece.now ≤ most_bytes }
-        requires fewer { self.old.effects.without_effect ≤ self.old.effects.lines }
-        ensures taken { (start : LoggingTo D W) (first : TheStart) (old : ToldBeside)
-            (bytes : List ℕ)
-            → (starts_of start.logging.listener).moment ≡ first.newest
-            → IsRunning (TakesLines D.DiskFile W.contents) start (logging_to logging.old writer.old)
-            first self.old old (F.contents notices.old.inner) notices.old.failures bytes
-            → MatchResult result
-            (λ count. IsRunning (TakesLines D.DiskFile W.contents) start
-            (logging_to logging.new writer.new) first self.new old
-            (F.contents notices.new.inner) notices.new.failures (bytes ++ take count piece.now))
-            (λ end. (more : List ℕ) → EndsRun (TakesLines D.DiskFile W.contents) start
-            (logging_to logging.new writer.new) first self.new.effects old
-            (F.contents notices.new.inner) notices.new.failures end
-            ((bytes ++ piece.now) ++ more)) }
-        ensures some { IfOk result (λ count. 0 < count) }
-        ensures all { IfOk result (λ count. count ≤ length piece.now) }
-        ensures room { IfOk result (λ count.
-            self.old.scanner.scanner.room ≤ self.new.scanner.scanner.room + count) }
-        ensures within { OnOk result (self.new.scanner.scanner.room ≤ most_bytes) }
-        ensures few { IfOk result (λ count.
-            self.new.effects.lines ≤ self.old.effects.lines + count) }
-        ensures fewer { OnOk result (self.new.effects.without_effect ≤ self.new.effects.lines) }
-        ensures grows { self.old.effects.lines ≤ self.new.effects.lines }
-        ensures unread { IsErrOf result ReadFailed → ⊥ }
-        ensures open { OnOk result (writer.new.failures ≡ 0) }
-        ensures unwritten { IsErrOf result WriteEnd ↔ (writer.new.failures ≡ 1) }
-        ensures written_once { writer.new.failures ≤ 1 }
-        ensures failed { logging.old.keeper.has_failed ≡ true
-            → logging.new.keeper.has_failed ≡ true }
-    {
-        let (count, ended) = self.scanner.take(piece);
-        match ended {
-            Ended::Nothing => Ok(count),
-            Ended::Unknown(why) => {
+        match self.lines.next() {
+            AnyLine::PieceOver => Ok(false),
+            AnyLine::Unknown(why) => {
                 self.pass_line(why, notices);
-                Ok(count)
+                Ok(true)
             }
-            Ended::Line => match self.take_known(writer, notices, logging) {
-                Ok(()) => Ok(count),
+            AnyLine::Known(kind) => match self.take_known(kind, writer, notices, logging) {
+                Ok(()) => Ok(true),
                 Err(end) => Err(end),
             },
         }
@@ -337,13 +245,13 @@ impl LineRun {
         requires few { self.old.effects.lines < 2 ^ 63 }
         requires fewer { self.old.effects.without_effect ≤ self.old.effects.lines }
         ensures { (first : TheStart) (old : ToldBeside) (bytes : List ℕ)
-            (lines : List (Option Line)) → IsScanning self.old.scanner bytes lines
+            (lines : List (Option Line)) → IsScanning self.old.lines.scanner bytes lines
             → TellsFirst first self.old.effects old (F.contents notices.old.inner)
             notices.old.failures bytes lines
             → EndsInput first bytes lines old (F.contents notices.new.inner) notices.new.failures
             result }
     {
-        match self.scanner.cut() {
+        match self.lines.cut() {
             Some(why) => {
                 self.pass_line(why, notices);
                 self.count(notices)
@@ -382,7 +290,7 @@ impl LineRun {
             notices.old.failures bytes lines
             → TellsFirst first self.new.effects old (F.contents notices.new.inner)
             notices.new.failures bytes (lines ++ None ∷ []) }
-        ensures scanner { self.new.scanner ≡ self.old.scanner }
+        ensures reader { self.new.lines ≡ self.old.lines }
         ensures lines { self.new.effects.lines ≡ self.old.effects.lines + 1 }
         ensures fewer { self.new.effects.without_effect ≤ self.new.effects.lines }
     {
@@ -391,28 +299,29 @@ impl LineRun {
         tell_first(before, self.effects.lines(), why, notices);
     }
 
-    /// Gives the receivers the line of an air file that the last byte ended, and answers what it
-    /// did, by what they answer.
+    /// Gives the receivers the line that was given last, which says this, and answers what it did,
+    /// by what they answer.
     #[inline(always)]
     fn give_line<D: DiskFile + Drop, W: Write>(
         &mut self,
+        kind: LineKind,
         writer: &mut Counting<W>,
         logging: &mut LoggingListener<D>,
     ) -> Effect
-        requires line { IsSomeAnd self.old.scanner.scanner.latest IsLine }
+        requires line { SaysLine self.old.lines.scanner.scanner.latest (Known kind) }
         requires writer { writer.old.failures ≡ 0 }
         requires few { self.old.effects.lines < 2 ^ 63 }
         requires fewer { self.old.effects.without_effect ≤ self.old.effects.lines }
         ensures taken { (start : LoggingTo D W) (first : TheStart) (lines : List (Option Line))
             (line : Line) → (starts_of start.logging.listener).moment ≡ first.newest
-            → self.old.scanner.scanner.latest ≡ Some line → IsKept first lines self.old.effects
+            → self.old.lines.scanner.scanner.latest ≡ Some line → IsKept first lines self.old.effects
             → TakesLines D.DiskFile W.contents start (logging_to logging.old writer.old)
             (acting_lines first lines)
             → IsKept first (lines ++ Some line ∷ []) self.new.effects
             × IsEffect first (moments_behind first lines) (Some line) result
             × TakesLines D.DiskFile W.contents start (logging_to logging.new writer.new)
             (acting_lines first (lines ++ Some line ∷ [])) }
-        ensures scanner { self.new.scanner ≡ self.old.scanner }
+        ensures reader { self.new.lines ≡ self.old.lines }
         ensures lines { self.new.effects.lines ≡ self.old.effects.lines + 1 }
         ensures fewer { self.new.effects.without_effect ≤ self.new.effects.lines }
         ensures first { IsSome self.old.effects.first_without
@@ -426,31 +335,29 @@ impl LineRun {
         ensures failed { logging.old.keeper.has_failed ≡ true
             → logging.new.keeper.has_failed ≡ true }
     {
-        let Some(kind) = self.scanner.scanner.latest() else {
-            unreachable!()
-        };
         set_start(&mut self.effects, kind, logging);
-        let answer = logging.take(&self.scanner.scanner, writer);
+        let answer = logging.take(kind, self.lines.elements(), writer);
         self.effects.line(kind, answer)
     }
 
-    /// Takes the line of an air file that the last byte ended: gives it to the receivers, and tells
-    /// why it did nothing where it is the first without effect.
+    /// Takes the line that was given last, which says this: gives it to the receivers, and tells why
+    /// it did nothing where it is the first without effect.
     #[inline(always)]
     fn take_known<D: DiskFile + Drop, W: Write, F: Write>(
         &mut self,
+        kind: LineKind,
         writer: &mut Counting<W>,
         notices: &mut Counting<F>,
         logging: &mut LoggingListener<D>,
     ) -> Result<(), WatchEnd>
-        requires line { IsSomeAnd self.old.scanner.scanner.latest IsLine }
+        requires line { SaysLine self.old.lines.scanner.scanner.latest (Known kind) }
         requires writer { writer.old.failures ≡ 0 }
         requires few { self.old.effects.lines < 2 ^ 63 }
         requires fewer { self.old.effects.without_effect ≤ self.old.effects.lines }
         ensures taken { (start : LoggingTo D W) (first : TheStart) (old : ToldBeside)
             (bytes : List ℕ) (lines : List (Option Line)) (line : Line)
             → (starts_of start.logging.listener).moment ≡ first.newest
-            → self.old.scanner.scanner.latest ≡ Some line
+            → self.old.lines.scanner.scanner.latest ≡ Some line
             → HasTaken (TakesLines D.DiskFile W.contents) start (logging_to logging.old writer.old)
             first lines
             → TellsFirst first self.old.effects old (F.contents notices.old.inner)
@@ -465,7 +372,7 @@ impl LineRun {
             → EndsRun (TakesLines D.DiskFile W.contents) start (logging_to logging.new writer.new)
             first self.new.effects old (F.contents notices.new.inner) notices.new.failures end
             bytes) }
-        ensures scanner { self.new.scanner ≡ self.old.scanner }
+        ensures reader { self.new.lines ≡ self.old.lines }
         ensures lines { self.new.effects.lines ≡ self.old.effects.lines + 1 }
         ensures fewer { self.new.effects.without_effect ≤ self.new.effects.lines }
         ensures unread { IsErrOf result ReadFailed → ⊥ }
@@ -476,7 +383,7 @@ impl LineRun {
             → logging.new.keeper.has_failed ≡ true }
     {
         let before = self.effects.first_without();
-        match self.give_line(writer, logging) {
+        match self.give_line(kind, writer, logging) {
             Effect::Acts if writer.failures() > 0 => Err(WatchEnd::Write),
             Effect::Acts => Ok(()),
             Effect::Nothing(why) => {

@@ -5,6 +5,7 @@ ghost use Rattle.std.specs.List.{All, AllZip};
 ghost use Rattle.nx_envelope.specs.Moment.{last_moment};
 ghost use Rattle.nx_fec.specs.air_files.AirFile.{IsLine, Line, elements, moment};
 ghost use Rattle.nx_fec.specs.Transfers.{CountedDevice};
+ghost use Rattle.nx_fec.specs.air_files.Scanner.{line_with};
 ghost use Rattle.nx_log.specs.Logged.{IsLoggedAs};
 ghost use Rattle.nx_receiver.specs.Moments.{Refuses};
 ghost use Rattle.nx_copies.specs.copies.InTurn.{PrintAllToEnd};
@@ -24,7 +25,7 @@ use crate::lines::refusal::Refusal;
 use crate::lines::telling::tell_failed_put;
 use arrayvec::ArrayVec;
 use nx_copies::{MAX_ENTRY, entry_bytes};
-use nx_fec::{Channel, Counting, LineKind, PackedElements, Scanner};
+use nx_fec::{Channel, Counting, LineKind, PackedElements};
 use nx_kept::DiskFile;
 use nx_receiver::{Command, LastEntries, Listener, MomentFault};
 use std::io::Write;
@@ -56,18 +57,19 @@ impl<D: DiskFile + Drop> LoggingListener<D> {
         self.listener.set_moment(given)
     }
 
-    /// Takes the line that the scanner's last byte ended, and keeps the entries that it prints;
+    /// Takes a line that says this and has these elements, and keeps the entries that it prints;
     /// answers why the receivers refuse it, where they do. It takes the whole line also where a
     /// write fails, after which it doesn't call the writer.
     pub(crate) fn take<W: Write>(
         &mut self,
-        scanner: &Scanner,
+        kind: LineKind,
+        elements: &PackedElements,
         writer: &mut Counting<W>,
     ) -> Result<(), Refusal>
-        requires line { IsSomeAnd scanner.now.latest IsLine }
+        requires line { IsLine (line_with kind elements.now) }
         requires none { writer.old.failures ≡ 0 }
         ensures taken { (start : LoggingTo D W) (lines : List Line) (line : Line)
-            → scanner.now.latest ≡ Some line
+            → line ≡ line_with kind elements.now
             → TakesLines D.DiskFile W.contents start (logging_to self.old writer.old) lines
             → IsAnswer (force_behind (starts_of start.logging.listener).moment lines) line result
             × TakesLines D.DiskFile W.contents start (logging_to self.new writer.new)
@@ -76,11 +78,8 @@ impl<D: DiskFile + Drop> LoggingListener<D> {
         ensures once { writer.new.failures ≤ 1 }
         ensures failed { self.old.keeper.has_failed ≡ true → self.new.keeper.has_failed ≡ true }
     {
-        let Some(kind) = scanner.latest() else {
-            unreachable!()
-        };
         match kind {
-            LineKind::Elements(mark) => self.hear(mark, scanner.elements(), writer),
+            LineKind::Elements(mark) => self.hear(mark, elements, writer),
             LineKind::Moment(moment) => self.set_moment(moment)?,
             _ => {
                 let (channel, command) = Command::of_line(kind);

@@ -1,12 +1,12 @@
 //! A reader that notes what stood at each of its reads.
 
-ghost use Rattle.std.specs.Prelude.{◌≡◌, ◌+◌, ◌<◌, [], ◌∷◌, length};
-ghost use Rattle.nx_fec.specs.Transfers.{IsNextPiece, count_of};
+ghost use Rattle.std.specs.Prelude.{◌≡◌, ◌+◌, ◌<◌, ◌≤◌, [], ◌∷◌, length};
+ghost use Rattle.nx_fec.specs.Transfers.{HasLength, IsNextPiece, count_of, max_piece};
 ghost use Rattle.nx_watch.specs.Stamp.{stamp};
 ghost use Rattle.nx_watch.specs.Stamps.{bytes_given, counted_of, size_of_piece, stamps_of};
 
 use crate::stamped::stamps::Stamps;
-use nx_fec::{Counting, Piece, next_piece};
+use nx_fec::{Counting, Piece, PieceBuffer};
 use std::io::Read;
 
 mod stamps;
@@ -49,12 +49,22 @@ impl<R, D, W, N> StampedReader<R, D, W, N> {
 }
 
 impl<R: Read, D, W, N> StampedReader<R, D, W, N> {
-    /// Reads the next piece, and notes what stood as it was asked for.
-    pub fn next_piece(&mut self, disk: &D, writer: &W, notices: &N, buffer: &mut [u8]) -> Piece
+    /// Reads the next piece, of at most `most` bytes, and notes what stood as it was asked for.
+    pub fn next_piece(
+        &mut self,
+        disk: &D,
+        writer: &W,
+        notices: &N,
+        buffer: &mut PieceBuffer,
+        most: usize,
+    ) -> Piece
         requires none { (counted_of self.old).failures ≡ 0 }
-        requires room { 0 < length buffer.old }
+        requires some { 0 < most }
+        requires few { most ≤ max_piece }
         ensures piece { IsNextPiece R.remaining (counted_of self.old) (counted_of self.new)
             buffer.new result }
+        ensures whole { HasLength buffer.new result }
+        ensures few { length buffer.new ≤ most }
         ensures given { bytes_given self.new
             ≡ count_of (bytes_given self.old + size_of_piece result) }
         ensures stamped { stamps_of self.new
@@ -62,7 +72,7 @@ impl<R: Read, D, W, N> StampedReader<R, D, W, N> {
             ∷ stamps_of self.old }
     {
         self.stamps = self.stamps.and(&self.given, disk, writer, notices);
-        let piece = next_piece(&mut self.reader, buffer);
+        let piece = buffer.read(&mut self.reader, most);
         self.given = self.given.saturating_add(size_of(&piece));
         piece
     }

@@ -1,6 +1,7 @@
 -- The lines of any bytes, read, acted on and told.
 pub mod Acting
 pub mod AnyLine
+pub mod AnyLines
 pub mod Law
 pub mod Reading
 pub mod Run

@@ -73,7 +73,7 @@ pub record IsRunning {T : Type 0} (stands : Standing T) (start now : T) (first :
     (run : LineRun) (old : ToldBeside) (new : Option (List ℕ)) (failures : ℕ) (bytes : List ℕ)
     : Type 0 where
   pub lines : List (Option Line)
-  pub scans : IsScanning run.scanner bytes lines
+  pub scans : IsScanning run.lines.scanner bytes lines
   pub taken : HasTaken stands start now first lines
   pub tells : (more : List ℕ)
       → TellsFirst first run.effects old new failures (bytes ++ more) lines

@@ -4,8 +4,10 @@
 ghost use Rattle.std.specs.Prelude.{◌≡◌, ◌+◌, ◌<◌, ◌≤◌, ℕ, List, [], ◌∷◌, ◌++◌, Option, IsSomeAnd, false, length, take};
 ghost use Rattle.nx_fec.specs.air_files.AirFile.{IsLine, Line};
 ghost use Rattle.nx_fec.specs.air_files.Lines.{Scans};
+ghost use Rattle.nx_fec.specs.air_files.Scanner.{elements_kept, kind_of};
 ghost use Rattle.nx_watch.specs.AnyLines.{AreLines, HasNoEnd, cut_line};
 ghost use Rattle.nx_watch.specs.Acting.{most_bytes};
+ghost use Rattle.nx_watch.specs.declared.lines.any_scanner.Ended.TheVariants.{Nothing};
 ghost use Rattle.nx_watch.specs.private.Scanning.{CutsAs, IsPassedOver, IsScanning, OnLine, OnUnknown, lines_ended, reason_of_fault};
 
 use crate::lines::no_effect::NoEffect;
@@ -20,7 +22,7 @@ pub(crate) const MOST_BYTES: u64 = 9_223_372_036_854_775_807;
 #[derive(Drop)]
 pub(crate) struct AnyScanner {
     /// The scanner of the lines behind the last one that isn't understood.
-    pub(crate) scanner: Scanner,
+    scanner: Scanner,
     /// Whether the open line has more than 514 bytes, which are passed over.
     is_passing: bool,
 }
@@ -71,6 +73,7 @@ impl AnyScanner {
             → OnUnknown result.1 (bytes ++ take result.0 piece.now) lines }
         ensures some { 0 < result.0 }
         ensures all { result.0 ≤ length piece.now }
+        ensures whole { result.1 ≡ Nothing → result.0 ≡ length piece.now }
         ensures room { self.old.scanner.room ≤ self.new.scanner.room + result.0 }
         ensures within { self.new.scanner.room ≤ most_bytes }
     {
@@ -100,6 +103,7 @@ impl AnyScanner {
             → OnUnknown result.1 ((before ++ part) ++ take result.0 piece.now) lines }
         ensures some { 0 < result.0 }
         ensures all { result.0 ≤ length piece.now }
+        ensures whole { result.1 ≡ Nothing → result.0 ≡ length piece.now }
         ensures room { self.new.scanner.room ≡ most_bytes }
     {
         *self = AnyScanner::new();
@@ -110,6 +114,27 @@ impl AnyScanner {
                 (piece.len(), Ended::Nothing)
             }
         }
+    }
+
+    /// What the line of an air file says that was ended.
+    #[inline(always)]
+    pub(crate) fn kind(&self) -> LineKind
+        requires { IsSomeAnd self.now.scanner.latest IsLine }
+        ensures { IsSomeAnd self.now.scanner.latest
+            (λ line. IsLine line × (result ≡ kind_of line)) }
+    {
+        let Some(kind) = self.scanner.latest() else {
+            unreachable!()
+        };
+        kind
+    }
+
+    /// The elements of the line that was ended; none where none was, or it has none.
+    #[inline(always)]
+    pub(crate) fn elements(&self) -> &PackedElements
+        ensures { result.now ≡ elements_kept self.now.scanner.latest }
+    {
+        self.scanner.elements()
     }
 
     /// Why the line has no effect that the end of the bytes cuts, where one is open.

@@ -448,7 +448,7 @@ pub run-of : {T : Type 0} (stands : Standing T) (start now : T) (first : StartMo
     (lines more : List (Option Line))
     (ended : Ended) (latest : Option Line)
     → lines_ended ended latest ≡ more
-    → IsScanning run.scanner bytes (lines ++ lines_ended ended latest)
+    → IsScanning run.lines.scanner bytes (lines ++ lines_ended ended latest)
     → HasTaken stands start now first (lines ++ more)
     → ((behind : List ℕ)
     → TellsFirst first run.effects old new failures (bytes ++ behind) (lines ++ more))
@@ -456,7 +456,7 @@ pub run-of : {T : Type 0} (stands : Standing T) (start now : T) (first : StartMo
 run-of stands start now first run old new failures bytes lines more ended latest is scans taken
     tells = record {
       lines = lines ++ more;
-      scans = subst (λ l. IsScanning run.scanner bytes (lines ++ l)) is scans;
+      scans = subst (λ l. IsScanning run.lines.scanner bytes (lines ++ l)) is scans;
       taken = taken;
       tells = tells;
     }
@@ -549,7 +549,7 @@ none-taken disk contents start now writer stood none = (
 -- a run before its first line
 pub run-starts : {T : Type 0} (stands : Standing T) (start now : T) (first : StartMoments)
     (run : LineRun) (old : ToldBefore) (new : Option (List ℕ)) (failures : ℕ)
-    → IsScanning run.scanner [] [] → IsKept first [] run.effects → stands start now []
+    → IsScanning run.lines.scanner [] [] → IsKept first [] run.effects → stands start now []
     → HasTold old.old new failures old.text
     → IsRunning stands start now first run (beside old) new failures []
 run-starts stands start now first run old new failures scans kept stood told = record {

@@ -208,11 +208,11 @@ module _ {D W N : Type 0} (disk : TellsOfDisk D) (contents : W → Option (List 
     stamp-now now writer notices run beside bytes read sides is none only_now h = record {
       within = omega (arith, is);
       lines = h.lines;
-      rest = run.scanner.scanner.part ++ h.scans.passed;
-      whole = subst (λ l. AreLines l h.lines (run.scanner.scanner.part ++ h.scans.passed))
+      rest = run.lines.scanner.scanner.part ++ h.scans.passed;
+      whole = subst (λ l. AreLines l h.lines (run.lines.scanner.scanner.part ++ h.scans.passed))
           (sym (take_all read bytes (omega (arith, is))))
-          (Parts-lines run.scanner bytes h.lines h.scans.passed
-          (parts run.scanner bytes h.lines h.scans));
+          (Parts-lines run.lines.scanner bytes h.lines h.scans.passed
+          (parts run.lines.scanner bytes h.lines h.scans));
       behind = omega (arith, (h.tells []).kept_so.counted);
       past = now;
       device = refl;
@@ -336,14 +336,14 @@ module _ {D W N : Type 0} (disk : TellsOfDisk D) (contents : W → Option (List 
                 (Begin (acting_lines first s.lines))
                 (λ since. IsRunning Stands since now first run beside new failures bytes)
                 (λ since. Stands since now (acting_lines first s.lines))
-                (begins bytes bytes [] s.lines (run.scanner.scanner.part ++ s.scans.passed)
+                (begins bytes bytes [] s.lines (run.lines.scanner.scanner.part ++ s.scans.passed)
                 run.effects.lines
                 (λ since. IsRunning Stands since now first run beside new failures bytes) are
                 (sym (append-nil bytes)) (s.tells []).kept_so.counted)
                 (λ since is k. subst (λ l. Stands since now (acting_lines first l))
                 (lines-same bytes bytes [] [] k.lines s.lines
-                (run.scanner.scanner.part ++ k.scans.passed)
-                (run.scanner.scanner.part ++ s.scans.passed) (lines-of since k) are refl
+                (run.lines.scanner.scanner.part ++ k.scans.passed)
+                (run.lines.scanner.scanner.part ++ s.scans.passed) (lines-of since k) are refl
                 (sym (k.tells []).kept_so.counted ∙ (s.tells []).kept_so.counted)) k.taken.stood)
                 stamps h.from_reads;
           };
@@ -351,9 +351,9 @@ module _ {D W N : Type 0} (disk : TellsOfDisk D) (contents : W → Option (List 
       where
         lines-of : (s : LoggingTo D W)
             → (k : IsRunning Stands s now first run beside new failures bytes)
-            → AreLines bytes k.lines (run.scanner.scanner.part ++ k.scans.passed)
-        lines-of s k = Parts-lines run.scanner bytes k.lines k.scans.passed
-            (parts run.scanner bytes k.lines k.scans)
+            → AreLines bytes k.lines (run.lines.scanner.scanner.part ++ k.scans.passed)
+        lines-of s k = Parts-lines run.lines.scanner bytes k.lines k.scans.passed
+            (parts run.lines.scanner bytes k.lines k.scans)
 
     -- the run was over before
     pub ends-stamped : (now : LoggingTo D W) (kept : LineEffects)

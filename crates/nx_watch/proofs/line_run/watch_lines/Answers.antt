@@ -1,4 +1,4 @@
-use Rattle.std.proofs.Common.{◌≡◌, ◌⊎◌, ◌++◌, [], append-nil, subst, length}
+use Rattle.std.proofs.Common.{◌≡◌, ◌⊎◌, ◌∙◌, ◌++◌, ℕ, List, [], append-nil, arith, inl, inr, length, subst}
 use Rattle.std.specs.Io.KnownBytes.{IsAtEnd}
 use Rattle.nx_watch.specs.Stamps.{counted_of, stamps_of}
 use Rattle.nx_watch.specs.private.LoggingListener.{TakesLines, logging_to}
@@ -9,6 +9,12 @@ use Rattle.nx_watch.proofs.lemmas.lines.Run.{answers-told, none-taken, run-start
 use Rattle.nx_watch.proofs.lemmas.lines.Told.{by-end}
 use Rattle.nx_watch.proofs.lemmas.log.Stamping.{ends-stamped, running-stamped}
 use Rattle.nx_watch.proofs.line_run.watch_lines.Goals as goal
+
+-- the limit is the room that there was
+at-limit : (End : Type 0) (bytes : List ℕ) (room limit : ℕ) → End ⊎ (length bytes ≡ room)
+    → room ≡ limit → End ⊎ (length bytes ≡ limit)
+at-limit End bytes room limit (inl end) is = inl end
+at-limit End bytes room limit (inr all) is = inr (all ∙ is)
 
 pub returns-in-Ok-clause-watched : goal.returns-in-Ok-clause-watched
 returns-in-Ok-clause-watched g c = λ start old force well stood told.
@@ -32,9 +38,9 @@ returns-in-Ok-clause-watched g c = λ start old force well stood told.
     run.lines) (append-nil r.0) (run.tells [])) in (
       r.0,
       r.1,
-      r.2,
+      omega (arith, r.2, c.new.ensures.room),
       (
-        r.5.0,
+        at-limit _ _ _ _ r.5.0 c.new.ensures.room,
         run.lines,
         e.rest,
         e.are,
@@ -63,7 +69,7 @@ returns-in-Err-clause-watched g c = λ start old force well stood told.
     c.args.writer.now stood c.requires.writer) told) in (
       r.0,
       r.1,
-      r.2,
+      omega (arith, r.2, c.new.ensures.room),
       answers-told (record {
         stands = StandsStamped (telling disk g.W.Write.contents g.F.Write.contents old)
             c.args.first r.0 stamps;

@@ -4,17 +4,24 @@ use Rattle.nx_watch.specs.LineRun.{force_behind}
 use Rattle.nx_watch.specs.private.Effects.{IsAnswer, acting_and_set}
 use Rattle.nx_watch.specs.private.LoggingListener.{TakesLines, logging_to}
 use Rattle.nx_watch.proofs.lemmas.lines.Acting.{acts-taken, idle-refused}
-use Rattle.nx_watch.proofs.lemmas.lines.Run.{acting-one, answer-behind, kind-is}
+use Rattle.nx_watch.proofs.lemmas.lines.AnyLines.{said-good, said-kind, said-line}
+use Rattle.nx_watch.proofs.lemmas.lines.Run.{acting-one, answer-behind}
 use Rattle.nx_watch.proofs.line_run.LineRun.give_line.Goals as goal
+
+pub take-answer-requires-clause-line : goal.take-answer-requires-clause-line
+take-answer-requires-clause-line g c =
+    said-good c.args.self.now.lines.scanner.scanner.latest c.args.kind c.elements.result.now
+    c.requires.line c.elements.ensures
 
 pub returns-clause-taken : goal.returns-clause-taken
 returns-clause-taken g c = λ start first lines line force is kept stood.
-    let kind = kind-is c.args.self.now.scanner.scanner.latest c.latest.result line c.in-Some.kind
-    c.latest.ensures c.in-Some.is is in
+    let latest = c.args.self.now.lines.scanner.scanner.latest in
+    let kind = said-kind latest c.args.kind line c.requires.line is in
     let answer = c.take-answer.result in
     let set = c.set_start.ensures.set start.logging first lines line stood.0 kind force kept.moments
     stood.1 in
-    let taken = c.take-answer.ensures.taken start (acting_and_set first lines line) line is
+    let taken = c.take-answer.ensures.taken start (acting_and_set first lines line) line
+    (said-line latest c.args.kind c.elements.result.now line c.requires.line c.elements.ensures is)
     (stood.0, set.1, stood.2) in
     let is_answer = answer-behind first lines line answer
     (subst (λ m. IsAnswer (force_behind m (acting_and_set first lines line)) line answer) force

@@ -1,120 +1,313 @@
-use Rattle.std.proofs.Common.{◌≡◌, false, ◌≤◌, ◌∙◌, ◌++◌, [], ℕ, List, Option, inl, inr, length, length-append, length-drop}
-use Rattle.std.proofs.Common.{ap, sym, take, drop, rules, subst, arith, append-nil}
+use Rattle.std.proofs.Common.{◌≡◌, false, ◌+◌, ◌≤◌, ◌∙◌, ◌++◌, ◌∷◌, [], ℕ, List, inl, inr, length}
+use Rattle.std.proofs.Common.{length-append, ap, sym, take, subst, arith, append-nil, refl}
 use Rattle.std.specs.List.{All}
-use Rattle.std.proofs.KnownBytes.{Consumes-kept, Consumes-nil, Consumes-trans}
-use Rattle.std.proofs.lemmas.List.{length-take-le, take-append-le}
+use Rattle.std.proofs.KnownBytes.{Consumes-kept, Consumes-trans}
 use Rattle.std.specs.Io.KnownBytes.{Consumes}
 use Rattle.nx_receiver.specs.Listener.{Listening, starts_of}
-use Rattle.nx_watch.specs.LineRun.{Standing}
 use Rattle.nx_watch.specs.Stamp.{stamp}
 use Rattle.nx_watch.specs.Stamps.{bytes_given, counted_of, stamps_of}
+use Rattle.nx_watch.specs.private.AnyReading.{GoesOn}
 use Rattle.nx_watch.specs.private.LoggingListener.{LoggingTo, TakesLines, logging_to}
-use Rattle.nx_watch.specs.private.Running.{EndsRun, IsRunning, TellsFirst, ToldBefore, ToldBeside, beside}
-use Rattle.nx_watch.specs.private.Stamping.{WasRunning, telling}
+use Rattle.nx_watch.specs.private.Running.{EndsRun, IsBeside, IsRunning, TellsFirst, ToldBefore, ToldBeside, beside}
+use Rattle.nx_watch.specs.private.Stamping.{RunsStamped, WasRunning, telling}
 use Rattle.nx_watch.specs.declared.line_run.LineRun.{LineRun}
 use Rattle.nx_watch.specs.declared.line_run.WatchEnd.TheVariants.{Read}
-use Rattle.nx_watch.proofs.lemmas.lines.Scanning.{Parts-lines, parts}
-use Rattle.nx_watch.proofs.lemmas.lines.Told.{not-beside}
 use Rattle.nx_watch.specs.declared.lines.line_effects.StartMoments.{StartMoments}
-use Rattle.nx_watch.proofs.lemmas.log.Stamping.{later-bytes, none-stamped, says-too, stamp-now, stamped-now}
+use Rattle.nx_watch.specs.declared.stamped.StampedReader.{StampedReader}
+use Rattle.nx_watch.proofs.lemmas.lines.AnyLines.{looked-all, looked-length, looked-on, running-fails}
+use Rattle.nx_watch.proofs.lemmas.lines.AnyLines.{running-read}
+use Rattle.nx_watch.proofs.lemmas.lines.Run.{answers-told, running-told}
+use Rattle.nx_watch.proofs.lemmas.lines.Told.{told-beside}
+use Rattle.nx_watch.proofs.lemmas.log.Stamping.{later-bytes, says-too, stamp-now, stamped-now}
 use Rattle.nx_watch.proofs.line_run.LineRun.read_lines.Goals as goal
-use Rattle.nx_watch.proofs.line_run.LineRun.read_lines.Goals.{After-next_piece}
+use Rattle.nx_watch.proofs.line_run.LineRun.read_lines.Goals.{After-read}
+
+-- the lines of the piece were taken, and what there was to tell was told
+settled : (g : _) → (c : After-read g)
+    → (start : LoggingTo g.row.D.Denot g.row.W.Denot) (first : StartMoments) (old : ToldBefore)
+    → (starts_of start.logging.listener).moment ≡ first.newest
+    → c.args.logging.now.keeper.has_failed ≡ false
+    → IsRunning (TakesLines g.D.DiskFile g.W.Write.contents) start
+    (logging_to c.args.logging.now c.args.writer.now) first c.args.self.now (beside old)
+    (g.F.Write.contents c.args.notices.now.inner) c.args.notices.now.failures []
+    → (bytes : List ℕ)
+    × Consumes (g.R.Read.remaining (counted_of c.args.reader.now).inner)
+    (g.R.Read.remaining (counted_of c.loop-has_failed.reader).inner) bytes
+    × (length bytes + c.take_next.new.self.lines.room ≡ c.args.self.now.lines.room)
+    × (told : ToldBeside) × IsBeside old c.take_next.new.logging.keeper.has_failed told
+    × RunsStamped (telling g.D.DiskFile g.W.Write.contents g.F.Write.contents old) first bytes
+    c.take_next.new.self.effects.lines start
+    (λ since. IsRunning (TakesLines g.D.DiskFile g.W.Write.contents) since
+    (logging_to c.take_next.new.logging c.take_next.new.writer) first c.take_next.new.self told
+    (g.F.Write.contents c.tell_failed_put.new.notices.inner)
+    c.tell_failed_put.new.notices.failures bytes) (stamps_of c.loop-has_failed.reader)
+settled g c start first old force well h =
+    let disk = g.D.DiskFile in
+    let contents = g.W.Write.contents in
+    let told = g.F.Write.contents in
+    let stands = TakesLines disk contents in
+    let inv = c.loop-has_failed.invariant in
+    let r = inv.read start first old force well h in
+    let t = c.in-Ok-false.ensures.taken in
+    let piece = c.loop-has_failed.self.lines.piece in
+    let run = c.take_next.new.self in
+    let rest = run.lines.piece in
+    let none : rest ≡ [] =
+    subst (GoesOn piece rest) c.in-Ok-false.field-0-test c.in-Ok-false.ensures.on in
+    let before = logging_to c.loop-has_failed.logging c.loop-has_failed.writer in
+    let now = logging_to c.take_next.new.logging c.take_next.new.writer in
+    let mid = c.take_next.new.notices in
+    let after = c.tell_failed_put.new.notices in
+    let b = told-beside told mid after run.effects old r.3 c.loop-has_failed.had_failed
+    c.take_next.new.logging.keeper.has_failed r.4
+    (λ k. c.take_next.ensures.failed (inv.failed k)) c.tell_failed_put.ensures in
+    let bytes = r.0 ++ take t.0 piece in
+    let step = λ (since : LoggingTo g.row.D.Denot g.row.W.Denot)
+    (same : (starts_of since.logging.listener).moment ≡ first.newest)
+    (k : IsRunning stands since before first c.loop-has_failed.self r.3
+    (told c.loop-has_failed.notices.inner) c.loop-has_failed.notices.failures r.0).
+    running-told stands since now first run r.3 b.0 (told mid.inner) mid.failures
+    (told after.inner) after.failures bytes (λ bs lines x. b.2 first bs lines x) tt
+    (t.3 since first r.3 r.0 same k) in (
+      bytes,
+      looked-all _ _ bytes rest none
+          (subst (Consumes _ _) (looked-on r.0 piece rest t.0 t.2) r.1),
+      omega (
+        arith,
+        r.2,
+        looked-length r.0 piece rest t.0 t.2,
+        ap (λ (l : List ℕ). length l) none,
+        c.take_next.ensures.unread,
+      ),
+      b.0,
+      b.1,
+      record {
+        from_start = step start force r.5.from_start;
+        from_reads = later-bytes disk contents told old first start r.0 (take t.0 piece)
+            (λ lines. length lines ≤ c.loop-has_failed.self.effects.lines)
+            (λ lines. length lines ≤ run.effects.lines)
+            (λ since. IsRunning stands since before first c.loop-has_failed.self r.3
+            (told c.loop-has_failed.notices.inner) c.loop-has_failed.notices.failures r.0)
+            (λ since. IsRunning stands since now first run b.0 (told after.inner) after.failures
+            bytes)
+            (λ lines few. omega (arith, few, c.take_next.ensures.grows))
+            (λ since is k. step since
+            (ap (λ (l : Listening). (starts_of l).moment) is ∙ force) k)
+            (stamps_of c.loop-has_failed.reader) r.5.from_reads;
+      },
+    )
 
 -- all that stood at the reads, and at the one that is made now
-stamped : (g : _) → (c : After-next_piece g)
-    → (start : LoggingTo g.row.D.Denot g.row.W.Denot) (first : StartMoments)
-    (old : ToldBefore) (force : (starts_of start.logging.listener).moment ≡ first.newest)
-    (well : c.args.logging.now.keeper.has_failed ≡ false)
+stamped : (g : _) → (c : After-read g)
+    → (start : LoggingTo g.row.D.Denot g.row.W.Denot) (first : StartMoments) (old : ToldBefore)
+    → (force : (starts_of start.logging.listener).moment ≡ first.newest)
+    → (well : c.args.logging.now.keeper.has_failed ≡ false)
     → (h : IsRunning (TakesLines g.D.DiskFile g.W.Write.contents) start
     (logging_to c.args.logging.now c.args.writer.now) first c.args.self.now (beside old)
     (g.F.Write.contents c.args.notices.now.inner) c.args.notices.now.failures [])
+    → stamps_of c.read.new.reader ≡ stamp (bytes_given c.loop-has_failed.reader)
+    c.take_next.new.logging.keeper.log.device c.take_next.new.writer c.tell_failed_put.new.notices
+    ∷ stamps_of c.loop-has_failed.reader
     → All (WasRunning (telling g.D.DiskFile g.W.Write.contents g.F.Write.contents old) start first
-    (c.loop-room.invariant.read start first old force well h).0
-    (λ lines. length lines ≤ c.loop-room.self.effects.lines)
+    (settled g c start first old force well h).0
+    (λ lines. length lines ≤ c.take_next.new.self.effects.lines)
     (λ since. IsRunning (TakesLines g.D.DiskFile g.W.Write.contents) since
-    (logging_to c.loop-room.logging c.loop-room.writer) first c.loop-room.self
-    (c.loop-room.invariant.read start first old force well h).3
-    (g.F.Write.contents c.loop-room.notices.inner) c.loop-room.notices.failures
-    (c.loop-room.invariant.read start first old force well h).0))
-    (stamps_of c.next_piece.new.self)
-stamped g c start first old force well h =
-    let inv = c.loop-room.invariant in
-    let r = inv.read start first old force well h in
-    let at = bytes_given c.loop-room.reader in
-    let device = c.loop-room.logging.keeper.log.device in
-    stamped-now g.D.DiskFile g.W.Write.contents g.F.Write.contents old first start r.0
-    (λ lines. length lines ≤ c.loop-room.self.effects.lines)
-    (λ since. IsRunning (TakesLines g.D.DiskFile g.W.Write.contents) since
-    (logging_to c.loop-room.logging c.loop-room.writer) first c.loop-room.self r.3
-    (g.F.Write.contents c.loop-room.notices.inner) c.loop-room.notices.failures r.0)
-    (stamp at device c.loop-room.writer c.loop-room.notices) (stamps_of c.loop-room.reader)
-    (stamps_of c.next_piece.new.self) c.next_piece.ensures.stamped
-    (stamp-now g.D.DiskFile g.W.Write.contents g.F.Write.contents old first start
-    c.loop-room.logging c.loop-room.writer c.loop-room.notices c.loop-room.self r.3 r.0
-    at r.4 (omega (arith, inv.given, r.2)) inv.writer
-    (λ content file left. g.met.D.DiskFile.only_now content _ file left) r.5.from_start)
-    r.5.from_reads
+    (logging_to c.take_next.new.logging c.take_next.new.writer) first c.take_next.new.self
+    (settled g c start first old force well h).3
+    (g.F.Write.contents c.tell_failed_put.new.notices.inner)
+    c.tell_failed_put.new.notices.failures (settled g c start first old force well h).0))
+    (stamps_of c.read.new.reader)
+stamped g c start first old force well h made =
+    let disk = g.D.DiskFile in
+    let contents = g.W.Write.contents in
+    let told = g.F.Write.contents in
+    let inv = c.loop-has_failed.invariant in
+    let s = settled g c start first old force well h in
+    let run = c.take_next.new.self in
+    let after = c.tell_failed_put.new.notices in
+    let at = bytes_given c.loop-has_failed.reader in
+    stamped-now disk contents told old first start s.0
+    (λ lines. length lines ≤ run.effects.lines)
+    (λ since. IsRunning (TakesLines disk contents) since
+    (logging_to c.take_next.new.logging c.take_next.new.writer) first run s.3 (told after.inner)
+    after.failures s.0)
+    (stamp at c.take_next.new.logging.keeper.log.device c.take_next.new.writer after)
+    (stamps_of c.loop-has_failed.reader) (stamps_of c.read.new.reader) made
+    (stamp-now disk contents told old first start c.take_next.new.logging c.take_next.new.writer
+    after run s.3 s.0 at s.4 (omega (arith, inv.given, s.2, c.take_next.ensures.unread))
+    c.in-Ok-false.ensures.open (λ content file left. g.met.D.DiskFile.only_now content _ file left)
+    s.5.from_start) s.5.from_reads
 
--- a read failed behind all of these lines
-fails : {T : Type 0} (stands : Standing T) (start now : T) (first : StartMoments) (run : LineRun)
-    (old : ToldBeside) (new : Option (List ℕ)) (failures : ℕ) (bytes : List ℕ)
-    → IsRunning stands start now first run old new failures bytes
-    → EndsRun stands start now first run.effects old new failures Read bytes
-fails stands start now first run old new failures bytes h = (
-  h.lines,
-  _,
-  Parts-lines run.scanner bytes h.lines _ (parts run.scanner bytes h.lines h.scans),
-  h.taken,
-  subst (λ b. TellsFirst first run.effects old new failures b h.lines) (append-nil bytes)
-      (h.tells []),
-)
-
-pub loop-room-init : goal.loop-room-init
-loop-room-init g c = record {
-  writer = c.requires.writer;
-  reader = c.requires.reader.well;
-  given = omega (arith, c.requires.reader.none_given);
-  chunk = search rules;
-  bound = omega arith;
-  room = omega (arith, c.requires.room, c.requires.limit);
-  within = omega (arith, c.requires.room);
-  few = omega (arith, c.requires.lines);
-  fewer = omega (arith, c.requires.lines, c.requires.fewer);
-  read = λ start first old force well h. (
-    [],
-    Consumes-nil _,
-    omega arith,
-    beside old,
-    not-beside old c.args.logging.now.keeper.has_failed well,
+pub loop-has_failed-preserved-in-Ok-true : goal.loop-has_failed-preserved-in-Ok-true
+loop-has_failed-preserved-in-Ok-true g c =
+    let disk = g.D.DiskFile in
+    let contents = g.W.Write.contents in
+    let told = g.F.Write.contents in
+    let stands = TakesLines disk contents in
+    let inv = c.loop-has_failed.invariant in
+    let was = c.loop-has_failed in
+    let piece = was.self.lines.piece in
+    let run = c.take_next.new.self in
+    let t = c.in-Ok-true.ensures.taken in
+    let same_room = c.take_next.ensures.unread in
     record {
-      from_start = h;
-      from_reads = none-stamped g.D.DiskFile g.W.Write.contents g.F.Write.contents old first start
-          [] (λ lines. length lines ≤ c.args.self.now.effects.lines)
-          (λ since. IsRunning (TakesLines g.D.DiskFile g.W.Write.contents) since
-          (logging_to c.args.logging.now c.args.writer.now) first c.args.self.now (beside old)
-          (g.F.Write.contents c.args.notices.now.inner) c.args.notices.now.failures [])
-          (stamps_of c.args.reader.now) c.requires.reader.none_made;
-    },
-  );
-}
+      writer = c.in-Ok-true.ensures.open;
+      reader = inv.reader;
+      given = omega (arith, inv.given, same_room);
+      room = omega (arith, inv.room, c.in-Ok-true.ensures.room, same_room);
+      within = c.in-Ok-true.ensures.within;
+      few = omega (arith, inv.few, c.in-Ok-true.ensures.few, same_room);
+      fewer = c.in-Ok-true.ensures.fewer;
+      failed = λ h. c.take_next.ensures.failed (inv.failed h);
+      read = λ start first old force well h.
+          let r = inv.read start first old force well h in (
+            r.0 ++ take t.0 piece,
+            subst (Consumes _ _) (looked-on r.0 piece run.lines.piece t.0 t.2) r.1,
+            omega (
+              arith,
+              r.2,
+              looked-length r.0 piece run.lines.piece t.0 t.2,
+              same_room,
+            ),
+            r.3,
+            r.4,
+            record {
+              from_start = t.3 start first r.3 r.0 force r.5.from_start;
+              from_reads = later-bytes disk contents told old first start r.0 (take t.0 piece)
+                  (λ lines. length lines ≤ was.self.effects.lines)
+                  (λ lines. length lines ≤ run.effects.lines)
+                  (λ since. IsRunning stands since (logging_to was.logging was.writer) first was.self
+                  r.3 (told was.notices.inner) was.notices.failures r.0)
+                  (λ since. IsRunning stands since
+                  (logging_to c.take_next.new.logging c.take_next.new.writer) first run r.3
+                  (told c.take_next.new.notices.inner) c.take_next.new.notices.failures
+                  (r.0 ++ take t.0 piece))
+                  (λ lines few. omega (arith, few, c.take_next.ensures.grows))
+                  (λ since is k. t.3 since first r.3 r.0
+                  (ap (λ (l : Listening). (starts_of l).moment) is ∙ force) k)
+                  (stamps_of was.reader) r.5.from_reads;
+            },
+          );
+    }
+
+pub loop-has_failed-preserved : goal.loop-has_failed-preserved
+loop-has_failed-preserved g c =
+    let disk = g.D.DiskFile in
+    let contents = g.W.Write.contents in
+    let told = g.F.Write.contents in
+    let stands = TakesLines disk contents in
+    let inv = c.loop-has_failed.invariant in
+    let run = c.take_next.new.self in
+    let new : LineRun = record { lines = c.read.new.self; effects = run.effects } in
+    let now = logging_to c.take_next.new.logging c.take_next.new.writer in
+    let after = c.tell_failed_put.new.notices in
+    let w = c.in-Bytes.ensures.read in
+    let same_room = c.take_next.ensures.unread in
+    let same = c.read.ensures.scanner in
+    let scanner_room = ap (λ s. s.scanner.room) same in
+    let at = (goal.at.loop-has_failed-preserved g c).After-read in
+    record {
+      writer = c.in-Ok-false.ensures.open;
+      reader = w.well;
+      given = omega (arith, inv.given, w.given, w.room, same_room, c.requires.limit);
+      room = omega (arith, inv.room, w.room, c.in-Ok-false.ensures.room, same_room, scanner_room);
+      within = omega (arith, c.in-Ok-false.ensures.within, scanner_room);
+      few = omega (arith, inv.few, c.in-Ok-false.ensures.few, w.room, same_room);
+      fewer = c.in-Ok-false.ensures.fewer;
+      failed = λ h. h;
+      read = λ start first old force well h.
+          let s = settled g at start first old force well h in (
+            s.0,
+            Consumes-trans _ _ _ _ _ s.1 w.consumed,
+            omega (arith, s.2, w.room),
+            s.3,
+            s.4,
+            record {
+              from_start = running-read stands start now first run new s.3 (told after.inner)
+                  after.failures s.0 same refl s.5.from_start;
+              from_reads = says-too disk contents told old first start s.0
+                  (λ lines. length lines ≤ run.effects.lines)
+                  (λ lines. length lines ≤ run.effects.lines)
+                  (λ since. IsRunning stands since now first run s.3 (told after.inner)
+                  after.failures s.0)
+                  (λ since. IsRunning stands since now first new s.3 (told after.inner)
+                  after.failures s.0) (λ stamp was. was.behind)
+                  (λ since is k. running-read stands since now first run new s.3 (told after.inner)
+                  after.failures s.0 same refl k) (stamps_of c.read.new.reader)
+                  (stamped g at start first old force well h w.stamped);
+            },
+          );
+    }
 
 pub returns-in-End-clause-read : goal.returns-in-End-clause-read
 returns-in-End-clause-read g c = λ start first old force well h.
-    let r = c.loop-room.invariant.read start first old force well h in (
-      r.0,
-      Consumes-kept _ _ _ r.0 r.1 c.in-End.ensures.piece.0,
-      omega (arith, r.2),
-      r.3,
-      r.4,
-      (
-        inl c.in-End.ensures.piece.1,
-        record {
-          from_start = r.5.from_start;
-          from_reads = stamped g (goal.at.returns-in-End-clause-read g c).After-next_piece start
-              first old force well h;
-        },
-      ),
-    )
+    let disk = g.D.DiskFile in
+    let contents = g.W.Write.contents in
+    let told = g.F.Write.contents in
+    let stands = TakesLines disk contents in
+    let run = c.take_next.new.self in
+    let new : LineRun = record { lines = c.read.new.self; effects = run.effects } in
+    let now = logging_to c.take_next.new.logging c.take_next.new.writer in
+    let after = c.tell_failed_put.new.notices in
+    let same = c.read.ensures.scanner in
+    let at = (goal.at.returns-in-End-clause-read g c).After-read in
+    let s = settled g at start first old force well h in
+    let on = λ (since : LoggingTo g.row.D.Denot g.row.W.Denot)
+    (k : IsRunning stands since now first run s.3 (told after.inner) after.failures s.0).
+    running-read stands since now first run new s.3 (told after.inner) after.failures s.0 same refl
+    k in
+    elim c.in-End.ensures.read [
+      | inl e ↦ (
+        s.0,
+        subst (λ (r : StampedReader _ _ _ _). Consumes
+            (g.R.Read.remaining (counted_of c.args.reader.now).inner)
+            (g.R.Read.remaining (counted_of r).inner) s.0) (sym e.1) s.1,
+        omega (arith, s.2),
+        s.3,
+        s.4,
+        (
+          inr (omega (arith, s.2, e.0)),
+          record {
+            from_start = on start s.5.from_start;
+            from_reads = says-too disk contents told old first start s.0
+                (λ lines. length lines ≤ run.effects.lines)
+                (λ lines. length lines ≤ run.effects.lines)
+                (λ since. IsRunning stands since now first run s.3 (told after.inner)
+                after.failures s.0)
+                (λ since. IsRunning stands since now first new s.3 (told after.inner)
+                after.failures s.0) (λ stamp was. was.behind) (λ since is k. on since k)
+                (stamps_of c.read.new.reader)
+                (subst (λ (r : StampedReader _ _ _ _). All
+                (WasRunning (telling disk contents told old) start first s.0
+                (λ lines. length lines ≤ run.effects.lines)
+                (λ since. IsRunning stands since now first run s.3 (told after.inner)
+                after.failures s.0)) (stamps_of r)) (sym e.1) s.5.from_reads);
+          },
+        ),
+      )
+      | inr e ↦ (
+        s.0,
+        Consumes-kept _ _ _ s.0 s.1 e.keeps,
+        omega (arith, s.2),
+        s.3,
+        s.4,
+        (
+          inl e.at_end,
+          record {
+            from_start = on start s.5.from_start;
+            from_reads = says-too disk contents told old first start s.0
+                (λ lines. length lines ≤ run.effects.lines)
+                (λ lines. length lines ≤ run.effects.lines)
+                (λ since. IsRunning stands since now first run s.3 (told after.inner)
+                after.failures s.0)
+                (λ since. IsRunning stands since now first new s.3 (told after.inner)
+                after.failures s.0) (λ stamp was. was.behind) (λ since is k. on since k)
+                (stamps_of c.read.new.reader)
+                (stamped g at start first old force well h e.stamped);
+          },
+        ),
+      )
+    ]
 
 pub returns-in-Failed-clause-read : goal.returns-in-Failed-clause-read
 returns-in-Failed-clause-read g c = λ start first old force well h.
@@ -122,29 +315,30 @@ returns-in-Failed-clause-read g c = λ start first old force well h.
     let contents = g.W.Write.contents in
     let told = g.F.Write.contents in
     let stands = TakesLines disk contents in
-    let now = logging_to c.loop-room.logging c.loop-room.writer in
-    let notices = c.loop-room.notices in
-    let self = c.loop-room.self in
-    let r = c.loop-room.invariant.read start first old force well h in (
-      r.0,
-      Consumes-kept _ _ _ r.0 r.1 c.in-Failed.ensures.piece.0,
-      omega (arith, r.2),
-      r.3,
-      r.4,
+    let run = c.take_next.new.self in
+    let now = logging_to c.take_next.new.logging c.take_next.new.writer in
+    let after = c.tell_failed_put.new.notices in
+    let at = (goal.at.returns-in-Failed-clause-read g c).After-read in
+    let s = settled g at start first old force well h in
+    let e = c.in-Failed.ensures.read in (
+      s.0,
+      Consumes-kept _ _ _ s.0 s.1 e.keeps,
+      omega (arith, s.2),
+      s.3,
+      s.4,
       record {
-        from_start = fails stands start now first self r.3 (told notices.inner) notices.failures r.0
-            r.5.from_start;
-        from_reads = says-too disk contents told old first start r.0
-            (λ lines. length lines ≤ self.effects.lines)
-            (λ lines. length lines ≤ self.effects.lines)
-            (λ since. IsRunning stands since now first self r.3 (told notices.inner)
-            notices.failures r.0)
-            (λ since. EndsRun stands since now first self.effects r.3 (told notices.inner)
-            notices.failures Read r.0) (λ at w. w.behind)
-            (λ since is k. fails stands since now first self r.3 (told notices.inner)
-            notices.failures r.0 k) (stamps_of c.next_piece.new.self)
-            (stamped g (goal.at.returns-in-Failed-clause-read g c).After-next_piece start first old
-            force well h);
+        from_start = running-fails stands start now first run s.3 (told after.inner) after.failures
+            s.0 s.5.from_start;
+        from_reads = says-too disk contents told old first start s.0
+            (λ lines. length lines ≤ run.effects.lines)
+            (λ lines. length lines ≤ run.effects.lines)
+            (λ since. IsRunning stands since now first run s.3 (told after.inner) after.failures
+            s.0)
+            (λ since. EndsRun stands since now first run.effects s.3 (told after.inner)
+            after.failures Read s.0) (λ stamp was. was.behind)
+            (λ since is k. running-fails stands since now first run s.3 (told after.inner)
+            after.failures s.0 k) (stamps_of c.read.new.reader)
+            (stamped g at start first old force well h e.stamped);
       },
     )
 
@@ -153,144 +347,54 @@ returns-in-Err-clause-read g c = λ start first old force well h.
     let disk = g.D.DiskFile in
     let contents = g.W.Write.contents in
     let told = g.F.Write.contents in
-    let r = c.loop-room.invariant.read start first old force well h in
-    let b = c.next_piece.new.buffer in
-    let most = c.min-most.result in
-    let count = c.in-Bytes.count in
-    let behind = drop most c.loop-room.buffer in
-    let fits : length b ≡ most = c.next_piece.auto.buffer
-    ∙ length-take-le most c.loop-room.buffer
-    (omega (arith, c.min-most.ensures, c.loop-room.invariant.chunk)) in
-    let piece = take count (b ++ behind) in
-    let front : piece ≡ take count b = take-append-le count b behind c.in-Bytes.ensures.piece.1 in
-    let size : length piece ≡ count =
-    ap length front ∙ length-take-le count b c.in-Bytes.ensures.piece.1 in
-    let read = subst (Consumes (g.R.Read.remaining (counted_of c.loop-room.reader).inner)
-    (g.R.Read.remaining (counted_of c.next_piece.new.self).inner)) (sym front)
-    c.in-Bytes.ensures.piece.2 in
-    let t = c.in-Err.ensures.taken old r.3 r.4 in
-    let ends = λ (since : LoggingTo g.row.D.Denot g.row.W.Denot)
+    let stands = TakesLines disk contents in
+    let inv = c.loop-has_failed.invariant in
+    let was = c.loop-has_failed in
+    let r = inv.read start first old force well h in
+    let t = c.in-Err.ensures.taken in
+    let piece = was.self.lines.piece in
+    let bytes = r.0 ++ piece in
+    let run = c.take_next.new.self in
+    let before = logging_to was.logging was.writer in
+    let now = logging_to c.take_next.new.logging c.take_next.new.writer in
+    let mid = c.take_next.new.notices in
+    let after = c.tell_failed_put-in-Err.new.notices in
+    let b = told-beside told mid after run.effects old r.3 was.had_failed
+    c.take_next.new.logging.keeper.has_failed r.4
+    (λ k. c.take_next.ensures.failed (inv.failed k)) c.tell_failed_put-in-Err.ensures in
+    let step = λ (since : LoggingTo g.row.D.Denot g.row.W.Denot)
     (same : (starts_of since.logging.listener).moment ≡ first.newest)
-    (k : IsRunning (TakesLines disk contents) since
-    (logging_to c.loop-room.logging c.loop-room.writer) first c.loop-room.self r.3
-    (told c.loop-room.notices.inner) c.loop-room.notices.failures r.0).
-    subst (λ l. EndsRun (TakesLines disk contents) since
-    (logging_to c.take_piece.new.logging c.take_piece.new.writer) first
-    c.take_piece.new.self.effects t.0
-    (told c.take_piece.new.notices.inner) c.take_piece.new.notices.failures
-    c.in-Err.end l) (append-nil (r.0 ++ piece))
-    (t.2 since first r.0 same k []) in (
-      r.0 ++ piece,
-      Consumes-trans _ _ _ _ _ r.1 read,
-      omega (
-        arith,
-        r.2,
-        length-append r.0 piece,
-        size,
-        c.in-Bytes.ensures.piece.1,
-        fits,
-        c.min-most.ensures,
-      ),
-      t.0,
-      t.1,
-      record {
-        from_start = ends start force r.5.from_start;
-        from_reads = later-bytes disk contents told old first start r.0 piece
-            (λ lines. length lines ≤ c.loop-room.self.effects.lines)
-            (λ lines. length lines ≤ c.take_piece.new.self.effects.lines)
-            (λ since. IsRunning (TakesLines disk contents) since
-            (logging_to c.loop-room.logging c.loop-room.writer) first c.loop-room.self r.3
-            (told c.loop-room.notices.inner) c.loop-room.notices.failures r.0)
-            (λ since. EndsRun (TakesLines disk contents) since
-            (logging_to c.take_piece.new.logging c.take_piece.new.writer) first
-            c.take_piece.new.self.effects t.0
-            (told c.take_piece.new.notices.inner) c.take_piece.new.notices.failures
-            c.in-Err.end (r.0 ++ piece))
-            (λ lines few. omega (arith, few, c.take_piece.ensures.grows))
-            (λ since is k. ends since
-            (ap (λ (l : Listening). (starts_of l).moment) is ∙ force) k)
-            (stamps_of c.next_piece.new.self)
-            (stamped g (goal.at.returns-in-Err-clause-read g c).After-next_piece start first old
-            force well h);
-      },
-    )
-
-pub loop-room-preserved : goal.loop-room-preserved
-loop-room-preserved g c =
-    let disk = g.D.DiskFile in
-    let contents = g.W.Write.contents in
-    let told = g.F.Write.contents in
-    let inv = c.loop-room.invariant in
-    let b = c.next_piece.new.buffer in
-    let most = c.min-most.result in
-    let count = c.in-Bytes.count in
-    let behind = drop most c.loop-room.buffer in
-    let fits : length b ≡ most = c.next_piece.auto.buffer
-    ∙ length-take-le most c.loop-room.buffer (omega (arith, c.min-most.ensures, inv.chunk)) in
-    let piece = take count (b ++ behind) in
-    let front : piece ≡ take count b = take-append-le count b behind c.in-Bytes.ensures.piece.1 in
-    let size : length piece ≡ count =
-    ap length front ∙ length-take-le count b c.in-Bytes.ensures.piece.1 in
-    let read' = subst (Consumes (g.R.Read.remaining (counted_of c.loop-room.reader).inner)
-    (g.R.Read.remaining (counted_of c.next_piece.new.self).inner)) (sym front)
-    c.in-Bytes.ensures.piece.2 in
-    let low : count ≤ c.loop-room.room =
-    omega (arith, c.in-Bytes.ensures.piece.1, fits, c.min-most.ensures) in
-    record {
-      reader = c.in-Bytes.ensures.piece.3;
-      writer = c.in_default.ensures.open;
-      given = omega (arith, inv.given, low, c.in-Bytes.ensures.given, c.requires.limit);
-      chunk = omega (
-        arith,
-        length-append b behind,
-        length-drop most c.loop-room.buffer,
-        fits,
-        inv.chunk,
-        c.min-most.ensures,
-      );
-      bound = omega (arith, inv.bound);
-      room = omega (arith, inv.room, size, low, c.in_default.ensures.room);
-      within = c.in_default.ensures.within;
-      few = omega (arith, inv.few, size, low, c.in_default.ensures.few);
-      fewer = c.in_default.ensures.fewer;
-      read = λ start first old force well h.
-          let r = inv.read start first old force well h in
-          let t = c.in_default.ensures.taken old r.3 r.4 in (
-            r.0 ++ piece,
-            Consumes-trans _ _ _ _ _ r.1 read',
-            omega (arith, r.2, size, low, length-append r.0 piece),
-            t.0,
-            t.1,
-            record {
-              from_start = t.2 start first r.0 force r.5.from_start;
-              from_reads = later-bytes disk contents told old first start r.0 piece
-                  (λ lines. length lines ≤ c.loop-room.self.effects.lines)
-                  (λ lines. length lines ≤ c.take_piece.new.self.effects.lines)
-                  (λ since. IsRunning (TakesLines disk contents) since
-                  (logging_to c.loop-room.logging c.loop-room.writer) first c.loop-room.self r.3
-                  (told c.loop-room.notices.inner) c.loop-room.notices.failures r.0)
-                  (λ since. IsRunning (TakesLines disk contents) since
-                  (logging_to c.take_piece.new.logging c.take_piece.new.writer) first
-                  c.take_piece.new.self t.0
-                  (told c.take_piece.new.notices.inner) c.take_piece.new.notices.failures
-                  (r.0 ++ piece))
-                  (λ lines few. omega (arith, few, c.take_piece.ensures.grows))
-                  (λ since is k. t.2 since first r.0
-                  (ap (λ (l : Listening). (starts_of l).moment) is ∙ force) k)
-                  (stamps_of c.next_piece.new.self)
-                  (stamped g (goal.at.loop-room-preserved g c).After-next_piece start first old
-                  force well h);
-            },
-          );
-    }
-
-pub returns-clause-read : goal.returns-clause-read
-returns-clause-read g c = λ start first old force well h.
-    let r = c.loop-room.invariant.read start first old force well h in (
-      r.0,
+    (k : IsRunning stands since before first was.self r.3 (told was.notices.inner)
+    was.notices.failures r.0).
+    subst (λ l. EndsRun stands since now first run.effects b.0 (told after.inner) after.failures
+    c.in-Err.end l) (append-nil bytes)
+    (answers-told (record {
+      stands = stands;
+      start = since;
+      now = now;
+      first = first;
+      AtEnd = ⊥;
+      tells = TellsFirst first run.effects r.3 (told mid.inner) mid.failures (bytes ++ []);
+    }) ⊥ (TellsFirst first run.effects b.0 (told after.inner) after.failures (bytes ++ []))
+    c.in-Err.end (bytes ++ []) (λ lines x. b.2 first (bytes ++ []) lines x)
+    (t.3 since first r.3 r.0 same k [])) in (
+      bytes,
       r.1,
-      omega (arith, r.2),
-      r.3,
-      r.4,
-      (inr (omega (arith, r.2, c.loop-room-test.false)), r.5),
+      omega (arith, r.2, length-append r.0 piece),
+      b.0,
+      b.1,
+      record {
+        from_start = step start force r.5.from_start;
+        from_reads = later-bytes disk contents told old first start r.0 piece
+            (λ lines. length lines ≤ was.self.effects.lines)
+            (λ lines. length lines ≤ run.effects.lines)
+            (λ since. IsRunning stands since before first was.self r.3 (told was.notices.inner)
+            was.notices.failures r.0)
+            (λ since. EndsRun stands since now first run.effects b.0 (told after.inner)
+            after.failures c.in-Err.end bytes)
+            (λ lines few. omega (arith, few, c.take_next.ensures.grows))
+            (λ since is k. step since
+            (ap (λ (l : Listening). (starts_of l).moment) is ∙ force) k)
+            (stamps_of was.reader) r.5.from_reads;
+      },
     )

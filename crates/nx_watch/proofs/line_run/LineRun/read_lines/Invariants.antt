@@ -1,4 +1,4 @@
-use Rattle.std.proofs.Common.{◌≡◌, false, ◌+◌, ◌≤◌, ℕ, List, [], length}
+use Rattle.std.proofs.Common.{◌≡◌, true, false, ◌+◌, ◌*◌, ◌≤◌, ◌++◌, ℕ, List, [], length}
 use Rattle.std.specs.Io.KnownBytes.{Consumes}
 use Rattle.nx_receiver.specs.Listener.{starts_of}
 use Rattle.nx_watch.specs.Acting.{most_bytes}
@@ -9,18 +9,18 @@ use Rattle.nx_watch.specs.private.Running.{IsBeside, IsRunning, ToldBefore, Told
 use Rattle.nx_watch.specs.private.Stamping.{RunsStamped, telling}
 use Rattle.nx_watch.proofs.line_run.LineRun.read_lines.Given as goal
 
--- all whole lines that were read were taken, and so it was at each read
-abbrev pub invariant-loop-room : goal.invariant-loop-room
-invariant-loop-room g l = record {
+-- the lines so far were taken, and so it was at each read
+abbrev pub invariant-loop-has_failed : goal.invariant-loop-has_failed
+invariant-loop-has_failed g l = record {
   writer : l.writer.failures ≡ 0;
   reader : (counted_of l.reader).failures ≡ 0;
-  given : bytes_given l.reader + l.room ≡ l.limit;
-  chunk : length l.buffer ≡ 65536;
-  bound : l.room ≤ l.limit;
-  room : l.room ≤ l.self.scanner.scanner.room;
-  within : l.self.scanner.scanner.room ≤ most_bytes;
-  few : l.self.effects.lines + l.room ≤ l.limit;
+  given : bytes_given l.reader + l.self.lines.room ≡ l.fn.self.lines.room;
+  room : l.self.lines.room + length l.self.lines.piece ≤ l.self.lines.scanner.scanner.room;
+  within : l.self.lines.scanner.scanner.room ≤ most_bytes;
+  few : l.self.effects.lines + (length l.self.lines.piece + l.self.lines.room)
+      ≤ l.fn.self.lines.room;
   fewer : l.self.effects.without_effect ≤ l.self.effects.lines;
+  failed : l.had_failed ≡ true → l.logging.keeper.has_failed ≡ true;
   read : (start : LoggingTo g.row.D.Denot g.row.W.Denot) (first : StartMoments)
       (old : ToldBefore)
       → (starts_of start.logging.listener).moment ≡ first.newest
@@ -30,9 +30,9 @@ invariant-loop-room g l = record {
       (g.F.Write.contents l.fn.notices.inner) l.fn.notices.failures []
       → (bytes : List ℕ)
       × Consumes (g.R.Read.remaining (counted_of l.fn.reader).inner)
-      (g.R.Read.remaining (counted_of l.reader).inner) bytes
-      × (length bytes + l.room ≡ l.limit)
-      × (told : ToldBeside) × IsBeside old l.logging.keeper.has_failed told
+      (g.R.Read.remaining (counted_of l.reader).inner) (bytes ++ l.self.lines.piece)
+      × (length bytes + (length l.self.lines.piece + l.self.lines.room) ≡ l.fn.self.lines.room)
+      × (told : ToldBeside) × IsBeside old l.had_failed told
       × RunsStamped (telling g.D.DiskFile g.W.Write.contents g.F.Write.contents old) first bytes
       l.self.effects.lines start
       (λ since. IsRunning (TakesLines g.D.DiskFile g.W.Write.contents) since
@@ -40,5 +40,5 @@ invariant-loop-room g l = record {
       (g.F.Write.contents l.notices.inner) l.notices.failures bytes) (stamps_of l.reader);
 }
 
-abbrev pub decreases-loop-room : goal.decreases-loop-room
-decreases-loop-room g l = l.room
+abbrev pub decreases-loop-has_failed : goal.decreases-loop-has_failed
+decreases-loop-has_failed g l = 2 * l.self.lines.room + length l.self.lines.piece
