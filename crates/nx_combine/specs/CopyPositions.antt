@@ -1,7 +1,7 @@
 -- The positions of the copies that are found in the bits that a receiver has heard (ITU-R M.625,
 -- mode B, for positions and their two words; what is left out where a lock is lost is this
 -- profile's). `first` is the role of word 0 of a lock, and `words` gives each word's number.
-use Rattle.std.specs.Prelude.{ℕ, zero, suc, ◌+◌, ◌==◌, nat_le, Bool, true, false, ◌&&◌}
+use Rattle.std.specs.Prelude.{ℕ, ◌+◌, nat_le, Bool, false, ◌&&◌}
 use Rattle.std.specs.Prelude.{if◌then◌else◌, List, [], ◌∷◌, ◌++◌, length, take, drop, map, reverse}
 use Rattle.std.specs.Prelude.{slice_get, unwrap_or}
 use Rattle.std.specs.List.{find, range_with_len}
@@ -10,33 +10,15 @@ use Rattle.nx_code.specs.Reading.{Reception, text}
 use Rattle.nx_code.specs.declared.shifts.Shift.TheVariants.{Letters}
 use Rattle.nx_envelope.specs.Copies.{Copy, copies, ended_copies}
 use Rattle.nx_envelope.specs.Header.{Header}
-use Rattle.nx_fec.specs.emissions.Pairing.{Counted, traffic, idle_signal, counts_as, five_before}
 use Rattle.nx_sync.specs.Locks.{Lock, Now, hunting, locked}
-use Rattle.nx_sync.specs.Words.{first_role, is_dx, role_of, whole_words, word_of_lock}
+use Rattle.nx_sync.specs.Words.{first_role, whole_words, word_of_lock}
 use Rattle.nx_sync.specs.declared.step.Change.{Change}
 use Rattle.nx_sync.specs.declared.step.Change.TheVariants.{LostLock}
-use Rattle.nx_sync.specs.declared.step.Role.{Role}
 use Rattle.nx_copies.specs.Events.{Event, Setting, setting_at}
+use Rattle.nx_copies.specs.copies.AlikeWords.{alike}
 use Rattle.nx_copies.specs.copies.FoundCopies.{FoundCopy, TaggedCopy, found_copy, tag}
 use Rattle.nx_copies.specs.copies.LockText.{bytes_of, lock_text, positions}
 use Rattle.nx_combine.specs.PositionEnds.{has_ended, up_to_end}
-
--- two words count alike: both as one combination, or both as idle
-abbrev pub count_alike : Counted → Counted → Bool
-count_alike (traffic m) (traffic n) = m == n
-count_alike idle_signal idle_signal = true
-count_alike dx rx = false
-
--- whether the two words of the position count alike that word k completes; a DX word completes none
-unfoldable pub alike_at : Role → (ℕ → ℕ) → ℕ → List Bool
-alike_at first words k =
-    if is_dx (role_of first k) then []
-    else count_alike (five_before words k) (counts_as (words k)) ∷ []
-
--- the same of each position that the first n words complete, in order
-unfoldable pub alike : Role → (ℕ → ℕ) → ℕ → List Bool
-alike first words zero = []
-alike first words (suc n) = alike first words n ++ alike_at first words n
 
 -- the positions of a lock, and of each whether its two words count alike
 pub record LockPositions : Type 0 where

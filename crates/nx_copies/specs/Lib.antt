@@ -1,5 +1,6 @@
 pub mod Events
 pub mod LockReader
+pub mod ReadPositions
 pub mod ReaderWords
 pub mod WordLoop
 pub mod copies

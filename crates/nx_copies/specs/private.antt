@@ -1,1 +1,2 @@
+pub mod AlikeClasses
 pub mod LockPrinter

@@ -87,7 +87,7 @@ impl CopyTaker {
     /// Meets what a word brings to the text of its lock: a header gets what is in force. Answers
     /// what is over with the word, by whether its lock is.
     #[inline(always)]
-    fn meet(&mut self, event: TextEvent, is_lock_over: bool) -> Option<Over>
+    pub fn meet(&mut self, event: TextEvent, is_lock_over: bool) -> Option<Over>
         ensures tag { self.new ≡ record self.old {
           tag = tag_after (setting_of self.old) self.old.tag event;
         } }

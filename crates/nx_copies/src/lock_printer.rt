@@ -1,16 +1,32 @@
 //! What prints the words of a lock. What runs for some words at once is inlined always, since its
 //! answers would go through memory otherwise.
 
-ghost use Rattle.std.specs.Prelude.{◌≡◌, ◌+◌, ◌*◌, ◌<◌, ◌≤◌, ℕ, length, take};
+ghost use Rattle.std.specs.Prelude.{◌≡◌, ◌+◌, ◌*◌, ◌<◌, ◌≤◌, ℕ, List, length, take, IfSome};
 ghost use Rattle.nx_copies.specs.private.LockPrinter.{HasPrintedWords, PrintsLock};
 ghost use Rattle.nx_copies.specs.copies.LockText.{AreNext};
+ghost use Rattle.nx_copies.specs.ReadPositions.{IsPositionAt};
+ghost use Rattle.nx_copies.specs.copies.AlikeWords.{count_alike};
+ghost use Rattle.nx_copies.specs.private.AlikeClasses.{are_alike_by};
+ghost use Rattle.nx_code.specs.Taken.{reception_of};
+ghost use Rattle.nx_fec.specs.emissions.Pairing.{Counted, IsLatest, counts_as, third_last};
 ghost use Rattle.nx_sync.specs.Words.{role_of};
 ghost use Rattle.nx_sync.specs.Ahead.{ArePairs};
 ghost use Rattle.nx_sync.specs.declared.step.Role.{Role};
 ghost use Rattle.nx_sync.specs.declared.step.Role.TheVariants.{Dx as DxRole};
 
-use nx_code::{FourPrinted, Printer, Word};
-use nx_fec::Diversity;
+use nx_code::{FourPrinted, NO_CLASS, Printer, Taken, Word, class_of};
+use nx_fec::{Diversity, Heard};
+use nx_sync::Role;
+
+/// A position that an RX word completes.
+#[derive(Clone, Copy, Debug)]
+pub struct ReadPosition {
+    /// What is taken of it, by its class (`nx_code::class_of`): the number of a combination, 33
+    /// for idle, and 0 where it is lost.
+    pub class: u8,
+    /// Whether its two words count alike: both as one combination, or both as idle.
+    pub is_alike: bool,
+}
 
 /// Prints the words of a lock, DX and RX by turns: some at once by a call of its own, one alone by
 /// its fields, in `LockReader::read_word`.
@@ -54,6 +70,35 @@ impl LockPrinter {
         printed
     }
 
+    /// The position that the next word of the lock completes, which has that role; a DX word
+    /// completes none. The word isn't taken.
+    #[inline(always)]
+    pub(crate) fn position(&self, word: Word, role: Role) -> Option<ReadPosition>
+        ensures is { (first : Role) (words : ℕ → ℕ) (n : ℕ) → PrintsLock self.now first words n
+            → words n ≡ word → role ≡ role_of first n → IsPositionAt first words n result }
+        ensures range { IfSome result (λ position. position.class < 34) }
+    {
+        match role {
+            Role::Dx => None,
+            Role::Rx => Some(ReadPosition {
+                class: self.diversity.rx_by_word(word),
+                is_alike: self.is_alike(word),
+            }),
+        }
+    }
+
+    /// Whether the two words count alike of the position that the next word completes as RX.
+    #[inline(always)]
+    fn is_alike(&self, word: Word) -> bool
+        ensures { (sent : List Counted) → IsLatest self.now.diversity sent
+            → result ≡ count_alike (third_last sent) (counts_as word) }
+    {
+        let class = self.diversity.rx_by_word(word);
+        let mut diversity = self.diversity;
+        let dx = diversity.rx(Heard::Wrong);
+        alike_by(class, class_of(word), dx)
+    }
+
     /// Takes the next two words of the lock, a DX word and an RX word, and appends the byte that
     /// they print, if they print one, to those of at most three pairs before them.
     #[inline(always)]
@@ -71,4 +116,13 @@ impl LockPrinter {
         let class = self.diversity.rx_by_word(rx);
         self.printer.print_behind(class, printed);
     }
+}
+
+/// Whether the two words of a position count alike, by the class of the position, that of its RX
+/// word, and what is taken of its DX word alone: none of these is lost.
+#[inline(always)]
+fn alike_by(class: u8, rx: u8, dx: Taken) -> bool
+    ensures { result ≡ are_alike_by class rx (reception_of dx) }
+{
+    class != NO_CLASS && rx != NO_CLASS && dx != Taken::Lost
 }

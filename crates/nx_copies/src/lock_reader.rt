@@ -1,7 +1,7 @@
 //! The text of one lock, read from its words. What runs for each word or for some at once is
 //! inlined always, since its answers would go through memory otherwise.
 
-ghost use Rattle.std.specs.Prelude.{◌≡◌, ◌↔◌, ◌+◌, ◌*◌, ◌%◌, ◌<◌, ◌≤◌, ℕ, List, Some, None, false, [], ◌∷◌, length, take, IsNone, IsTrue, MatchOption};
+ghost use Rattle.std.specs.Prelude.{◌≡◌, ◌↔◌, ◌+◌, ◌*◌, ◌%◌, ◌<◌, ◌≤◌, ℕ, List, Some, None, false, [], ◌∷◌, length, take, IfSome, IsNone, IsTrue, MatchOption};
 ghost use Rattle.std.specs.Option.{ForSome, option_map, option_to_list};
 ghost use Rattle.nx_sync.specs.Ahead.{ArePairs};
 ghost use Rattle.nx_sync.specs.Words.{role_of};
@@ -11,10 +11,11 @@ ghost use Rattle.nx_envelope.specs.Finder.{Closes, ClosesHeld, ClosesNone, HasRe
 ghost use Rattle.nx_envelope.specs.declared.found.TextEvent.{TextEvent};
 ghost use Rattle.nx_envelope.specs.Found.{IsFound};
 ghost use Rattle.nx_copies.specs.LockReader.{HasReadWords, ReadsLock, ReadsWords};
-ghost use Rattle.nx_copies.specs.ReaderWords.{HearsPairsUpTo, IsBrought, HearsPairs, ReadsPlain, is_open};
+ghost use Rattle.nx_copies.specs.ReadPositions.{IsPositionAt};
+ghost use Rattle.nx_copies.specs.ReaderWords.{HearsNext, HearsPairsUpTo, IsBrought, HearsPairs, ReadsPlain, is_open};
 ghost use Rattle.nx_copies.specs.copies.LockText.{text_after};
 
-use crate::lock_printer::LockPrinter;
+use crate::lock_printer::{LockPrinter, ReadPosition};
 use nx_code::{FourPrinted, Word};
 use nx_envelope::{Finder, Found, FoundHead, TextEvent};
 use nx_sync::Role;
@@ -138,6 +139,21 @@ impl LockReader {
             Some((_, event)) => event,
             None => TextEvent::Nothing,
         }
+    }
+
+    /// Takes the next word of the lock, which has that role, as `take_word` does. Answers the
+    /// position that it completes, if it completes one, and what it brings.
+    #[inline(always)]
+    pub fn read_position(&mut self, word: Word, role: Role) -> (Option<ReadPosition>, TextEvent)
+        ensures position { (first : Role) (words : ℕ → ℕ) (n : ℕ) → ReadsLock self.old first words n
+            → words n ≡ word → role ≡ role_of first n → IsPositionAt first words n result.0 }
+        ensures hears { HearsNext self.old self.new word role result.1 }
+        ensures ready { is_ready self.old.finder ≡ false
+            → is_ready self.new.finder ≡ is_over result.1 }
+        ensures range { IfSome result.0 (λ position. position.class < 34) }
+    {
+        let position = self.printer.position(word, role);
+        (position, self.take_word(word, role))
     }
 
     /// Hears the first of the next words of the lock, DX and RX by turns: those up to and with the

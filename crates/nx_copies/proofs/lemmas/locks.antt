@@ -1,4 +1,5 @@
 -- The texts of locks, and the copies in them.
+pub mod AlikeWords
 pub mod Found
 pub mod Growing
 pub mod Moves

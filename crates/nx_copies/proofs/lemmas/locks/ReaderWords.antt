@@ -102,7 +102,7 @@ five_before-late : (words : ℕ → ℕ) (n : ℕ) → 5 ≤ n → five_before w
 five_before-late words n h = grind (arith, nat_tests)
 
 -- the word five before an RX word is the third last DX word
-third_last-dx_words : (first : Role) (words : ℕ → ℕ) (n : ℕ) → role_of first n ≡ Rx
+pub third_last-dx_words : (first : Role) (words : ℕ → ℕ) (n : ℕ) → role_of first n ≡ Rx
     → third_last (dx_words first words n) ≡ five_before words n
 third_last-dx_words first words n h =
     elim (cases_lt n 5) [
