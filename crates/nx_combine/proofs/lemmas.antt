@@ -9,12 +9,14 @@ pub mod Held
 pub mod Invented
 pub mod Joined
 pub mod Judged
+pub mod Noted
 pub mod Once
 pub mod PlacedOn
 pub mod Printed
 pub mod ReadOn
 pub mod Sendings
 pub mod Sent
+pub mod Sure
 pub mod Together
 pub mod Whole
 pub mod Worse

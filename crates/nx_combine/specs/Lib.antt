@@ -5,5 +5,6 @@ pub mod Families
 pub mod Joining
 pub mod Judging
 pub mod Laws
+pub mod Notes
 pub mod PositionEnds
 pub mod private

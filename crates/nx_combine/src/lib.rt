@@ -6,6 +6,7 @@ mod combining;
 mod families;
 mod joining;
 pub mod laws;
+mod notes;
 mod position;
 mod reading;
 
@@ -13,5 +14,6 @@ pub use combiner::{Combiner, PrintedCopy};
 pub use combining::{Combined, is_better};
 pub use families::{Families, MAX_FAMILIES};
 pub use joining::{MAX_POSITIONS, is_of_one_text, join};
+pub use notes::{MAX_NOTED, PositionNotes};
 pub use position::Position;
 pub use reading::read_positions;
