@@ -1,4 +1,7 @@
+pub mod CombinedHearing
 pub mod CombinedPrinting
+pub mod CombinedTaker
+pub mod CombinedTakerLaws
 pub mod Combining
 pub mod CopyPositions
 pub mod Families

@@ -9,6 +9,7 @@ pub mod laws;
 mod notes;
 mod position;
 mod reading;
+mod taker;
 
 pub use combiner::{Combiner, PrintedCopy};
 pub use combining::{Combined, is_better};
@@ -17,3 +18,4 @@ pub use joining::{MAX_POSITIONS, is_of_one_text, join};
 pub use notes::{MAX_NOTED, PositionNotes};
 pub use position::Position;
 pub use reading::read_positions;
+pub use taker::CombinedTaker;

@@ -1,6 +1,7 @@
 //! A position of a copy, as it is kept until the message is sent again.
 
-ghost use Rattle.std.specs.Prelude.{◌≡◌};
+ghost use Rattle.std.specs.Prelude.{◌≡◌, ◌<◌};
+ghost use Rattle.nx_code.specs.Classes.{reception_of_class};
 ghost use Rattle.nx_code.specs.Reading.{lost};
 ghost use Rattle.nx_code.specs.Taken.{reception_of};
 ghost use Rattle.nx_combine.specs.Joining as spec;
@@ -56,6 +57,15 @@ impl Position {
             Taken::Idle => IDLE_CLASS,
             Taken::Lost => NO_CLASS,
         };
+        Position { class }
+    }
+
+    /// The position of this class.
+    #[inline(always)]
+    pub(crate) fn of_class(class: u8) -> Position
+        requires { class < 34 }
+        ensures { result ≡ reception_of_class class }
+    {
         Position { class }
     }
 

@@ -1,10 +1,11 @@
 -- The laws of what is printed of several sendings taken together: there is one log, and it stays.
 use Rattle.std.proofs.Common.{◌≡◌, ℕ, ◌+◌, Bool, List, [], ◌∷◌, ◌++◌}
 use Rattle.std.proofs.Common.{map, length, refl, sym, ap, ◌∙◌, subst, arith, append-nil}
-use Rattle.std.proofs.Common.{cond}
+use Rattle.std.proofs.Common.{None, Option, Some, cond, true, false, ◌-◌, ◌≤◌}
 use Rattle.std.specs.List.{All}
 use Rattle.std.proofs.lemmas.List.{map-append}
-use Rattle.std.proofs.lemmas.List.Elements.{All-cons, All-head, All-nil, All-tail}
+use Rattle.std.proofs.lemmas.List.Elements.{All-append, All-cons, All-head, All-map}
+use Rattle.std.proofs.lemmas.List.Elements.{All-nil, All-tail}
 use Rattle.nx_envelope.specs.Copies.{closed_copy, copies, ended_copies, open_headers}
 use Rattle.nx_envelope.proofs.lemmas.copies.OneOpenCopy.{copies_parts}
 use Rattle.nx_memory.specs.declared.memories.entry.MemoryEntry.{MemoryEntry}
@@ -27,8 +28,18 @@ use Rattle.nx_combine.specs.CopyPositions.{HeardCopy, PlacedCopy, ended_placed}
 use Rattle.nx_combine.specs.CopyPositions.{heard_copies, lock_bytes, past_placed}
 use Rattle.nx_combine.specs.CopyPositions.{placed, placed_to_end, positions_in_past, standing_placed}
 use Rattle.nx_combine.specs.Families.{CombinedCopy, Family, combined_copies, combined_copy}
-use Rattle.nx_combine.specs.Families.{families_after}
-use Rattle.nx_combine.proofs.lemmas.PlacedOn.{placed_go_on}
+use Rattle.nx_combine.specs.Families.{alone, combined as together_of, combined_at, families_after}
+use Rattle.nx_combine.specs.Families.{given_by, has_family, index_joined, joined_by, together}
+use Rattle.std.specs.Prelude.{slice_get}
+use Rattle.std.specs.Option.{option_map_or}
+use Rattle.nx_code.specs.Reading.{Reception}
+use Rattle.nx_copies.specs.Events.{settings}
+use Rattle.nx_copies.specs.copies.Log.{IsUpTo}
+use Rattle.nx_copies.specs.copies.Printing.{is_better}
+use Rattle.nx_copies.proofs.lemmas.printing.Laws.{IsCopyUpTo, IsSetUpTo, at-up_to, settings-up_to}
+use Rattle.nx_combine.specs.CombinedPrinting.{is_printed_combined}
+use Rattle.nx_combine.proofs.lemmas.Heard.{found-ended, found_of}
+use Rattle.nx_combine.proofs.lemmas.PlacedGrow.{placed_go_on}
 
 -- combined copies of more copies come behind those of the first
 combined-on : (families : List Family) (xs ys : List HeardCopy)
@@ -58,10 +69,6 @@ map-on : {X Y : Type 0} (f : X → Y) (xs ys : List X) → GoesOnAs xs ys
     → GoesOnAs (map f xs) (map f ys)
 map-on f xs ys g =
     record { rest = map f g.rest; whole = ap (map f) g.whole ∙ map-append f xs g.rest }
-
--- each copy that is found, without its positions
-abbrev found_of : PlacedCopy → FoundCopy
-found_of copy = copy.found
 
 abbrev PlacedIn : ℕ → PlacedCopy → Type 0
 PlacedIn high copy = IsCopyIn 0 high copy.found
@@ -107,54 +114,20 @@ printed_of-on start xs ys before later g all =
     rw combined.whole (printed-on start.entries [] (combined_copies [] heard) combined.rest) in
     map-on (λ (one : CombinedCopy). one.copy) _ _ (rw parts printed)
 
-map-map : {X Y Z : Type 0} (g : Y → Z) (f : X → Y) (xs : List X)
-    → map g (map f xs) ≡ map (λ x. g (f x)) xs
-map-map g f [] = refl
-map-map g f (x ∷ xs) = ap (λ ys. g (f x) ∷ ys) (map-map g f xs)
-
--- without their positions they are the copies that are found
-past-found : (bits : List Bool) (locks : List Lock)
-    → map found_of (past_placed bits locks) ≡ past_copies bits locks
-unfolding past_placed past_copies
-past-found bits [] = refl
-past-found bits (lock ∷ older) =
-    map-append found_of (past_placed bits older) _
-    ∙ ap (λ xs. xs ++ map found_of (placed_past lock)) (past-found bits older)
-    ∙ ap (λ xs. past_copies bits older ++ xs)
-    (map-map found_of _ (copies (lock_bytes bits lock.at (lock.last + 1))))
-  where
-    placed_past : Lock → List PlacedCopy
-    placed_past lock = placed (positions_in_past lock.how) bits lock.at (lock.last + 1)
-        (copies (lock_bytes bits lock.at (lock.last + 1)))
-
-standing-found : (bits : List Bool) (now : Now)
-    → map found_of (standing_placed ended_copies bits now) ≡ ended_in (standing_text bits now)
-standing-found bits (hunting p) = sym ended_in-nil
-standing-found bits (locked p t) =
-    map-map found_of _ (ended_copies (lock_bytes bits t (whole_words bits t)))
-
-ended-found : (bits : List Bool) (locks : List Lock) (now : Now)
-    → map found_of (ended_placed bits locks now) ≡ ended_so_far bits locks now
-unfolding ended_placed ended_so_far
-ended-found bits locks now =
-    map-append found_of (past_placed bits locks) (standing_placed ended_copies bits now)
-    ∙ ap (λ xs. xs ++ map found_of (standing_placed ended_copies bits now)) (past-found bits locks)
-    ∙ ap (λ xs. past_copies bits locks ++ xs) (standing-found bits now)
-
 -- so each stands at one of the bits
-are_placed : (high : ℕ) (copies : List PlacedCopy) → All (IsCopyIn 0 high) (map found_of copies)
+are_placed : (high : ℕ) (copies : List PlacedCopy) → All (IsCopyIn 0 high) (found_of copies)
     → All (PlacedIn high) copies
 are_placed high [] all = All-nil (PlacedIn high)
 are_placed high (c ∷ cs) all =
-    All-cons (PlacedIn high) c cs (All-head (IsCopyIn 0 high) c.found (map found_of cs) all)
-    (are_placed high cs (All-tail (IsCopyIn 0 high) c.found (map found_of cs) all))
+    All-cons (PlacedIn high) c cs (All-head (IsCopyIn 0 high) c.found (found_of cs) all)
+    (are_placed high cs (All-tail (IsCopyIn 0 high) c.found (found_of cs) all))
 
 ended_in_bits : (bits : List Bool) (locks : List Lock) (now : Now) → IsNow bits locks now
     → All (PlacedIn (length bits)) (ended_placed bits locks now)
 ended_in_bits bits locks now is =
     are_placed (length bits) (ended_placed bits locks now)
     (subst (λ (xs : List FoundCopy). All (IsCopyIn 0 (length bits)) xs)
-    (sym (ended-found bits locks now)) (logged.ended_placed bits locks now is))
+    (sym (found-ended bits locks now)) (logged.ended_placed bits locks now is))
 
 -- what the end adds
 standing-on : (bits : List Bool) (now : Now)
@@ -284,6 +257,100 @@ no-elements start xs ys log h none =
           printed_of_placed start (xs ++ ys) (ended_placed all h.locks h.now)) (sym same);
     }
 
+-- a combined copy has the moment of the copy that joined last
+combined-moment : (positions : List Reception) (copy : TaggedCopy)
+    → (together_of positions copy).moment ≡ copy.moment
+unfolding given_by
+combined-moment positions copy = go (is_better copy (given_by positions copy))
+  where
+    go : (b : Bool) → (cond b copy (given_by positions copy)).moment ≡ copy.moment
+    go true = refl
+    go false = refl
+
+joined-moment : (heard : HeardCopy) (number : ℕ) (o : Option Family)
+    → (option_map_or (λ family. together number (joined_by heard family).positions heard) o
+    (alone None heard)).copy.moment ≡ heard.copy.moment
+joined-moment heard number None = refl
+joined-moment heard number (Some family) =
+    combined-moment (joined_by heard family).positions heard.copy
+
+chosen-moment : (families : List Family) (heard : HeardCopy) (o : Option ℕ)
+    → (option_map_or (combined_at families heard) o
+    (alone (Some (length families)) heard)).copy.moment ≡ heard.copy.moment
+chosen-moment families heard None = refl
+chosen-moment families heard (Some index) =
+    joined-moment heard (length families - 1 - index) (slice_get families index)
+
+copy-moment : (families : List Family) (heard : HeardCopy)
+    → (combined_copy families heard).copy.moment ≡ heard.copy.moment
+unfolding combined_copy
+copy-moment families heard = go (has_family heard)
+  where
+    go : (b : Bool) → (cond b (option_map_or (combined_at families heard)
+        (index_joined families heard) (alone (Some (length families)) heard))
+        (alone None heard)).copy.moment ≡ heard.copy.moment
+    go true = chosen-moment families heard (index_joined families heard)
+    go false = refl
+
+abbrev IsHeardUpTo : ℕ → HeardCopy → Type 0
+IsHeardUpTo last heard = IsCopyUpTo last heard.copy
+
+abbrev IsCombinedUpTo : ℕ → CombinedCopy → Type 0
+IsCombinedUpTo last one = IsCopyUpTo last one.copy
+
+heard-up_to : (last : ℕ) (first : Setting) (events : List Event) (copies : List PlacedCopy)
+    → IsSetUpTo last first → All (IsSetUpTo last) (settings first events)
+    → All (IsHeardUpTo last) (heard_copies first events copies)
+unfolding heard_copies tag
+heard-up_to last first events [] h k = All-nil (IsHeardUpTo last)
+heard-up_to last first events (copy ∷ copies) h k =
+    All-cons (IsHeardUpTo last) _ _ (at-up_to last (settings first events) first copy.found.place h k)
+    (heard-up_to last first events copies h k)
+
+one-up_to : (last : ℕ) (shown : Bool) (one : CombinedCopy) → IsCombinedUpTo last one
+    → All (IsCombinedUpTo last) (cond shown (one ∷ []) [])
+one-up_to last true one h = All-cons (IsCombinedUpTo last) one [] h (All-nil (IsCombinedUpTo last))
+one-up_to last false one h = All-nil (IsCombinedUpTo last)
+
+copies-up_to : (last : ℕ) (families : List Family) (copies : List HeardCopy)
+    → All (IsHeardUpTo last) copies → All (IsCombinedUpTo last) (combined_copies families copies)
+unfolding combined_copies
+copies-up_to last families [] h = All-nil (IsCombinedUpTo last)
+copies-up_to last families (heard ∷ copies) h =
+    All-append (IsCombinedUpTo last) _ (combined_copies (families_after families heard) copies)
+    (one-up_to last heard.copy.selected (combined_copy families heard)
+    (subst (λ n. n ≤ last) (sym (copy-moment families heard))
+    (All-head (IsHeardUpTo last) heard copies h)))
+    (copies-up_to last (families_after families heard) copies
+    (All-tail (IsHeardUpTo last) heard copies h))
+
+printed-up_to : (last : ℕ) (entries : List MemoryEntry) (before copies : List CombinedCopy)
+    → All (IsCombinedUpTo last) copies
+    → All (IsCombinedUpTo last) (printed_combined entries before copies)
+unfolding printed_combined if_printed_combined
+printed-up_to last entries before [] h = All-nil (IsCombinedUpTo last)
+printed-up_to last entries before (one ∷ copies) h =
+    All-append (IsCombinedUpTo last) _ (printed_combined
+    (entries ++ entry_made_combined entries before one)
+    (if_printed_combined entries before one ++ before) copies)
+    (one-up_to last (is_printed_combined entries before one) one
+    (All-head (IsCombinedUpTo last) one copies h))
+    (printed-up_to last (entries ++ entry_made_combined entries before one)
+    (if_printed_combined entries before one ++ before) copies
+    (All-tail (IsCombinedUpTo last) one copies h))
+
+-- no moment of what is printed is past all that were given
+up_to : (start : Start) (events : List Event) (log : List TaggedCopy) (last : ℕ)
+    → start.moment ≤ last → All (IsUpTo last) events → PrintsCombinedToEnd start events log
+    → All (λ (copy : TaggedCopy). copy.moment ≤ last) log
+up_to start events log last h k p =
+    let first = first_setting start in
+    subst (λ (l : List TaggedCopy). All (IsCopyUpTo last) l) (sym p.printed)
+    (All-map (IsCopyUpTo last) (λ (one : CombinedCopy). one.copy) _
+    (printed-up_to last start.entries [] _
+    (copies-up_to last [] _
+    (heard-up_to last first events _ h (settings-up_to last first events h k)))))
+
 pub combined-laws : IsPrinting combined
 combined-laws = record {
   some = some-printed;
@@ -294,4 +361,5 @@ combined-laws = record {
   no_elements = no-elements;
   stays = stays;
   stays_to_end = stays-to_end;
+  up_to = up_to;
 }

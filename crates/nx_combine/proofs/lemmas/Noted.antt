@@ -1,13 +1,14 @@
 -- Notes of positions, where one comes behind others, and where they begin anew.
 use Rattle.std.proofs.Common.{◌≡◌, ℕ, ◌+◌, ◌-◌, ◌<◌, ◌≤◌, Bool, true, false, ◌&&◌, cond}
 use Rattle.std.proofs.Common.{List, [], ◌∷◌, ◌++◌, length, drop, refl, sym, ap, ◌∙◌, arith}
-use Rattle.std.proofs.Common.{length-append, length-drop, inl, inr, min, ◌↔◌}
+use Rattle.std.proofs.Common.{take, zero, suc, length-append, length-drop, inl, inr, min, ◌↔◌}
 use Rattle.std.specs.Prelude.{IsOk, OnErr, OnOk}
 use Rattle.std.specs.declared.result.Result.{Result}
 use Rattle.std.specs.declared.result.Result.TheVariants.{Err, Ok}
 use Rattle.std.proofs.lemmas.Bool.{cases_lt}
-use Rattle.std.proofs.lemmas.List.{drop-append-le, length-take-le, take-append-le, take_all}
+use Rattle.std.proofs.lemmas.List.{drop-append-le, drop-take, length-take-le, take-append-le, take_all}
 use Rattle.std.proofs.lemmas.List.{length-take}
+use Rattle.std.proofs.Math.ListN.{drop_of_length-le}
 use Rattle.std.proofs.Math.Seq.{drop-length}
 use Rattle.nx_code.specs.Reading.{Reception}
 use Rattle.nx_combine.specs.CopyPositions.{LockPositions, sure_count}
@@ -129,3 +130,54 @@ notes_one old new lock from x a is some none sure last =
           count;
       last = last ∙ sym (last_alike-push lock.alike a);
     }
+
+-- fewer of the first ones
+take-fewer : (a b : ℕ) (xs : List Reception) → a ≤ b → take a (take b xs) ≡ take a xs
+take-fewer zero b xs h = refl
+take-fewer (suc a) zero xs h = absurd (omega (arith, h))
+take-fewer (suc a) (suc b) [] h = refl
+take-fewer (suc a) (suc b) (x ∷ xs) h = ap (λ l. x ∷ l) (take-fewer a b xs (omega (arith, h)))
+
+take-more-of : (a b : ℕ) (xs : List Reception) → b ≤ a → take a (take b xs) ≡ take b xs
+take-more-of a b xs h =
+    let cut = length-take b xs in take_all a (take b xs) (omega (arith, h, cut))
+
+-- so many of the first most are the first most of so many
+take-swapped : (most k few : ℕ) (xs : List Reception) → few ≡ min most k
+    → take few (take most xs) ≡ take most (take k xs)
+take-swapped most k few xs is =
+    elim (cases_lt most k) [
+      | inl less ↦
+          let e : few ≡ most = omega (arith, is, less) in
+          ap (λ n. take n (take most xs)) e ∙ take-more-of most most xs (omega arith)
+          ∙ sym (take-fewer most k xs (omega (arith, less)))
+      | inr more ↦
+          let e : few ≡ k = omega (arith, is, more) in
+          ap (λ n. take n (take most xs)) e ∙ take-fewer k most xs more
+          ∙ sym (take-more-of most k xs more)
+    ]
+
+-- those behind a place, among the first so many
+drop-taken : (from many : ℕ) (xs : List Reception)
+    → drop from (take many xs) ≡ take (many - from) (drop from xs)
+drop-taken from many xs =
+    elim (cases_lt many from) [
+      | inl less ↦
+          let cut = length-take many xs in
+          let none : many - from ≡ 0 = omega (arith, less) in
+          drop_of_length-le (take many xs) (omega (arith, cut, less))
+          ∙ ap (λ n. take n (drop from xs)) (sym none)
+      | inr more ↦
+          let e : many ≡ from + (many - from) = omega (arith, more) in
+          ap (λ n. drop from (take n xs)) e ∙ drop-take from (many - from) xs
+    ]
+
+-- what is left of the notes where what is not sure is left out
+pub sure_left : (notes : Noting) (lock : LockPositions) (from : ℕ) → IsNoted notes lock from
+    → take notes.sure notes.positions
+    ≡ noted (drop from (take (sure_count lock.alike) lock.taken))
+sure_left notes lock from is =
+    let sure = sure_count lock.alike in
+    ap (take notes.sure) is.positions
+    ∙ take-swapped most_noted (sure - from) notes.sure (drop from lock.taken) is.sure
+    ∙ ap noted (sym (drop-taken from sure lock.taken))

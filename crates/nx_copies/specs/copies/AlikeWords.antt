@@ -1,5 +1,6 @@
--- Which positions of a lock have two words that count alike (ITU-R M.625, mode B, for positions and
--- their two words). `first` is the role of word 0 of the lock, and `words` gives each word's number.
+-- Which positions of a lock have two words that count alike (ITU-R M.625, mode B, for positions
+-- and their two words). `first` is the role of word 0 of the lock, and `words` gives each word's
+-- number.
 use Rattle.std.specs.Prelude.{ℕ, zero, suc, ◌==◌, Bool, true, false, if◌then◌else◌}
 use Rattle.std.specs.Prelude.{List, [], ◌∷◌, ◌++◌}
 use Rattle.nx_fec.specs.emissions.Pairing.{Counted, traffic, idle_signal, counts_as, five_before}

@@ -75,7 +75,7 @@ taken copy (Some found) kept h =
     } ∷ []) h.text
 
 -- what a finder has to hand out is the copy that it has
-ready_is : (finder : Finder) (copy : Copy) (kept : CopyTag) → HasReady finder copy
+pub ready_is : (finder : Finder) (copy : Copy) (kept : CopyTag) → HasReady finder copy
     → ready_in finder.copy finder.text kept ≡ ready_copy copy kept ∷ []
 ready_is finder copy kept ready =
     ap (λ one. ready_in one finder.text kept) ready.held

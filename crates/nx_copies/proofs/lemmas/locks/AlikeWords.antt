@@ -1,5 +1,6 @@
 -- The two words of a position: whether they count alike, by classes, and at which words of a lock.
-use Rattle.std.proofs.Common.{◌≡◌, ℕ, ◌+◌, ◌<◌, ◌==◌, Bool, true, false, Option, Some, None, refl, sym, ap}
+use Rattle.std.proofs.Common.{zero, suc, ◌++◌, ◌≡◌, ℕ, ◌+◌, ◌<◌, ◌==◌, Bool, true, false, Option}
+use Rattle.std.proofs.Common.{Some, None, refl, sym, ap}
 use Rattle.std.proofs.Common.{◌∙◌, cond, ltb, arith, List, [], ◌∷◌, not, ◌&&◌}
 use Rattle.std.proofs.lemmas.Bool.Decides.{nat_tests}
 use Rattle.std.specs.Option.{option_map, option_map_or, option_to_list}
@@ -12,11 +13,12 @@ use Rattle.nx_sync.specs.Words.{is_dx, role_of}
 use Rattle.nx_sync.specs.declared.step.Role.{Role}
 use Rattle.nx_sync.specs.declared.step.Role.TheVariants.{Dx, Rx}
 use Rattle.nx_copies.specs.ReadPositions.{IsPositionAt}
-use Rattle.nx_copies.specs.copies.AlikeWords.{alike_at, count_alike}
+use Rattle.nx_copies.specs.copies.AlikeWords.{alike, alike_at, count_alike}
 use Rattle.nx_copies.specs.copies.LockText.{dx_words, taken_at}
 use Rattle.nx_copies.specs.private.AlikeClasses.{are_alike_by, is_lost}
 use Rattle.nx_copies.specs.declared.lock_printer.ReadPosition.{ReadPosition}
 use Rattle.nx_copies.proofs.lemmas.locks.ReaderWords.{third_last-dx_words}
+use Rattle.nx_copies.proofs.lemmas.locks.Texts.{five_before-same}
 
 abbrev is_nothing : Counted → Bool
 is_nothing (traffic m) = false
@@ -83,7 +85,7 @@ alike_by_classes dx word class alone pair one =
     ∙ ap (λ x. not (is_lost (pairing dx rx)) && (not (is_nothing rx) && not (is_lost x))) one
     ∙ by_pairing dx rx
 
-abbrev if_rx : {A : Type 0} → Role → A → List A
+abbrev pub if_rx : {A : Type 0} → Role → A → List A
 if_rx role one = cond (is_dx role) [] (one ∷ [])
 
 -- a DX word completes no position
@@ -116,3 +118,16 @@ one_position first words n word class is_alike rx is taken alike =
       alike = ap (λ p. p ∷ []) two
           ∙ ap (λ r. if_rx r (count_alike (five_before words n) (counts_as (words n)))) rx;
     }
+
+-- words that are the same up to a word have the same positions with two words alike
+pub alike-same : (first : Role) (f g : ℕ → ℕ) (n : ℕ) → ((j : ℕ) → j < n → f j ≡ g j)
+    → alike first f n ≡ alike first g n
+unfolding alike alike_at
+alike-same first f g zero same = refl
+alike-same first f g (suc n) same =
+    ap (λ xs. xs ++ alike_at first f n) (alike-same first f g n (λ j h. same j (omega arith)))
+    ∙ ap (λ c. alike first g n ++ if_rx (role_of first n) (count_alike c (counts_as (f n))))
+    (five_before-same f g n (λ j h. same j (omega arith)))
+    ∙ ap (λ w. alike first g n
+    ++ if_rx (role_of first n) (count_alike (five_before g n) (counts_as w)))
+    (same n (omega arith))

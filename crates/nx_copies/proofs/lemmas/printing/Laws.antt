@@ -76,13 +76,13 @@ stays-to_end start events log whole h k =
     (subst (λ all. PrintsToEnd start all whole) (sym (append-nil events)) k) in
     (on.rest, on.whole)
 
-abbrev IsSetUpTo : ℕ → Setting → Type 0
+abbrev pub IsSetUpTo : ℕ → Setting → Type 0
 IsSetUpTo last setting = setting.moment ≤ last
 
-abbrev IsCopyUpTo : ℕ → TaggedCopy → Type 0
+abbrev pub IsCopyUpTo : ℕ → TaggedCopy → Type 0
 IsCopyUpTo last copy = copy.moment ≤ last
 
-settings-up_to : (last : ℕ) (now : Setting) (events : List Event) → IsSetUpTo last now
+pub settings-up_to : (last : ℕ) (now : Setting) (events : List Event) → IsSetUpTo last now
     → All (IsUpTo last) events → All (IsSetUpTo last) (settings now events)
 unfolding settings
 settings-up_to last now [] h k = All-nil (IsSetUpTo last)
@@ -96,7 +96,7 @@ settings-up_to last now (command c ∷ events) h k =
     settings-up_to last (setting_after now (command c)) events h
     (All-tail (IsUpTo last) (command c) events k)
 
-at-up_to : (last : ℕ) (xs : List Setting) (first : Setting) (place : ℕ) → IsSetUpTo last first
+pub at-up_to : (last : ℕ) (xs : List Setting) (first : Setting) (place : ℕ) → IsSetUpTo last first
     → All (IsSetUpTo last) xs → IsSetUpTo last (get_or xs place first)
 at-up_to last xs first place h k =
     elim (cases_lt place (length xs)) [
