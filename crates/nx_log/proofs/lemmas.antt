@@ -1,5 +1,6 @@
 -- Lemmas that several proofs cite.
 pub mod beginnings
+pub mod kept
 pub mod printed
 pub mod reader
 pub mod reading

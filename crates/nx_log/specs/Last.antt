@@ -38,9 +38,9 @@ replaces later one =
     is_of_message later one && is_within_66_hours one.copy.moment later.copy.moment
     && not (is_better one.copy later.copy)
 
--- of entries, in order, those that none behind them replaces
-abbrev pub last_entries : List MarkedCopy → List MarkedCopy
-last_entries [] = []
-last_entries (one ∷ later) =
-    if list_any (λ other. replaces other one) later then last_entries later
-    else one ∷ last_entries later
+-- of what has copies, in order, that which none behind it replaces
+abbrev pub last_by : {A : Type 0} → (A → MarkedCopy) → List A → List A
+last_by copy_of [] = []
+last_by copy_of (one ∷ later) =
+    if list_any (λ other. replaces (copy_of other) (copy_of one)) later then last_by copy_of later
+    else one ∷ last_by copy_of later

@@ -1,11 +1,14 @@
 pub mod Entries
 pub mod Json
+pub mod KeptLog
+pub mod KeptRun
 pub mod Last
 pub mod LogReader
 pub mod LogReading
 pub mod LogRun
 pub mod Logged
 pub mod Notices
+pub mod Places
 pub mod Query
 pub mod Reading
 pub mod Runs

@@ -1,13 +1,14 @@
 -- A run over a log: what it reads, what it writes of it, and what it answers (this profile).
-use Rattle.std.specs.Prelude.{◌≡◌, ◌⊎◌, ◌↔◌, ℕ, ◌-◌, ◌^◌, ◌≤◌, Bool, true, false, List, [], ◌∷◌, ◌++◌, length, Some}
+use Rattle.std.specs.Prelude.{◌≡◌, ◌⊎◌, ◌↔◌, ℕ, ◌-◌, ◌^◌, ◌≤◌, Bool, true, false, List, [], ◌∷◌, ◌++◌, length, map, Some}
 use Rattle.std.specs.Prelude.{Result, Ok, Err, IsErrOf}
 use Rattle.std.specs.List.{AllZip, concat}
 use Rattle.std.specs.Io.KnownBytes.{Appends, Consumes}
 use Rattle.nx_fec.specs.Transfers.{Contents, Devices, IsReadOut, WroteSome, contents_of}
 use Rattle.nx_copies.specs.copies.Shares.{MarkedCopy}
 use Rattle.nx_kept.specs.Kept.{closed_gate, open_gate}
-use Rattle.nx_log.specs.Json.{IsJsonLine}
+use Rattle.nx_log.specs.Json.{IsPlacedLine}
 use Rattle.nx_log.specs.Logged.{IsLoggedAs}
+use Rattle.nx_log.specs.Places.{PlacedCopy, chosen_placed, unplaced}
 use Rattle.nx_log.specs.Query.{chosen}
 use Rattle.nx_log.specs.Notices.{HaveToldAll, HaveToldTorn, Notice, Notices}
 use Rattle.nx_log.specs.Reading.{HoldEntries, HoldEntriesToEnd, StopAtLine}
@@ -30,24 +31,24 @@ IsBehindGate one text = (bytes : List ℕ) × IsLoggedAs one bytes × (text ≡ 
 
 -- the text of an entry in this form: its bytes in a log, its line of JSON, or what it is in a kept
 -- log
-abbrev pub IsInForm : Form → MarkedCopy → List ℕ → Type 0
-IsInForm Log one text = IsLoggedAs one text
-IsInForm Json one text = IsJsonLine one text
-IsInForm Kept one text = IsBehindGate one text
+abbrev pub IsInForm : Form → PlacedCopy → List ℕ → Type 0
+IsInForm Log placed text = IsLoggedAs placed.one text
+IsInForm Json placed text = IsPlacedLine placed.one placed.places text
+IsInForm Kept placed text = IsBehindGate placed.one text
 
 -- what stands behind the last of entries in this form: behind those of a kept log, where there are
 -- any, a closed gate
-abbrev pub end_of : Form → List MarkedCopy → List ℕ
+abbrev pub end_of : {A : Type 0} → Form → List A → List ℕ
 end_of Log entries = []
 end_of Json entries = []
 end_of Kept [] = []
 end_of Kept (one ∷ entries) = closed_gate ∷ []
 
 -- Output of entries: the texts of those that the query chooses, in order, and nothing between.
-pub record IsOutput (query : Query) (form : Form) (entries : List MarkedCopy) (output : List ℕ)
+pub record IsOutput (query : Query) (form : Form) (entries : List PlacedCopy) (output : List ℕ)
     : Type 0 where
   pub texts : List (List ℕ)
-  pub each : AllZip (IsInForm form) (chosen query entries) texts
+  pub each : AllZip (IsInForm form) (chosen_placed query entries) texts
   pub joined : output ≡ concat texts
 
 -- some first of the bytes hold these entries, whole, and the torn ones on these lines
@@ -67,28 +68,41 @@ pub record BeginSalvage (stretches : List Stretch) (bytes : List ℕ) (entries :
   pub salvage : Salvage stretches front entries told
 
 -- the output of these entries, for this query and in this form, was written
-pub record WroteOutput (query : Query) (form : Form) (contents : Contents)
-    (entries : List MarkedCopy) : Type 0 where
+pub record WrotePlaced (query : Query) (form : Form) (contents : Contents)
+    (entries : List PlacedCopy) : Type 0 where
   pub output : List ℕ
   pub is_output : IsOutput query form entries output
   pub written : Appends contents.before contents.after output
 
 -- the same, and what stands behind the last of those that are chosen
-pub record WroteToEnd (query : Query) (form : Form) (contents : Contents)
-    (entries : List MarkedCopy) : Type 0 where
+pub record WrotePlacedToEnd (query : Query) (form : Form) (contents : Contents)
+    (entries : List PlacedCopy) : Type 0 where
   pub output : List ℕ
   pub is_output : IsOutput query form entries output
   pub written : Appends contents.before contents.after
-      (output ++ end_of form (chosen query entries))
+      (output ++ end_of form (chosen_placed query entries))
 
 -- a write of these failed: some first bytes of the output and of its end were written, but not all,
 -- and `written` counts them
-pub record WrotePart (query : Query) (form : Form) (contents : Contents)
-    (entries : List MarkedCopy) (written : ℕ) : Type 0 where
+pub record WrotePlacedPart (query : Query) (form : Form) (contents : Contents)
+    (entries : List PlacedCopy) (written : ℕ) : Type 0 where
   pub output : List ℕ
   pub is_output : IsOutput query form entries output
   pub part : WroteSome contents.before contents.after
-      (output ++ end_of form (chosen query entries)) written
+      (output ++ end_of form (chosen_placed query entries)) written
+
+-- the same of entries whose places aren't told
+abbrev pub WroteOutput : Query → Form → Contents → List MarkedCopy → Type 0
+WroteOutput query form contents entries =
+    WrotePlaced query form contents (map unplaced entries)
+
+abbrev pub WroteToEnd : Query → Form → Contents → List MarkedCopy → Type 0
+WroteToEnd query form contents entries =
+    WrotePlacedToEnd query form contents (map unplaced entries)
+
+abbrev pub WrotePart : Query → Form → Contents → List MarkedCopy → ℕ → Type 0
+WrotePart query form contents entries written =
+    WrotePlacedPart query form contents (map unplaced entries) written
 
 -- A run over a log by this query, in this form, on these devices.
 module _ {R W : Type 0} (query : Query) (form : Form) (d : Devices R W) (n : Notices) where

@@ -7,7 +7,7 @@ use Rattle.std.specs.Ordering.{nat_cmp}
 use Rattle.nx_code.specs.Reading.{IsCapital}
 use Rattle.nx_fec.specs.air_files.Channels.{same_channel}
 use Rattle.nx_fec.specs.declared.air_files.channel.Channel.{Channel}
-use Rattle.nx_log.specs.Last.{last_entries}
+use Rattle.nx_log.specs.Last.{last_by}
 use Rattle.nx_log.specs.declared.queries.query.Query.{Query}
 use Rattle.nx_copies.specs.copies.Printing.{is_good}
 use Rattle.nx_copies.specs.copies.Shares.{MarkedCopy}
@@ -53,15 +53,20 @@ admits query one =
     && is_until query.until one.copy.moment
     && (not query.good || is_good one.copy)
 
--- of entries those that the query admits, in order
-abbrev pub admitted : Query → List MarkedCopy → List MarkedCopy
-admitted query entries = filter (admits query) entries
+-- of what has copies that which the query admits, in order
+abbrev pub admitted_by : {A : Type 0} → (A → MarkedCopy) → Query → List A → List A
+admitted_by copy_of query entries = filter (λ one. admits query (copy_of one)) entries
 
--- Chosen: those that the query admits; and where the last of each message alone is asked for, of
--- these the last ones.
-abbrev pub chosen_so : Bool → List MarkedCopy → List MarkedCopy
-chosen_so true entries = last_entries entries
-chosen_so false entries = entries
+-- Chosen: what the query admits; and where the last of each message alone is asked for, of this the
+-- last.
+abbrev pub chosen_so : {A : Type 0} → (A → MarkedCopy) → Bool → List A → List A
+chosen_so copy_of true entries = last_by copy_of entries
+chosen_so copy_of false entries = entries
 
+abbrev pub chosen_by : {A : Type 0} → (A → MarkedCopy) → Query → List A → List A
+chosen_by copy_of query entries =
+    chosen_so copy_of query.last (admitted_by copy_of query entries)
+
+-- of entries those that the query chooses
 abbrev pub chosen : Query → List MarkedCopy → List MarkedCopy
-chosen query entries = chosen_so query.last (admitted query entries)
+chosen query entries = chosen_by (λ one. one) query entries

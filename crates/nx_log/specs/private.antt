@@ -1,6 +1,8 @@
 pub mod Heads
 pub mod Held
 pub mod JsonParts
+pub mod KeptReading
+pub mod KeptRunning
 pub mod LogRunning
 pub mod Stages
 pub mod Steps

@@ -3,6 +3,7 @@
 pub(crate) mod beginning;
 pub(crate) mod entry;
 pub(crate) mod head;
+pub(crate) mod kept_reader;
 pub(crate) mod moment;
 pub(crate) mod reader;
 pub(crate) mod start;

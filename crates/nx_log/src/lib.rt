@@ -4,6 +4,7 @@
 mod damage;
 mod entries;
 mod kept;
+mod kept_runs;
 pub mod laws;
 mod log_fault;
 mod log_runs;
@@ -17,6 +18,7 @@ pub use entries::moment::moment_of;
 pub use entries::reader::{BadLine, LogReader, Pushed, TornLine};
 pub use entries::start::{EntryStart, entry_start};
 pub use kept::remembered_of;
+pub use kept_runs::kept_run;
 pub use log_fault::LogFault;
 pub use log_runs::log_run;
 pub use queries::letters::Letters;

@@ -31,7 +31,7 @@ use std::alloc::Global;
 use std::io::{Read, Write};
 
 /// The most bytes that are read, 2^63 - 1.
-const MAX_READ: u64 = 9_223_372_036_854_775_807;
+pub(crate) const MAX_READ: u64 = 9_223_372_036_854_775_807;
 
 /// Reads a log to its end, and writes those of its entries that the query admits, in order, each in
 /// this form, those of all bytes so far before each further read. Answers how many it wrote. It
@@ -186,13 +186,7 @@ impl LogRun {
             ↔ (writer.new.failures ≡ 1) }
         ensures once { writer.new.failures ≤ 1 }
     {
-        if !query.last {
-            return LogFault::Read;
-        }
-        match self.output.finish(writer) {
-            Ok(()) => LogFault::Read,
-            Err(fault) => LogFault::from(fault),
-        }
+        self.output.unread(writer, query)
     }
 
     /// Takes a piece, gives the entries that end in it, and tells of the torn ones, and of what is
@@ -341,8 +335,14 @@ impl LogRun {
         self.is_passing = false;
         match self.log.push(part) {
             Pushed::Entry { taken } => {
-                self.output
-                    .give(self.alloc, self.log.entry_bytes(), query, form, writer)?;
+                self.output.give(
+                    self.alloc,
+                    self.log.entry_bytes(),
+                    None,
+                    query,
+                    form,
+                    writer,
+                )?;
                 Ok(taken)
             }
             Pushed::Torn { taken, at } => {

@@ -6,3 +6,4 @@ pub(crate) mod kept_text;
 pub(crate) mod last_entries;
 pub(crate) mod notices;
 pub(crate) mod output;
+pub(crate) mod places;

@@ -1,6 +1,7 @@
 -- What runs wrote, remembered and told.
 pub mod LogRuns
 pub mod Outputs
+pub mod Placing
 pub mod Remembering
 pub mod Replacing
 pub mod Stretches

@@ -4,6 +4,7 @@ use Rattle.std.specs.List.{AllZip}
 use Rattle.nx_envelope.specs.Copies.{errors_of}
 use Rattle.nx_copies.specs.copies.Shares.{MarkedCopy}
 use Rattle.nx_log.specs.LogRun.{IsInForm}
+use Rattle.nx_log.specs.Places.{PlacedCopy}
 use Rattle.nx_log.specs.View.{copy_said}
 use Rattle.nx_log.specs.private.Heads.{head_replaces}
 use Rattle.nx_log.specs.declared.entries.head.LoggedHead.{LoggedHead}
@@ -16,11 +17,11 @@ pub record SaysHead (head : LoggedHead) (one : MarkedCopy) : Type 0 where
   pub errors : head.errors ≡ errors_of one.copy.text
 
 -- what is held of an entry: its head, and its text in this form
-pub record IsHeldAs (form : Form) (one : MarkedCopy) (held : HeldEntry) : Type 0 where
-  pub head : SaysHead held.head one
-  pub text : IsInForm form one held.text.items
+pub record IsHeldAs (form : Form) (placed : PlacedCopy) (held : HeldEntry) : Type 0 where
+  pub head : SaysHead held.head placed.one
+  pub text : IsInForm form placed held.text.items
 
-abbrev pub AreHeld : Form → List MarkedCopy → List HeldEntry → Type 0
+abbrev pub AreHeld : Form → List PlacedCopy → List HeldEntry → Type 0
 AreHeld form entries held = AllZip (IsHeldAs form) entries held
 
 abbrev pub held_text : HeldEntry → List ℕ

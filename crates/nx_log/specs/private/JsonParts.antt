@@ -1,10 +1,11 @@
 -- A line of JSON, before the text of its entry and behind it (RFC 8259; its keys are this
 -- profile's).
-use Rattle.std.specs.Prelude.{ℕ, Bool, true, false, List, ◌∷◌, ◌++◌, codes, decimal}
+use Rattle.std.specs.Prelude.{ℕ, Bool, true, false, List, [], ◌∷◌, ◌++◌, codes, decimal, option_map, Option, None, Some}
 use Rattle.nx_envelope.specs.Identity.{identity_bytes}
 use Rattle.nx_fec.specs.air_files.Channels.{channel_number}
 use Rattle.nx_log.specs.declared.entries.head.LoggedHead.{LoggedHead}
 use Rattle.nx_copies.specs.copies.Log.{how_name}
+use Rattle.nx_log.specs.declared.writing.places.Places.{Places}
 
 -- a truth value
 abbrev pub truth_name : Bool → List ℕ
@@ -21,11 +22,18 @@ json_front head good =
     ++ codes ",\"good\":" ++ truth_name good
     ++ codes ",\"identity\":\"" ++ identity_bytes head.identity
 
--- from there up to the text
-abbrev pub json_middle : LoggedHead → List ℕ
-json_middle head =
+-- a key and its number, where there is one
+abbrev pub counted : List ℕ → Option ℕ → List ℕ
+counted key None = []
+counted key (Some n) = key ++ decimal n
+
+-- from there up to the text, with the places, where they are told
+abbrev pub json_middle : LoggedHead → Option Places → List ℕ
+json_middle head places =
     codes "\",\"moment\":" ++ decimal head.moment
+    ++ counted (codes ",\"next\":") (option_map (λ p. p.next) places)
     ++ codes ",\"number\":" ++ decimal head.identity.number
+    ++ counted (codes ",\"place\":") (option_map (λ p. p.place) places)
     ++ codes ",\"station\":\"" ++ head.identity.b1.byte
     ∷ codes "\",\"subject\":\"" ++ head.identity.b2.byte ∷ codes "\",\"text\":\""
 

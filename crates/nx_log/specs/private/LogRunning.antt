@@ -1,5 +1,5 @@
 -- How a run over a log stands, and how it ends.
-use Rattle.std.specs.Prelude.{◌≡◌, ◌≢◌, ⊤, ℕ, ◌-◌, ◌^◌, Bool, true, false, List, [], ◌++◌, length, min, Option, None, Some}
+use Rattle.std.specs.Prelude.{◌≡◌, ◌≢◌, ⊤, ℕ, ◌-◌, ◌^◌, Bool, true, false, List, [], ◌++◌, length, map, min, Option, None, Some}
 use Rattle.std.specs.Prelude.{Result, Ok, Err}
 use Rattle.std.specs.List.{AllZip, concat}
 use Rattle.std.specs.Io.KnownBytes.{Appends}
@@ -8,7 +8,8 @@ use Rattle.nx_fec.specs.air_files.LineRuns.{HasGiven}
 use Rattle.nx_copies.specs.copies.Shares.{MarkedCopy}
 use Rattle.nx_log.specs.LogReading.{LogReading}
 use Rattle.nx_log.specs.LogReader.{IsAt, StopAt}
-use Rattle.nx_log.specs.LogRun.{BeginSalvage, IsInForm, WroteOutput, WrotePart, WroteToEnd}
+use Rattle.nx_log.specs.LogRun.{BeginSalvage, IsInForm, WroteOutput, WrotePart, WrotePlaced, WrotePlacedPart, WroteToEnd}
+use Rattle.nx_log.specs.Places.{PlacedCopy, chosen_placed, unplaced}
 use Rattle.nx_log.specs.Notices.{HaveToldAll, HaveToldTorn, Notice, Notices}
 use Rattle.nx_log.specs.Query.{chosen}
 use Rattle.nx_log.specs.Reading.{HoldEntriesToEnd}
@@ -29,17 +30,17 @@ IsReading log = (bytes : List ℕ) × (entries : List MarkedCopy) × (torn : Lis
     × IsAt log bytes entries torn
 
 -- where the last entries alone are asked for, all are held, and else none is
-abbrev pub IsDivided : Bool → List MarkedCopy → List MarkedCopy → Type 0
+abbrev pub IsDivided : Bool → List PlacedCopy → List PlacedCopy → Type 0
 IsDivided true given held = given ≡ []
 IsDivided false given held = held ≡ []
 
 -- Of what a query chooses of these entries some were given: the first of their texts is written,
 -- and the rest waits. They are counted. The others are held.
 pub record HasGivenOutput (query : Query) (form : Form) (old new : Option (List ℕ))
-    (output : Output) (entries : List MarkedCopy) : Type 0 where
-  pub passed : List MarkedCopy
-  pub held : List MarkedCopy
-  pub split : chosen query entries ≡ passed ++ held
+    (output : Output) (entries : List PlacedCopy) : Type 0 where
+  pub passed : List PlacedCopy
+  pub held : List PlacedCopy
+  pub split : chosen_placed query entries ≡ passed ++ held
   pub divided : IsDivided query.last passed held
   pub texts : List (List ℕ)
   pub each : AllZip (IsInForm form) passed texts
@@ -52,10 +53,17 @@ pub record WroteNothing (query : Query) (contents : Contents) : Type 0 where
   pub last : query.last ≡ true
   pub nothing : Appends contents.before contents.after []
 
+-- what is answered behind a failed read: all that was held was written, or a write of it failed
+abbrev pub EndsUnread : Query → Form → Contents → List PlacedCopy → LogFault → Type 0
+EndsUnread query form contents entries Read = WrotePlaced query form contents entries
+EndsUnread query form contents entries (Write written) =
+    WrotePlacedPart query form contents entries written
+EndsUnread query form contents entries fault = ⊥
+
 -- an entry could not be given, which is the last of these
-abbrev pub FailsGiving : Query → Form → Contents → List MarkedCopy → LogFault → Type 0
+abbrev pub FailsGiving : Query → Form → Contents → List PlacedCopy → LogFault → Type 0
 FailsGiving query form contents entries (Write written) =
-    WrotePart query form contents entries written
+    WrotePlacedPart query form contents entries written
 FailsGiving query form contents entries (Memory error) = WroteNothing query contents
 FailsGiving query form contents entries fault = ⊥
 
@@ -79,7 +87,8 @@ pub record IsRunning (query : Query) (form : Form) (damaged : Damaged) (old : Op
   pub torn : List ℕ
   pub cut : AreCut bytes stretches rest
   pub at : IsAt run.log rest last torn
-  pub given : HasGivenOutput query form old new run.output (entries_in stretches ++ last)
+  pub given : HasGivenOutput query form old new run.output
+      (map unplaced (entries_in stretches ++ last))
   pub told : HaveToldAll n (told_of stretches torn)
   pub ended : run.ended ≡ lines_in (bytes_in stretches)
   pub first : first_line stretches ≡ run.first_bad

@@ -258,7 +258,7 @@ impl Pushed {
 
 /// What stands at the held bytes and these behind them. Then the entry is held that is whole, or
 /// all of the one that has begun.
-fn judge(held: &mut ArrayVec<u8, MAX_LOGGED>, bytes: &[u8]) -> EntryStart
+pub(crate) fn judge(held: &mut ArrayVec<u8, MAX_LOGGED>, bytes: &[u8]) -> EntryStart
     ensures starts { StartsAs (held.old.items ++ bytes.now) result }
     ensures holds { held.new.items
         ≡ take (part_held result (length held.old.items + length bytes.now))
@@ -301,7 +301,7 @@ fn hold(held: &mut ArrayVec<u8, MAX_LOGGED>, bytes: &[u8])
 }
 
 /// The line of the byte behind these, where they begin on this line.
-fn line_after(line: u64, bytes: &[u8]) -> u64
+pub(crate) fn line_after(line: u64, bytes: &[u8]) -> u64
     ensures { (before : List ℕ) → line ≡ min (line_behind before) most_lines
         → result ≡ min (line_behind (before ++ bytes.now)) most_lines }
 {

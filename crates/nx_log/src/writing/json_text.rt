@@ -3,15 +3,16 @@
 ghost use Rattle.std.specs.Prelude.{◌≡◌, ◌≤◌, ◌+◌, ◌*◌, ◌++◌, ℕ, List, length, All, IsTrue, codes};
 ghost use Rattle.json.specs.Print.{escape};
 ghost use Rattle.nx_envelope.specs.Moment.{IsShownAs, last_moment};
-ghost use Rattle.nx_log.specs.Json.{IsJsonLine};
+ghost use Rattle.nx_log.specs.Json.{IsJsonLine, IsPlacedLine};
 ghost use Rattle.nx_log.specs.Logged.{is_text_byte};
 ghost use Rattle.nx_log.specs.Times.{joined};
 ghost use Rattle.nx_log.specs.View.{IsSeen, copy_said};
-ghost use Rattle.nx_log.specs.private.JsonParts.{json_front, json_middle, json_tail, truth_name as the_truth_name};
+ghost use Rattle.nx_log.specs.private.JsonParts.{counted, json_front, json_middle, json_tail, truth_name as the_truth_name};
 ghost use Rattle.nx_copies.specs.copies.Log.{how_name as the_how_name};
 
 use crate::entries::entry::EntryView;
 use crate::entries::head::LoggedHead;
+use crate::writing::places::Places;
 use arrayvec::ArrayVec;
 use itoa::Buffer;
 use memchr::memchr;
@@ -22,8 +23,11 @@ use nx_fec::append;
 /// The most bytes of a line up to the identity of its entry: 65 bytes of keys, and their values.
 const MAX_FRONT: usize = 96;
 
-/// The most bytes from there up to the text: 56 bytes of keys, and their values.
-const MAX_MIDDLE: usize = 96;
+/// The most bytes from there up to the text: 73 bytes of keys, and their values.
+const MAX_MIDDLE: usize = 160;
+
+/// The most bytes of a number.
+const MAX_NUMBER: usize = 20;
 
 /// The bytes of a time in UTC, `2025-01-01T00:40:00Z`.
 const UTC_LEN: usize = CIVIL_LEN + 1;
@@ -46,9 +50,17 @@ pub fn json_line(view: &EntryView) -> ArrayVec<u8, MAX_LINE>
     requires { IsSeen view.now }
     ensures { IsJsonLine (copy_said view.now.head view.now.text.now) result.items }
 {
+    placed_line(view, None)
+}
+
+/// The same with the keys `next` and `place` in their order, where its places are told.
+pub(crate) fn placed_line(view: &EntryView, places: Option<Places>) -> ArrayVec<u8, MAX_LINE>
+    requires { IsSeen view.now }
+    ensures { IsPlacedLine (copy_said view.now.head view.now.text.now) places result.items }
+{
     let head = &view.head;
     let front = json_front(head, head.is_good());
-    let middle = json_middle(head);
+    let middle = json_middle(head, places);
     let tail = json_tail(head.moment);
     let mut line = ArrayVec::new();
     append(&mut line, front.as_slice());
@@ -81,24 +93,40 @@ fn json_front(head: &LoggedHead, good: bool) -> ArrayVec<u8, MAX_FRONT>
     line
 }
 
-/// The line from there up to the text.
-fn json_middle(head: &LoggedHead) -> ArrayVec<u8, MAX_MIDDLE>
-    ensures { result.items ≡ json_middle head.now }
+/// The line from there up to the text, with the places, where they are told.
+fn json_middle(head: &LoggedHead, places: Option<Places>) -> ArrayVec<u8, MAX_MIDDLE>
+    ensures { result.items ≡ json_middle head.now places }
 {
+    let next = places.map(|places| places.next);
+    let place = places.map(|places| places.place);
     let mut line = ArrayVec::new();
     append(&mut line, b"\",\"moment\":");
     append(&mut line, Buffer::new().format(head.moment).as_bytes());
+    append_count(&mut line, b",\"next\":", next);
     append(&mut line, b",\"number\":");
     append(
         &mut line,
         Buffer::new().format(head.identity.number()).as_bytes(),
     );
+    append_count(&mut line, b",\"place\":", place);
     append(&mut line, b",\"station\":\"");
     line.push(head.identity.b1().byte());
     append(&mut line, b"\",\"subject\":\"");
     line.push(head.identity.b2().byte());
     append(&mut line, b"\",\"text\":\"");
     line
+}
+
+/// Appends a key and its number, where there is one.
+fn append_count(line: &mut ArrayVec<u8, MAX_MIDDLE>, key: &[u8], count: Option<u64>)
+    requires { length line.old.items + length key.now + MAX_NUMBER ≤ MAX_MIDDLE }
+    ensures items { line.new.items ≡ line.old.items ++ counted key.now count }
+    ensures few { length line.new.items ≤ length line.old.items + length key.now + MAX_NUMBER }
+{
+    if let Some(count) = count {
+        append(line, key);
+        append(line, Buffer::new().format(count).as_bytes());
+    }
 }
 
 /// The line behind the text of its entry.

@@ -4,9 +4,9 @@ ghost use Rattle.std.specs.Prelude.{◌≡◌, ◌++◌, ℕ, List, [], ◌∷�
 ghost use Rattle.std.specs.List.{concat};
 ghost use Rattle.nx_fec.specs.Transfers.{FailsOnce, WroteSome};
 ghost use Rattle.nx_fec.specs.air_files.LineRuns.{HasGiven};
-ghost use Rattle.nx_copies.specs.copies.Shares.{MarkedCopy};
-ghost use Rattle.nx_log.specs.Last.{last_entries};
+ghost use Rattle.nx_log.specs.Last.{last_by};
 ghost use Rattle.nx_log.specs.LogRun.{IsInForm};
+ghost use Rattle.nx_log.specs.Places.{PlacedCopy, copy_of};
 ghost use Rattle.nx_log.specs.private.Held.{AreHeld, SaysHead, held_text, not_replaced};
 ghost use Rattle.nx_log.specs.declared.writing.form.Form.{Form as TheForm};
 
@@ -53,11 +53,11 @@ impl LastEntries {
         head: LoggedHead,
         text: &[u8],
     ) -> Result<(), AllocError>
-        ensures { (form : TheForm) (one : MarkedCopy) (entries : List MarkedCopy)
-            → SaysHead head one → IsInForm form one text.now
-            → AreHeld form (last_entries entries) self.old.entries.items
+        ensures { (form : TheForm) (one : PlacedCopy) (entries : List PlacedCopy)
+            → SaysHead head one.one → IsInForm form one text.now
+            → AreHeld form (last_by copy_of entries) self.old.entries.items
             → OnOk result
-            (AreHeld form (last_entries (entries ++ one ∷ [])) self.new.entries.items) }
+            (AreHeld form (last_by copy_of (entries ++ one ∷ [])) self.new.entries.items) }
     {
         let text = text.to_vec(alloc)?;
         self.let_go(&head);

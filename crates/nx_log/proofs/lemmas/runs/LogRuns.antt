@@ -2,9 +2,9 @@
 use Rattle.std.specs.declared.alloc.AllocError.{AllocError}
 use Rattle.std.proofs.Common.{◌≡◌, ℕ, zero, suc, ◌+◌, ◌-◌, ◌^◌, ◌≤◌, ◌<◌, Bool, true, false, min, List, [], ◌∷◌, ◌++◌, length, take, drop}
 use Rattle.std.proofs.Common.{refl, sym, ap, ◌∙◌, subst, arith, append_assoc, append-nil, length-append, take-append-drop, Option, None, Some, Result, Ok, Err, inl}
-use Rattle.std.specs.Prelude.{IfOk, IsErrOf, MatchResult, ◌==◌}
+use Rattle.std.specs.Prelude.{IfOk, IsErrOf, MatchResult, map, ◌==◌}
 use Rattle.std.specs.List.{All}
-use Rattle.std.proofs.lemmas.List.{length-take-le, take-take}
+use Rattle.std.proofs.lemmas.List.{length-map, length-take-le, take-take}
 use Rattle.std.proofs.lemmas.List.Elements.{All-append, All-cons, All-nil, All-weaker}
 use Rattle.std.specs.Io.KnownBytes.{Appends}
 use Rattle.std.proofs.KnownBytes.{Appends-nil}
@@ -16,6 +16,7 @@ use Rattle.nx_log.specs.LogReading.{LogReading}
 use Rattle.nx_log.specs.LogReader.{IsAt, StopAt, Takes, most_lines}
 use Rattle.nx_log.specs.LogRun.{AnswersLogRun, AnswersRun, AreAll, BeginSalvage, RanOut, SalvageRanOut, WroteOutput, WrotePart, WroteToEnd, most_read}
 use Rattle.nx_log.specs.Logged.{IsLoggedAs}
+use Rattle.nx_log.specs.Places.{unplaced}
 use Rattle.nx_log.specs.Query.{chosen}
 use Rattle.nx_log.specs.Notices.{HaveTold, HaveToldAll, HaveToldTorn, Notice, Notices, damaged_at, notice_texts, notices_of, torn_notice, torn_notices}
 use Rattle.nx_log.specs.Reading.{AreRead, Head, HoldEntries, HoldEntriesToEnd, IsHead, IsNoBracket, IsTail, LogRead, StopAtLine, begun, entries_of, is_begun, is_first, line_behind, nothing, torn_line, whole}
@@ -32,13 +33,14 @@ use Rattle.nx_log.specs.declared.log_fault.LogFault.TheVariants.{Read, Write, Ba
 use Rattle.nx_log.specs.declared.queries.query.Query.{Query}
 use Rattle.nx_log.specs.declared.entries.reader.Pushed.TheVariants.{Entry, Torn}
 use Rattle.nx_log.specs.declared.entries.reader.TornLine.{TornLine}
-use Rattle.nx_log.specs.private.LogRunning.{EndsAll, EndsRun, FailsGiving, HasGivenOutput, HasRunOut, HasRunOver, HasSalvaged, HasWrittenPart, IsPassing, IsRunning, StandsIn, StopsRun, WroteNothing}
+use Rattle.nx_log.specs.private.LogRunning.{EndsAll, EndsRun, EndsUnread, FailsGiving, HasGivenOutput, HasRunOut, HasRunOver, HasSalvaged, HasWrittenPart, IsPassing, IsRunning, StandsIn, StopsRun, WroteNothing}
 use Rattle.nx_log.proofs.lemmas.reader.Steps.{holds_at}
 use Rattle.nx_log.proofs.lemmas.reader.Tails.{all_front, all_last}
 use Rattle.nx_log.proofs.lemmas.reading.Reads.{hold_is_log, same_held}
 use Rattle.nx_log.proofs.lemmas.runs.Stretches.{cut_longer, cut_off, cut_on, lines_few, lines_more, longer, none_behind, stop_on, told_over}
 use Rattle.nx_log.proofs.lemmas.reading.Entries.{entry_is_some, one_entry}
 use Rattle.nx_log.proofs.lemmas.runs.Outputs.{chosen-few}
+use Rattle.nx_log.proofs.lemmas.runs.Placing.{chosen-count}
 
 -- what is seen of bytes that are an entry is this entry
 pub view-is : (one : MarkedCopy) (bytes : List ℕ) (view : EntryView) → IsLoggedAs one bytes
@@ -246,7 +248,9 @@ count-exact query entries torn bytes count within h is =
       few-entries (h.is.part ∷ h.is.earlier) h.read h.is.are,
       ap length h.is.all,
       ap length h.are_entries,
-      chosen-few query entries,
+      chosen-few query (map unplaced entries),
+      chosen-count query entries,
+      length-map entries unplaced,
     )
 
 -- nothing is told yet
@@ -374,7 +378,7 @@ module _ (query : Query) (form : Form) (damaged : Damaged) (old : Option (List �
         → BeginsBehind h.stretches (h.rest ++ take taken part)
         → IsAt reader (h.rest ++ take taken part) (h.last ++ one ∷ []) h.torn
         → FailsGiving query form (record { before = old; after = after })
-        ((entries_in h.stretches ++ h.last) ++ one ∷ []) fault
+        (map unplaced ((entries_in h.stretches ++ h.last) ++ one ∷ [])) fault
         → EndsRun query form damaged (record { before = old; after = after }) n (bytes ++ part)
         fault
     fails-entry reader part taken one after Read begins at f = absurd f
@@ -382,6 +386,16 @@ module _ (query : Query) (form : Form) (damaged : Damaged) (old : Option (List �
         part-entry reader part taken one after written begins at f
     fails-entry reader part taken one after (BadLog line) begins at f = absurd f
     fails-entry reader part taken one after (Memory error) begins at f = runs-out part after f
+
+    -- a read failed
+    pub ends-unread : (after : Option (List ℕ)) (fault : LogFault)
+        → EndsUnread query form (record { before = old; after = after })
+        (map unplaced (entries_in h.stretches ++ h.last)) fault
+        → EndsRun query form damaged (record { before = old; after = after }) n bytes fault
+    ends-unread after Read ends = salvaged after ends
+    ends-unread after (Write written) ends = part-all after written ends
+    ends-unread after (BadLog line) ends = absurd ends
+    ends-unread after (Memory error) ends = absurd ends
 
     -- the bytes stop being a log, which is refused
     pub stops : (part : List ℕ) (line : ℕ) (after : Option (List ℕ)) → run.damaged ≡ Refused
@@ -454,7 +468,7 @@ module _ (query : Query) (form : Form) (damaged : Damaged) (old : Option (List �
             at = subst (λ l. IsAt run.log l h.last []) passing.0
                 (subst (λ l. IsAt run.log h.rest h.last l) passing.1 h.at);
             given = subst (λ ss. HasGivenOutput query form old new run.output
-                (entries_in ss ++ h.last)) e h.given;
+                (map unplaced (entries_in ss ++ h.last))) e h.given;
             told = subst (λ ss. HaveToldAll n (told_of ss [])) e
                 (subst (λ l. HaveToldAll n (told_of h.stretches l)) passing.1 h.told);
             ended = omega (arith, ended_is, was, lines, few, long, size, within);
@@ -527,8 +541,8 @@ module _ (query : Query) (form : Form) (damaged : Damaged) (old : Option (List �
         cut = cut_off bytes part h.rest h.stretches stretch h.cut refl over begins;
         at = fresh;
         given = subst (λ o. HasGivenOutput query form old new o
-            (entries_in (stretch ∷ h.stretches) ++ [])) (sym output)
-            (subst (HasGivenOutput query form old new run.output)
+            (map unplaced (entries_in (stretch ∷ h.stretches) ++ []))) (sym output)
+            (subst (λ l. HasGivenOutput query form old new run.output (map unplaced l))
             (sym (append-nil (entries_in h.stretches ++ h.last))) h.given);
         told = subst (HaveToldAll told) (sym (told_over h.stretches stretch))
             (subst (λ k. HaveToldAll told (told_of h.stretches h.torn ++ damaged_at k ∷ [])) bad

@@ -13,9 +13,9 @@ use Rattle.nx_fec.specs.Transfers.{WroteSome}
 use Rattle.nx_fec.specs.air_files.LineRuns.{HasGiven, Waiting}
 use Rattle.nx_fec.specs.declared.fault.WriteFault.{WriteFault}
 use Rattle.nx_copies.specs.copies.Shares.{MarkedCopy}
-use Rattle.nx_log.specs.Last.{last_entries}
-use Rattle.nx_log.specs.LogRun.{IsInForm, IsOutput, WroteOutput, WrotePart, WroteToEnd, end_of}
-use Rattle.nx_log.specs.Query.{admits, admitted, chosen, chosen_so}
+use Rattle.nx_log.specs.LogRun.{IsInForm, IsOutput, WrotePlaced, WrotePlacedPart, WrotePlacedToEnd, end_of}
+use Rattle.nx_log.specs.Places.{PlacedCopy, chosen_placed as chosen, copy_of}
+use Rattle.nx_log.specs.Query.{admits, admitted_by, chosen_so as chosen_so_by}
 use Rattle.nx_envelope.specs.Copies.{errors_of}
 use Rattle.nx_log.specs.View.{copy_said}
 use Rattle.nx_log.specs.declared.entries.entry.EntryView.{EntryView}
@@ -25,7 +25,7 @@ use Rattle.nx_log.specs.declared.queries.query.Query.{Query}
 use Rattle.nx_log.specs.declared.writing.form.Form.{Form}
 use Rattle.nx_log.specs.declared.writing.last_entries.HeldEntry.{HeldEntry}
 use Rattle.nx_log.specs.declared.writing.output.Output.{Output}
-use Rattle.nx_log.proofs.lemmas.runs.Replacing.{last-few}
+use Rattle.nx_log.proofs.lemmas.runs.Replacing.{last-few, last_entries}
 
 pub AllZip-append : {A B : Type 0} (R : A → B → Type 0) (xs zs : List A) (ys ws : List B)
     → AllZip R xs ys → AllZip R zs ws → AllZip R (xs ++ zs) (ys ++ ws)
@@ -34,74 +34,80 @@ AllZip-append R [] zs (y ∷ ys) ws h k = absurd h
 AllZip-append R (x ∷ xs) zs [] ws h k = absurd h
 AllZip-append R (x ∷ xs) zs (y ∷ ys) ws h k = (h.0, AllZip-append R xs zs ys ws h.1 k)
 
-one-kept : (b : Bool) (one : MarkedCopy) → b ≡ true → cond b (one ∷ []) [] ≡ one ∷ []
+abbrev admitted : Query → List PlacedCopy → List PlacedCopy
+admitted query entries = admitted_by copy_of query entries
+
+abbrev chosen_so : Bool → List PlacedCopy → List PlacedCopy
+chosen_so b entries = chosen_so_by copy_of b entries
+
+one-kept : (b : Bool) (one : PlacedCopy) → b ≡ true → cond b (one ∷ []) [] ≡ one ∷ []
 one-kept true one e = refl
 one-kept false one e = cc
 
-none-kept : (b : Bool) (one : MarkedCopy) → b ≡ false
-    → ◌≡◌ {A = List MarkedCopy} (cond b (one ∷ []) []) []
+none-kept : (b : Bool) (one : PlacedCopy) → b ≡ false
+    → ◌≡◌ {A = List PlacedCopy} (cond b (one ∷ []) []) []
 none-kept true one e = cc
 none-kept false one e = refl
 
-pub admitted-more : (query : Query) (entries : List MarkedCopy) (one : MarkedCopy)
-    → admits query one ≡ true → admitted query (entries ++ one ∷ []) ≡ admitted query entries ++ one
+pub admitted-more : (query : Query) (entries : List PlacedCopy) (one : PlacedCopy)
+    → admits query one.one ≡ true → admitted query (entries ++ one ∷ []) ≡ admitted query entries ++ one
     ∷ []
 admitted-more query entries one sure =
-    filter-append (admits query) entries (one ∷ [])
-    ∙ ap (λ l. admitted query entries ++ l) (one-kept (admits query one) one sure)
+    filter-append (λ (p : PlacedCopy). admits query p.one) entries (one ∷ [])
+    ∙ ap (λ l. admitted query entries ++ l) (one-kept (admits query one.one) one sure)
 
-pub admitted-same : (query : Query) (entries : List MarkedCopy) (one : MarkedCopy)
-    → admits query one ≡ false → admitted query (entries ++ one ∷ []) ≡ admitted query entries
+pub admitted-same : (query : Query) (entries : List PlacedCopy) (one : PlacedCopy)
+    → admits query one.one ≡ false → admitted query (entries ++ one ∷ []) ≡ admitted query entries
 admitted-same query entries one never =
-    filter-append (admits query) entries (one ∷ [])
-    ∙ ap (λ l. admitted query entries ++ l) (none-kept (admits query one) one never)
+    filter-append (λ (p : PlacedCopy). admits query p.one) entries (one ∷ [])
+    ∙ ap (λ l. admitted query entries ++ l) (none-kept (admits query one.one) one never)
     ∙ append-nil (admitted query entries)
 
 -- of what is chosen there is no more than of entries
-few-so : (b : Bool) (entries : List MarkedCopy) → length (chosen_so b entries) ≤ length entries
+few-so : (b : Bool) (entries : List PlacedCopy) → length (chosen_so b entries) ≤ length entries
 few-so true entries = last-few entries
 few-so false entries = omega arith
 
-pub chosen-few : (query : Query) (entries : List MarkedCopy)
+pub chosen-few : (query : Query) (entries : List PlacedCopy)
     → length (chosen query entries) ≤ length entries
 chosen-few query entries =
     omega (
       arith,
       few-so query.last (admitted query entries),
-      length-filter (admits query) entries,
-      count_by-le-length (admits query) entries,
+      length-filter (λ (p : PlacedCopy). admits query p.one) entries,
+      count_by-le-length (λ (p : PlacedCopy). admits query p.one) entries,
     )
 
 -- at once, and at last
-at-once : (b : Bool) (entries : List MarkedCopy) → b ≡ false → chosen_so b entries ≡ entries
+at-once : (b : Bool) (entries : List PlacedCopy) → b ≡ false → chosen_so b entries ≡ entries
 at-once true entries e = absurd (cc)
 at-once false entries e = refl
 
-at-last : (b : Bool) (entries : List MarkedCopy) → b ≡ true
+at-last : (b : Bool) (entries : List PlacedCopy) → b ≡ true
     → chosen_so b entries ≡ last_entries entries
 at-last true entries e = refl
 at-last false entries e = absurd (cc)
 
-nothing-held : (b : Bool) (passed held : List MarkedCopy) → b ≡ false → IsDivided b passed held
+nothing-held : (b : Bool) (passed held : List PlacedCopy) → b ≡ false → IsDivided b passed held
     → held ≡ []
 nothing-held true passed held e d = absurd (cc)
 nothing-held false passed held e d = d
 
-nothing-passed : (b : Bool) (passed held : List MarkedCopy) → b ≡ true → IsDivided b passed held
+nothing-passed : (b : Bool) (passed held : List PlacedCopy) → b ≡ true → IsDivided b passed held
     → passed ≡ []
 nothing-passed true passed held e d = d
 nothing-passed false passed held e d = absurd (cc)
 
-divided-at-once : (b : Bool) (passed : List MarkedCopy) → b ≡ false → IsDivided b passed []
+divided-at-once : (b : Bool) (passed : List PlacedCopy) → b ≡ false → IsDivided b passed []
 divided-at-once true passed e = absurd (cc)
 divided-at-once false passed e = refl
 
-divided-at-last : (b : Bool) (held : List MarkedCopy) → b ≡ true → IsDivided b [] held
+divided-at-last : (b : Bool) (held : List PlacedCopy) → b ≡ true → IsDivided b [] held
 divided-at-last true held e = refl
 divided-at-last false held e = absurd (cc)
 
 -- of nothing there are no texts
-no-texts : (form : Form) (passed : List MarkedCopy) (texts : List (List ℕ))
+no-texts : (form : Form) (passed : List PlacedCopy) (texts : List (List ℕ))
     → AllZip (IsInForm form) passed texts → passed ≡ [] → texts ≡ []
 no-texts form [] [] h e = refl
 no-texts form [] (text ∷ texts) h e = absurd h
@@ -109,7 +115,7 @@ no-texts form (one ∷ passed) [] h e = refl
 no-texts form (one ∷ passed) (text ∷ texts) h e = absurd (cc)
 
 -- what is held has its texts
-held-texts : (form : Form) (entries : List MarkedCopy) (held : List HeldEntry)
+held-texts : (form : Form) (entries : List PlacedCopy) (held : List HeldEntry)
     → AreHeld form entries held → AllZip (IsInForm form) entries (map held_text held)
 held-texts form [] [] h = tt
 held-texts form [] (x ∷ held) h = absurd h
@@ -154,7 +160,7 @@ nothing-given query form old output given none empty = record {
   are_held = subst (AreHeld form []) (sym empty) tt;
 }
   where
-    nothing : (b : Bool) → ◌≡◌ {A = List MarkedCopy} (chosen_so b []) []
+    nothing : (b : Bool) → ◌≡◌ {A = List PlacedCopy} (chosen_so b []) []
     nothing true = refl
     nothing false = refl
 
@@ -163,9 +169,9 @@ nothing-given query form old output given none empty = record {
     both false = refl
 
 module _ (query : Query) (form : Form) (old now : Option (List ℕ)) (before : Output)
-    (entries : List MarkedCopy) (h : HasGivenOutput query form old now before entries) where
+    (entries : List PlacedCopy) (h : HasGivenOutput query form old now before entries) where
   -- an entry that isn't admitted is given no bytes
-  pub given-same : (one : MarkedCopy) → admits query one ≡ false
+  pub given-same : (one : PlacedCopy) → admits query one.one ≡ false
       → HasGivenOutput query form old now before (entries ++ one ∷ [])
   given-same one never = record {
     passed = h.passed;
@@ -186,7 +192,7 @@ module _ (query : Query) (form : Form) (old now : Option (List ℕ)) (before : O
       (nothing-held query.last h.passed h.held at_once h.divided)
       ∙ append-nil h.passed
 
-  chosen-more : (one : MarkedCopy) → query.last ≡ false → admits query one ≡ true
+  chosen-more : (one : PlacedCopy) → query.last ≡ false → admits query one.one ≡ true
       → chosen query (entries ++ one ∷ []) ≡ h.passed ++ one ∷ []
   chosen-more one at_once sure =
       at-once query.last (admitted query (entries ++ one ∷ [])) at_once
@@ -195,8 +201,8 @@ module _ (query : Query) (form : Form) (old now : Option (List ℕ)) (before : O
       (sym (at-once query.last (admitted query entries) at_once) ∙ all-passed at_once)
 
   -- one that is admitted is given its text
-  pub given-more : (new : Option (List ℕ)) (after : Output) (one : MarkedCopy) (text : List ℕ)
-      → query.last ≡ false → admits query one ≡ true → IsInForm form one text
+  pub given-more : (new : Option (List ℕ)) (after : Output) (one : PlacedCopy) (text : List ℕ)
+      → query.last ≡ false → admits query one.one ≡ true → IsInForm form one text
       → after.passed ≡ min (before.passed + 1) (2 ^ 64 - 1) → after.held ≡ before.held
       → HasGiven old new after.batch (concat h.texts ++ text)
       → HasGivenOutput query form old new after (entries ++ one ∷ [])
@@ -220,10 +226,10 @@ module _ (query : Query) (form : Form) (old now : Option (List ℕ)) (before : O
       }
 
   -- or not all of it
-  pub part-more : (new : Option (List ℕ)) (one : MarkedCopy) (text : List ℕ) (written : ℕ)
-      → query.last ≡ false → admits query one ≡ true → IsInForm form one text
+  pub part-more : (new : Option (List ℕ)) (one : PlacedCopy) (text : List ℕ) (written : ℕ)
+      → query.last ≡ false → admits query one.one ≡ true → IsInForm form one text
       → WroteSome old new (concat h.texts ++ text) written
-      → WrotePart query form (record { before = old; after = new }) (entries ++ one ∷ []) written
+      → WrotePlacedPart query form (record { before = old; after = new }) (entries ++ one ∷ []) written
   part-more new one text written at_once sure is part = record {
     output = concat h.texts ++ text;
     is_output = record {
@@ -244,8 +250,8 @@ module _ (query : Query) (form : Form) (old now : Option (List ℕ)) (before : O
       (nothing-passed query.last h.passed h.held at_last h.divided))
 
   -- one that is held
-  pub given-held : (after : Output) (one : MarkedCopy) → query.last ≡ true
-      → admits query one ≡ true → after.passed ≡ before.passed → after.batch ≡ before.batch
+  pub given-held : (after : Output) (one : PlacedCopy) → query.last ≡ true
+      → admits query one.one ≡ true → after.passed ≡ before.passed → after.batch ≡ before.batch
       → (AreHeld form (last_entries (admitted query entries)) before.held.entries.items
       → AreHeld form (last_entries (admitted query entries ++ one ∷ [])) after.held.entries.items)
       → HasGivenOutput query form old now after (entries ++ one ∷ [])
@@ -294,8 +300,8 @@ module _ (query : Query) (form : Form) (old now : Option (List ℕ)) (before : O
       → MatchResult r
       (λ _. HasGivenOutput query form old new after entries
       × (query.last ≡ false
-      → WroteOutput query form (record { before = old; after = new }) entries))
-      (λ fault. WrotePart query form (record { before = old; after = new }) entries fault.written)
+      → WrotePlaced query form (record { before = old; after = new }) entries))
+      (λ fault. WrotePlacedPart query form (record { before = old; after = new }) entries fault.written)
   given-sent (Ok a) new after count same k empty = (
     record {
       passed = h.passed;
@@ -322,7 +328,7 @@ module _ (query : Query) (form : Form) (old now : Option (List ℕ)) (before : O
   given-sent (Err fault) new after count same k empty = of query.last refl
     where
       of : (b : Bool) → query.last ≡ b
-          → WrotePart query form (record { before = old; after = new }) entries fault.written
+          → WrotePlacedPart query form (record { before = old; after = new }) entries fault.written
       of true at_last =
           let less = k.fewer in
           absurd (omega (arith, less, ap length (nothing-written at_last)))
@@ -354,7 +360,7 @@ module _ (query : Query) (form : Form) (old now : Option (List ℕ)) (before : O
       }
 
   pub part-finished : (new : Option (List ℕ)) (written : ℕ) → WroteSome old new last_texts written
-      → WrotePart query form (record { before = old; after = new }) entries written
+      → WrotePlacedPart query form (record { before = old; after = new }) entries written
   part-finished new written part = record {
     output = last_texts;
     is_output = all-output;
@@ -366,8 +372,8 @@ module _ (query : Query) (form : Form) (old now : Option (List ℕ)) (before : O
       (λ fault. WroteSome old new last_texts fault.written)
       → OnOk r (batch.bytes ≡ [])
       → MatchResult r
-      (λ _. WroteOutput query form (record { before = old; after = new }) entries)
-      (λ fault. WrotePart query form (record { before = old; after = new }) entries fault.written)
+      (λ _. WrotePlaced query form (record { before = old; after = new }) entries)
+      (λ fault. WrotePlacedPart query form (record { before = old; after = new }) entries fault.written)
   finished (Ok a) new batch k empty = record {
     output = last_texts;
     is_output = all-output;
@@ -379,7 +385,7 @@ module _ (query : Query) (form : Form) (old now : Option (List ℕ)) (before : O
   -- and what stands behind it
   pub part-closed : (new : Option (List ℕ)) (end : List ℕ) (written : ℕ)
       → end ≡ end_of form (chosen query entries) → WroteSome old new (last_texts ++ end) written
-      → WrotePart query form (record { before = old; after = new }) entries written
+      → WrotePlacedPart query form (record { before = old; after = new }) entries written
   part-closed new end written is part = record {
     output = last_texts;
     is_output = all-output;
@@ -392,8 +398,8 @@ module _ (query : Query) (form : Form) (old now : Option (List ℕ)) (before : O
       (λ fault. WroteSome old new (last_texts ++ end) fault.written)
       → OnOk r (batch.bytes ≡ [])
       → MatchResult r
-      (λ _. WroteToEnd query form (record { before = old; after = new }) entries)
-      (λ fault. WrotePart query form (record { before = old; after = new }) entries fault.written)
+      (λ _. WrotePlacedToEnd query form (record { before = old; after = new }) entries)
+      (λ fault. WrotePlacedPart query form (record { before = old; after = new }) entries fault.written)
   closed (Ok a) new batch end is k empty = record {
     output = last_texts;
     is_output = all-output;

@@ -4,17 +4,22 @@ use Rattle.std.specs.Prelude.{not, ◌||◌, filter}
 use Rattle.std.specs.List.{AllZip, list_any}
 use Rattle.std.proofs.lemmas.List.Folds.{list_any-append}
 use Rattle.nx_copies.specs.copies.Shares.{MarkedCopy}
-use Rattle.nx_log.specs.Last.{last_entries, replaces}
+use Rattle.nx_log.specs.Last.{last_by, replaces}
+use Rattle.nx_log.specs.Places.{PlacedCopy, copy_of}
 use Rattle.nx_log.specs.private.Heads.{head_replaces}
 use Rattle.nx_log.specs.private.Held.{SaysHead}
 use Rattle.nx_log.specs.declared.entries.head.LoggedHead.{LoggedHead}
 
 -- an entry that one more doesn't replace
-abbrev pub stays : MarkedCopy → MarkedCopy → Bool
-stays one other = not (replaces one other)
+abbrev pub stays : PlacedCopy → PlacedCopy → Bool
+stays one other = not (replaces one.one other.one)
+
+-- of entries those that none behind them replaces
+abbrev pub last_entries : List PlacedCopy → List PlacedCopy
+last_entries entries = last_by copy_of entries
 
 abbrev Element : Type 0
-Element = MarkedCopy
+Element = PlacedCopy
 
 -- of a list with one element in front the last ones, where it is known whether one replaces it
 in_front : (b r : Bool) (e one : Element) (kept : List Element) (any now : Bool)
@@ -31,16 +36,16 @@ filter-cond : (p : Element → Bool) (b : Bool) (e : Element) (xs : List Element
 filter-cond p true e xs = refl
 filter-cond p false e xs = refl
 
-pub last-more : (entries : List MarkedCopy) (one : MarkedCopy)
+pub last-more : (entries : List PlacedCopy) (one : PlacedCopy)
     → last_entries (entries ++ one ∷ []) ≡ filter (stays one) (last_entries entries) ++ one ∷ []
 last-more [] one = refl
 last-more (e ∷ entries) one =
-    let test = λ (other : MarkedCopy). replaces other e in
+    let test = λ (other : PlacedCopy). replaces other.one e.one in
     let kept = filter (stays one) (last_entries entries) in
     let any : list_any test (entries ++ one ∷ []) ≡ (list_any test entries
-    || (replaces one e || false)) = list_any-append test entries (one ∷ []) in
+    || (replaces one.one e.one || false)) = list_any-append test entries (one ∷ []) in
     ap (λ l. cond (list_any test (entries ++ one ∷ [])) l (e ∷ l)) (last-more entries one)
-    ∙ in_front (list_any test entries) (replaces one e) e one kept
+    ∙ in_front (list_any test entries) (replaces one.one e.one) e one kept
     (list_any test (entries ++ one ∷ [])) (list_any test entries) any refl
     ∙ ap (λ l. l ++ one ∷ [])
     (sym (filter-cond (stays one) (list_any test entries) e (last_entries entries)))
@@ -51,10 +56,10 @@ few-cond : (b : Bool) (e : Element) (xs : List Element) (n : ℕ) → length xs 
 few-cond true e xs n h = omega (arith, h)
 few-cond false e xs n h = omega (arith, h)
 
-pub last-few : (entries : List MarkedCopy) → length (last_entries entries) ≤ length entries
+pub last-few : (entries : List PlacedCopy) → length (last_entries entries) ≤ length entries
 last-few [] = omega arith
 last-few (e ∷ entries) =
-    let test = λ (other : MarkedCopy). replaces other e in
+    let test = λ (other : PlacedCopy). replaces other.one e.one in
     let few = few-cond (list_any test entries) e (last_entries entries) (length entries)
     (last-few entries) in
     omega (arith, few)

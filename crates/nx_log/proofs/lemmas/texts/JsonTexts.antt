@@ -1,7 +1,7 @@
 -- A text as it stands in a string of JSON, and a line of JSON part by part.
 use Rattle.std.proofs.Common.{◌≡◌, ℕ, ◌+◌, ◌-◌, ◌/◌, ◌%◌, ◌<◌, Bool, true, false, cond, not, List, [], ◌∷◌, ◌++◌, length, take, drop}
-use Rattle.std.proofs.Common.{get_or, refl, sym, ap, ◌∙◌, subst, arith, append_assoc, Some, None}
-use Rattle.std.specs.Prelude.{IsTrue, ◌==◌, ◌&&◌, ◌||◌, nat_lt, codes, decimal}
+use Rattle.std.proofs.Common.{get_or, refl, sym, ap, ◌∙◌, subst, arith, append_assoc, append-nil, Option, Some, None}
+use Rattle.std.specs.Prelude.{IsTrue, ◌==◌, ◌&&◌, ◌||◌, nat_lt, codes, decimal, option_map}
 use Rattle.std.specs.List.{All, AllByRecursion}
 use Rattle.std.proofs.Math.Seq.{take-add}
 use Rattle.std.proofs.lemmas.Bool.{agree_below_at, and_parts}
@@ -12,7 +12,7 @@ use Rattle.std.proofs.lemmas.List.Elements.{All-head, All-tail, All-drop, All-fr
 use Rattle.json.specs.Print.{escape, escape_byte, escape_letter, quoted, token_text}
 use Rattle.json.specs.Token.{boolean}
 use Rattle.memchr.specs.Find.{IsFirstByte, is_byte}
-use Rattle.nx_code.specs.Reading.{IsCapital, characters, is_in_code}
+use Rattle.nx_code.specs.Reading.{IsCapital, characters, is_in_code, newline}
 use Rattle.nx_envelope.specs.Copies.{errors_of}
 use Rattle.nx_envelope.specs.Identity.{identity_bytes}
 use Rattle.nx_envelope.specs.Moment.{IsShownAs}
@@ -22,14 +22,17 @@ use Rattle.nx_envelope.specs.declared.found.How.TheVariants.{Full, Cut, Long}
 use Rattle.nx_fec.specs.air_files.Channels.{channel_number}
 use Rattle.nx_copies.specs.copies.Log.{how_name}
 use Rattle.nx_copies.specs.copies.Printing.{is_good}
+use Rattle.nx_copies.specs.copies.Shares.{MarkedCopy}
+use Rattle.serde_json.specs.Written.{compact_text}
 use Rattle.nx_log.proofs.lemmas.texts.Moments.{months_small, year_small}
 use Rattle.nx_log.proofs.lemmas.texts.QueryTexts.{text_low}
-use Rattle.nx_log.specs.Json.{IsJsonLine}
+use Rattle.nx_log.specs.Json.{IsPlacedLine, entry_data}
 use Rattle.nx_log.specs.Logged.{is_text_byte}
 use Rattle.nx_log.specs.Times.{joined}
 use Rattle.nx_log.specs.View.{copy_said}
 use Rattle.nx_log.specs.declared.entries.head.LoggedHead.{LoggedHead}
-use Rattle.nx_log.specs.private.JsonParts.{json_front, json_middle, json_tail, truth_name}
+use Rattle.nx_log.specs.declared.writing.places.Places.{Places}
+use Rattle.nx_log.specs.private.JsonParts.{counted, json_front, json_middle, json_tail, truth_name}
 
 -- a byte that stands in a string as it is
 abbrev is_plain : ℕ → Bool
@@ -273,9 +276,26 @@ in_order : (k1 k2 k3 k4 k5 k6 k7 k8 k9 k10 k11 k12 q z n a b c d v i e f g h x y
     ++ (k10 ++ ((h ++ q) ++ (k11 ++ ((x ++ q) ++ (k12 ++ ((y ++ q) ++ z))))))))))))))))))))))))
     ++ n
     ≡ (((k1 ++ a ++ k2 ++ b ++ k3 ++ c ++ (q ++ k4) ++ d ++ k5 ++ v ++ k6 ++ i)
-    ++ ((q ++ k7) ++ e ++ k8 ++ f ++ k9 ++ (g ++ (q ++ k10)) ++ (h ++ (q ++ k11)))) ++ x)
+    ++ ((q ++ k7) ++ e ++ [] ++ k8 ++ f ++ [] ++ k9 ++ (g ++ (q ++ k10)) ++ (h ++ (q ++ k11))))
+    ++ x)
     ++ ((q ++ k12) ++ y ++ (q ++ (z ++ n)))
-in_order k1 k2 k3 k4 k5 k6 k7 k8 k9 k10 k11 k12 q z n a b c d v i e f g h x y = simp append_assoc
+in_order k1 k2 k3 k4 k5 k6 k7 k8 k9 k10 k11 k12 q z n a b c d v i e f g h x y =
+    simp (append_assoc, append-nil)
+
+-- the same with both places
+in_order_placed : (k1 k2 k3 k4 k5 k6 k7 k8 k9 k10 k11 k12 k13 k14 q z n a b c d v i e f g h x y
+    r s : List ℕ)
+    → (k1 ++ (a ++ (k2 ++ (b ++ (k3 ++ ((c ++ q) ++ (k4 ++ (d ++ (k5 ++ (v ++ (k6 ++ ((i ++ q)
+    ++ (k7 ++ (e ++ (k13 ++ (r ++ (k8 ++ (f ++ (k14 ++ (s ++ (k9 ++ ((g ++ q)
+    ++ (k10 ++ ((h ++ q)
+    ++ (k11 ++ ((x ++ q) ++ (k12 ++ ((y ++ q) ++ z))))))))))))))))))))))))))))
+    ++ n
+    ≡ (((k1 ++ a ++ k2 ++ b ++ k3 ++ c ++ (q ++ k4) ++ d ++ k5 ++ v ++ k6 ++ i)
+    ++ ((q ++ k7) ++ e ++ (k13 ++ r) ++ k8 ++ f ++ (k14 ++ s) ++ k9 ++ (g ++ (q ++ k10))
+    ++ (h ++ (q ++ k11)))) ++ x)
+    ++ ((q ++ k12) ++ y ++ (q ++ (z ++ n)))
+in_order_placed k1 k2 k3 k4 k5 k6 k7 k8 k9 k10 k11 k12 k13 k14 q z n a b c d v i e f g h x y r s =
+    simp append_assoc
 
 -- a string member of an object, and what stands behind it
 abbrev text_member : List ℕ → List ℕ → List ℕ → List ℕ
@@ -285,52 +305,89 @@ text_member name text more = quoted name ++ 58 ∷ ((34 ∷ (text ++ 34 ∷ []))
 abbrev plain_member : List ℕ → List ℕ → List ℕ → List ℕ
 plain_member name value more = quoted name ++ 58 ∷ (value ++ more)
 
+-- a member that is a number, where there is one
+abbrev some_member : List ℕ → Option ℕ → List ℕ → List ℕ
+some_member name None more = more
+some_member name (Some n) more = 44 ∷ plain_member name (decimal n) more
+
 -- the object of an entry, and a newline, by the texts of its values
-abbrev object_of : (a b c d v i e f g h x y : List ℕ) → List ℕ
-object_of a b c d v i e f g h x y =
+abbrev object_of : (places : Option Places) (a b c d v i e f g h x y : List ℕ) → List ℕ
+object_of places a b c d v i e f g h x y =
     (123 ∷ plain_member (codes "channel") a (44 ∷ plain_member (codes "characters") b
     (44 ∷ text_member (codes "end") c (44 ∷ plain_member (codes "errors") d
     (44 ∷ plain_member (codes "good") v (44 ∷ text_member (codes "identity") i
-    (44 ∷ plain_member (codes "moment") e (44 ∷ plain_member (codes "number") f
+    (44 ∷ plain_member (codes "moment") e
+    (some_member (codes "next") (option_map (λ p. p.next) places)
+    (44 ∷ plain_member (codes "number") f
+    (some_member (codes "place") (option_map (λ p. p.place) places)
     (44 ∷ text_member (codes "station") g (44 ∷ text_member (codes "subject") h
     (44 ∷ text_member (codes "text") x (44 ∷ text_member (codes "time") y
-    (125 ∷ []))))))))))))) ++ 10 ∷ []
+    (125 ∷ []))))))))))))))) ++ 10 ∷ []
 
-in_parts : (a b c d v i e f x y : List ℕ) (s t : ℕ)
-    → object_of a b c d v i e f (s ∷ []) (t ∷ []) x y
+-- what stands between the identity and the text
+abbrev middle_of : (places : Option Places) (e f : List ℕ) (s t : ℕ) → List ℕ
+middle_of places e f s t =
+    codes "\",\"moment\":" ++ e ++ counted (codes ",\"next\":") (option_map (λ p. p.next) places)
+    ++ codes ",\"number\":" ++ f
+    ++ counted (codes ",\"place\":") (option_map (λ p. p.place) places)
+    ++ codes ",\"station\":\"" ++ s ∷ codes "\",\"subject\":\"" ++ t ∷ codes "\",\"text\":\""
+
+in_parts : (places : Option Places) (a b c d v i e f x y : List ℕ) (s t : ℕ)
+    → object_of places a b c d v i e f (s ∷ []) (t ∷ []) x y
     ≡ (((codes "{\"channel\":" ++ a ++ codes ",\"characters\":" ++ b ++ codes ",\"end\":\"" ++ c
     ++ codes "\",\"errors\":" ++ d ++ codes ",\"good\":" ++ v ++ codes ",\"identity\":\"" ++ i)
-    ++ (codes "\",\"moment\":" ++ e ++ codes ",\"number\":" ++ f
-    ++ codes ",\"station\":\"" ++ s ∷ codes "\",\"subject\":\"" ++ t ∷ codes "\",\"text\":\""))
+    ++ middle_of places e f s t)
     ++ x) ++ (codes "\",\"time\":\"" ++ y ++ codes "\"}\n")
 unfolding escape_byte
-in_parts a b c d v i e f x y s t =
+in_parts None a b c d v i e f x y s t =
     in_order (codes "{\"channel\":") (codes ",\"characters\":") (codes ",\"end\":\"")
     (codes ",\"errors\":") (codes ",\"good\":") (codes ",\"identity\":\"")
     (codes ",\"moment\":") (codes ",\"number\":") (codes ",\"station\":\"")
     (codes ",\"subject\":\"") (codes ",\"text\":\"") (codes ",\"time\":\"") (34 ∷ []) (125 ∷ [])
     (10 ∷ []) a b c d v i e f (s ∷ []) (t ∷ []) x y
+in_parts (Some p) a b c d v i e f x y s t =
+    in_order_placed (codes "{\"channel\":") (codes ",\"characters\":") (codes ",\"end\":\"")
+    (codes ",\"errors\":") (codes ",\"good\":") (codes ",\"identity\":\"")
+    (codes ",\"moment\":") (codes ",\"number\":") (codes ",\"station\":\"")
+    (codes ",\"subject\":\"") (codes ",\"text\":\"") (codes ",\"time\":\"")
+    (codes ",\"next\":") (codes ",\"place\":") (34 ∷ []) (125 ∷ [])
+    (10 ∷ []) a b c d v i e f (s ∷ []) (t ∷ []) x y (decimal p.next) (decimal p.place)
 
 -- the same, each value by what it is
-same_values : (a b c d v i e f g h x y b' c' d' v' i' g' h' y' : List ℕ)
+same_values : (places : Option Places) (a b c d v i e f g h x y b' c' d' v' i' g' h' y' : List ℕ)
     → b ≡ b' → c ≡ c' → d ≡ d' → v ≡ v' → i ≡ i' → g ≡ g' → h ≡ h' → y ≡ y'
-    → object_of a b c d v i e f g h x y ≡ object_of a b' c' d' v' i' e f g' h' x y'
-same_values a b c d v i e f g h x y b' c' d' v' i' g' h' y' eb ec ed ev ei eg eh ey =
+    → object_of places a b c d v i e f g h x y ≡ object_of places a b' c' d' v' i' e f g' h' x y'
+same_values places a b c d v i e f g h x y b' c' d' v' i' g' h' y' eb ec ed ev ei eg eh ey =
     rw (eb, ec, ed, ev, ei, eg, eh, ey) refl
 
-pub json-line : (head : LoggedHead) (text civil : List ℕ) → head.errors ≡ errors_of text
+-- as JSON is written
+as_written : (one : MarkedCopy) (places : Option Places) (time : List ℕ)
+    → compact_text (entry_data one places time) ++ newline ∷ []
+    ≡ object_of places (decimal (channel_number one.channel)) (decimal (length one.copy.text))
+    (escape (how_name one.copy.how)) (decimal (errors_of one.copy.text))
+    (token_text (boolean (is_good one.copy))) (escape (identity_bytes one.copy.identity))
+    (decimal one.copy.moment) (decimal one.copy.identity.number)
+    (escape (one.copy.identity.b1.byte ∷ [])) (escape (one.copy.identity.b2.byte ∷ []))
+    (escape one.copy.text) (escape time)
+as_written one None time = refl
+as_written one (Some p) time = refl
+
+pub json-line : (head : LoggedHead) (text : List ℕ) (places : Option Places) (civil : List ℕ)
+    → head.errors ≡ errors_of text
     → head.characters ≡ length text → IsShownAs head.moment civil
-    → IsJsonLine (copy_said head text)
-    (((json_front head (is_good (copy_said head text).copy) ++ json_middle head) ++ escape text)
+    → IsPlacedLine (copy_said head text) places
+    (((json_front head (is_good (copy_said head text).copy) ++ json_middle head places)
+    ++ escape text)
     ++ json_tail (joined civil ++ codes "Z"))
-json-line head text civil e c shown =
+json-line head text places civil e c shown =
     let time = joined civil ++ codes "Z" in
     let i = head.identity in
     let good = is_good (copy_said head text).copy in
     record {
       civil = civil;
       shown = shown;
-      spelled = sym (same_values (decimal (channel_number head.channel)) (decimal (length text))
+      spelled = sym (as_written (copy_said head text) places time
+          ∙ same_values places (decimal (channel_number head.channel)) (decimal (length text))
           (escape (how_name head.how)) (decimal (errors_of text)) (token_text (boolean good))
           (escape (identity_bytes i)) (decimal head.moment)
           (decimal i.number) (escape (i.b1.byte ∷ [])) (escape (i.b2.byte ∷ [])) (escape text)
@@ -340,7 +397,7 @@ json-line head text civil e c shown =
           (how-escaped head.how) (ap decimal (sym e)) (truth good) (identity-escaped i)
           (letter-escaped i.b1.byte i.b1.in_range)
           (letter-escaped i.b2.byte i.b2.in_range) (time-escaped head.moment civil shown)
-          ∙ in_parts (decimal (channel_number head.channel)) (decimal head.characters)
+          ∙ in_parts places (decimal (channel_number head.channel)) (decimal head.characters)
           (how_name head.how) (decimal head.errors) (truth_name good) (identity_bytes i)
           (decimal head.moment) (decimal i.number) (escape text) time i.b1.byte i.b2.byte);
     }

@@ -5,6 +5,8 @@ use Rattle.std.proofs.lemmas.List.{length-take-le, take-append-le}
 use Rattle.std.proofs.lemmas.Result.{err_from_is_err_and}
 use Rattle.std.specs.Io.KnownBytes.{Consumes}
 use Rattle.nx_fec.proofs.lemmas.devices.TransferLaws.{Ok-not_err, Writes-sound}
+use Rattle.std.specs.Prelude.{map}
+use Rattle.nx_log.specs.Places.{unplaced}
 use Rattle.nx_log.specs.Salvage.{entries_in}
 use Rattle.nx_log.proofs.lemmas.runs.LogRuns.{fault-of, part-all}
 use Rattle.nx_log.proofs.log_runs.LogRun.read_log.Goals as goal
@@ -20,7 +22,7 @@ returns-in_err-send-clause-read g c = λ damaged old told h.
       rw p.1 (rw p.2 (part-all c.args.query.now c.args.form damaged old c.loop-room.self _ _ r.0
           run _ _
           (c.in_err-send.ensures.given c.args.query.now c.args.form old
-          (entries_in run.stretches ++ run.last) run.given))),
+          (map unplaced (entries_in run.stretches ++ run.last)) run.given))),
     )
 
 pub returns-in_err-send-clause-writes : goal.returns-in_err-send-clause-writes
@@ -44,7 +46,7 @@ returns-in-End-clause-read g c = λ damaged old told h.
     let r = c.loop-room.invariant.read damaged old told h in
     let run = r.3 in
     let sent = c.in_ok-send.ensures.given c.args.query.now c.args.form old
-    (entries_in run.stretches ++ run.last) run.given in (
+    (map unplaced (entries_in run.stretches ++ run.last)) run.given in (
       r.0,
       Consumes-kept _ _ _ r.0 r.1 c.in-End.ensures.0,
       omega (arith, r.2),
@@ -73,7 +75,7 @@ returns-in-Failed-clause-read g c = λ damaged old told h.
     let r = c.loop-room.invariant.read damaged old told h in
     let run = r.3 in
     let sent = c.in_ok-send.ensures.given c.args.query.now c.args.form old
-    (entries_in run.stretches ++ run.last) run.given in (
+    (map unplaced (entries_in run.stretches ++ run.last)) run.given in (
       r.0,
       Consumes-kept _ _ _ r.0 r.1 c.in-Failed.ensures.0,
       omega (arith, r.2),
@@ -114,7 +116,7 @@ returns-in_err-take_piece-clause-read g c = λ damaged old told h.
     let r = c.loop-room.invariant.read damaged old told h in
     let run = r.3 in
     let sent = c.in_ok-send.ensures.given c.args.query.now c.args.form old
-    (entries_in run.stretches ++ run.last) run.given in
+    (map unplaced (entries_in run.stretches ++ run.last)) run.given in
     let b = c.next_piece.new.buffer in
     let most = c.min-most.result in
     let count = c.in-Bytes.count in
@@ -202,7 +204,7 @@ loop-room-preserved g c =
           let r = inv.read damaged old told h in
           let run = r.3 in
           let sent = c.in_ok-send.ensures.given c.args.query.now c.args.form old
-          (entries_in run.stretches ++ run.last) run.given in (
+          (map unplaced (entries_in run.stretches ++ run.last)) run.given in (
             r.0 ++ piece,
             Consumes-trans _ _ _ _ _ r.1 read',
             omega (arith, r.2, size, low, length-append r.0 piece),

@@ -1,12 +1,15 @@
-use Rattle.std.proofs.Common.{◌≡◌, ◌≤◌, ◌++◌, ◌∷◌, [], ℕ, List, length, length-append, arith, sym, take, drop, ap, append_assoc, subst}
+use Rattle.std.proofs.Common.{◌≡◌, ◌≤◌, ◌++◌, ◌∷◌, ◌∙◌, [], ℕ, List, length, length-append, arith, sym, take, drop, ap, append_assoc, subst}
 use Rattle.std.proofs.lemmas.List.{take-append-drop, take_all}
 use Rattle.std.proofs.lemmas.Result.{err_from_is_err_and}
 use Rattle.nx_log.specs.LogReader.{IsAt}
 use Rattle.nx_log.specs.LogRun.{most_read}
 use Rattle.nx_log.specs.Notices.{HaveToldAll, notices_of, torn_at}
+use Rattle.std.specs.Prelude.{map}
+use Rattle.nx_log.specs.Places.{unplaced}
 use Rattle.nx_log.specs.Salvage.{BeginsBehind, bytes_in, entries_in, told_of}
-use Rattle.nx_log.specs.private.LogRunning.{HasGivenOutput, IsRunning}
+use Rattle.nx_log.specs.private.LogRunning.{FailsGiving, HasGivenOutput, IsRunning}
 use Rattle.nx_log.proofs.lemmas.runs.LogRuns.{exact-line, fails-entry, part-at, passes-over, stops, taken-some, torn-bound, torn-some}
+use Rattle.nx_log.proofs.lemmas.runs.Placing.{one_more}
 use Rattle.nx_log.proofs.lemmas.runs.Stretches.{begins_behind, cut_on, told_more}
 use Rattle.nx_log.proofs.log_runs.LogRun.take_entry.Goals as goal
 
@@ -39,8 +42,13 @@ returns-in_err-give-in-Entry-clause-taken g c = λ damaged old told bytes within
     let p = err_from_is_err_and c.from_residual.result c.from_residual.ensures.1 in
     rw p.1 (rw p.2 (fails-entry c.args.query.now c.args.form damaged old c.args.self.now _ _ bytes
     h c.push.new.self part c.in-Entry.taken t.1.0 _ _ begins t.1.2
-    (c.in_err-give-in-Entry.ensures.given t.1.0 old (entries_in h.stretches ++ h.last)
-    (c.entry_bytes.ensures t.1.0 t.1.1) h.given)))
+    (subst (λ l. FailsGiving c.args.query.now c.args.form
+    (record { before = old; after = g.W.Write.contents c.give.new.writer.inner }) l
+    c.in_err-give-in-Entry.field-0.0)
+    (one_more (entries_in h.stretches ++ h.last) t.1.0)
+    (c.in_err-give-in-Entry.ensures.given t.1.0 old
+    (map unplaced (entries_in h.stretches ++ h.last))
+    (c.entry_bytes.ensures t.1.0 t.1.1) h.given))))
 
 pub returns-in_ok-give-in-Entry-clause-taken : goal.returns-in_ok-give-in-Entry-clause-taken
 returns-in_ok-give-in-Entry-clause-taken g c = λ damaged old told bytes within h.
@@ -60,8 +68,10 @@ returns-in_ok-give-in-Entry-clause-taken g c = λ damaged old told bytes within 
       at = t.1.2;
       given = subst (λ l. HasGivenOutput c.args.query.now c.args.form old
           (g.W.Write.contents c.give.new.writer.inner) c.give.new.self l)
-          (append_assoc (entries_in h.stretches) h.last (t.1.0 ∷ []))
-          (c.in_ok-give-in-Entry.ensures.given t.1.0 old (entries_in h.stretches ++ h.last)
+          (one_more (entries_in h.stretches ++ h.last) t.1.0
+          ∙ ap (λ l. map unplaced l) (append_assoc (entries_in h.stretches) h.last (t.1.0 ∷ [])))
+          (c.in_ok-give-in-Entry.ensures.given t.1.0 old
+          (map unplaced (entries_in h.stretches ++ h.last))
           (c.entry_bytes.ensures t.1.0 t.1.1) h.given);
       told = h.told;
       ended = h.ended;
@@ -178,7 +188,7 @@ returns-in_err-close-in-Refused-clause-taken g c = λ damaged old told bytes wit
     rw p.1 (rw p.2 (part-at c.args.query.now c.args.form damaged old c.args.self.now _ _ bytes h
     c.args.part.now _ _
     (c.in_err-close-in-Refused.ensures.written c.args.query.now old
-    (entries_in h.stretches ++ h.last) h.given)))
+    (map unplaced (entries_in h.stretches ++ h.last)) h.given)))
 
 pub returns-in_ok-close-in-Refused-clause-taken
     : goal.returns-in_ok-close-in-Refused-clause-taken
@@ -186,7 +196,7 @@ returns-in_ok-close-in-Refused-clause-taken g c = λ damaged old told bytes with
     stops c.args.query.now c.args.form damaged old c.args.self.now _ _ bytes h c.args.part.now
     c.in-Bad.field-0.line _ c.in-Refused.is (c.in-Bad.ensures h.rest h.last h.torn h.at)
     (c.in_ok-close-in-Refused.ensures.written c.args.query.now old
-    (entries_in h.stretches ++ h.last) h.given)
+    (map unplaced (entries_in h.stretches ++ h.last)) h.given)
 
 pub returns-in-PassedOver-clause-taken : goal.returns-in-PassedOver-clause-taken
 returns-in-PassedOver-clause-taken g c = λ damaged old told bytes within h.

@@ -1,12 +1,11 @@
 use Rattle.std.proofs.Common.{◌≡◌, ◌∷◌, ◌++◌, [], not, ap, sym, subst, ◌∙◌, rules}
 use Rattle.std.specs.Prelude.{filter}
-use Rattle.nx_log.specs.Last.{last_entries}
 use Rattle.nx_log.specs.LogRun.{IsInForm}
 use Rattle.nx_log.specs.private.Heads.{head_replaces}
 use Rattle.nx_log.specs.private.Held.{AreHeld, IsHeldAs, not_replaced}
 use Rattle.nx_log.specs.declared.writing.last_entries.HeldEntry.{HeldEntry}
 use Rattle.nx_log.proofs.lemmas.runs.Outputs.{AllZip-append}
-use Rattle.nx_log.proofs.lemmas.runs.Replacing.{AllZip-filter, last-more, replaces-by-heads, stays}
+use Rattle.nx_log.proofs.lemmas.runs.Replacing.{AllZip-filter, last-more, last_entries, replaces-by-heads, stays}
 use Rattle.nx_log.proofs.writing.last_entries.LastEntries.take.Goals as goal
 
 pub returns : goal.returns
@@ -22,6 +21,6 @@ returns c = λ form one entries said is held.
     (subst (AreHeld form (kept ++ one ∷ [])) (sym all)
     (AllZip-append (IsHeldAs form) kept (one ∷ []) (not_replaced head items) (new ∷ [])
     (AllZip-filter (IsHeldAs form) (stays one) (λ (x : HeldEntry). not (head_replaces head x.head))
-    (λ x y h. ap not (sym (replaces-by-heads head y.head one x said h.head))) (last_entries entries)
+    (λ x y h. ap not (sym (replaces-by-heads head y.head one.one x.one said h.head))) (last_entries entries)
     items held)
     (record { head = said; text = subst (IsInForm form one) (sym text) is }, tt)))

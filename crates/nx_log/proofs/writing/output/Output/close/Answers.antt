@@ -1,7 +1,7 @@
 use Rattle.std.proofs.Common.{◌++◌, ◌∙◌, refl}
 use Rattle.std.specs.List.{concat}
 use Rattle.std.proofs.lemmas.Result.{err_from_is_err_and}
-use Rattle.nx_log.specs.Query.{chosen}
+use Rattle.nx_log.specs.Places.{chosen_placed as chosen}
 use Rattle.nx_log.proofs.lemmas.runs.Outputs.{closed, counted-all, last_texts, part-closed, part-finished}
 use Rattle.nx_log.proofs.writing.output.Output.close.Goals as goal
 

@@ -1,7 +1,8 @@
 use Rattle.std.proofs.Common.{sym, ap, ◌∙◌, subst}
 use Rattle.nx_log.specs.Query.{admits}
-use Rattle.nx_log.specs.Json.{IsJsonLine}
+use Rattle.nx_log.specs.Json.{IsPlacedLine}
 use Rattle.nx_log.specs.LogRun.{IsBehindGate, IsInForm}
+use Rattle.nx_log.specs.Places.{PlacedCopy}
 use Rattle.nx_log.proofs.lemmas.reading.Entries.{entry_bounded}
 use Rattle.nx_log.proofs.lemmas.runs.LogRuns.{view-is}
 use Rattle.nx_log.proofs.lemmas.runs.Outputs.{given-same, head-said}
@@ -13,7 +14,7 @@ returns-then-not-admits-clause-given g c = λ one old entries is h.
     let v = c.whole_entry-view.ensures in
     let same = view-is one c.args.bytes.now view is v in
     given-same c.args.query.now c.args.form old (g.W.Write.contents c.args.writer.now.inner)
-    c.args.self.now entries h one
+    c.args.self.now entries h (record { one = one; places = c.args.places })
     (ap (admits c.args.query.now) (sym same)
     ∙ sym (c.admits.ensures view.text.now v.errors v.characters)
     ∙ c.if-not-admits.true)
@@ -23,8 +24,9 @@ returns-in-Log-clause-given g c = λ one old entries is h.
     let view = c.whole_entry-view.result in
     let v = c.whole_entry-view.ensures in
     let same = view-is one c.args.bytes.now view is v in
-    c.take.ensures.given c.args.form one old entries (head-said view one same v.errors)
-    (subst (λ f. IsInForm f one c.args.bytes.now) (sym c.in-Log.is) is)
+    let placed : PlacedCopy = record { one = one; places = c.args.places } in
+    c.take.ensures.given c.args.form placed old entries (head-said view one same v.errors)
+    (subst (λ f. IsInForm f placed c.args.bytes.now) (sym c.in-Log.is) is)
     (ap (admits c.args.query.now) (sym same)
     ∙ sym (c.admits.ensures view.text.now v.errors v.characters)
     ∙ c.if-not-admits.false) h
@@ -34,11 +36,14 @@ returns-in-Json-clause-given g c = λ one old entries is h.
     let view = c.whole_entry-view.result in
     let v = c.whole_entry-view.ensures in
     let same = view-is one c.args.bytes.now view is v in
+    let placed : PlacedCopy = record { one = one; places = c.args.places } in
     let line = c.as_slice.result.now in
-    let spelled = subst (IsJsonLine one) (sym c.as_slice.ensures.value)
-    (subst (λ o. IsJsonLine o c.json_line.result.items) same c.json_line.ensures) in
-    c.take-in-Json.ensures.given c.args.form one old entries (head-said view one same v.errors)
-    (subst (λ f. IsInForm f one line) (sym c.in-Json.is) spelled)
+    let spelled = subst (IsPlacedLine one c.args.places) (sym c.as_slice.ensures.value)
+    (subst (λ o. IsPlacedLine o c.args.places c.placed_line-line.result.items) same
+    c.placed_line-line.ensures) in
+    c.take-in-Json.ensures.given c.args.form placed old entries
+    (head-said view one same v.errors)
+    (subst (λ f. IsInForm f placed line) (sym c.in-Json.is) spelled)
     (ap (admits c.args.query.now) (sym same)
     ∙ sym (c.admits.ensures view.text.now v.errors v.characters)
     ∙ c.if-not-admits.false) h
@@ -54,8 +59,10 @@ returns-in-Kept-clause-given g c = λ one old entries is h.
     let text = c.as_slice-in-Kept.result.now in
     let spelled : IsBehindGate one text =
     (c.args.bytes.now, is, c.as_slice-in-Kept.ensures.value ∙ c.kept_text.ensures) in
-    c.take-in-Kept.ensures.given c.args.form one old entries (head-said view one same v.errors)
-    (subst (λ f. IsInForm f one text) (sym c.in-Kept.is) spelled)
+    let placed : PlacedCopy = record { one = one; places = c.args.places } in
+    c.take-in-Kept.ensures.given c.args.form placed old entries
+    (head-said view one same v.errors)
+    (subst (λ f. IsInForm f placed text) (sym c.in-Kept.is) spelled)
     (ap (admits c.args.query.now) (sym same)
     ∙ sym (c.admits.ensures view.text.now v.errors v.characters)
     ∙ c.if-not-admits.false) h

@@ -1,7 +1,8 @@
 use Rattle.std.proofs.Common.{refl}
 use Rattle.std.specs.List.{concat}
 use Rattle.std.proofs.lemmas.Result.{err_from_is_err_and}
-use Rattle.nx_log.specs.Query.{admitted}
+use Rattle.nx_log.specs.Places.{copy_of}
+use Rattle.nx_log.specs.Query.{admitted_by}
 use Rattle.nx_log.proofs.lemmas.runs.Outputs.{given-held, given-more, part-more, wrote-nothing}
 use Rattle.nx_log.proofs.writing.output.Output.take.Goals as goal
 
@@ -20,7 +21,7 @@ returns-in_ok-take-clause-given g c = λ form one old entries said is sure h.
       passed = c.args.self.now.passed;
       held = c.take.new.self;
     }) one c.if-query.true sure refl refl
-    (c.in_ok-take.ensures form one (admitted c.args.query.now entries) said is)
+    (c.in_ok-take.ensures form one (admitted_by copy_of c.args.query.now entries) said is)
 
 pub returns-in_err-give-clause-given : goal.returns-in_err-give-clause-given
 returns-in_err-give-clause-given g c = λ form one old entries said is sure h.

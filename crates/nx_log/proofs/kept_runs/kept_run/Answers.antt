@@ -1,0 +1,87 @@
+use Rattle.std.proofs.Common.{[], arith, inl, inr, refl}
+use Rattle.std.proofs.KnownBytes.{Appends-nil, Consumes-nil}
+use Rattle.std.proofs.lemmas.Result.{err_from_is_err_and}
+use Rattle.nx_fec.specs.Transfers.{devices}
+use Rattle.nx_fec.proofs.lemmas.lines.ReadingLaws.{Err-same}
+use Rattle.nx_fec.proofs.lemmas.devices.TransferLaws.{Ok-not_err, Writes-fault, Writes-sound}
+use Rattle.nx_log.proofs.lemmas.kept.Runs.{ends_answer, finished_answer, ran_out_first}
+use Rattle.nx_log.proofs.lemmas.runs.LogRuns.{memory-not-read, memory-not-write}
+use Rattle.nx_log.proofs.kept_runs.kept_run.Goals as goal
+
+pub end-requires : goal.end-requires
+end-requires g c = record {
+  writer = Writes-sound _ _ _ (λ written. Ok-not_err _ _) c.in_ok-read_log.ensures.writes;
+}
+
+pub returns-in_err-buffer : goal.returns-in_err-buffer
+returns-in_err-buffer g c =
+    let d = devices g.R.Read.remaining g.W.Write.contents c.args.reader.now c.args.reader.now
+    c.args.writer.now c.args.writer.now in
+    let old = g.W.Write.contents c.args.writer.now.inner in
+    let p = err_from_is_err_and c.from_residual.result c.from_residual.ensures.1 in
+    let error = c.in_err-buffer.field-0.0 in
+    rw p.1 (rw p.2 (record {
+      bytes = [];
+      consumed = Consumes-nil (g.R.Read.remaining c.args.reader.now.inner);
+      within = omega arith;
+      answer = ran_out_first c.args.query.now c.args.form c.args.from d c.new-run.result error
+          refl refl (c.new-run.ensures.running c.args.query.now c.args.form old)
+          (Appends-nil old);
+      unread = λ e. absurd (memory-not-read error e);
+      read_failed = λ one. absurd (omega (arith, c.requires.reader, one));
+      read_once = omega (arith, c.requires.reader);
+      unwritten = (
+        λ w. absurd (memory-not-write error w.0 w.1),
+        λ one. absurd (omega (arith, c.requires.writer, one)),
+      );
+      write_once = omega (arith, c.requires.writer);
+    }))
+
+pub returns-in_err-read_log : goal.returns-in_err-read_log
+returns-in_err-read_log g c =
+    let d = devices g.R.Read.remaining g.W.Write.contents c.args.reader.now c.read_log.new.reader
+    c.args.writer.now c.read_log.new.writer in
+    let p = err_from_is_err_and c.from_residual-in_err-read_log.result
+    c.from_residual-in_err-read_log.ensures.1 in
+    let old = g.W.Write.contents c.args.writer.now.inner in
+    let r = c.in_err-read_log.ensures.read c.args.from old c.requires.from
+    (c.new-run.ensures.running c.args.query.now c.args.form old) in
+    let writes = Writes-fault _ _ _ c.in_err-read_log.ensures.writes in
+    rw p.1 (rw p.2 (record {
+      bytes = r.0;
+      consumed = r.1;
+      within = r.2;
+      answer = ends_answer c.args.query.now c.args.form c.args.from d r.0 r.2
+          c.in_err-read_log.field-0.0 r.3;
+      unread = λ e. c.in_err-read_log.ensures.unread (Err-same _ _ e);
+      read_failed = λ one. elim (c.in_err-read_log.ensures.read_failed one) [
+        | inl e ↦ inl (Err-same _ _ e)
+        | inr w ↦ inr (w.0, (w.1.0, Err-same _ _ w.1.1))
+      ];
+      read_once = c.in_err-read_log.ensures.once;
+      unwritten = writes.failed;
+      write_once = writes.once;
+    }))
+
+pub returns : goal.returns
+returns g c =
+    let d = devices g.R.Read.remaining g.W.Write.contents c.args.reader.now c.read_log.new.reader
+    c.args.writer.now c.end.new.writer in
+    let old = g.W.Write.contents c.args.writer.now.inner in
+    let r = c.in_ok-read_log.ensures.read c.args.from old c.requires.from
+    (c.new-run.ensures.running c.args.query.now c.args.form old) in
+    record {
+      bytes = r.0;
+      consumed = r.1;
+      within = r.2;
+      answer = finished_answer c.args.query.now c.args.form c.args.from d r.0 r.2 c.end.result
+          r.3.0 (c.end.ensures.ended c.args.query.now c.args.from old r.0 r.3.1);
+      unread = λ e. absurd (c.end.ensures.unread e);
+      read_failed = λ one. elim (c.in_ok-read_log.ensures.read_failed one) [
+        | inl e ↦ absurd (Ok-not_err _ _ e)
+        | inr w ↦ absurd (Ok-not_err _ _ w.1.1)
+      ];
+      read_once = c.in_ok-read_log.ensures.once;
+      unwritten = c.end.ensures.writes.failed;
+      write_once = c.end.ensures.writes.once;
+    }

@@ -1,0 +1,5 @@
+-- A kept log read as such.
+pub mod Damage
+pub mod Runs
+pub mod Standing
+pub mod Steps
