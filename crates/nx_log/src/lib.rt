@@ -22,6 +22,7 @@ pub use kept_runs::kept_run;
 pub use log_fault::LogFault;
 pub use log_runs::log_run;
 pub use queries::letters::Letters;
+pub use queries::place::place_named;
 pub use queries::query::Query;
 pub use queries::time::{since_of, until_of};
 pub use writing::form::Form;

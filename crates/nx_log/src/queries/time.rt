@@ -72,7 +72,7 @@ fn moment_named(text: &str, of_day: &[u8; TIME_LEN], of_minute: &[u8; SECOND_LEN
 }
 
 /// Whether each byte is a decimal digit.
-fn is_of_digits(bytes: &[u8]) -> bool
+pub(crate) fn is_of_digits(bytes: &[u8]) -> bool
     ensures { IsTrue result ↔ All IsAsciiDigit bytes.now }
 {
     bytes.iter().all(|byte| byte.is_ascii_digit())
