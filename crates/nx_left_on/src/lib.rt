@@ -4,5 +4,6 @@
 
 pub mod bounds;
 pub mod laws;
+pub mod places;
 pub mod reading;
 pub mod writing;

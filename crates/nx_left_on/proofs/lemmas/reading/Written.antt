@@ -1,5 +1,6 @@
 -- A kept log that is written of entries stands for them.
 use Rattle.std.proofs.Common.{◌≡◌, ◌≢◌, ℕ, List, [], ◌∷◌, ◌++◌, ap, ap₂, sym, ◌∙◌, refl, subst, arith, append-nil, append_assoc}
+use Rattle.std.specs.Prelude.{map}
 use Rattle.std.specs.List.{AllZip, concat, flat_map}
 use Rattle.std.specs.Io.KnownBytes.{Appends}
 use Rattle.nx_copies.specs.copies.Shares.{MarkedCopy}
@@ -7,12 +8,14 @@ use Rattle.nx_fec.specs.Transfers.{Contents}
 use Rattle.nx_kept.specs.Kept.{IsBehindOpenGates}
 use Rattle.nx_kept.proofs.lemmas.KeptLaws.{one_list}
 use Rattle.nx_log.specs.Entries.{IsWholeEntry}
-use Rattle.nx_log.specs.LogRun.{IsInForm, IsOutput, WroteToEnd, end_of}
+use Rattle.nx_log.specs.LogRun.{IsInForm, WroteToEnd, end_of}
+use Rattle.nx_log.specs.Places.{chosen_placed, unplaced}
 use Rattle.nx_log.specs.Logged.{IsLoggedAs}
 use Rattle.nx_log.specs.Query.{chosen}
 use Rattle.nx_log.specs.declared.queries.query.Query.{Query}
 use Rattle.nx_log.specs.declared.writing.form.Form.TheVariants.{Kept}
 use Rattle.nx_log.proofs.lemmas.reading.Entries.{one_entry}
+use Rattle.nx_log.proofs.lemmas.runs.Placing.{chosen-unplaced}
 use Rattle.nx_watch.specs.Watch.{RestsWithEntries, StandsForEntries, longest_entry}
 use Rattle.nx_watch.specs.private.Entries.{entry_one, entry_some}
 use Rattle.nx_left_on.specs.ReadBack.{IsAsPut}
@@ -28,7 +31,7 @@ record AreGated (entries : List MarkedCopy) (output : List ℕ) : Type 0 where
   whole : output ≡ gated texts
 
 are-gated : (entries : List MarkedCopy) (texts : List (List ℕ))
-    → AllZip (IsInForm Kept) entries texts → AreGated entries (concat texts)
+    → AllZip (IsInForm Kept) (map unplaced entries) texts → AreGated entries (concat texts)
 are-gated [] [] each = record { texts = []; each = tt; whole = refl }
 are-gated [] (t ∷ ts) each = absurd each
 are-gated (one ∷ entries) [] each = absurd each
@@ -57,17 +60,27 @@ written-of (one ∷ entries) output g = record {
   whole = ap (λ l. l ++ 32 ∷ []) g.whole;
 }
 
+end-unplaced : (entries : List MarkedCopy)
+    → end_of Kept (map unplaced entries) ≡ end_of Kept entries
+end-unplaced [] = refl
+end-unplaced (one ∷ entries) = refl
+
 pub written : (query : Query) (contents : Contents) (entries : List MarkedCopy)
     → WroteToEnd query Kept contents entries
     → (file : List ℕ) × Appends contents.before contents.after file
     × IsWrittenOf (chosen query entries) file
 written query contents entries w =
-    let o = w.is_output in (
+    let o = w.is_output in
+    let same = chosen-unplaced query entries in
+    let each = subst (λ l. AllZip (IsInForm Kept) l o.texts) same o.each in
+    let end : end_of Kept (chosen_placed query (map unplaced entries))
+    ≡ end_of Kept (chosen query entries) =
+    ap (λ l. end_of Kept l) same ∙ end-unplaced (chosen query entries) in (
       w.output ++ end_of Kept (chosen query entries),
-      w.written,
+      subst (λ l. Appends contents.before contents.after (w.output ++ l)) end w.written,
       written-of (chosen query entries) w.output
           (subst (AreGated (chosen query entries)) (sym o.joined)
-          (are-gated (chosen query entries) o.texts o.each)),
+          (are-gated (chosen query entries) o.texts each)),
     )
 
 -- entries behind open gates are records
