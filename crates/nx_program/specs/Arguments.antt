@@ -14,9 +14,9 @@ use Rattle.nx_code.specs.Reading.{newline}
 use Rattle.nx_envelope.specs.Moment.{last_moment}
 use Rattle.nx_envelope.specs.declared.letter.Letter.{Letter}
 use Rattle.nx_log.specs.declared.writing.form.Form.{Form}
-use Rattle.nx_log.specs.declared.damage.Damaged.{Damaged}
 use Rattle.nx_log.specs.declared.queries.query.Query.{Query}
-use Rattle.nx_program.specs.LogArguments.{IsDamaged, IsForm, IsQuery, IsReported, log_tree}
+use Rattle.nx_program.specs.LogArguments.{IsForm, IsQuery, IsReading, IsReported, log_tree}
+use Rattle.nx_program.specs.declared.log_arguments.ReadAs.{ReadAs}
 use Rattle.nx_program.specs.declared.arguments.Call.{Call}
 use Rattle.nx_program.specs.declared.arguments.Call.TheVariants.{Check, Code, Decode, Encode, Listen}
 use Rattle.nx_program.specs.declared.arguments.Call.TheVariants.{Log, Show}
@@ -52,7 +52,7 @@ command_name Locks = codes "locks"
 command_name (Send station moment) = codes "send"
 command_name (Slots station moment) = codes "slots"
 command_name (Damage kind from count) = codes "damage"
-command_name (Log query form damaged) = codes "log"
+command_name (Log query form reading) = codes "log"
 
 -- the name of a kind of damage on the command line
 abbrev pub kind_name : DamageKind → Text
@@ -106,14 +106,14 @@ bare_tree = on_top (λ s. record s {
 }) (new_app (codes "navtex"))
 
 -- What a command takes, and the call that it makes of it. It takes nothing; or a station and a
--- moment; or a file and a moment; or a kind of damage and two numbers; or the options of a query
--- and of a form.
+-- moment; or a file and a moment; or a kind of damage and two numbers; or the options of a query,
+-- of a form and of how a log is read.
 pub data Maker : Type 0 where
   plain : Call → Maker
   slot : (Letter → ℕ → Call) → Maker
   on_file : (Text → ℕ → Call) → Maker
   range : (DamageKind → ℕ → ℕ → Call) → Maker
-  options : (Query → Form → Damaged → Call) → Maker
+  options : (Query → Form → ReadAs → Call) → Maker
 
 -- the command tree of a command of this name
 abbrev pub tree_of : Text → Maker → App
@@ -190,8 +190,8 @@ HasValues (Watch name moment) values = IsFile values name × IsMoment values mom
 HasValues (Damage kind from count) values =
     IsKind values kind × IsNumber (codes "FROM") values from
     × IsNumber (codes "COUNT") values count
-HasValues (Log query form damaged) values =
-    IsQuery values query × IsForm values form × IsDamaged values damaged
+HasValues (Log query form reading) values =
+    IsQuery values query × IsForm values form × IsReading values reading
 HasValues _ values = ⊤
 
 -- the arguments, of which the first is the program's name, name the call: clap finds no fault in

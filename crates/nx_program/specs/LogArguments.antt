@@ -1,5 +1,5 @@
 -- What the options of `navtex log` ask for, as clap reads them (this profile).
-use Rattle.std.specs.Prelude.{◌≡◌, ◌⊎◌, ◌∷◌, ◌+◌, ◌++◌, ⊤, ℕ, Bool, List, [], Option, Some, None, codes, true, false}
+use Rattle.std.specs.Prelude.{◌≡◌, ◌⊎◌, ◌∷◌, ◌+◌, ◌++◌, ⊤, ℕ, Bool, List, [], Option, Some, None, codes, true, false, unwrap_or}
 use Rattle.std.specs.FinSet as set
 use Rattle.std.specs.Option.{option_map_or}
 use Rattle.std.specs.Ordering.{nat_cmp}
@@ -9,6 +9,7 @@ use Rattle.clap.specs.declared.builder.action.ArgAction.TheVariants.{SetTrue}
 use Rattle.nx_code.specs.Reading.{digit_zero, newline}
 use Rattle.nx_fec.specs.air_files.Channels.{channel_number}
 use Rattle.nx_fec.specs.declared.air_files.channel.Channel.{Channel}
+use Rattle.nx_log.specs.Places.{SaysPlace}
 use Rattle.nx_log.specs.Query.{AreLetters, IsSetOf}
 use Rattle.nx_log.specs.Times.{IsSince, IsUntil}
 use Rattle.nx_log.specs.declared.damage.Damaged.{Damaged}
@@ -17,9 +18,11 @@ use Rattle.nx_log.specs.declared.writing.form.Form.{Form}
 use Rattle.nx_log.specs.declared.writing.form.Form.TheVariants as form
 use Rattle.nx_log.specs.declared.queries.query.Query.{Query}
 use Rattle.nx_program.specs.declared.log_arguments.Clash.{Clash}
-use Rattle.nx_program.specs.declared.log_arguments.Clash.TheVariants.{JsonAndKeep}
+use Rattle.nx_program.specs.declared.log_arguments.Clash.TheVariants.{FromWithoutKept, JsonAndKeep, KeptAndSalvage}
 use Rattle.nx_program.specs.declared.log_arguments.LogOption.{LogOption}
-use Rattle.nx_program.specs.declared.log_arguments.LogOption.TheVariants.{Channel as OfChannel}
+use Rattle.nx_program.specs.declared.log_arguments.ReadAs.{ReadAs}
+use Rattle.nx_program.specs.declared.log_arguments.ReadAs.TheVariants.{Kept as AsKept, Log as AsLog}
+use Rattle.nx_program.specs.declared.log_arguments.LogOption.TheVariants.{Channel as OfChannel, From}
 use Rattle.nx_program.specs.declared.log_arguments.LogOption.TheVariants.{Since, Station, Subject}
 use Rattle.nx_program.specs.declared.log_arguments.LogOption.TheVariants.{Until}
 
@@ -30,6 +33,7 @@ option_name Subject = codes "subject"
 option_name OfChannel = codes "channel"
 option_name Since = codes "since"
 option_name Until = codes "until"
+option_name From = codes "from"
 
 -- what a TIME has to be
 abbrev pub time_wanted : Text
@@ -43,6 +47,7 @@ value_name Subject = codes "LETTERS"
 value_name OfChannel = codes "N"
 value_name Since = codes "TIME"
 value_name Until = codes "TIME"
+value_name From = codes "N"
 
 -- what its value has to be
 abbrev pub value_wanted : LogOption → Text
@@ -51,6 +56,7 @@ value_wanted Subject = codes "LETTERS are one letter A to Z or more, as AE"
 value_wanted OfChannel = codes "N is 0, 1 or 2"
 value_wanted Since = time_wanted
 value_wanted Until = time_wanted
+value_wanted From = codes "N is digits, at most 9223372036854775807"
 
 -- an option with a value, which is any text to clap; it may be left out, and is given at most once
 abbrev pub option_rule : LogOption → Rule
@@ -61,8 +67,8 @@ option_rule option =
 abbrev pub flag_rule : Text → Rule
 flag_rule name = record (new_rule name) { long = Some name; action = Some SetTrue }
 
--- a command that takes the options of a query, of a form and of what is done with damaged bytes, in
--- the order in which help lists them
+-- a command that takes the options of a query, of a form and of how a log is read, in the order in
+-- which help lists them
 abbrev pub log_tree : Text → App
 log_tree name =
     let with_station = with_rule (new_app name) (option_rule Station) in
@@ -74,7 +80,9 @@ log_tree name =
     let with_last = with_rule with_good (flag_rule (codes "last")) in
     let with_json = with_rule with_last (flag_rule (codes "json")) in
     let with_keep = with_rule with_json (flag_rule (codes "keep")) in
-    with_rule with_keep (flag_rule (codes "salvage"))
+    let with_kept = with_rule with_keep (flag_rule (codes "kept")) in
+    let with_from = with_rule with_kept (option_rule From) in
+    with_rule with_from (flag_rule (codes "salvage"))
 
 -- the text names these letters and no others
 abbrev pub NamesLetters : Text → set.FinSet nat_cmp → Type 0
@@ -139,8 +147,19 @@ abbrev pub damaged_of : Bool → Damaged
 damaged_of true = damage.PassedOver
 damaged_of false = damage.Refused
 
-abbrev pub IsDamaged : List Row → Damaged → Type 0
-IsDamaged values damaged = damaged ≡ damaged_of (has_flag (codes "salvage") values)
+-- as what the input is read, by the flags `kept` and `salvage` and the place that `from` says: as a
+-- kept log, behind so many bytes; or as a log, where none is said
+abbrev pub reading_of : Bool → Bool → Option ℕ → Option ReadAs
+reading_of true false from = Some (AsKept (unwrap_or from 0))
+reading_of true true from = None
+reading_of false salvage None = Some (AsLog (damaged_of salvage))
+reading_of false salvage (Some place) = None
+
+pub record IsReading (values : List Row) (reading : ReadAs) : Type 0 where
+  pub from : Option ℕ
+  pub said : Asks SaysPlace (given_to From values) from
+  pub asked : reading_of (has_flag (codes "kept") values) (has_flag (codes "salvage") values) from
+      ≡ Some reading
 
 -- as the value of this option, the text names nothing
 abbrev pub NamesNothing : LogOption → Text → Type 0
@@ -149,6 +168,7 @@ NamesNothing Subject text = (letters : set.FinSet nat_cmp) → ¬ NamesLetters t
 NamesNothing OfChannel text = (channel : Channel) → ¬ NamesChannel text channel
 NamesNothing Since text = (moment : ℕ) → ¬ IsSince text moment
 NamesNothing Until text = (moment : ℕ) → ¬ IsUntil text moment
+NamesNothing From text = (place : ℕ) → ¬ SaysPlace text place
 
 -- the option was given a text that names nothing
 pub record IsUnfit (values : List Row) (option : LogOption) (text : Text) : Type 0 where
@@ -170,16 +190,26 @@ pub record IsReportedValue (values : List Row) (report : Text) : Type 0 where
   pub unfit : IsUnfit values option text
   pub told : report ≡ value_report option text
 
--- two options that exclude each other were given
+-- two options that exclude each other were given, or one without that which it needs
 abbrev pub HasClash : List Row → Clash → Type 0
 HasClash values JsonAndKeep =
     (has_flag (codes "json") values ≡ true) × (has_flag (codes "keep") values ≡ true)
+HasClash values KeptAndSalvage =
+    (has_flag (codes "kept") values ≡ true) × (has_flag (codes "salvage") values ≡ true)
+HasClash values FromWithoutKept = (has_flag (codes "kept") values ≡ false)
+    × ((text : Text) × (given_to From values ≡ Some text))
+
+-- what is wrong
+abbrev pub clash_told : Clash → Text
+clash_told JsonAndKeep = codes "error: the argument '--json' cannot be used with '--keep'"
+clash_told KeptAndSalvage = codes "error: the argument '--kept' cannot be used with '--salvage'"
+clash_told FromWithoutKept = codes "error: the argument '--from <N>' needs '--kept'"
 
 -- the text that reports it, as clap reports one
 abbrev pub clash_report : Clash → Text
-clash_report JsonAndKeep =
-    codes "error: the argument '--json' cannot be used with '--keep'" ++ newline ∷ newline
-    ∷ codes "For more information, try '--help'." ++ newline ∷ []
+clash_report clash =
+    clash_told clash ++ newline ∷ newline ∷ codes "For more information, try '--help'."
+    ++ newline ∷ []
 
 -- they were given, and this is their report
 pub record IsReportedClash (values : List Row) (report : Text) : Type 0 where

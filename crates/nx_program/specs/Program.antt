@@ -13,9 +13,9 @@ use Rattle.nx_fec.specs.Runs.{Decodes, Encodes, Shows}
 use Rattle.nx_fec.specs.texts.TableText.{table_text}
 use Rattle.nx_locks.specs.Run.{ShowsLocks}
 use Rattle.nx_memory.specs.Saved.{SavedStates}
+use Rattle.nx_log.specs.KeptRun.{RunsOverKept}
 use Rattle.nx_log.specs.LogRun.{RunsOverLog}
-use Rattle.nx_log.specs.Notices.{Notices}
-use Rattle.nx_log.specs.declared.damage.Damaged.{Damaged}
+use Rattle.nx_log.specs.Notices.{HaveToldTorn, Notices}
 use Rattle.nx_log.specs.declared.log_fault.LogFault.{LogFault}
 use Rattle.nx_log.specs.declared.queries.query.Query.{Query}
 use Rattle.nx_log.specs.declared.writing.form.Form.{Form}
@@ -38,6 +38,8 @@ use Rattle.nx_program.specs.declared.arguments.Call.TheVariants.{Check, Code, De
 use Rattle.nx_program.specs.declared.arguments.Call.TheVariants.{Log as LogCall, Show}
 use Rattle.nx_program.specs.declared.arguments.Call.TheVariants.{Damage, Locks, Resume, Save, Send}
 use Rattle.nx_program.specs.declared.arguments.Call.TheVariants.{Slots, Watch}
+use Rattle.nx_program.specs.declared.log_arguments.ReadAs.{ReadAs}
+use Rattle.nx_program.specs.declared.log_arguments.ReadAs.TheVariants.{Kept as AsKept, Log as AsLog}
 use Rattle.nx_program.specs.declared.fault.CallFault.{CallFault}
 use Rattle.nx_program.specs.declared.fault.CallFault.TheVariants as call
 use Rattle.nx_program.specs.declared.fault.Fault.{Fault}
@@ -147,7 +149,7 @@ PerformsOnStreams (Slots station moment) d outcome =
 PerformsOnStreams (Damage kind from count) d outcome =
     Tells (λ why. call.Damage why)
     (Damages (record { kind = kind; from = from; count = count }) d) outcome
-PerformsOnStreams (LogCall query form damaged) d outcome = ⊥
+PerformsOnStreams (LogCall query form reading) d outcome = ⊥
 PerformsOnStreams (Watch name moment) d outcome = ⊥
 
 -- the arguments name a call, which had this outcome
@@ -216,29 +218,36 @@ abbrev pub log_outcome : Result ℕ LogFault → Result (Unit {0}) Fault
 log_outcome (Ok count) = Ok tt
 log_outcome (Err why) = Err (fault.Call (call.Log why))
 
--- a run over a log by this query, in this form, which did this with damaged bytes, and told this,
--- had an outcome of its own, and the program tells it so
-abbrev pub EndsLog : {R W : Type 0} → Query → Form → Damaged → Devices R W → Notices
+-- what a run over a log does that is read so, and what it tells: over a kept log nothing
+abbrev pub RunsOverInput : {R W : Type 0} → Query → Form → ReadAs → Devices R W → Notices
+    → Result ℕ LogFault → Type 0
+RunsOverInput query form (AsLog damaged) d n own = RunsOverLog query form damaged d n own
+RunsOverInput query form (AsKept from) d n own =
+    RunsOverKept query form from d own × HaveToldTorn n []
+
+-- a run over a log by this query, in this form, which read it so, and told this, had an outcome of
+-- its own, and the program tells it so
+abbrev pub EndsLog : {R W : Type 0} → Query → Form → ReadAs → Devices R W → Notices
     → Result (Unit {0}) Fault → Type 0
-EndsLog query form damaged d n outcome =
-    (own : Result ℕ LogFault) × RunsOverLog query form damaged d n own
+EndsLog query form reading d n outcome =
+    (own : Result ℕ LogFault) × RunsOverInput query form reading d n own
     × (outcome ≡ log_outcome own)
 
 -- the same, with what was told on standard error; no file was opened
-abbrev pub ReadsLog : {R W F D E : Type 0} → Query → Form → Damaged → Devices R W
+abbrev pub ReadsLog : {R W F D E : Type 0} → Query → Form → ReadAs → Devices R W
     → Beside F D W E → Result (Unit {0}) Fault → Type 0
-ReadsLog query form damaged d b outcome =
+ReadsLog query form reading d b outcome =
     OpensNoFile b
-    × EndsLog query form damaged d (notices_between b.contents b.faults b.faults_after) outcome
+    × EndsLog query form reading d (notices_between b.contents b.faults b.faults_after) outcome
 
 -- the arguments name a run over a log, which had this outcome
 pub record RunsLog {R W F D E : Type 0} (arguments : List Text) (d : Devices R W)
     (b : Beside F D W E) (outcome : Result (Unit {0}) Fault) : Type 0 where
   pub query : Query
   pub form : Form
-  pub damaged : Damaged
-  pub named : Names arguments (LogCall query form damaged)
-  pub read : ReadsLog query form damaged d b outcome
+  pub reading : ReadAs
+  pub named : Names arguments (LogCall query form reading)
+  pub read : ReadsLog query form reading d b outcome
 
 -- how the program ends: as a watch, as a run over a log, or with no file and nothing told on
 -- standard error
@@ -254,7 +263,7 @@ EndsRun arguments d b outcome =
 abbrev pub Performs : {R W F D E : Type 0} → Call → Devices R W → Beside F D W E
     → Result (Unit {0}) Fault → Type 0
 Performs (Watch name moment) d b outcome = WatchesLog d b name moment outcome
-Performs (LogCall query form damaged) d b outcome = ReadsLog query form damaged d b outcome
+Performs (LogCall query form reading) d b outcome = ReadsLog query form reading d b outcome
 Performs call d b (Ok done) = IsUnused b × PerformsOnStreams call d (Ok done)
 Performs call d b (Err (fault.Call why)) = IsUnused b × PerformsOnStreams call d (Err why)
 Performs call d b (Err _) = ⊥
@@ -278,8 +287,8 @@ NamesWatch arguments = (name : Text) × (moment : ℕ) × Names arguments (Watch
 -- the arguments name a run over a log
 abbrev pub NamesLog : List Text → Type 0
 NamesLog arguments =
-    (query : Query) × (form : Form) × (damaged : Damaged)
-    × Names arguments (LogCall query form damaged)
+    (query : Query) × (form : Form) × (reading : ReadAs)
+    × Names arguments (LogCall query form reading)
 
 -- the arguments name a call that tells on standard error more than a fault
 abbrev pub NamesTelling : List Text → Type 0

@@ -18,11 +18,11 @@ ghost use Rattle.nx_envelope.specs.declared.letter.Letter.{Letter};
 
 use crate::commands::navtex_command;
 use crate::file_name::FileName;
-use crate::log_arguments::{damaged_in, form_in, query_in, unfit_report};
+use crate::log_arguments::{ReadAs, form_in, from_in, query_in, reading_in, unfit_report};
 use clap::ArgMatches;
 use clap::error::ErrorKind;
 use nx_envelope::{LAST_MOMENT, Letter};
-use nx_log::{Damaged, Form, Query};
+use nx_log::{Form, Query};
 use nx_station::DamageKind;
 use std::alloc::{AllocError, Global};
 use std::convert::AsStr;
@@ -84,8 +84,8 @@ pub enum Call<'a> {
         query: Query,
         /// How they are printed.
         form: Form,
-        /// What is done with bytes that are not of a log.
-        damaged: Damaged,
+        /// As what the input is read.
+        reading: ReadAs,
     },
 }
 
@@ -184,11 +184,19 @@ fn log_call<'a>(alloc: Global, values: &ArgMatches) -> Result<Call<'a>, Argument
         Ok(query) => query,
         Err(option) => return Err(ArgumentsFault::Value(unfit_report(alloc, values, option)?)),
     };
-    match form_in(values) {
-        Ok(form) => Ok(Call::Log {
+    let from = match from_in(values) {
+        Ok(from) => from,
+        Err(option) => return Err(ArgumentsFault::Value(unfit_report(alloc, values, option)?)),
+    };
+    let form = match form_in(values) {
+        Ok(form) => form,
+        Err(clash) => return Err(ArgumentsFault::Value(clash.report(alloc)?)),
+    };
+    match reading_in(values, from) {
+        Ok(reading) => Ok(Call::Log {
             query,
             form,
-            damaged: damaged_in(values),
+            reading,
         }),
         Err(clash) => Err(ArgumentsFault::Value(clash.report(alloc)?)),
     }

@@ -2,8 +2,9 @@
 
 ghost use Rattle.std.specs.Prelude.{◌≡◌, IfErr, IfNone, IfOk, IfSome, option_map, string_bytes};
 ghost use Rattle.clap.specs.Words.{found_of, rows_of};
+ghost use Rattle.nx_log.specs.Places.{SaysPlace};
 ghost use Rattle.nx_log.specs.Times.{IsSince, IsUntil};
-ghost use Rattle.nx_program.specs.LogArguments.{Asks, HasClash, IsDamaged, IsForm, IsQuery, IsReported, NamesChannel, NamesLetters};
+ghost use Rattle.nx_program.specs.LogArguments.{Asks, HasClash, IsForm, IsQuery, IsReading, IsReported, NamesChannel, NamesLetters};
 ghost use Rattle.nx_program.specs.LogArguments.{clash_report as the_clash_report, given_to, has_flag, option_name};
 ghost use Rattle.nx_program.specs.LogArguments.{value_name as the_value_name, value_report as the_report};
 ghost use Rattle.nx_program.specs.LogArguments.{value_wanted as the_value_wanted};
@@ -13,7 +14,7 @@ ghost use Rattle.nx_program.specs.declared.log_arguments.LogOption.TheVariants a
 
 use clap::ArgMatches;
 use nx_fec::Channel;
-use nx_log::{Damaged, Form, Letters, Query, since_of, until_of};
+use nx_log::{Damaged, Form, Letters, Query, place_named, since_of, until_of};
 use std::alloc::{AllocError, Global};
 
 /// An option of `log` that has a value.
@@ -29,13 +30,28 @@ pub enum LogOption {
     Since,
     /// The last moment.
     Until,
+    /// How many bytes stand before the input.
+    From,
 }
 
-/// Options of `log` that exclude each other.
+/// Options of `log` that exclude each other, or one without that which it needs.
 #[derive(Clone, Copy, Debug, PartialEq, Eq)]
 pub enum Clash {
     /// `--json` and `--keep`: entries are written in one form.
     JsonAndKeep,
+    /// `--kept` and `--salvage`: a kept log is damaged, or it isn't.
+    KeptAndSalvage,
+    /// `--from` without `--kept`: no other log has places.
+    FromWithoutKept,
+}
+
+/// As what the input of `log` is read.
+#[derive(Clone, Copy, Debug, PartialEq, Eq)]
+pub enum ReadAs {
+    /// As a log, of which bytes that are none are refused or passed over.
+    Log(Damaged),
+    /// As a kept log, or a part of one, before which so many bytes stand.
+    Kept(u64),
 }
 
 /// What a TIME has to be.
@@ -53,6 +69,7 @@ impl LogOption {
             LogOption::Channel => "channel",
             LogOption::Since => "since",
             LogOption::Until => "until",
+            LogOption::From => "from",
         }
     }
 
@@ -62,7 +79,7 @@ impl LogOption {
     {
         match self {
             LogOption::Station | LogOption::Subject => "LETTERS",
-            LogOption::Channel => "N",
+            LogOption::Channel | LogOption::From => "N",
             LogOption::Since | LogOption::Until => "TIME",
         }
     }
@@ -77,6 +94,7 @@ impl LogOption {
             }
             LogOption::Channel => "N is 0, 1 or 2",
             LogOption::Since | LogOption::Until => TIME_WANTED,
+            LogOption::From => "N is digits, at most 9223372036854775807",
         }
     }
 
@@ -88,6 +106,7 @@ impl LogOption {
             LogOption::Channel => "Entries of this channel alone, 0 to 2",
             LogOption::Since => "Entries of this time and later ones alone",
             LogOption::Until => "Entries of this time and earlier ones alone",
+            LogOption::From => "With --kept: so many bytes stand before the input",
         }
     }
 
@@ -118,13 +137,17 @@ impl LogOption {
 }
 
 impl Clash {
-    /// The text that reports that both were given.
+    /// The text that reports it.
     pub fn report(self, alloc: Global) -> Result<String, AllocError>
         ensures { IfOk result (λ report. string_bytes report ≡ the_clash_report self) }
     {
         let mut report = String::new(alloc);
         report.push_str(match self {
             Clash::JsonAndKeep => "error: the argument '--json' cannot be used with '--keep'",
+            Clash::KeptAndSalvage => {
+                "error: the argument '--kept' cannot be used with '--salvage'"
+            }
+            Clash::FromWithoutKept => "error: the argument '--from <N>' needs '--kept'",
         })?;
         report.push_str("\n\nFor more information, try '--help'.\n")?;
         Ok(report)
@@ -207,6 +230,22 @@ fn until_in(values: &ArgMatches) -> Result<Option<u64>, LogOption>
     }
 }
 
+/// How many bytes the option says to stand before the input.
+pub fn from_in(values: &ArgMatches) -> Result<Option<u64>, LogOption>
+    ensures asked { IfOk result
+        (Asks SaysPlace (given_to option.From (rows_of (found_of values.now)))) }
+    ensures wrong { IfErr result
+        (IsWrong SaysPlace (rows_of (found_of values.now)) option.From) }
+{
+    match LogOption::From.given_in(values) {
+        None => Ok(None),
+        Some(text) => match place_named(text) {
+            Some(place) => Ok(Some(place)),
+            None => Err(LogOption::From),
+        },
+    }
+}
+
 /// Whether the flag of this name was given.
 fn is_flagged(values: &ArgMatches, name: &str) -> bool
     ensures { result ≡ has_flag name.now (rows_of (found_of values.now)) }
@@ -246,14 +285,24 @@ pub fn form_in(values: &ArgMatches) -> Result<Form, Clash>
     }
 }
 
-/// What is done with bytes that are not of a log, as the options ask for.
-pub fn damaged_in(values: &ArgMatches) -> Damaged
-    ensures { IsDamaged (rows_of (found_of values.now)) result }
+/// As what the input is to be read, where the options say that so many bytes stand before it. `Err`
+/// where they exclude each other, or `--from` stands without `--kept`.
+pub fn reading_in(values: &ArgMatches, from: Option<u64>) -> Result<ReadAs, Clash>
+    requires { Asks SaysPlace (given_to option.From (rows_of (found_of values.now))) from }
+    ensures asked { IfOk result (IsReading (rows_of (found_of values.now))) }
+    ensures clash { IfErr result (HasClash (rows_of (found_of values.now))) }
 {
-    if is_flagged(values, "salvage") {
-        Damaged::PassedOver
-    } else {
-        Damaged::Refused
+    match (
+        is_flagged(values, "kept"),
+        is_flagged(values, "salvage"),
+        from,
+    ) {
+        (true, true, _) => Err(Clash::KeptAndSalvage),
+        (true, false, Some(place)) => Ok(ReadAs::Kept(place)),
+        (true, false, None) => Ok(ReadAs::Kept(0)),
+        (false, _, Some(_)) => Err(Clash::FromWithoutKept),
+        (false, true, None) => Ok(ReadAs::Log(Damaged::PassedOver)),
+        (false, false, None) => Ok(ReadAs::Log(Damaged::Refused)),
     }
 }
 

@@ -48,6 +48,14 @@ With --keep a log is written as watch keeps it, with these entries: a newline
 before each, and a space behind the last. So a log is shortened, or several are
 joined, and the next watch goes on from it. Not with --json.
 
+With --kept the input is the log of a watch, or what stands in it from a gate on:
+the newline before an entry, or the space behind the last. It is read as a watch
+reads it: what stands behind the space doesn't count, and isn't told. JSON has two
+keys more: place, how many bytes of the input stand before the gate before the
+entry, and next, before the gate behind it. --from N adds N to both. They stay, so
+  tail -c +$((next + 1)) watch.log | navtex log --kept --json --from $next
+goes on behind the entry with that next. Not with --salvage.
+
 With --last an entry is left out where one behind it, of those that the other
 options choose, has its identity and channel, comes less than 66 hours later, and
 isn't worse: an entry is worse where it isn't full and the other is, or else
@@ -75,6 +83,9 @@ const LAST_HELP: &str = "The last entry of each message alone";
 
 /// What help says of `--keep`.
 const KEEP_HELP: &str = "The log of a watch, with these entries";
+
+/// What help says of `--kept`.
+const KEPT_HELP: &str = "Read the log of a watch as the next watch does";
 
 /// What help says of `--salvage`.
 const SALVAGE_HELP: &str = "Pass over what is not of a log, and go on behind it";
@@ -128,5 +139,7 @@ pub fn log_command<'a>(alloc: Global, name: &'a str) -> Result<Command<'a>, Allo
     let with_last = with_flag(alloc, with_good, "last", LAST_HELP)?;
     let with_json = with_flag(alloc, with_last, "json", "Each entry as a line of JSON")?;
     let with_keep = with_flag(alloc, with_json, "keep", KEEP_HELP)?;
-    with_flag(alloc, with_keep, "salvage", SALVAGE_HELP)
+    let with_kept = with_flag(alloc, with_keep, "kept", KEPT_HELP)?;
+    let with_from = with_option(alloc, with_kept, LogOption::From)?;
+    with_flag(alloc, with_from, "salvage", SALVAGE_HELP)
 }

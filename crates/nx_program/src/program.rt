@@ -1,7 +1,8 @@
 //! The program without its process.
 
 ghost use Rattle.std.specs.Prelude.{◌≡◌, ◌≢◌, ◌⊎◌, ◌∷◌, [], IfNone, IfOk, IfSome, List, MatchResult, None, Option, map, string_bytes, ℕ};
-ghost use Rattle.nx_program.specs.Program.{EndsLog, EndsRun, Exits, NamesTelling, Performs, PerformsOnStreams};
+ghost use Rattle.nx_program.specs.Program.{EndsLog, EndsRun, Exits, NamesTelling, Performs, PerformsOnStreams, RunsOverInput};
+ghost use Rattle.nx_program.specs.private.LogReading.{IsReadable};
 ghost use Rattle.nx_program.specs.Program.{Succeeds, WritesText, fresh_device, version_text};
 ghost use Rattle.nx_program.specs.Report.{Answers, IsFaultLine, IsWantOfArguments, LacksArguments, WritesOne};
 ghost use Rattle.nx_program.specs.Status.{IsStatus};
@@ -19,6 +20,7 @@ use crate::arguments::{ArgumentsFault, Call, call_of};
 use crate::commands::VERSION;
 use crate::fault::{CallFault, Fault};
 use crate::file_name::FileName;
+use crate::log_arguments::ReadAs;
 use crate::slots::print_slot;
 use crate::watch_command::{LogFiles, NoFile, NoFiles, watch_log};
 use arrayvec::ArrayVec;
@@ -26,7 +28,7 @@ use nx_disk::Noted;
 use nx_fec::{Counting, RunFault, decode_run, encode_run, show_run, write_out, write_table};
 use nx_kept::DiskFile;
 use nx_locks::locks;
-use nx_log::{Damaged, Form, Query, log_run};
+use nx_log::{Form, LogFault, Query, kept_run, log_run};
 use nx_receiver::{Want, listen, resume};
 use nx_station::{check_run, damage, send};
 use nx_watch::StampedReader;
@@ -194,9 +196,9 @@ fn obey<'a, S: AsStr, R: Read, W: Write, E: Write, F: LogFiles + Drop>(
             Call::Log {
                 query,
                 form,
-                damaged,
+                reading,
             },
-        ) => log_input(alloc, &query, form, damaged, input, writer, faults),
+        ) => log_input(alloc, &query, form, reading, input, writer, faults),
         Ok(call) => {
             let mut reader = input.into_inner();
             let outcome = perform(alloc, call, &mut reader, writer);
@@ -248,7 +250,7 @@ fn log_input<R: Read, D, W: Write, E: Write>(
     alloc: Global,
     query: &Query,
     form: Form,
-    damaged: Damaged,
+    reading: ReadAs,
     input: Input<R, D, W, E>,
     writer: &mut Counting<W>,
     faults: &mut Counting<E>,
@@ -256,7 +258,8 @@ fn log_input<R: Read, D, W: Write, E: Write>(
     requires input { IsFresh input }
     requires writer { writer.old.failures ≡ 0 }
     requires faults { faults.old.failures ≡ 0 }
-    ensures ended { EndsLog query.now form damaged
+    requires readable { IsReadable reading }
+    ensures ended { EndsLog query.now form reading
         (devices R.remaining W.contents (counted_of input) (counted_of result.input) writer.old
         writer.new)
         (notices_between E.contents faults.old faults.new)
@@ -265,7 +268,7 @@ fn log_input<R: Read, D, W: Write, E: Write>(
     ensures unstamped { stamps_of result.input ≡ [] }
 {
     let mut reader = input.into_inner();
-    let outcome = print_log(alloc, query, form, damaged, &mut reader, writer, faults);
+    let outcome = print_log(alloc, query, form, reading, &mut reader, writer, faults);
     Obeyed {
         outcome,
         input: StampedReader::new(reader),
@@ -279,7 +282,7 @@ fn print_log<R: Read, W: Write, E: Write>(
     alloc: Global,
     query: &Query,
     form: Form,
-    damaged: Damaged,
+    reading: ReadAs,
     reader: &mut Counting<R>,
     writer: &mut Counting<W>,
     faults: &mut Counting<E>,
@@ -287,14 +290,40 @@ fn print_log<R: Read, W: Write, E: Write>(
     requires reader { reader.old.failures ≡ 0 }
     requires writer { writer.old.failures ≡ 0 }
     requires faults { faults.old.failures ≡ 0 }
-    ensures { EndsLog query.now form damaged
+    requires readable { IsReadable reading }
+    ensures { EndsLog query.now form reading
         (devices R.remaining W.contents reader.old reader.new writer.old writer.new)
         (notices_between E.contents faults.old faults.new)
         result }
 {
-    match log_run(alloc, reader, writer, faults, query, form, damaged) {
+    match run_over_input(alloc, query, form, reading, reader, writer, faults) {
         Ok(_printed) => Ok(()),
         Err(why) => Err(Fault::Call(CallFault::Log(why))),
+    }
+}
+
+/// Runs over a log that is read so. Over a kept log nothing is told.
+fn run_over_input<R: Read, W: Write, E: Write>(
+    alloc: Global,
+    query: &Query,
+    form: Form,
+    reading: ReadAs,
+    reader: &mut Counting<R>,
+    writer: &mut Counting<W>,
+    faults: &mut Counting<E>,
+) -> Result<u64, LogFault>
+    requires reader { reader.old.failures ≡ 0 }
+    requires writer { writer.old.failures ≡ 0 }
+    requires faults { faults.old.failures ≡ 0 }
+    requires readable { IsReadable reading }
+    ensures { RunsOverInput query.now form reading
+        (devices R.remaining W.contents reader.old reader.new writer.old writer.new)
+        (notices_between E.contents faults.old faults.new)
+        result }
+{
+    match reading {
+        ReadAs::Log(damaged) => log_run(alloc, reader, writer, faults, query, form, damaged),
+        ReadAs::Kept(from) => kept_run(alloc, reader, writer, query, form, from),
     }
 }
 

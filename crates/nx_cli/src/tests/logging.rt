@@ -128,9 +128,61 @@ fn keeps_entries(rt: HostRuntime) {
     ended.expect(&rt, "mended", 2, FIRST_KEPT, passed);
 }
 
+/// The log of EA01 as a watch keeps it, with what a crash left behind its last space.
+const FIRST_TORN: &[u8] = b"\n[EA01 2025-01-01 00:40:00 full 0/5]\nTEST\n\n [EA02 2025";
+
+#[test]
+fn reads_a_kept_log(rt: HostRuntime) {
+    let line =
+        b"{\"channel\":0,\"characters\":5,\"end\":\"full\",\"errors\":0,\"good\":true,\"identity\":\"EA01\",\"moment\":1735692000,\"next\":43,\"number\":1,\"place\":0,\"station\":\"E\",\"subject\":\"A\",\"text\":\"TEST\\n\",\"time\":\"2025-01-01T00:40:00Z\"}\n";
+    let behind =
+        b"{\"channel\":0,\"characters\":5,\"end\":\"full\",\"errors\":0,\"good\":true,\"identity\":\"EA01\",\"moment\":1735692000,\"next\":1043,\"number\":1,\"place\":1000,\"station\":\"E\",\"subject\":\"A\",\"text\":\"TEST\\n\",\"time\":\"2025-01-01T00:40:00Z\"}\n";
+    let rows: [(&[&str], &[u8], &[u8]); 9] = [
+        (&["navtex", "log", "--kept"], FIRST_KEPT, FIRST),
+        (&["navtex", "log", "--kept"], BOTH_KEPT, BOTH),
+        (&["navtex", "log", "--kept"], FIRST_TORN, FIRST),
+        (&["navtex", "log", "--kept"], &FIRST_KEPT[43..], b""),
+        (&["navtex", "log", "--kept"], b"", b""),
+        (&["navtex", "log", "--kept", "--json"], FIRST_TORN, line),
+        (
+            &["navtex", "log", "--kept", "--json", "--from", "1000"],
+            FIRST_KEPT,
+            behind,
+        ),
+        (
+            &["navtex", "log", "--kept", "--keep"],
+            FIRST_TORN,
+            FIRST_KEPT,
+        ),
+        (&["navtex", "log", "--kept", "--last"], BOTH_KEPT, BOTH),
+    ];
+    for (arguments, log, wanted) in rows {
+        let row = arguments[arguments.len() - 1];
+        expect_output(&rt, rt.alloc(), row, arguments, log, wanted);
+    }
+    let kept = ["navtex", "log", "--kept"];
+    let line_1 = "navtex: line 1 is not of a log\n";
+    expect_fault(&rt, rt.alloc(), "kept-foreign", &kept, FIRST, (2, line_1));
+    let damaged = b"\n[EA01 2025-01-01 00:40:00 full 0/5]\n\0EST\n\n ";
+    let line = "navtex: line 3 is not of a log\n";
+    expect_fault(&rt, rt.alloc(), "kept-damaged", &kept, damaged, (2, line));
+    let behind = join(&rt, rt.alloc(), &[&FIRST_KEPT[..43], FIRST]);
+    let ended = run_on(rt.alloc(), &kept, &behind);
+    ended.expect(
+        &rt,
+        "no gate behind",
+        2,
+        FIRST,
+        b"navtex: line 5 is not of a log\n",
+    );
+    let early = &FIRST_KEPT[..41];
+    let line = "navtex: line 3 is not of a log\n";
+    expect_fault(&rt, rt.alloc(), "ends too early", &kept, early, (2, line));
+}
+
 #[test]
 fn refuses_values_and_bytes(rt: HostRuntime) {
-    static ROWS: [(&[&str], u8, &str); 8] = [
+    static ROWS: [(&[&str], u8, &str); 12] = [
         (
             &["navtex", "log", "--since", "now"],
             64,
@@ -160,6 +212,26 @@ fn refuses_values_and_bytes(rt: HostRuntime) {
             &["navtex", "log", "--keep", "--json"],
             64,
             "error: the argument '--json' cannot be used with '--keep'\n\nFor more information, try '--help'.\n",
+        ),
+        (
+            &["navtex", "log", "--kept", "--salvage"],
+            64,
+            "error: the argument '--kept' cannot be used with '--salvage'\n\nFor more information, try '--help'.\n",
+        ),
+        (
+            &["navtex", "log", "--from", "43"],
+            64,
+            "error: the argument '--from <N>' needs '--kept'\n\nFor more information, try '--help'.\n",
+        ),
+        (
+            &["navtex", "log", "--kept", "--from=9223372036854775808"],
+            64,
+            "error: invalid value '9223372036854775808' for '--from <N>'\n\n  tip: N is digits, at most 9223372036854775807\n\nFor more information, try '--help'.\n",
+        ),
+        (
+            &["navtex", "log", "--kept", "--from=+5"],
+            64,
+            "error: invalid value '+5' for '--from <N>'\n\n  tip: N is digits, at most 9223372036854775807\n\nFor more information, try '--help'.\n",
         ),
         (&["navtex", "log"], 2, "navtex: line 1 is not of a log\n"),
         (

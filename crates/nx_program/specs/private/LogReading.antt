@@ -1,5 +1,8 @@
 -- How the program reads the options of `log` (this profile).
-use Rattle.std.specs.Prelude.{◌≡◌, ⊤, List, Some, string_bytes}
+use Rattle.std.specs.Prelude.{◌≡◌, ◌≤◌, ⊤, List, Some, string_bytes}
+use Rattle.nx_log.specs.LogRun.{most_read}
+use Rattle.nx_program.specs.declared.log_arguments.ReadAs.{ReadAs}
+use Rattle.nx_program.specs.declared.log_arguments.ReadAs.TheVariants.{Kept as AsKept, Log as AsLog}
 use Rattle.clap.specs.Words.{Row, Text}
 use Rattle.nx_program.specs.LogArguments.{IsReported, IsUnfit, given_to}
 use Rattle.nx_program.specs.declared.log_arguments.LogOption.{LogOption}
@@ -22,3 +25,8 @@ abbrev pub ExplainsOptions : List Row → ArgumentsFault → Type 0
 ExplainsOptions values (Value report) = IsReported values (string_bytes report)
 ExplainsOptions values (Memory want) = ⊤
 ExplainsOptions values _ = ⊥
+
+-- no more bytes stand before a kept log than are read
+abbrev pub IsReadable : ReadAs → Type 0
+IsReadable (AsLog damaged) = ⊤
+IsReadable (AsKept from) = from ≤ most_read

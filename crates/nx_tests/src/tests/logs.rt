@@ -4,8 +4,8 @@ use super::{FIRST, LOG_OF_EA01, expect_text, shown};
 use nx_envelope::Letter;
 use nx_fec::{Channel, Counting};
 use nx_log::{
-    Damaged, Form, Letters, LogFault, Query, entry_at, json_line, log_run, remembered_of, since_of,
-    until_of,
+    Damaged, Form, Letters, LogFault, Query, entry_at, json_line, kept_run, log_run, remembered_of,
+    since_of, until_of,
 };
 use std::alloc::Global;
 use std::process::Abort;
@@ -209,4 +209,62 @@ fn salvaged(rt: HostRuntime) {
     assert_eq!(rt; outcome, Ok(1));
     expect_text(&rt, "a log, written", &written, LOG_OF_EA01);
     expect_text(&rt, "a log, told", &told, b"");
+}
+
+/// A kept log of both entries, with the beginning of one behind its last gate.
+const KEPT_LOG: &[u8] = b"\n[EA01 2025-01-01 00:40:00 full 0/5]\nTEST\n\n\n\
+    [LB02/1 2025-01-01 04:40:00 cut 1/3]\nA*\n\n [EB00/2 2025";
+
+/// A run over a kept log that begins behind so many bytes, and what it wrote.
+fn run_over_kept(
+    alloc: Global,
+    bytes: &[u8],
+    form: Form,
+    from: u64,
+) -> (Result<u64, LogFault>, Vec<u8>) {
+    let mut writer = Counting::new(Vec::new(alloc));
+    let outcome = kept_run(
+        alloc,
+        &mut Counting::new(bytes),
+        &mut writer,
+        &Query::all(),
+        form,
+        from,
+    );
+    (outcome, writer.into_inner())
+}
+
+/// What stands in a kept log from each gate on stands for the entries from there on.
+#[test]
+fn kept(rt: HostRuntime) {
+    let cases: [(usize, u64, &[u8]); 3] = [
+        (
+            0,
+            2,
+            b"[EA01 2025-01-01 00:40:00 full 0/5]\nTEST\n\n[LB02/1 2025-01-01 04:40:00 cut 1/3]\nA*\n\n",
+        ),
+        (43, 1, b"[LB02/1 2025-01-01 04:40:00 cut 1/3]\nA*\n\n"),
+        (85, 0, b""),
+    ];
+    for (place, count, wanted) in cases {
+        let (outcome, written) = run_over_kept(
+            rt.alloc(),
+            &KEPT_LOG[place..],
+            Form::Log,
+            place as u64,
+        );
+        assert_eq!(rt; outcome, Ok(count), "from {place}");
+        expect_text(&rt, "from a gate on", &written, wanted);
+    }
+    let (outcome, written) = run_over_kept(rt.alloc(), &KEPT_LOG[1..], Form::Log, 1);
+    assert_eq!(rt; outcome, Err(LogFault::BadLog { line: 1 }));
+    expect_text(&rt, "from no gate on", &written, b"");
+    let (outcome, written) = run_over_kept(rt.alloc(), &KEPT_LOG[..84], Form::Log, 0);
+    assert_eq!(rt; outcome, Err(LogFault::BadLog { line: 8 }));
+    expect_text(
+        &rt,
+        "without the last byte of an entry",
+        &written,
+        LOG_OF_EA01,
+    );
 }

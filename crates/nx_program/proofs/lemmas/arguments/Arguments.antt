@@ -31,12 +31,9 @@ use Rattle.nx_program.specs.Arguments.{IsStation, LacksKind, LacksMoment, LacksS
 use Rattle.nx_program.specs.Arguments.{TakesMoment, moment_report}
 use Rattle.nx_program.specs.Arguments.{Maker, Names, command_name, command_rows, navtex, on_file, options}
 use Rattle.nx_program.specs.Arguments.{plain, range, slot}
-use Rattle.nx_log.specs.declared.damage.Damaged.{Damaged}
-use Rattle.nx_log.specs.declared.queries.query.Query.{Query}
-use Rattle.nx_log.specs.declared.writing.form.Form.{Form}
-use Rattle.nx_program.specs.LogArguments.{IsForm, IsQuery, clash_report, form_asked, value_report}
-use Rattle.nx_program.proofs.lemmas.queries.QueryAsked.{form_not_clash, no_form, query_not_unfit}
-use Rattle.nx_program.proofs.lemmas.queries.QueryAsked.{query_or_unfit}
+use Rattle.nx_program.specs.LogArguments.{clash_report, value_report}
+use Rattle.nx_program.proofs.lemmas.queries.QueryAsked.{AreAsked, asked_not_clash, asked_not_unfit}
+use Rattle.nx_program.proofs.lemmas.queries.QueryAsked.{asked_or_not}
 use Rattle.nx_program.specs.private.LogReading.{ExplainsOptions}
 use Rattle.nx_program.specs.private.Reading.{ExplainsArguments, ExplainsMoment, HasFitMoment}
 use Rattle.nx_program.specs.private.Reading.{HasUnfitMoment, IsSortedAs}
@@ -46,7 +43,7 @@ use Rattle.nx_program.proofs.lemmas.arguments.CallValues.{number_once}
 use Rattle.nx_program.proofs.lemmas.arguments.CommandTable.{HasCall, IsSlotName, IsSound, Makes, command_rows-sound}
 use Rattle.nx_program.proofs.lemmas.arguments.CommandsTaken.{Gives, leaf, taken-command}
 use Rattle.nx_program.proofs.lemmas.arguments.NumbersGiven.{number-given}
-use Rattle.nx_program.proofs.lemmas.arguments.OneCall.{IsNotCalled, call_or_none, has-form, has-kind, has-moment, has-query, has-station}
+use Rattle.nx_program.proofs.lemmas.arguments.OneCall.{IsNotCalled, call_or_none, has-asked, has-kind, has-moment, has-station}
 use Rattle.nx_program.proofs.lemmas.arguments.OneCall.{same_call}
 use Rattle.nx_envelope.specs.declared.letter.Letter.{Letter}
 use Rattle.nx_program.specs.declared.arguments.Call.TheVariants.{Damage, Send, Slots, Watch}
@@ -246,14 +243,10 @@ named-lacks_value : (arguments : List Text) (call : Call) (report : Text) → Na
     → LacksValue arguments report → ⊥
 named-lacks_value arguments call report named lacks =
     let same = entered_once arguments _ _ _ _ named.command lacks.entered in
-    let query = has-query call named.values same.0 named.given in
-    let form = has-form call named.values same.0 named.given in
-    let P : List Row → Type 0 = λ rows. IsQuery rows query.0 in
-    let Q : List Row → Type 0 = λ rows. IsForm rows form.0 in
+    let asked = subst AreAsked same.1 (has-asked call named.values same.0 named.given) in
     elim lacks.reported [
-      | inl r ↦ query_not_unfit lacks.values query.0 r.option r.text (subst P same.1 query.1)
-          r.unfit
-      | inr r ↦ form_not_clash lacks.values form.0 r.clash (subst Q same.1 form.1) r.given
+      | inl r ↦ asked_not_unfit lacks.values asked r.option r.text r.unfit
+      | inr r ↦ asked_not_clash lacks.values asked r.clash r.given
     ]
 
 pub named_not_refused : (arguments : List Text) (call : Call) → Names arguments call
@@ -292,21 +285,6 @@ lacks_value arguments name values taken entered none =
     let command = taken-command arguments name values taken entered in
     go command.maker command.makes command.gives
   where
-    of_query : (make : Query → Form → Damaged → Call) → Makes name (options make)
-        → (query : Query) → IsQuery values query → (asked : Option Form)
-        → form_asked values ≡ asked → Lacks arguments name values
-    of_query make makes query is (Some form) e =
-        absurd (let has = makes.1 values query form _ is e refl in
-        none (make query form _) has.0 has.1)
-    of_query make makes query is None e =
-        let clash = no_form values e in
-        a_value makes.0 (clash_report clash.0) (record {
-          taken = taken;
-          values = values;
-          entered = entered ∙ ap (λ (t : Text). Some (t, values)) makes.0;
-          reported = inr (record { clash = clash.0; given = clash.1; told = refl });
-        })
-
     go : (maker : Maker) → Makes name maker → Gives maker values
         → Lacks arguments name values
     go (plain call) makes gives = absurd (let has = makes values in none call has.0 has.1)
@@ -345,9 +323,17 @@ lacks_value arguments name values taken entered none =
               let has = makes.1 values kind from.0 count.0 found from.1 count.1 in
               none (make kind from.0 count.0) has.0 has.1;
         })
-    go (options make) makes gives = elim (query_or_unfit values) [
-      | inl is ↦ of_query make makes is.0 is.1 (form_asked values) refl
-      | inr unfit ↦ a_value makes.0 (value_report unfit.0 unfit.1) (record {
+    go (options make) makes gives = elim (asked_or_not values) [
+      | inl a ↦ absurd (let has = makes.1 values a.query a.form a.reading a.is_query a.is_form
+          a.is_reading in
+          none (make a.query a.form a.reading) has.0 has.1)
+      | inr (inr clash) ↦ a_value makes.0 (clash_report clash.0) (record {
+        taken = taken;
+        values = values;
+        entered = entered ∙ ap (λ (t : Text). Some (t, values)) makes.0;
+        reported = inr (record { clash = clash.0; given = clash.1; told = refl });
+      })
+      | inr (inl unfit) ↦ a_value makes.0 (value_report unfit.0 unfit.1) (record {
         taken = taken;
         values = values;
         entered = entered ∙ ap (λ (t : Text). Some (t, values)) makes.0;

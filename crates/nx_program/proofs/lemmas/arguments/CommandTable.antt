@@ -5,10 +5,10 @@ use Rattle.std.proofs.Common.{refl, rules}
 use Rattle.std.specs.Str.{bytes_eq}
 use Rattle.clap.specs.Words.{Row, Text}
 use Rattle.nx_envelope.specs.declared.letter.Letter.{Letter}
-use Rattle.nx_log.specs.declared.damage.Damaged.{Damaged}
 use Rattle.nx_log.specs.declared.writing.form.Form.{Form}
 use Rattle.nx_log.specs.declared.queries.query.Query.{Query}
-use Rattle.nx_program.specs.LogArguments.{IsDamaged, IsForm, IsQuery}
+use Rattle.nx_program.specs.LogArguments.{IsForm, IsQuery, IsReading}
+use Rattle.nx_program.specs.declared.log_arguments.ReadAs.{ReadAs}
 use Rattle.nx_station.specs.declared.damaging.DamageKind.{DamageKind}
 use Rattle.nx_program.specs.declared.arguments.Call.{Call}
 use Rattle.nx_program.specs.declared.arguments.Call.TheVariants.{Damage, Log, Send, Slots, Watch}
@@ -55,8 +55,8 @@ Makes name (range make) =
     → IsNumber (codes "FROM") rows f → IsNumber (codes "COUNT") rows c
     → HasCall name rows (make k f c))
 Makes name (options make) =
-    (name ≡ codes "log") × ((rows : List Row) (q : Query) (f : Form) (d : Damaged) → IsQuery rows q
-    → IsForm rows f → IsDamaged rows d → HasCall name rows (make q f d))
+    (name ≡ codes "log") × ((rows : List Row) (q : Query) (f : Form) (d : ReadAs) → IsQuery rows q
+    → IsForm rows f → IsReading rows d → HasCall name rows (make q f d))
 
 abbrev pub IsSound : CommandRow → Type 0
 IsSound c = Makes c.0 c.1
@@ -74,6 +74,6 @@ call_in-only (Watch name moment) rows given =
     file_call-only _ rows name moment given.0 given.1
 call_in-only (Damage kind from count) rows given =
     range_call-only _ rows kind from count given.0 given.1 given.2
-call_in-only (Log query form damaged) rows given =
-    query_call-only (λ q f d. Log q f d) rows query form damaged given.0 given.1 given.2
+call_in-only (Log query form reading) rows given =
+    query_call-only (λ q f d. Log q f d) rows query form reading given.0 given.1 given.2
 call_in-only call rows given = refl

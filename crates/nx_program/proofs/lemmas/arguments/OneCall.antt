@@ -14,10 +14,7 @@ use Rattle.nx_program.specs.Arguments.{TakesMoment, command_name, command_rows, 
 use Rattle.nx_program.specs.Arguments.{plain, range, slot}
 use Rattle.nx_program.proofs.lemmas.arguments.CallValues.{file_call-is, range_call-is, range_call-kind, slot_call-is}
 use Rattle.nx_program.proofs.lemmas.arguments.CallValues.{file_call-moment, slot_call-moment, slot_call-station}
-use Rattle.nx_log.specs.declared.queries.query.Query.{Query}
-use Rattle.nx_log.specs.declared.writing.form.Form.{Form}
-use Rattle.nx_program.specs.LogArguments.{IsForm, IsQuery}
-use Rattle.nx_program.proofs.lemmas.queries.QueryAsked.{query_call-form, query_call-is, query_call-query}
+use Rattle.nx_program.proofs.lemmas.queries.QueryAsked.{AreAsked, query_call-asked, query_call-is}
 use Rattle.nx_program.proofs.lemmas.arguments.CommandTable.{HasCall, IsSlotName, IsSound, Makes, call_in}
 use Rattle.nx_program.proofs.lemmas.arguments.CommandTable.{call_in-only, command_rows-sound, made}
 use Rattle.nx_program.proofs.lemmas.EachFound.{Each}
@@ -116,15 +113,9 @@ pub has-kind : (call : Call) (rows : List Row) → command_name call ≡ codes "
 has-kind call rows is given =
     range_call-kind _ rows call (made_at (codes "damage") call rows is given)
 
--- and one of the name of a log has a query and a form
-pub has-query : (call : Call) (rows : List Row) → command_name call ≡ codes "log"
+-- and of one of the name of a log all is asked for
+pub has-asked : (call : Call) (rows : List Row) → command_name call ≡ codes "log"
     → HasValues call rows
-    → (query : Query) × IsQuery rows query
-has-query call rows is given =
-    query_call-query (λ q f d. Log q f d) rows call (made_at (codes "log") call rows is given)
-
-pub has-form : (call : Call) (rows : List Row) → command_name call ≡ codes "log"
-    → HasValues call rows
-    → (form : Form) × IsForm rows form
-has-form call rows is given =
-    query_call-form (λ q f d. Log q f d) rows call (made_at (codes "log") call rows is given)
+    → AreAsked rows
+has-asked call rows is given =
+    query_call-asked (λ q f r. Log q f r) rows call (made_at (codes "log") call rows is given)

@@ -6,7 +6,7 @@ use Rattle.nx_program.specs.declared.fault.CallFault.{CallFault}
 use Rattle.nx_program.specs.declared.fault.CallFault.TheVariants as call
 use Rattle.nx_program.specs.declared.fault.Fault.{Fault}
 use Rattle.nx_program.specs.declared.fault.Fault.TheVariants as fault
-use Rattle.nx_log.specs.declared.damage.Damaged.{Damaged}
+use Rattle.nx_program.specs.declared.log_arguments.ReadAs.{ReadAs}
 use Rattle.nx_log.specs.declared.log_fault.LogFault.{LogFault}
 use Rattle.nx_log.specs.declared.log_fault.LogFault.TheVariants as log
 use Rattle.nx_receiver.specs.declared.air_file_runs.listen_fault.ListenFault.{ListenFault}
@@ -236,10 +236,10 @@ watch-arguments d b name moment outcome (Ok disk, gives, opened) is =
     ]
 
 -- nor does a run over a log
-log-arguments : {R W : Type 0} (query : Query) (form : Form) (damaged : Damaged) (d : Devices R W)
-    (n : Notices) (outcome : Result (Unit {0}) Fault) → EndsLog query form damaged d n outcome
+log-arguments : {R W : Type 0} (query : Query) (form : Form) (reading : ReadAs) (d : Devices R W)
+    (n : Notices) (outcome : Result (Unit {0}) Fault) → EndsLog query form reading d n outcome
     → status_of outcome ≡ 64 → ⊥
-log-arguments query form damaged d n outcome (own, runs, told) is =
+log-arguments query form reading d n outcome (own, runs, told) is =
     go own (sym (ap status_of told) ∙ is)
   where
     go : (own : Result ℕ LogFault) → status_of (log_outcome own) ≡ 64 → ⊥
@@ -272,7 +272,7 @@ pub arguments-exit : {R W F D E : Type 0} (arguments : List Text) (d : Devices R
 arguments-exit arguments d b status exits is = elim exits.ends [
   | inl runs ↦ absurd (watch-arguments d b runs.name runs.moment exits.outcome runs.watched
       (sym exits.status_is ∙ is))
-  | inr (inl runs) ↦ absurd (log-arguments runs.query runs.form runs.damaged d _ exits.outcome
+  | inr (inl runs) ↦ absurd (log-arguments runs.query runs.form runs.reading d _ exits.outcome
       runs.read.1
       (sym exits.status_is ∙ is))
   | inr (inr ends) ↦ arguments-end arguments d exits.outcome ends.1 (sym exits.status_is ∙ is)
@@ -309,7 +309,7 @@ pub refused-exits : {R W F D E : Type 0} (arguments : List Text) (d : Devices R 
 refused-exits arguments d b status exits refused = elim exits.ends [
   | inl runs ↦ absurd (named_not_refused arguments (Watch runs.name runs.moment) runs.named refused)
   | inr (inl runs) ↦ absurd (named_not_refused arguments
-      (Log runs.query runs.form runs.damaged) runs.named
+      (Log runs.query runs.form runs.reading) runs.named
       refused)
   | inr (inr ends) ↦ elim (refused-ends arguments d exits.outcome ends.1 refused) [
     | inl is ↦ inl (exits.status_is ∙ is)
@@ -321,7 +321,7 @@ refused-exits arguments d b status exits refused = elim exits.ends [
 performs-streams : {R W F D E : Type 0} (call : Call) (d : Devices R W) (b : Beside F D W E)
     → IsUnused b → PerformsOnStreams call d (Ok tt) → Performs call d b (Ok tt)
 performs-streams (Watch name moment) d b unused performed = absurd performed
-performs-streams (Log query form damaged) d b unused performed = absurd performed
+performs-streams (Log query form reading) d b unused performed = absurd performed
 performs-streams call d b unused performed = (unused, performed)
 
 -- a success of arguments that name a call is the success of that call
@@ -336,7 +336,7 @@ success-named arguments d b call named success = elim success [
       (Watch runs.name runs.moment) call runs.named named) runs.watched
   | inr (inl runs) ↦ let P : Call → Type 0 = λ c. Performs c d b (Ok tt) in
       subst P (named_once arguments
-      (Log runs.query runs.form runs.damaged) call runs.named named) runs.read
+      (Log runs.query runs.form runs.reading) call runs.named named) runs.read
   | inr (inr (unused, inl runs)) ↦ let P : Call → Type 0 = λ c. PerformsOnStreams c d (Ok tt) in
       performs-streams call d b unused
       (subst P (named_once arguments runs.call call runs.named named) runs.performed)

@@ -34,7 +34,9 @@ use Rattle.nx_log.specs.declared.log_fault.LogFault.{LogFault}
 use Rattle.nx_log.specs.declared.log_fault.LogFault.TheVariants as log
 use Rattle.nx_log.specs.declared.queries.query.Query.{Query}
 use Rattle.nx_log.specs.declared.writing.form.Form.{Form}
-use Rattle.nx_program.specs.Program.{EndsRun, Exits, NamesTelling, Performs, ReadsLog}
+use Rattle.nx_program.specs.Program.{EndsRun, Exits, NamesTelling, Performs, ReadsLog, RunsOverInput}
+use Rattle.nx_program.specs.declared.log_arguments.ReadAs.{ReadAs}
+use Rattle.nx_program.specs.declared.log_arguments.ReadAs.TheVariants.{Kept as AsKept, Log as AsLog}
 use Rattle.nx_program.specs.Report.{Answers, IsFaultLine, IsFaultText, Reports, WritesLast, WritesOne}
 use Rattle.nx_program.specs.Status.{fault_status, status_of}
 use Rattle.nx_program.specs.WatchCommand.{Beside, IsUnused, WatchesLog, watch_fault_line}
@@ -395,12 +397,20 @@ run-answer-told query form PassedOver d n (Err (log.Write written)) bytes answer
 run-answer-told query form PassedOver d n (Err (log.Memory want)) bytes answer =
     salvage-out-told query form d n query.last bytes answer
 
-log-told : {R W F D E : Type 0} (query : Query) (form : Form) (damaged : Damaged)
+-- a run over an input told some, over a kept log nothing
+input-told : {R W : Type 0} (query : Query) (form : Form) (reading : ReadAs) (d : Devices R W)
+    (n : Notices) (own : Result ℕ LogFault) → RunsOverInput query form reading d n own
+    → ToldLeads n
+input-told query form (AsLog damaged) d n own runs =
+    run-answer-told query form damaged d n own runs.bytes runs.answer
+input-told query form (AsKept from) d n own runs = torn-leads n [] runs.1
+
+log-told : {R W F D E : Type 0} (query : Query) (form : Form) (reading : ReadAs)
     (d : Devices R W) (b : Beside F D W E) (outcome : Result (Unit {0}) Fault)
-    → ReadsLog query form damaged d b outcome → HasLed b.contents b.faults b.faults_after
-log-told query form damaged d b outcome (opens, (own, runs, told)) =
-    let led = run-answer-told query form damaged d
-    (notices_between b.contents b.faults b.faults_after) own runs.bytes runs.answer in
+    → ReadsLog query form reading d b outcome → HasLed b.contents b.faults b.faults_after
+log-told query form reading d b outcome (opens, (own, runs, told)) =
+    let led = input-told query form reading d
+    (notices_between b.contents b.faults b.faults_after) own runs in
     record { told = led.text; leads = led.leads; written = led.told }
 
 pub ends-told : {R W F D E : Type 0} (arguments : List Text) (d : Devices R W) (b : Beside F D W E)
@@ -409,7 +419,7 @@ pub ends-told : {R W F D E : Type 0} (arguments : List Text) (d : Devices R W) (
 ends-told arguments d b outcome none (inl runs) =
     watch-told d b runs.name runs.moment outcome none runs.watched
 ends-told arguments d b outcome none (inr (inl runs)) =
-    log-told runs.query runs.form runs.damaged d b outcome runs.read
+    log-told runs.query runs.form runs.reading d b outcome runs.read
 ends-told arguments d b outcome none (inr (inr ends)) = nothing-told b none ends.0
 
 -- a fault is one text on standard error, with what was told before
@@ -452,7 +462,7 @@ silent-outcome arguments d b behind_call (Err why) ends reports zero none = absu
 silent-outcome arguments d b behind_call (Ok done) (inl runs) reports zero none =
     absurd (none (inl (runs.name, runs.moment, runs.named)))
 silent-outcome arguments d b behind_call (Ok done) (inr (inl runs)) reports zero none =
-    absurd (none (inr (runs.query, runs.form, runs.damaged, runs.named)))
+    absurd (none (inr (runs.query, runs.form, runs.reading, runs.named)))
 silent-outcome arguments d b behind_call (Ok done) (inr (inr ends)) reports zero none =
     reports ∙ ends.0.untold
 

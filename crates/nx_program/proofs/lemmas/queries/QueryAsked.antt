@@ -1,7 +1,7 @@
 -- What the options of `log` ask for: at most one query, and an option that names nothing where
 -- there is none.
 use Rattle.std.proofs.Common.{◌≡◌, ◌≢◌, ◌∙◌, ◌⊎◌, ◌+◌, ℕ, Bool, true, false, List, [], ◌∷◌, Option, Some, None}
-use Rattle.std.proofs.Common.{IfSome, ap, codes, inl, inr, length, refl, sym}
+use Rattle.std.proofs.Common.{IfSome, ap, codes, inl, inr, length, refl, subst, sym, unwrap_or}
 use Rattle.std.specs.FinSet as set
 use Rattle.std.specs.Cmp.{nat_cmp_total}
 use Rattle.std.specs.Ordering.{nat_cmp}
@@ -11,23 +11,25 @@ use Rattle.nx_code.specs.Reading.{IsCapital, digit_zero}
 use Rattle.nx_fec.specs.air_files.Channels.{channel_number}
 use Rattle.nx_fec.specs.declared.air_files.channel.Channel.{Channel}
 use Rattle.nx_fec.specs.declared.air_files.channel.Channel.TheVariants.{One, Two, Zero}
+use Rattle.nx_log.specs.Places.{SaysPlace}
 use Rattle.nx_log.specs.Query.{IsSetOf}
 use Rattle.nx_log.specs.Times.{IsSince, IsUntil}
-use Rattle.nx_log.specs.declared.damage.Damaged.{Damaged}
 use Rattle.nx_log.specs.declared.writing.form.Form.{Form}
 use Rattle.nx_log.specs.declared.queries.query.Query.{Query}
 use Rattle.nx_memory.proofs.lemmas.Letters.{contains-insert, contains-none}
 use Rattle.nx_program.specs.declared.log_arguments.Clash.{Clash}
-use Rattle.nx_program.specs.declared.log_arguments.Clash.TheVariants.{JsonAndKeep}
+use Rattle.nx_program.specs.declared.log_arguments.Clash.TheVariants.{FromWithoutKept, JsonAndKeep, KeptAndSalvage}
 use Rattle.nx_program.specs.declared.log_arguments.LogOption.{LogOption}
 use Rattle.nx_program.specs.declared.log_arguments.LogOption.TheVariants as option
-use Rattle.nx_program.specs.LogArguments.{Asks, HasClash, IsDamaged, IsForm, IsQuery, IsUnfit}
+use Rattle.nx_program.specs.LogArguments.{Asks, HasClash, IsForm, IsQuery, IsReading, IsUnfit}
 use Rattle.nx_program.specs.LogArguments.{NamesChannel, NamesLetters, damaged_of, form_asked}
-use Rattle.nx_program.specs.LogArguments.{form_of, given_to, has_flag}
+use Rattle.nx_program.specs.LogArguments.{form_of, given_to, has_flag, reading_of}
+use Rattle.nx_program.specs.declared.log_arguments.ReadAs.{ReadAs}
+use Rattle.nx_program.specs.declared.log_arguments.ReadAs.TheVariants.{Kept as AsKept, Log as AsLog}
 use Rattle.nx_program.specs.declared.arguments.Call.{Call}
 use Rattle.nx_program.proofs.lemmas.arguments.CallValues.{IsDecided, differ}
 use Rattle.nx_program.proofs.lemmas.Known.{at_most, both, each, same_text}
-use Rattle.nx_program.proofs.lemmas.queries.TimesNamed.{time_known, time_once}
+use Rattle.nx_program.proofs.lemmas.queries.TimesNamed.{place_known, time_known, time_once}
 
 -- letters
 abbrev set_of : Text → set.FinSet nat_cmp
@@ -192,21 +194,7 @@ query_or_unfit rows = elim (asked NamesLetters letters_known (given_to option.St
   ]
 ]
 
--- not both
-pub query_not_unfit : (rows : List Row) (query : Query) (o : LogOption) (text : Text)
-    → IsQuery rows query → IsUnfit rows o text → ⊥
-query_not_unfit rows query option.Station text is unfit =
-    asks-nothing NamesLetters _ _ is.stations (text, unfit.given, unfit.nothing)
-query_not_unfit rows query option.Subject text is unfit =
-    asks-nothing NamesLetters _ _ is.subjects (text, unfit.given, unfit.nothing)
-query_not_unfit rows query option.Channel text is unfit =
-    asks-nothing NamesChannel _ _ is.channel (text, unfit.given, unfit.nothing)
-query_not_unfit rows query option.Since text is unfit =
-    asks-nothing IsSince _ _ is.since (text, unfit.given, unfit.nothing)
-query_not_unfit rows query option.Until text is unfit =
-    asks-nothing IsUntil _ _ is.until (text, unfit.given, unfit.nothing)
-
--- the forms exclude each other
+-- options that exclude each other were given
 abbrev pub IsAnyClash : List Row → Type 0
 IsAnyClash rows = (clash : Clash) × HasClash rows clash
 
@@ -216,86 +204,211 @@ both-forms true false e = absurd (cc)
 both-forms false true e = absurd (cc)
 both-forms false false e = absurd (cc)
 
-pub no_form : (rows : List Row) → form_asked rows ≡ None → IsAnyClash rows
-no_form rows none =
-    (JsonAndKeep, both-forms (has_flag (codes "json") rows) (has_flag (codes "keep") rows) none)
+form_or_clash : (rows : List Row) → ((form : Form) × IsForm rows form) ⊎ IsAnyClash rows
+form_or_clash rows = of (form_asked rows) refl
+  where
+    of : (asked : Option Form) → form_asked rows ≡ asked
+        → ((form : Form) × IsForm rows form) ⊎ IsAnyClash rows
+    of (Some form) e = inl (form, e)
+    of None e = inr (
+      JsonAndKeep,
+      both-forms (has_flag (codes "json") rows) (has_flag (codes "keep") rows) e,
+    )
 
-pub form_not_clash : (rows : List Row) (form : Form) (clash : Clash) → IsForm rows form
-    → HasClash rows clash → ⊥
-form_not_clash rows form JsonAndKeep is clash =
+form_not_clash : (rows : List Row) (form : Form) → IsForm rows form
+    → HasClash rows JsonAndKeep → ⊥
+form_not_clash rows form is clash =
     let none : form_asked rows ≡ None = ap (λ b. form_of b (has_flag (codes "keep") rows)) clash.0
     ∙ ap (form_of true) clash.1 in
     let bad : None ≡ Some form = sym none ∙ is in
     absurd (cc)
 
--- the call of a query, a form and what is done with damaged bytes
-abbrev with_form : (Form → Call) → Option Form → Option Call
-with_form make None = None
-with_form make (Some form) = Some (make form)
+form_once : (rows : List Row) (a b : Form) → IsForm rows a → IsForm rows b → a ≡ b
+form_once rows a b one other =
+    let same : Some a ≡ Some b = sym one ∙ other in cc
 
-abbrev made_of : (make : Query → Form → Damaged → Call) (rows : List Row)
-    → ((query : Query) × IsQuery rows query) ⊎ IsAnyUnfit rows → Option Call
-made_of make rows (inl is) =
-    with_form (λ form. make is.0 form (damaged_of (has_flag (codes "salvage") rows)))
-    (form_asked rows)
-made_of make rows (inr unfit) = None
+-- as what the input is read
+abbrev IsReadOrNot : List Row → Type 0
+IsReadOrNot rows =
+    ((reading : ReadAs) × IsReading rows reading) ⊎ (IsAnyUnfit rows ⊎ IsAnyClash rows)
 
-abbrev pub query_call : (Query → Form → Damaged → Call) → List Row → Option Call
-query_call make rows = made_of make rows (query_or_unfit rows)
-
-pub query_call-only : (make : Query → Form → Damaged → Call) (rows : List Row) (query : Query)
-    (form : Form) (damaged : Damaged) → IsQuery rows query → IsForm rows form
-    → IsDamaged rows damaged
-    → query_call make rows ≡ Some (make query form damaged)
-query_call-only make rows query form damaged is is_form is_damaged = go (query_or_unfit rows)
+reading_or_not : (rows : List Row) → IsReadOrNot rows
+reading_or_not rows = elim (asked SaysPlace place_known (given_to option.From rows)) [
+  | inr n ↦ inr (inl (option.From, n.0, record { given = n.1; nothing = n.2 }))
+  | inl from ↦ of from.0 from.1 (has_flag (codes "kept") rows) (has_flag (codes "salvage") rows)
+      refl refl
+]
   where
-    go : (d : ((query : Query) × IsQuery rows query) ⊎ IsAnyUnfit rows)
-        → made_of make rows d ≡ Some (make query form damaged)
-    go (inl found) =
-        ap (with_form (λ f. make found.0 f (damaged_of (has_flag (codes "salvage") rows)))) is_form
-        ∙ (rw (query_once rows found.0 query found.1 is, ← is_damaged) refl)
-    go (inr unfit) = absurd (query_not_unfit rows query unfit.0 unfit.1 is unfit.2)
+    given : (asked : Option ℕ) (place : ℕ) (o : Option Text) → asked ≡ Some place
+        → Asks SaysPlace o asked → (text : Text) × (o ≡ Some text)
+    given (Some place) other (Some text) e asks = (text, refl)
+    given (Some place) other None e asks = absurd asks
+    given None other o e asks = absurd (cc)
 
-pub query_call-is : (make : Query → Form → Damaged → Call) (rows : List Row) (P : Call → Type 0)
-    → ((query : Query) (form : Form) (damaged : Damaged) → IsQuery rows query → IsForm rows form
-    → IsDamaged rows damaged → P (make query form damaged))
+    of : (from : Option ℕ) → Asks SaysPlace (given_to option.From rows) from
+        → (kept salvage : Bool) → has_flag (codes "kept") rows ≡ kept
+        → has_flag (codes "salvage") rows ≡ salvage → IsReadOrNot rows
+    of from asks true true k s = inr (inr (KeptAndSalvage, (k, s)))
+    of from asks true false k s = inl (
+      AsKept (unwrap_or from 0),
+      record {
+        from = from;
+        said = asks;
+        asked = ap (λ b. reading_of b (has_flag (codes "salvage") rows) from) k
+            ∙ ap (λ b. reading_of true b from) s;
+      },
+    )
+    of None asks false salvage k s = inl (
+      AsLog (damaged_of salvage),
+      record {
+        from = None;
+        said = asks;
+        asked = ap (λ b. reading_of b (has_flag (codes "salvage") rows) None) k
+            ∙ ap (λ b. reading_of false b None) s;
+      },
+    )
+    of (Some place) asks false salvage k s =
+        inr (inr (FromWithoutKept, (k, given (Some place) place _ refl asks)))
+
+place_once : (text : Text) (a b : ℕ) → SaysPlace text a → SaysPlace text b → a ≡ b
+place_once text a b one other = one.value ∙ sym other.value
+
+reading_once : (rows : List Row) (a b : ReadAs) → IsReading rows a → IsReading rows b → a ≡ b
+reading_once rows a b one other =
+    let from = asks-once SaysPlace place_once _ _ _ one.said other.said in
+    let same : Some a ≡ Some b =
+    sym one.asked
+    ∙ ap (reading_of (has_flag (codes "kept") rows) (has_flag (codes "salvage") rows)) from
+    ∙ other.asked in
+    cc
+
+-- ---- what all options ask for
+
+-- a query, a form and how the input is read
+pub record AreAsked (rows : List Row) : Type 0 where
+  pub query : Query
+  pub form : Form
+  pub reading : ReadAs
+  pub is_query : IsQuery rows query
+  pub is_form : IsForm rows form
+  pub is_reading : IsReading rows reading
+
+-- an option names nothing, or two exclude each other
+abbrev pub IsNothingAsked : List Row → Type 0
+IsNothingAsked rows = IsAnyUnfit rows ⊎ IsAnyClash rows
+
+pub asked_or_not : (rows : List Row) → AreAsked rows ⊎ IsNothingAsked rows
+asked_or_not rows = elim (query_or_unfit rows) [
+  | inr unfit ↦ inr (inl unfit)
+  | inl query ↦ elim (form_or_clash rows) [
+    | inr clash ↦ inr (inr clash)
+    | inl form ↦ elim (reading_or_not rows) [
+      | inr nothing ↦ inr nothing
+      | inl reading ↦ inl (record {
+        query = query.0;
+        form = form.0;
+        reading = reading.0;
+        is_query = query.1;
+        is_form = form.1;
+        is_reading = reading.1;
+      })
+    ]
+  ]
+]
+
+-- not both
+pub asked_not_unfit : (rows : List Row) → AreAsked rows → (o : LogOption) (text : Text)
+    → IsUnfit rows o text → ⊥
+asked_not_unfit rows a option.Station text unfit =
+    asks-nothing NamesLetters _ _ a.is_query.stations (text, unfit.given, unfit.nothing)
+asked_not_unfit rows a option.Subject text unfit =
+    asks-nothing NamesLetters _ _ a.is_query.subjects (text, unfit.given, unfit.nothing)
+asked_not_unfit rows a option.Channel text unfit =
+    asks-nothing NamesChannel _ _ a.is_query.channel (text, unfit.given, unfit.nothing)
+asked_not_unfit rows a option.Since text unfit =
+    asks-nothing IsSince _ _ a.is_query.since (text, unfit.given, unfit.nothing)
+asked_not_unfit rows a option.Until text unfit =
+    asks-nothing IsUntil _ _ a.is_query.until (text, unfit.given, unfit.nothing)
+asked_not_unfit rows a option.From text unfit =
+    asks-nothing SaysPlace _ _ a.is_reading.said (text, unfit.given, unfit.nothing)
+
+pub asked_not_clash : (rows : List Row) → AreAsked rows → (clash : Clash) → HasClash rows clash
+    → ⊥
+asked_not_clash rows a JsonAndKeep clash = form_not_clash rows a.form a.is_form clash
+asked_not_clash rows a KeptAndSalvage clash =
+    let r = a.is_reading in
+    let none : reading_of (has_flag (codes "kept") rows) (has_flag (codes "salvage") rows) r.from
+    ≡ None =
+    ap (λ b. reading_of b (has_flag (codes "salvage") rows) r.from) clash.0
+    ∙ ap (λ b. reading_of true b r.from) clash.1 in
+    let bad : None ≡ Some a.reading = sym none ∙ r.asked in
+    absurd (cc)
+asked_not_clash rows a FromWithoutKept clash =
+    let r = a.is_reading in
+    of r.from refl (subst (λ o. Asks SaysPlace o r.from) clash.1.1 r.said)
+  where
+    of : (from : Option ℕ) → a.is_reading.from ≡ from
+        → Asks SaysPlace (Some clash.1.0) a.is_reading.from → ⊥
+    of None e asks = subst (Asks SaysPlace (Some clash.1.0)) e asks
+    of (Some place) e asks =
+        let none : reading_of (has_flag (codes "kept") rows) (has_flag (codes "salvage") rows)
+        a.is_reading.from ≡ None =
+        ap (λ b. reading_of b (has_flag (codes "salvage") rows) a.is_reading.from) clash.0
+        ∙ ap (reading_of false (has_flag (codes "salvage") rows)) e in
+        let bad : None ≡ Some a.reading = sym none ∙ a.is_reading.asked in
+        absurd (cc)
+
+-- the call of what is asked for
+abbrev made_of : (make : Query → Form → ReadAs → Call) (rows : List Row)
+    → AreAsked rows ⊎ IsNothingAsked rows → Option Call
+made_of make rows (inl a) = Some (make a.query a.form a.reading)
+made_of make rows (inr nothing) = None
+
+abbrev pub query_call : (Query → Form → ReadAs → Call) → List Row → Option Call
+query_call make rows = made_of make rows (asked_or_not rows)
+
+pub query_call-only : (make : Query → Form → ReadAs → Call) (rows : List Row) (query : Query)
+    (form : Form) (reading : ReadAs) → IsQuery rows query → IsForm rows form
+    → IsReading rows reading
+    → query_call make rows ≡ Some (make query form reading)
+query_call-only make rows query form reading is is_form is_reading = go (asked_or_not rows)
+  where
+    all : AreAsked rows
+    all = record {
+      query = query;
+      form = form;
+      reading = reading;
+      is_query = is;
+      is_form = is_form;
+      is_reading = is_reading;
+    }
+
+    go : (d : AreAsked rows ⊎ IsNothingAsked rows)
+        → made_of make rows d ≡ Some (make query form reading)
+    go (inl a) = rw (
+      query_once rows a.query query a.is_query is,
+      form_once rows a.form form a.is_form is_form,
+      reading_once rows a.reading reading a.is_reading is_reading,
+    ) refl
+    go (inr (inl unfit)) = absurd (asked_not_unfit rows all unfit.0 unfit.1 unfit.2)
+    go (inr (inr clash)) = absurd (asked_not_clash rows all clash.0 clash.1)
+
+pub query_call-is : (make : Query → Form → ReadAs → Call) (rows : List Row) (P : Call → Type 0)
+    → ((query : Query) (form : Form) (reading : ReadAs) → IsQuery rows query → IsForm rows form
+    → IsReading rows reading → P (make query form reading))
     → IfSome (query_call make rows) P
-query_call-is make rows P has = go (query_or_unfit rows)
+query_call-is make rows P has = go (asked_or_not rows)
   where
-    of : (query : Query) → IsQuery rows query → (asked : Option Form) → form_asked rows ≡ asked
-        → IfSome (with_form (λ form. make query form
-        (damaged_of (has_flag (codes "salvage") rows))) asked) P
-    of query is None e = tt
-    of query is (Some form) e =
-        has query form (damaged_of (has_flag (codes "salvage") rows)) is e refl
+    go : (d : AreAsked rows ⊎ IsNothingAsked rows) → IfSome (made_of make rows d) P
+    go (inl a) = has a.query a.form a.reading a.is_query a.is_form a.is_reading
+    go (inr nothing) = tt
 
-    go : (d : ((query : Query) × IsQuery rows query) ⊎ IsAnyUnfit rows)
-        → IfSome (made_of make rows d) P
-    go (inl found) = of found.0 found.1 (form_asked rows) refl
-    go (inr unfit) = tt
-
--- where there is such a call, there is a query, and a form
-pub query_call-query : (make : Query → Form → Damaged → Call) (rows : List Row) (call : Call)
-    → query_call make rows ≡ Some call → (query : Query) × IsQuery rows query
-query_call-query make rows call made = go (query_or_unfit rows) made
+-- where there is such a call, all is asked for
+pub query_call-asked : (make : Query → Form → ReadAs → Call) (rows : List Row) (call : Call)
+    → query_call make rows ≡ Some call → AreAsked rows
+query_call-asked make rows call made = go (asked_or_not rows) made
   where
-    go : (d : ((query : Query) × IsQuery rows query) ⊎ IsAnyUnfit rows)
-        → made_of make rows d ≡ Some call → (query : Query) × IsQuery rows query
-    go (inl found) e = found
-    go (inr unfit) e = absurd (cc)
-
-pub query_call-form : (make : Query → Form → Damaged → Call) (rows : List Row) (call : Call)
-    → query_call make rows ≡ Some call → (form : Form) × IsForm rows form
-query_call-form make rows call made = go (query_or_unfit rows) made
-  where
-    of : (query : Query) (asked : Option Form) → form_asked rows ≡ asked
-        → with_form (λ form. make query form (damaged_of (has_flag (codes "salvage") rows))) asked
-        ≡ Some call
-        → (form : Form) × IsForm rows form
-    of query None e is = absurd (cc)
-    of query (Some form) e is = (form, e)
-
-    go : (d : ((query : Query) × IsQuery rows query) ⊎ IsAnyUnfit rows)
-        → made_of make rows d ≡ Some call → (form : Form) × IsForm rows form
-    go (inl found) e = of found.0 (form_asked rows) refl e
-    go (inr unfit) e = absurd (cc)
+    go : (d : AreAsked rows ⊎ IsNothingAsked rows) → made_of make rows d ≡ Some call
+        → AreAsked rows
+    go (inl a) e = a
+    go (inr nothing) e = absurd (cc)

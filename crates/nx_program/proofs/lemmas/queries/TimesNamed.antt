@@ -14,6 +14,8 @@ use Rattle.nx_log.proofs.lemmas.texts.TimeTexts.{digits_show_none, digits_write_
 use Rattle.nx_log.proofs.lemmas.texts.TimeTexts.{joined-back, shown-length, time-length, time-long}
 use Rattle.nx_log.specs.Times.{CouldBeDate, IsBetween, NamesMoment, WritesMoment, WritesTime}
 use Rattle.nx_log.specs.Times.{joined_by}
+use Rattle.nx_log.specs.LogRun.{most_read}
+use Rattle.nx_log.specs.Places.{SaysPlace}
 use Rattle.nx_program.proofs.lemmas.Known.{IsKnown, UpTo, at_most, both, either, same_integer, same_text}
 use Rattle.nx_program.proofs.lemmas.Known.{up_to}
 
@@ -43,6 +45,19 @@ moment_known text m = elim (both _ _
     (number_known m (digits_value 10 text))) [
       | inl is ↦ inl (record { digits = is.0.0; no_date = is.0.1; value = is.1 })
       | inr fails ↦ inr (λ w. fails ((w.digits, w.no_date), w.value))
+    ]
+
+-- places
+pub place_known : (text : List ℕ)
+    → ((place : ℕ) × SaysPlace text place) ⊎ ((place : ℕ) → SaysPlace text place → ⊥)
+place_known text = elim (both _ _ (both _ _ (at_most 1 (length text)) (digits_known text))
+    (at_most (digits_value 10 text) most_read)) [
+      | inl is ↦ inl (
+        digits_value 10 text,
+        record { digits = is.0; value = refl; in_range = is.1 },
+      )
+      | inr fails ↦ inr (λ place said.
+          fails (said.digits, omega (arith, said.in_range, said.value)))
     ]
 
 -- civil times

@@ -1,4 +1,4 @@
-use Rattle.std.proofs.Common.{◌≤◌, ◌<◌, ◌⊎◌, ℕ, pos, List, [], ◌∷◌, ◌++◌, Some, None, codes, length, refl, inl, inr}
+use Rattle.std.proofs.Common.{◌≤◌, ◌<◌, ◌⊎◌, ℕ, pos, List, [], ◌∷◌, ◌++◌, ◌≡◌, Some, None, codes, length, refl, inl, inr}
 use Rattle.std.proofs.Common.{arith, length-append, rules}
 use Rattle.std.proofs.lemmas.List.Elements.{All-head}
 use Rattle.std.specs.FinSet as set
@@ -15,9 +15,12 @@ use Rattle.nx_code.specs.Reading.{IsCapital}
 use Rattle.nx_envelope.specs.Moment.{IsShownAs}
 use Rattle.nx_log.proofs.lemmas.texts.TimeTexts.{shown-length, time-long}
 use Rattle.nx_log.specs.Times.{IsSince, WritesTime}
-use Rattle.nx_program.specs.LogArguments.{NamesLetters}
-use Rattle.nx_program.specs.declared.log_arguments.Clash.TheVariants.{JsonAndKeep}
-use Rattle.nx_program.specs.declared.log_arguments.LogOption.TheVariants.{Since, Station}
+use Rattle.std.specs.Char.{digit_value}
+use Rattle.nx_log.specs.Places.{SaysPlace}
+use Rattle.nx_program.specs.LogArguments.{Asks, IsReading, NamesLetters, given_to, has_flag, reading_of}
+use Rattle.nx_program.specs.declared.log_arguments.Clash.TheVariants.{FromWithoutKept, JsonAndKeep, KeptAndSalvage}
+use Rattle.nx_program.specs.declared.log_arguments.LogOption.TheVariants.{From, Since, Station}
+use Rattle.nx_program.specs.declared.log_arguments.ReadAs.{ReadAs}
 use Rattle.nx_program.proofs.lemmas.arguments.GivenValues.{given}
 use Rattle.nx_program.proofs.lemmas.arguments.Arguments.{conflict_is_refusal}
 use Rattle.nx_program.proofs.log_laws.log_in_examples.Goals as goal
@@ -35,7 +38,15 @@ off name = record {
 abbrev all_off : List Row
 all_off =
     off (codes "good") ∷ off (codes "last") ∷ off (codes "json") ∷ off (codes "keep")
-    ∷ off (codes "salvage") ∷ []
+    ∷ off (codes "kept") ∷ off (codes "salvage") ∷ []
+
+-- no place is said
+abbrev as_log : {values : List Row} {reading : ReadAs}
+    → Asks SaysPlace (given_to From values) None
+    → reading_of (has_flag (codes "kept") values) (has_flag (codes "salvage") values) None
+    ≡ Some reading
+    → IsReading values reading
+as_log said asked = record { from = None; said = said; asked = asked }
 
 first_second : IsShownAs 1735689600 (codes "2025-01-01 00:00:00")
 first_second = record {
@@ -121,6 +132,10 @@ year_is_none moment named = elim named.1 [
   | inr other ↦ short_is_none (codes "2025") moment (omega arith) other
 ]
 
+plus_is_none : (place : ℕ) → SaysPlace (codes "+5") place → ⊥
+plus_is_none place said =
+    let digit : digit_value 43 < 10 = said.digits.1.0 in absurd (omega (arith, digit))
+
 small_e_is_none : (letters : set.FinSet nat_cmp) → NamesLetters (codes "e") letters → ⊥
 small_e_is_none letters named =
     let capital = All-head IsCapital 101 [] named.0.capitals in
@@ -145,13 +160,14 @@ returns c = record {
         last = refl;
       },
       refl,
-      refl,
+      as_log tt refl,
     );
   };
   flags = λ program. record {
     taken = refl;
     values = given (codes "json") (codes "true") ∷ given (codes "good") (codes "true")
-        ∷ off (codes "last") ∷ off (codes "keep") ∷ off (codes "salvage") ∷ [];
+        ∷ off (codes "last") ∷ off (codes "keep") ∷ off (codes "kept") ∷ off (codes "salvage")
+        ∷ [];
     command = refl;
     given = (
       record {
@@ -164,13 +180,13 @@ returns c = record {
         last = refl;
       },
       refl,
-      refl,
+      as_log tt refl,
     );
   };
   last = λ program. record {
     taken = refl;
     values = given (codes "last") (codes "true") ∷ off (codes "good") ∷ off (codes "json")
-        ∷ off (codes "keep") ∷ off (codes "salvage") ∷ [];
+        ∷ off (codes "keep") ∷ off (codes "kept") ∷ off (codes "salvage") ∷ [];
     command = refl;
     given = (
       record {
@@ -183,13 +199,13 @@ returns c = record {
         last = refl;
       },
       refl,
-      refl,
+      as_log tt refl,
     );
   };
   keep = λ program. record {
     taken = refl;
     values = given (codes "keep") (codes "true") ∷ off (codes "good") ∷ off (codes "last")
-        ∷ off (codes "json") ∷ off (codes "salvage") ∷ [];
+        ∷ off (codes "json") ∷ off (codes "kept") ∷ off (codes "salvage") ∷ [];
     command = refl;
     given = (
       record {
@@ -202,20 +218,21 @@ returns c = record {
         last = refl;
       },
       refl,
-      refl,
+      as_log tt refl,
     );
   };
   two_forms = λ program. record {
     taken = refl;
     values = given (codes "json") (codes "true") ∷ given (codes "keep") (codes "true")
-        ∷ off (codes "good") ∷ off (codes "last") ∷ off (codes "salvage") ∷ [];
+        ∷ off (codes "good") ∷ off (codes "last") ∷ off (codes "kept") ∷ off (codes "salvage")
+        ∷ [];
     entered = refl;
     reported = inr (record { clash = JsonAndKeep; given = (refl, refl); told = refl });
   };
-  salvage = λ program. record {
+  kept = λ program. record {
     taken = refl;
-    values = given (codes "salvage") (codes "true") ∷ off (codes "good") ∷ off (codes "last")
-        ∷ off (codes "json") ∷ off (codes "keep") ∷ [];
+    values = given (codes "kept") (codes "true") ∷ off (codes "good") ∷ off (codes "last")
+        ∷ off (codes "json") ∷ off (codes "keep") ∷ off (codes "salvage") ∷ [];
     command = refl;
     given = (
       record {
@@ -228,7 +245,80 @@ returns c = record {
         last = refl;
       },
       refl,
+      as_log tt refl,
+    );
+  };
+  from_a_place = λ program. record {
+    taken = refl;
+    values = given (codes "kept") (codes "true") ∷ given (codes "from") (codes "43")
+        ∷ off (codes "good") ∷ off (codes "last") ∷ off (codes "json") ∷ off (codes "keep")
+        ∷ off (codes "salvage") ∷ [];
+    command = refl;
+    given = (
+      record {
+        stations = tt;
+        subjects = tt;
+        channel = tt;
+        since = tt;
+        until = tt;
+        good = refl;
+        last = refl;
+      },
       refl,
+      record {
+        from = Some 43;
+        said = record { digits = search rules; value = refl; in_range = search rules };
+        asked = refl;
+      },
+    );
+  };
+  no_salvage = λ program. record {
+    taken = refl;
+    values = given (codes "kept") (codes "true") ∷ given (codes "salvage") (codes "true")
+        ∷ off (codes "good") ∷ off (codes "last") ∷ off (codes "json") ∷ off (codes "keep") ∷ [];
+    entered = refl;
+    reported = inr (record { clash = KeptAndSalvage; given = (refl, refl); told = refl });
+  };
+  no_kept = λ program. record {
+    taken = refl;
+    values = given (codes "from") (codes "43") ∷ all_off;
+    entered = refl;
+    reported = inr (record {
+      clash = FromWithoutKept;
+      given = (refl, (codes "43", refl));
+      told = refl;
+    });
+  };
+  no_place = λ program. record {
+    taken = refl;
+    values = given (codes "kept") (codes "true") ∷ given (codes "from") (codes "+5")
+        ∷ off (codes "good") ∷ off (codes "last") ∷ off (codes "json") ∷ off (codes "keep")
+        ∷ off (codes "salvage") ∷ [];
+    entered = refl;
+    reported = inl (record {
+      option = From;
+      text = codes "+5";
+      unfit = record { given = refl; nothing = plus_is_none };
+      told = refl;
+    });
+  };
+  salvage = λ program. record {
+    taken = refl;
+    values = given (codes "salvage") (codes "true") ∷ off (codes "good") ∷ off (codes "last")
+        ∷ off (codes "json") ∷ off (codes "keep") ∷ off (codes "kept") ∷ [];
+    command = refl;
+    given = (
+      record {
+        stations = tt;
+        subjects = tt;
+        channel = tt;
+        since = tt;
+        until = tt;
+        good = refl;
+        last = refl;
+      },
+      refl,
+      as_log tt refl,
     );
   };
   channel = λ program. record {
@@ -246,7 +336,7 @@ returns c = record {
         last = refl;
       },
       refl,
-      refl,
+      as_log tt refl,
     );
   };
   since = λ program. record {
@@ -264,7 +354,7 @@ returns c = record {
         last = refl;
       },
       refl,
-      refl,
+      as_log tt refl,
     );
   };
   until = λ program. record {
@@ -282,7 +372,7 @@ returns c = record {
         last = refl;
       },
       refl,
-      refl,
+      as_log tt refl,
     );
   };
   minute = λ program. record {
@@ -300,7 +390,7 @@ returns c = record {
         last = refl;
       },
       refl,
-      refl,
+      as_log tt refl,
     );
   };
   no_year = λ program. record {
