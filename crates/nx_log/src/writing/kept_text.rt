@@ -11,7 +11,7 @@ use nx_fec::append;
 const OPEN_GATE: u8 = b'\n';
 
 /// The gate behind the last entry: a space.
-pub(crate) const CLOSED_GATE: &[u8] = b" ";
+pub(crate) const GATE_BEHIND: &[u8] = b" ";
 
 /// The most bytes of a logged entry and its gate.
 const MAX_GATED: usize = MAX_LOGGED + 1;

@@ -20,7 +20,7 @@ use crate::log_fault::LogFault;
 use crate::queries::query::Query;
 use crate::writing::form::Form;
 use crate::writing::json_text::placed_line;
-use crate::writing::kept_text::{CLOSED_GATE, kept_text};
+use crate::writing::kept_text::{GATE_BEHIND, kept_text};
 use crate::writing::last_entries::LastEntries;
 use crate::writing::places::Places;
 use nx_fec::{Batch, Counting, WriteFault};
@@ -232,7 +232,7 @@ fn end_of(form: Form, count: u64) -> &'static [u8]
         → result.now ≡ the_end_of form entries }
 {
     match form {
-        Form::Kept if count > 0 => CLOSED_GATE,
+        Form::Kept if count > 0 => GATE_BEHIND,
         Form::Log | Form::Json | Form::Kept => b"",
     }
 }

@@ -1,23 +1,21 @@
 -- A run over a kept log, step by step.
 use Rattle.std.specs.declared.alloc.AllocError.{AllocError}
-use Rattle.std.proofs.Common.{◌≡◌, ◌⊎◌, inl, inr, ℕ, ◌+◌, ◌-◌, ◌^◌, ◌<◌, ◌≤◌, Bool, true, false, min, List, [], ◌∷◌, ◌++◌, length, take, drop, Some, refl, sym, ap, ◌∙◌, subst, arith, append_assoc, append-nil, length-append, take-append-drop, Option, Result, Ok, Err}
+use Rattle.std.proofs.Common.{◌≡◌, inl, inr, ℕ, ◌+◌, ◌≤◌, Bool, true, false, min, List, [], ◌∷◌, ◌++◌, length, take, drop, refl, sym, ap, ◌∙◌, subst, arith, append_assoc, append-nil, length-append, take-append-drop, Result, Ok, Err}
 use Rattle.std.specs.Io.KnownBytes.{Appends}
 use Rattle.std.proofs.lemmas.List.Sums.{count_by-le-length}
 use Rattle.std.specs.Prelude.{◌==◌}
 use Rattle.nx_code.specs.Reading.{newline}
-use Rattle.nx_copies.specs.copies.Shares.{MarkedCopy}
 use Rattle.nx_fec.specs.Transfers.{Contents, Devices, contents_of}
-use Rattle.nx_log.specs.KeptLog.{ArePlacedFrom, HoldKept, StandForPlaced, StopKept}
+use Rattle.nx_log.specs.KeptLog.{ArePlacedFrom, StopKept}
 use Rattle.nx_log.specs.KeptRun.{AnswersKeptRun, AreAllKept, BeginKept, KeptRanOut}
 use Rattle.nx_log.specs.LogReader.{most_lines}
-use Rattle.nx_log.specs.LogRun.{WrotePlaced, WrotePlacedPart, WrotePlacedToEnd, most_read}
-use Rattle.nx_log.specs.Places.{PlacedCopy, chosen_placed}
+use Rattle.nx_log.specs.LogRun.{WrotePlacedPart, most_read}
+use Rattle.nx_log.specs.Places.{PlacedCopy}
 use Rattle.nx_log.specs.Reading.{line_behind}
-use Rattle.nx_log.specs.private.KeptReading.{IsAtKept, StopsWithin}
+use Rattle.nx_log.specs.private.KeptReading.{IsAtKept}
 use Rattle.nx_log.specs.private.KeptRunning.{EndsKeptAll, EndsKeptRun, IsKeptRunning}
-use Rattle.nx_log.specs.private.LogRunning.{EndsUnread, FailsGiving, WroteNothing}
+use Rattle.nx_log.specs.private.LogRunning.{EndsUnread, FailsGiving}
 use Rattle.nx_log.specs.declared.entries.kept_reader.KeptReader.{KeptReader}
-use Rattle.nx_log.specs.declared.entries.reader.BadLine.{BadLine}
 use Rattle.nx_log.specs.declared.kept_runs.KeptRun.{KeptRun}
 use Rattle.nx_log.specs.declared.log_fault.LogFault.{LogFault}
 use Rattle.nx_log.specs.declared.log_fault.LogFault.TheVariants.{Read, Write, BadLog, Memory}

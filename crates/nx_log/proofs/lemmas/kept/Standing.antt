@@ -1,10 +1,10 @@
 -- Entries behind open gates, and what stands behind them.
-use Rattle.std.proofs.Common.{◌≡◌, ◌≢◌, ◌⊎◌, inl, inr, ℕ, ◌+◌, ◌<◌, ◌≤◌, List, [], ◌∷◌, ◌++◌, length, take, drop, Some, refl, sym, ap, ◌∙◌, subst, arith, append_assoc, append-nil, length-append, take-append-drop}
-use Rattle.nx_kept.specs.Kept.{CanBeKeptLog, IsBehindOpenGates, IsKeptLog, IsTail, StandsFor, closed_gate}
-use Rattle.nx_kept.proofs.lemmas.KeptLaws.{closed_tail, more_behind, only_tail, short_tail}
+use Rattle.std.proofs.Common.{◌≡◌, ◌≢◌, inl, inr, ℕ, ◌+◌, ◌<◌, ◌≤◌, List, [], ◌∷◌, ◌++◌, length, Some, refl, sym, ap, ◌∙◌, subst, arith, append_assoc, append-nil, length-append}
+use Rattle.nx_kept.specs.Kept.{CanBeKeptLog, IsBehindOpenGates, IsTail, StandsFor, closed_gate}
+use Rattle.nx_kept.proofs.lemmas.KeptLaws.{closed_tail, more_behind, only_tail}
 use Rattle.nx_kept.proofs.lemmas.Steps.{ends_early}
 use Rattle.std.proofs.lemmas.List.{take_all}
-use Rattle.nx_log.specs.Entries.{IsUnfinishedEntry, IsWholeEntry}
+use Rattle.nx_log.specs.Entries.{IsWholeEntry}
 use Rattle.nx_log.specs.KeptLog.{ArePlacedFrom, HoldKept, NoEntryStands, longest_entry, places_at}
 use Rattle.nx_log.specs.Logged.{IsLoggedAs}
 use Rattle.nx_log.specs.Places.{PlacedCopy}

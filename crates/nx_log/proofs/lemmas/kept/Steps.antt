@@ -1,10 +1,9 @@
 -- A reader of a kept log, step by step.
-use Rattle.std.proofs.Common.{◌≡◌, ◌≢◌, ◌⊎◌, inl, inr, ℕ, ◌+◌, ◌-◌, ◌^◌, ◌<◌, ◌≤◌, min, List, [], ◌∷◌, ◌++◌, length, take, drop, Some, None, refl, sym, ap, ap₂, ◌∙◌, subst, arith, append_assoc, append-nil, length-append, take-append-drop}
+use Rattle.std.proofs.Common.{◌≡◌, inl, inr, ℕ, ◌+◌, ◌-◌, ◌<◌, ◌≤◌, min, List, [], ◌∷◌, ◌++◌, length, take, drop, Some, None, refl, sym, ap, ap₂, ◌∙◌, subst, arith, append_assoc, append-nil, length-append, take-append-drop}
 use Rattle.std.proofs.lemmas.Bool.{cases_lt}
-use Rattle.std.proofs.lemmas.List.{length-take, take-append-le, take_all}
+use Rattle.std.proofs.lemmas.List.{length-take, take-append-le}
 use Rattle.nx_kept.specs.Kept.{closed_gate}
 use Rattle.nx_kept.proofs.lemmas.Pieces.{take_past}
-use Rattle.nx_copies.specs.copies.Shares.{MarkedCopy}
 use Rattle.nx_log.specs.Entries.{IsUnfinishedEntry, IsWholeEntry}
 use Rattle.nx_log.specs.KeptLog.{StopKept, longest_entry, places_at}
 use Rattle.nx_log.specs.LogReader.{most_lines}
@@ -15,10 +14,8 @@ use Rattle.nx_log.specs.Starts.{StartsAs}
 use Rattle.nx_log.specs.private.KeptReading.{EndsKept, IsAtKept, IsBegun, StageStands, StopsWithin, TakesKept}
 use Rattle.nx_log.specs.declared.entries.kept_reader.KeptPushed.TheVariants.{Entry}
 use Rattle.nx_log.specs.declared.entries.kept_reader.KeptReader.{KeptReader}
-use Rattle.nx_log.specs.declared.entries.kept_reader.KeptStage.{KeptStage}
 use Rattle.nx_log.specs.declared.entries.kept_reader.KeptStage.TheVariants.{Closed, Gate, Open}
-use Rattle.nx_log.specs.declared.entries.reader.BadLine.{BadLine}
-use Rattle.nx_log.specs.declared.entries.start.EntryStart.TheVariants.{Broken, Unfinished, Whole}
+use Rattle.nx_log.specs.declared.entries.start.EntryStart.TheVariants.{Broken, Whole}
 use Rattle.nx_log.specs.declared.writing.places.Places.{Places}
 use Rattle.nx_log.proofs.lemmas.kept.Damage.{stops_broken, stops_early, stops_long}
 use Rattle.nx_log.proofs.lemmas.kept.Standing.{placed_more, whole_one, whole_some}
