@@ -14,8 +14,7 @@ ghost use Rattle.nx_watch.specs.private.Running.{EndsInput, EndsRun, HasToldLine
 ghost use Rattle.nx_receiver.specs.Listener.{starts_of};
 ghost use Rattle.nx_watch.specs.Stamps.{IsFresh, counted_of, stamps_of};
 ghost use Rattle.nx_watch.specs.private.LoggingListener.{KeepsLines, LoggingTo, TakesLines, logging_to};
-ghost use Rattle.nx_watch.specs.private.AnyReading.{GoesOn, SaysLine};
-ghost use Rattle.nx_watch.specs.private.Scanning.{IsScanning};
+ghost use Rattle.nx_watch.specs.private.AnyReading.{GoesOn, HasGiven, SaysLine, latest_of, reach, waiting};
 ghost use Rattle.nx_watch.specs.declared.lines.any_lines.AnyLine.TheVariants.{Known};
 ghost use Rattle.nx_watch.specs.private.Stamping.{RunsStamped, StandsStamped, telling};
 ghost use Rattle.nx_watch.specs.declared.lines.line_effects.StartMoments.{StartMoments as TheStart};
@@ -122,8 +121,8 @@ impl LineRun {
         requires reader { IsFresh reader.old }
         requires writer { writer.old.failures ≡ 0 }
         requires limit { self.old.lines.room ≤ most_bytes }
-        requires piece { self.old.lines.piece ≡ [] }
-        requires room { self.old.lines.scanner.scanner.room ≡ most_bytes }
+        requires fresh { waiting self.old.lines ≡ [] }
+        requires room { reach self.old.lines ≡ most_bytes }
         requires lines { self.old.effects.lines ≡ 0 }
         requires fewer { self.old.effects.without_effect ≡ 0 }
         ensures read { (start : LoggingTo D W) (first : TheStart) (old : ToldBefore)
@@ -190,12 +189,12 @@ impl LineRun {
         logging: &mut LoggingListener<D>,
     ) -> Result<bool, WatchEnd>
         requires writer { writer.old.failures ≡ 0 }
-        requires room { length self.old.lines.piece ≤ self.old.lines.scanner.scanner.room }
-        requires within { self.old.lines.scanner.scanner.room ≤ most_bytes }
-        requires few { self.old.effects.lines + length self.old.lines.piece ≤ most_bytes }
+        requires room { length (waiting self.old.lines) ≤ reach self.old.lines }
+        requires within { reach self.old.lines ≤ most_bytes }
+        requires few { self.old.effects.lines + length (waiting self.old.lines) ≤ most_bytes }
         requires fewer { self.old.effects.without_effect ≤ self.old.effects.lines }
-        ensures taken { (count : ℕ) × (count ≤ length self.old.lines.piece)
-            × (self.new.lines.piece ≡ drop count self.old.lines.piece)
+        ensures taken { (count : ℕ) × (count ≤ length (waiting self.old.lines))
+            × (waiting self.new.lines ≡ drop count (waiting self.old.lines))
             × ((start : LoggingTo D W) (first : TheStart) (old : ToldBeside) (bytes : List ℕ)
             → (starts_of start.logging.listener).moment ≡ first.newest
             → IsRunning (TakesLines D.DiskFile W.contents) start (logging_to logging.old writer.old)
@@ -204,19 +203,19 @@ impl LineRun {
             (λ _. IsRunning (TakesLines D.DiskFile W.contents) start
             (logging_to logging.new writer.new) first self.new old
             (F.contents notices.new.inner) notices.new.failures
-            (bytes ++ take count self.old.lines.piece))
+            (bytes ++ take count (waiting self.old.lines)))
             (λ end. (more : List ℕ) → EndsRun (TakesLines D.DiskFile W.contents) start
             (logging_to logging.new writer.new) first self.new.effects old
             (F.contents notices.new.inner) notices.new.failures end
-            ((bytes ++ self.old.lines.piece) ++ more))) }
-        ensures on { IfOk result (GoesOn self.old.lines.piece self.new.lines.piece) }
+            ((bytes ++ waiting self.old.lines) ++ more))) }
+        ensures on { IfOk result (GoesOn (waiting self.old.lines) (waiting self.new.lines)) }
         ensures unread { self.new.lines.room ≡ self.old.lines.room }
-        ensures room { OnOk result (self.old.lines.scanner.scanner.room
-            + length self.new.lines.piece
-            ≤ self.new.lines.scanner.scanner.room + length self.old.lines.piece) }
-        ensures within { OnOk result (self.new.lines.scanner.scanner.room ≤ most_bytes) }
-        ensures few { OnOk result (self.new.effects.lines + length self.new.lines.piece
-            ≤ self.old.effects.lines + length self.old.lines.piece) }
+        ensures room { OnOk result (reach self.old.lines
+            + length (waiting self.new.lines)
+            ≤ reach self.new.lines + length (waiting self.old.lines)) }
+        ensures within { OnOk result (reach self.new.lines ≤ most_bytes) }
+        ensures few { OnOk result (self.new.effects.lines + length (waiting self.new.lines)
+            ≤ self.old.effects.lines + length (waiting self.old.lines)) }
         ensures fewer { OnOk result (self.new.effects.without_effect ≤ self.new.effects.lines) }
         ensures grows { self.old.effects.lines ≤ self.new.effects.lines }
         ensures read { IsErrOf result ReadFailed → ⊥ }
@@ -245,7 +244,7 @@ impl LineRun {
         requires few { self.old.effects.lines < 2 ^ 63 }
         requires fewer { self.old.effects.without_effect ≤ self.old.effects.lines }
         ensures { (first : TheStart) (old : ToldBeside) (bytes : List ℕ)
-            (lines : List (Option Line)) → IsScanning self.old.lines.scanner bytes lines
+            (lines : List (Option Line)) → HasGiven self.old.lines bytes lines
             → TellsFirst first self.old.effects old (F.contents notices.old.inner)
             notices.old.failures bytes lines
             → EndsInput first bytes lines old (F.contents notices.new.inner) notices.new.failures
@@ -308,13 +307,14 @@ impl LineRun {
         writer: &mut Counting<W>,
         logging: &mut LoggingListener<D>,
     ) -> Effect
-        requires line { SaysLine self.old.lines.scanner.scanner.latest (Known kind) }
+        requires line { SaysLine (latest_of self.old.lines) (Known kind) }
         requires writer { writer.old.failures ≡ 0 }
         requires few { self.old.effects.lines < 2 ^ 63 }
         requires fewer { self.old.effects.without_effect ≤ self.old.effects.lines }
         ensures taken { (start : LoggingTo D W) (first : TheStart) (lines : List (Option Line))
             (line : Line) → (starts_of start.logging.listener).moment ≡ first.newest
-            → self.old.lines.scanner.scanner.latest ≡ Some line → IsKept first lines self.old.effects
+            → latest_of self.old.lines ≡ Some line
+            → IsKept first lines self.old.effects
             → TakesLines D.DiskFile W.contents start (logging_to logging.old writer.old)
             (acting_lines first lines)
             → IsKept first (lines ++ Some line ∷ []) self.new.effects
@@ -340,8 +340,8 @@ impl LineRun {
         self.effects.line(kind, answer)
     }
 
-    /// Takes the line that was given last, which says this: gives it to the receivers, and tells why
-    /// it did nothing where it is the first without effect.
+    /// Takes the line that was given last, which says this. Gives it to the receivers, and tells
+    /// why it did nothing where it is the first without effect.
     #[inline(always)]
     fn take_known<D: DiskFile + Drop, W: Write, F: Write>(
         &mut self,
@@ -350,14 +350,14 @@ impl LineRun {
         notices: &mut Counting<F>,
         logging: &mut LoggingListener<D>,
     ) -> Result<(), WatchEnd>
-        requires line { SaysLine self.old.lines.scanner.scanner.latest (Known kind) }
+        requires line { SaysLine (latest_of self.old.lines) (Known kind) }
         requires writer { writer.old.failures ≡ 0 }
         requires few { self.old.effects.lines < 2 ^ 63 }
         requires fewer { self.old.effects.without_effect ≤ self.old.effects.lines }
         ensures taken { (start : LoggingTo D W) (first : TheStart) (old : ToldBeside)
             (bytes : List ℕ) (lines : List (Option Line)) (line : Line)
             → (starts_of start.logging.listener).moment ≡ first.newest
-            → self.old.lines.scanner.scanner.latest ≡ Some line
+            → latest_of self.old.lines ≡ Some line
             → HasTaken (TakesLines D.DiskFile W.contents) start (logging_to logging.old writer.old)
             first lines
             → TellsFirst first self.old.effects old (F.contents notices.old.inner)

@@ -16,6 +16,22 @@ use Rattle.nx_watch.specs.declared.lines.any_lines.More.TheVariants.{Bytes, End,
 use Rattle.nx_watch.specs.declared.stamped.StampedReader.{StampedReader}
 use Rattle.nx_watch.specs.private.Scanning.{IsScanning}
 
+-- the bytes that were read and of which no line was given yet
+abbrev pub waiting : AnyLines → List ℕ
+waiting lines = lines.piece
+
+-- how many more bytes it can look at
+abbrev pub reach : AnyLines → ℕ
+reach lines = lines.scanner.scanner.room
+
+-- the line that was given last, if it is one of an air file
+abbrev pub latest_of : AnyLines → Option Line
+latest_of lines = lines.scanner.scanner.latest
+
+-- of these bytes, which were looked at, it gave these lines
+abbrev pub HasGiven : AnyLines → List ℕ → List (Option Line) → Type 0
+HasGiven lines bytes given = IsScanning lines.scanner bytes given
+
 -- the lines that were given
 abbrev pub lines_given : AnyLine → Option Line → List (Option Line)
 lines_given (Known kind) latest = map Some (option_to_list latest)
@@ -58,38 +74,42 @@ pub record LooksOn (old new : AnyLines) (given : AnyLine) : Type 0 where
   pub reason : (bytes : List ℕ) (lines : List (Option Line)) → IsScanning old.scanner bytes lines
       → SaysReason given (bytes ++ take count old.piece) lines
 
-module _ {R D W N : Type 0} (remaining : R → Option (List ℕ)) (old new : StampedReader R D W N)
-    (disk : D) (writer : W) (notices : N) (before after : AnyLines)
-  where
-    -- a read was made, and this stood then
-    abbrev pub HasStamped : Type 0
-    HasStamped = stamps_of new ≡ stamp (bytes_given old) disk writer notices ∷ stamps_of old
+-- a read was made, and this stood then
+abbrev pub HasStamped : {R D W N : Type 0} → StampedReader R D W N → StampedReader R D W N → D → W
+    → N → Type 0
+HasStamped old new disk writer notices =
+    stamps_of new ≡ stamp (bytes_given old) disk writer notices ∷ stamps_of old
 
-    -- it brought these bytes
-    pub record HasReadBytes : Type 0 where
-      pub stamped : HasStamped
-      pub some : 0 < length after.piece
-      pub consumed : Consumes (remaining (counted_of old).inner)
-          (remaining (counted_of new).inner) after.piece
-      pub room : after.room + length after.piece ≡ before.room
-      pub given : bytes_given new ≡ count_of (bytes_given old + length after.piece)
-      pub well : (counted_of new).failures ≡ 0
+-- a read brought these bytes
+pub record HasReadBytes {R D W N : Type 0} (remaining : R → Option (List ℕ))
+    (old new : StampedReader R D W N) (before after : AnyLines) : Type 0 where
+  pub some : 0 < length after.piece
+  pub consumed : Consumes (remaining (counted_of old).inner) (remaining (counted_of new).inner)
+      after.piece
+  pub room : after.room + length after.piece ≡ before.room
+  pub given : bytes_given new ≡ count_of (bytes_given old + length after.piece)
+  pub well : (counted_of new).failures ≡ 0
 
-    -- or none, since it failed
-    pub record HasFailed : Type 0 where
-      pub stamped : HasStamped
-      pub keeps : Keeps (remaining (counted_of old).inner) (remaining (counted_of new).inner)
-      pub one : (counted_of new).failures ≡ 1
+-- or none, since it failed
+pub record HasFailed {R D W N : Type 0} (remaining : R → Option (List ℕ))
+    (old new : StampedReader R D W N) : Type 0 where
+  pub keeps : Keeps (remaining (counted_of old).inner) (remaining (counted_of new).inner)
+  pub one : (counted_of new).failures ≡ 1
 
-    -- or since the input had ended
-    pub record HasEnded : Type 0 where
-      pub stamped : HasStamped
-      pub keeps : Keeps (remaining (counted_of old).inner) (remaining (counted_of new).inner)
-      pub at_end : IsAtEnd (remaining (counted_of new).inner)
-      pub well : (counted_of new).failures ≡ 0
+-- or since the input had ended
+pub record HasEnded {R D W N : Type 0} (remaining : R → Option (List ℕ))
+    (old new : StampedReader R D W N) : Type 0 where
+  pub keeps : Keeps (remaining (counted_of old).inner) (remaining (counted_of new).inner)
+  pub at_end : IsAtEnd (remaining (counted_of new).inner)
+  pub well : (counted_of new).failures ≡ 0
 
-    -- what came of it; at the limit no read is made
-    abbrev pub HasReadOn : More → Type 0
-    HasReadOn Bytes = HasReadBytes
-    HasReadOn End = ((before.room ≡ 0) × (new ≡ old)) ⊎ HasEnded
-    HasReadOn Failed = HasFailed
+-- what came of it, where more was asked for; at the limit no read is made
+abbrev pub HasReadOn : {R D W N : Type 0} → (R → Option (List ℕ)) → StampedReader R D W N
+    → StampedReader R D W N → D → W → N → AnyLines → AnyLines → More → Type 0
+HasReadOn remaining old new disk writer notices before after Bytes =
+    HasStamped old new disk writer notices × HasReadBytes remaining old new before after
+HasReadOn remaining old new disk writer notices before after End =
+    ((before.room ≡ 0) × (new ≡ old))
+    ⊎ (HasStamped old new disk writer notices × HasEnded remaining old new)
+HasReadOn remaining old new disk writer notices before after Failed =
+    HasStamped old new disk writer notices × HasFailed remaining old new

@@ -3,18 +3,16 @@ use Rattle.std.proofs.Common.{◌≡◌, ◌+◌, ℕ, ◌≤◌, ◌<◌, Bool,
 use Rattle.std.proofs.Common.{[], ◌∷◌, ◌++◌, map, take, drop, Option, Some, None, max}
 use Rattle.std.proofs.Common.{option_to_list, nat_le, refl, sym, ap, ◌∙◌, subst, append_assoc}
 use Rattle.std.proofs.Common.{append-nil, arith, Err, inl, ap₂}
-use Rattle.std.specs.Prelude.{IsSomeAnd, MatchResult}
+use Rattle.std.specs.Prelude.{MatchResult}
 use Rattle.std.specs.Io.KnownBytes.{Appends}
 use Rattle.std.proofs.lemmas.Bool.{and_parts, le-leb, leb-false, leb-true}
 use Rattle.std.proofs.lemmas.Bool.Decides.{nat_tests}
 use Rattle.std.proofs.lemmas.List.{map-append, take-append-drop}
 use Rattle.std.proofs.lemmas.List.Concat.{flat_map-append}
 use Rattle.nx_envelope.specs.Moment.{last_moment}
-use Rattle.nx_fec.specs.air_files.AirFile.{IsLine, Line, moment, elements, refuse_station, accept_station}
+use Rattle.nx_fec.specs.air_files.AirFile.{Line, moment, elements, refuse_station, accept_station}
 use Rattle.nx_fec.specs.air_files.AirFile.{refuse_subject, accept_subject}
-use Rattle.nx_fec.specs.air_files.Scanner.{kind_kept, kind_of}
 use Rattle.nx_fec.specs.declared.air_files.channel.Channel.{Channel}
-use Rattle.nx_fec.specs.declared.air_files.lines.LineKind.{LineKind}
 use Rattle.nx_memory.specs.Memory.{seconds_known}
 use Rattle.nx_receiver.specs.Moments.{Refuses}
 use Rattle.nx_receiver.specs.Listener.{starts_of}
@@ -40,11 +38,10 @@ use Rattle.nx_watch.specs.declared.lines.line_effects.LinesWatched.{LinesWatched
 use Rattle.nx_watch.specs.declared.line_run.WatchEnd.{WatchEnd}
 use Rattle.nx_watch.specs.declared.line_run.WatchEnd.TheVariants.{Read, Back, Write}
 use Rattle.nx_watch.specs.private.Effects.{IsAnswer, IsKept, KeepsMoments, acting_and_set, set_by, sets}
-use Rattle.nx_watch.specs.declared.lines.any_scanner.Ended.{Ended}
 use Rattle.nx_watch.specs.declared.lines.line_effects.LineEffects.{LineEffects}
 use Rattle.nx_watch.specs.declared.line_run.LineRun.{LineRun}
 use Rattle.nx_watch.specs.private.Running.{EndsInput, HasToldLines, IsRunning, TellsFirst, ToldBefore, ToldBeside, beside}
-use Rattle.nx_watch.specs.private.Scanning.{IsScanning, lines_ended}
+use Rattle.nx_watch.specs.private.Scanning.{IsScanning}
 use Rattle.nx_watch.specs.private.LoggingListener.{KeepsLines, TakesLines, logging_to}
 use Rattle.nx_watch.proofs.lemmas.lines.Acting.{both, idle-unset, not_second}
 use Rattle.nx_watch.proofs.lemmas.lines.Starting.{is-setting, set-before, set_line, unset-behind}
@@ -431,35 +428,7 @@ ends-reason first moments line n is ends bytes before =
 
 -- ---- what a scanner's latest line is
 
-pub kind-is : (latest : Option Line) (kind : Option LineKind) (line : Line) (k : LineKind)
-    → kind ≡ kind_kept latest → kind ≡ Some k → latest ≡ Some line → kind_of line ≡ k
-kind-is latest kind line k e h is =
-    let same : Some (kind_of line) ≡ Some k = ap kind_kept (sym is) ∙ sym e ∙ h in cc
-
-pub some-line : (latest : Option Line) → IsSomeAnd latest IsLine → (line : Line)
-    × (latest ≡ Some line)
-some-line None h = absurd h
-some-line (Some line) h = (line, refl)
-
 -- ---- a run behind more bytes
-
-pub run-of : {T : Type 0} (stands : Standing T) (start now : T) (first : StartMoments)
-    (run : LineRun) (old : ToldBeside) (new : Option (List ℕ)) (failures : ℕ) (bytes : List ℕ)
-    (lines more : List (Option Line))
-    (ended : Ended) (latest : Option Line)
-    → lines_ended ended latest ≡ more
-    → IsScanning run.lines.scanner bytes (lines ++ lines_ended ended latest)
-    → HasTaken stands start now first (lines ++ more)
-    → ((behind : List ℕ)
-    → TellsFirst first run.effects old new failures (bytes ++ behind) (lines ++ more))
-    → IsRunning stands start now first run old new failures bytes
-run-of stands start now first run old new failures bytes lines more ended latest is scans taken
-    tells = record {
-      lines = lines ++ more;
-      scans = subst (λ l. IsScanning run.lines.scanner bytes (lines ++ l)) is scans;
-      taken = taken;
-      tells = tells;
-    }
 
 pub whole-behind : (bytes piece more front tail : List ℕ) (count : ℕ)
     → bytes ++ take count piece ≡ front ++ tail
@@ -496,12 +465,6 @@ answers-told before AtEnd after (Back line last given) bytes step h =
     (h.0, h.1, h.2, h.3, h.4, h.5, step (h.0 ++ Some (moment given) ∷ []) h.6)
 answers-told before AtEnd after Write bytes step h =
     (h.0, h.1, h.2, h.3, step (h.0 ++ Some h.1 ∷ []) h.4)
-
--- what holds of both kinds of a result
-pub on-both : {V E : Type 0} {P P' : V → Type 0} {Q Q' : E → Type 0} (r : Result V E)
-    → ((v : V) → P v → P' v) → ((e : E) → Q e → Q' e) → MatchResult r P Q → MatchResult r P' Q'
-on-both (Ok v) well ill h = well v h
-on-both (Err e) well ill h = ill e h
 
 -- a run of which more was told
 pub running-told : {T : Type 0} (stands : Standing T) (start now : T) (first : StartMoments)

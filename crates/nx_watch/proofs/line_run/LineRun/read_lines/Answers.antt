@@ -146,6 +146,7 @@ loop-has_failed-preserved-in-Ok-true g c =
     let stands = TakesLines disk contents in
     let inv = c.loop-has_failed.invariant in
     let was = c.loop-has_failed in
+    let before = logging_to was.logging was.writer in
     let piece = was.self.lines.piece in
     let run = c.take_next.new.self in
     let t = c.in-Ok-true.ensures.taken in
@@ -176,8 +177,8 @@ loop-has_failed-preserved-in-Ok-true g c =
               from_reads = later-bytes disk contents told old first start r.0 (take t.0 piece)
                   (λ lines. length lines ≤ was.self.effects.lines)
                   (λ lines. length lines ≤ run.effects.lines)
-                  (λ since. IsRunning stands since (logging_to was.logging was.writer) first was.self
-                  r.3 (told was.notices.inner) was.notices.failures r.0)
+                  (λ since. IsRunning stands since before first was.self r.3
+                  (told was.notices.inner) was.notices.failures r.0)
                   (λ since. IsRunning stands since
                   (logging_to c.take_next.new.logging c.take_next.new.writer) first run r.3
                   (told c.take_next.new.notices.inner) c.take_next.new.notices.failures
@@ -201,7 +202,7 @@ loop-has_failed-preserved g c =
     let new : LineRun = record { lines = c.read.new.self; effects = run.effects } in
     let now = logging_to c.take_next.new.logging c.take_next.new.writer in
     let after = c.tell_failed_put.new.notices in
-    let w = c.in-Bytes.ensures.read in
+    let w = c.in-Bytes.ensures.read.1 in
     let same_room = c.take_next.ensures.unread in
     let same = c.read.ensures.scanner in
     let scanner_room = ap (λ s. s.scanner.room) same in
@@ -234,7 +235,7 @@ loop-has_failed-preserved g c =
                   after.failures s.0) (λ stamp was. was.behind)
                   (λ since is k. running-read stands since now first run new s.3 (told after.inner)
                   after.failures s.0 same refl k) (stamps_of c.read.new.reader)
-                  (stamped g at start first old force well h w.stamped);
+                  (stamped g at start first old force well h c.in-Bytes.ensures.read.0);
             },
           );
     }
@@ -287,12 +288,12 @@ returns-in-End-clause-read g c = λ start first old force well h.
       )
       | inr e ↦ (
         s.0,
-        Consumes-kept _ _ _ s.0 s.1 e.keeps,
+        Consumes-kept _ _ _ s.0 s.1 e.1.keeps,
         omega (arith, s.2),
         s.3,
         s.4,
         (
-          inl e.at_end,
+          inl e.1.at_end,
           record {
             from_start = on start s.5.from_start;
             from_reads = says-too disk contents told old first start s.0
@@ -303,7 +304,7 @@ returns-in-End-clause-read g c = λ start first old force well h.
                 (λ since. IsRunning stands since now first new s.3 (told after.inner)
                 after.failures s.0) (λ stamp was. was.behind) (λ since is k. on since k)
                 (stamps_of c.read.new.reader)
-                (stamped g at start first old force well h e.stamped);
+                (stamped g at start first old force well h e.0);
           },
         ),
       )
@@ -322,7 +323,7 @@ returns-in-Failed-clause-read g c = λ start first old force well h.
     let s = settled g at start first old force well h in
     let e = c.in-Failed.ensures.read in (
       s.0,
-      Consumes-kept _ _ _ s.0 s.1 e.keeps,
+      Consumes-kept _ _ _ s.0 s.1 e.1.keeps,
       omega (arith, s.2),
       s.3,
       s.4,
@@ -338,7 +339,7 @@ returns-in-Failed-clause-read g c = λ start first old force well h.
             after.failures Read s.0) (λ stamp was. was.behind)
             (λ since is k. running-fails stands since now first run s.3 (told after.inner)
             after.failures s.0 k) (stamps_of c.read.new.reader)
-            (stamped g at start first old force well h e.stamped);
+            (stamped g at start first old force well h e.0);
       },
     )
 

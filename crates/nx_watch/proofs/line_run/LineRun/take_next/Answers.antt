@@ -43,7 +43,8 @@ returns-in-Unknown-clause-taken g c =
         taken = taken-idle stands start (logging_to c.args.logging.now c.args.writer.now) first
             r.lines None r.taken refl refl;
         tells = λ behind. c.pass_line.ensures.tells first old
-            ((bytes ++ take k.count piece) ++ behind) r.lines (k.reason bytes r.lines r.scans behind)
+            ((bytes ++ take k.count piece) ++ behind) r.lines
+            (k.reason bytes r.lines r.scans behind)
             (tells-on first c.args.self.now.effects old
             (g.F.Write.contents c.args.notices.now.inner) c.args.notices.now.failures bytes
             (take k.count piece) behind r.lines r.tells);
@@ -67,8 +68,8 @@ returns-in-Ok-clause-taken g c =
           (take k.count piece) behind r.lines r.tells) in
           record {
             lines = r.lines ++ Some one.0 ∷ [];
-            scans = subst (λ (l : AnyLines). IsScanning l.scanner front (r.lines ++ Some one.0 ∷ []))
-                (sym c.take_known.ensures.reader)
+            scans = subst (λ (l : AnyLines). IsScanning l.scanner front
+                (r.lines ++ Some one.0 ∷ [])) (sym c.take_known.ensures.reader)
                 (subst (λ l. IsScanning c.next.new.self.scanner front (r.lines ++ l))
                 (ap (λ o. map Some (option_to_list o)) one.1) (k.scans bytes r.lines r.scans));
             taken = (taken []).0;

@@ -20,7 +20,8 @@ returns-in-Elements-clause-taken g c = λ start lines line is h.
     subst (λ l. MayAct (force_behind (starts_of start.logging.listener).moment lines) [] l
     × TakesLines disk g.W.Write.contents start (logging_to c.hear.new.self c.hear.new.writer)
     (lines ++ l ∷ []))
-    (sym (is ∙ ap (λ k. line_with k bits) c.in-Elements.is)) (tt, c.hear.ensures.taken start lines h)
+    (sym (is ∙ ap (λ k. line_with k bits) c.in-Elements.is))
+    (tt, c.hear.ensures.taken start lines h)
 
 pub returns-in_ok-set_moment-in-Moment-clause-taken
     : goal.returns-in_ok-set_moment-in-Moment-clause-taken
