@@ -64,7 +64,12 @@ export class Listening extends Sound {
     async #open({ input, stream }, signal) {
         const gone = () => this.#fail(new SoundFault(`${this.name} is gone. Is it still connected?`));
         const asked = stream ?? await unlessStopped(signal, askForInput(input), endStream);
-        return unlessStopped(signal, Capture.of(asked, gone), (late) => late.close());
+        try {
+            return await unlessStopped(signal, Capture.of(asked, gone), (late) => late.close());
+        } catch (fault) {
+            endStream(asked); // at once, however long a browser takes to begin with it
+            throw fault;
+        }
     }
 
     async #hearAll(signal, failed) {
