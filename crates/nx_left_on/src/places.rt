@@ -1,5 +1,5 @@
-//! Laws of places in a kept log: an entry keeps its own, wherever reading begins. Each function does
-//! nothing; its contract is the law.
+//! Laws of places in a kept log: an entry keeps its own, wherever reading begins. Each function
+//! does nothing; its contract is the law.
 
 ghost use Rattle.std.specs.Prelude.{◌≡◌, ◌≤◌, ◌-◌, ℕ, List, ◌∷◌, ◌++◌, Some, drop, map};
 ghost use Rattle.nx_copies.specs.copies.Shares.{MarkedCopy};
@@ -20,8 +20,8 @@ pub fn a_kept_log_is_read_as_a_watch_reads_it()
 {}
 
 /// What stands from the gate before an entry on stands for it and for those behind it, each at its
-/// own places. What stands from the gate behind it on stands for those behind it: for none, where it
-/// is the last.
+/// own places. What stands from the gate behind it on stands for those behind it: for none, where
+/// it is the last.
 pub fn what_stands_from_a_gate_on_stands_for_the_rest()
     ensures before { (from : ℕ) (bytes : List ℕ) (earlier later : List PlacedCopy)
         (one : PlacedCopy) → StandForPlaced from bytes (earlier ++ one ∷ later)

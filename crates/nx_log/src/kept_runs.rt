@@ -27,7 +27,8 @@ use std::io::{Read, Write};
 /// before each further read. Answers how many it wrote. What stands behind a closed gate counts for
 /// nothing. It stops after 2^63 - 1 bytes, as at an end.
 ///
-/// So many bytes, `from`, stand before those that are read, at most 2^63 - 1. In JSON each entry has
+/// So many bytes, `from`, stand before those that are read, at most 2^63 - 1. In JSON each entry
+/// has
 /// its places too: how many bytes stand before the gate before it, and before the gate behind it.
 ///
 /// `BadLog` at the line from which on the bytes stand for no entries, counted from their first;

@@ -304,7 +304,8 @@ heard-up_to : (last : ℕ) (first : Setting) (events : List Event) (copies : Lis
 unfolding heard_copies tag
 heard-up_to last first events [] h k = All-nil (IsHeardUpTo last)
 heard-up_to last first events (copy ∷ copies) h k =
-    All-cons (IsHeardUpTo last) _ _ (at-up_to last (settings first events) first copy.found.place h k)
+    All-cons (IsHeardUpTo last) _ _ (at-up_to last (settings first events) first copy.found.place
+        h k)
     (heard-up_to last first events copies h k)
 
 one-up_to : (last : ℕ) (shown : Bool) (one : CombinedCopy) → IsCombinedUpTo last one

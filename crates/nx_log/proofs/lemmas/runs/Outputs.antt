@@ -50,7 +50,8 @@ none-kept true one e = cc
 none-kept false one e = refl
 
 pub admitted-more : (query : Query) (entries : List PlacedCopy) (one : PlacedCopy)
-    → admits query one.one ≡ true → admitted query (entries ++ one ∷ []) ≡ admitted query entries ++ one
+    → admits query one.one ≡ true → admitted query (entries ++ one ∷ [])
+    ≡ admitted query entries ++ one
     ∷ []
 admitted-more query entries one sure =
     filter-append (λ (p : PlacedCopy). admits query p.one) entries (one ∷ [])
@@ -229,7 +230,8 @@ module _ (query : Query) (form : Form) (old now : Option (List ℕ)) (before : O
   pub part-more : (new : Option (List ℕ)) (one : PlacedCopy) (text : List ℕ) (written : ℕ)
       → query.last ≡ false → admits query one.one ≡ true → IsInForm form one text
       → WroteSome old new (concat h.texts ++ text) written
-      → WrotePlacedPart query form (record { before = old; after = new }) (entries ++ one ∷ []) written
+      → WrotePlacedPart query form (record { before = old; after = new }) (entries
+      ++ one ∷ []) written
   part-more new one text written at_once sure is part = record {
     output = concat h.texts ++ text;
     is_output = record {
@@ -301,7 +303,8 @@ module _ (query : Query) (form : Form) (old now : Option (List ℕ)) (before : O
       (λ _. HasGivenOutput query form old new after entries
       × (query.last ≡ false
       → WrotePlaced query form (record { before = old; after = new }) entries))
-      (λ fault. WrotePlacedPart query form (record { before = old; after = new }) entries fault.written)
+      (λ fault. WrotePlacedPart query form (record { before = old; after = new }) entries
+      fault.written)
   given-sent (Ok a) new after count same k empty = (
     record {
       passed = h.passed;
@@ -373,7 +376,8 @@ module _ (query : Query) (form : Form) (old now : Option (List ℕ)) (before : O
       → OnOk r (batch.bytes ≡ [])
       → MatchResult r
       (λ _. WrotePlaced query form (record { before = old; after = new }) entries)
-      (λ fault. WrotePlacedPart query form (record { before = old; after = new }) entries fault.written)
+      (λ fault. WrotePlacedPart query form (record { before = old; after = new }) entries
+      fault.written)
   finished (Ok a) new batch k empty = record {
     output = last_texts;
     is_output = all-output;
@@ -399,7 +403,8 @@ module _ (query : Query) (form : Form) (old now : Option (List ℕ)) (before : O
       → OnOk r (batch.bytes ≡ [])
       → MatchResult r
       (λ _. WrotePlacedToEnd query form (record { before = old; after = new }) entries)
-      (λ fault. WrotePlacedPart query form (record { before = old; after = new }) entries fault.written)
+      (λ fault. WrotePlacedPart query form (record { before = old; after = new }) entries
+      fault.written)
   closed (Ok a) new batch end is k empty = record {
     output = last_texts;
     is_output = all-output;

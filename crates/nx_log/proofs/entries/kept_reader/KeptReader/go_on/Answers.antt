@@ -36,7 +36,8 @@ returns-in-Whole-clause-takes c = λ from given entries within at.
     } in
     takes_entry c.args.self.now from given entries at c.requires.stage bytes new n
     c.saturating_sub-taken.result
-    (record { place = c.args.self.now.gate; next = c.saturating_add-next.result }) starts taken_is c.in-Whole.ensures.holds refl
+    (record { place = c.args.self.now.gate; next = c.saturating_add-next.result }) starts
+    taken_is c.in-Whole.ensures.holds refl
     (c.line_after-self.ensures given at.line) refl
     (omega (arith, c.saturating_add-next.ensures, c.saturating_add.ensures, most, within))
     (omega (arith, c.saturating_add-next.ensures, c.saturating_add.ensures, most, within))

@@ -21,6 +21,7 @@ returns c = λ form one entries said is held.
     (subst (AreHeld form (kept ++ one ∷ [])) (sym all)
     (AllZip-append (IsHeldAs form) kept (one ∷ []) (not_replaced head items) (new ∷ [])
     (AllZip-filter (IsHeldAs form) (stays one) (λ (x : HeldEntry). not (head_replaces head x.head))
-    (λ x y h. ap not (sym (replaces-by-heads head y.head one.one x.one said h.head))) (last_entries entries)
+    (λ x y h. ap not (sym (replaces-by-heads head y.head one.one x.one said h.head)))
+    (last_entries entries)
     items held)
     (record { head = said; text = subst (IsInForm form one) (sym text) is }, tt)))
