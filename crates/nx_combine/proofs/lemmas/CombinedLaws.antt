@@ -305,7 +305,7 @@ unfolding heard_copies tag
 heard-up_to last first events [] h k = All-nil (IsHeardUpTo last)
 heard-up_to last first events (copy ∷ copies) h k =
     All-cons (IsHeardUpTo last) _ _ (at-up_to last (settings first events) first copy.found.place
-        h k)
+    h k)
     (heard-up_to last first events copies h k)
 
 one-up_to : (last : ℕ) (shown : Bool) (one : CombinedCopy) → IsCombinedUpTo last one

@@ -84,7 +84,7 @@ pub last_past : (before : List CombinedCopy) (number count : ℕ)
 unfolding last_printed
 last_past before number count begun past =
     ap (option_map (λ (one : CombinedCopy). head_of one.copy)) (find_past before number count
-        begun past)
+    begun past)
 
 -- what was begun so far stays so
 pub still_begun : (before : List CombinedCopy) (count more : ℕ)

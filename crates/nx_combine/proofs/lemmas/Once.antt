@@ -694,7 +694,7 @@ module _ (sent : List ℕ) (behind : ℕ → ℕ) (identity : Identity) (moment 
       let next = done ++ heard.positions ∷ [] in
       let goes_on = goes_printed sent behind identity moment number first so_far done last heard
       goes is (meets.sendings.0 is) (meets.few_begun.0 is) (meets.in_turn.0 is) (meets.arrive.0
-          is).never_idle passes in
+      is).never_idle passes in
       after_printed so_far next one heard mid this later (is_whole one.copy)
       (printed so_far.entries so_far.printed one passes)
       (named_as identity so_far.families heard ∙ is)
@@ -750,7 +750,7 @@ module _ (sent : List ℕ) (behind : ℕ → ℕ) (identity : Identity) (moment 
       not_yet meets is whole refl
   becomes_whole ended so_far done last (heard ∷ mid) this later goes not_yet meets is whole =
       one_more ended so_far done last heard mid this later (bears identity heard) goes not_yet
-          meets refl
+      meets refl
       (λ next one goes_on not_it. becomes_whole ended (judged_after so_far heard) next one mid
       this later
       goes_on not_it (meets_more so_far heard (mid ++ this ∷ later) meets) is whole)
@@ -1020,6 +1020,6 @@ module _ (sent : List ℕ) (behind : ℕ → ℕ) (identity : Identity) (so_far 
       heard_first identity first (mid ++ one ∷ []) t.first_bears
       ∙ ap (λ l. first.positions ∷ l) (heard_push identity mid one bears_it) in
       subst (λ (h : HeardCopy). IsWholeOnce identity (text_sent sent) (all_printed so_far (h ∷
-          (mid ++ one ∷ [])))
+      (mid ++ one ∷ [])))
       (all_printed (judged_behind (judged_after so_far h) (mid ++ one ∷ [])) later)) same
       (once_later ended whole mid later one rest bears_it (subst (CameThrough sent) heard here))

@@ -134,7 +134,7 @@ logged-some starts old new written lines bytes h some =
     let b = h.begun in
     let copies = b.first ++ b.rest in
     let log = some_log copies (open-in_range plain plain-laws starts lines copies h.taken
-        b.printed.each) in
+    b.printed.each) in
     let front = log_begins b.first b.rest bytes log.0 b.spelled log.1 in (
       log.0,
       record { taken = h.taken; copies = copies; printed = b.printed; spelled = log.1 },

@@ -14,14 +14,14 @@ returns-then-combined-clause-stands c = λ families before heard is stands.
     let stood = subst (λ (v : CombinerView). StandsCombined v families before) (sym c.self.view_is)
     stands in
     let same = (cut_same families heard (headed_copy c.args.head.now c.args.text.now
-        c.args.selected)
+    c.args.selected)
     c.args.positions.now is).after in
     let long : length (families_after families heard) ≡ length families + 1 =
     ap length (sym same)
     ∙ c.combine-combined.ensures.begins families stood.held
     ∙ ap (λ b. length families + begun_with b) c.if-combined.true in
     let now : c.push_front-forgotten.new.self.items
-        ≡ take 200 (None ∷ c.self.inside.printed.items) =
+    ≡ take 200 (None ∷ c.self.inside.printed.items) =
     ap (λ (b : Buffer (Option EntryHead)). b.items) c.push_front-forgotten.ensures.items
     ∙ ap (λ n. take n (None ∷ c.self.inside.printed.items)) c.self.invariant in
     stands_begun families (families_after families heard) c.self.inside.families
@@ -42,7 +42,7 @@ returns-else-combined-clause-stands c = λ families before heard is stands.
     let stood = subst (λ (v : CombinerView). StandsCombined v families before) (sym c.self.view_is)
     stands in
     let same = (cut_same families heard (headed_copy c.args.head.now c.args.text.now
-        c.args.selected)
+    c.args.selected)
     c.args.positions.now is).after in
     let long : length (families_after families heard) ≡ length families + 0 =
     ap length (sym same)

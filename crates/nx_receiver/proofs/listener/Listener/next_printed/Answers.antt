@@ -51,7 +51,7 @@ returns-in_default-clause-first g c = λ starts given part copies h k lt.
     copies [] h
     (hears-quiet g.R.ChannelReceiver.awaits c.args.channel c.args.self.now call.new.self bits
     call.result.0 call.result.1 g.met.R.ChannelReceiver.none_awaited c.in_default.is (λ start
-        history log s. call.ensures.stands start history log s)
+    history log s. call.ensures.stands start history log s)
     (λ start history log s k lt. call.ensures.first start history log s k lt)) k lt
 
 pub returns-in_default-clause-moment : goal.returns-in_default-clause-moment
