@@ -215,21 +215,16 @@ fn salvaged(rt: HostRuntime) {
 const KEPT_LOG: &[u8] = b"\n[EA01 2025-01-01 00:40:00 full 0/5]\nTEST\n\n\n\
     [LB02/1 2025-01-01 04:40:00 cut 1/3]\nA*\n\n [EB00/2 2025";
 
-/// A run over a kept log that begins behind so many bytes, and what it wrote.
-fn run_over_kept(
-    alloc: Global,
-    bytes: &[u8],
-    form: Form,
-    from: u64,
-) -> (Result<u64, LogFault>, Vec<u8>) {
+/// A run over a kept log, or a part of one, and what it wrote.
+fn run_over_kept(alloc: Global, bytes: &[u8]) -> (Result<u64, LogFault>, Vec<u8>) {
     let mut writer = Counting::new(Vec::new(alloc));
     let outcome = kept_run(
         alloc,
         &mut Counting::new(bytes),
         &mut writer,
         &Query::all(),
-        form,
-        from,
+        Form::Log,
+        0,
     );
     (outcome, writer.into_inner())
 }
@@ -247,19 +242,14 @@ fn kept(rt: HostRuntime) {
         (85, 0, b""),
     ];
     for (place, count, wanted) in cases {
-        let (outcome, written) = run_over_kept(
-            rt.alloc(),
-            &KEPT_LOG[place..],
-            Form::Log,
-            place as u64,
-        );
+        let (outcome, written) = run_over_kept(rt.alloc(), &KEPT_LOG[place..]);
         assert_eq!(rt; outcome, Ok(count), "from {place}");
         expect_text(&rt, "from a gate on", &written, wanted);
     }
-    let (outcome, written) = run_over_kept(rt.alloc(), &KEPT_LOG[1..], Form::Log, 1);
+    let (outcome, written) = run_over_kept(rt.alloc(), &KEPT_LOG[1..]);
     assert_eq!(rt; outcome, Err(LogFault::BadLog { line: 1 }));
     expect_text(&rt, "from no gate on", &written, b"");
-    let (outcome, written) = run_over_kept(rt.alloc(), &KEPT_LOG[..84], Form::Log, 0);
+    let (outcome, written) = run_over_kept(rt.alloc(), &KEPT_LOG[..84]);
     assert_eq!(rt; outcome, Err(LogFault::BadLog { line: 8 }));
     expect_text(
         &rt,
