@@ -11,7 +11,7 @@ import { layoutOf } from './wave.js';
 
 const PIECE = 2;                // seconds of a recording that are heard at a time
 const LONG = 300;               // seconds: of a longer recording one row a second is shown
-const ENDING = 2000;            // milliseconds that a stopped one has to tell what was held back
+const ENDING = 1000;            // milliseconds that a stopped one has to tell what was held back
 const ROWS = 10;                // rows a second of a shorter one
 const RATES = [6000, 192000];   // samples a second that the demodulator takes; others the browser changes
 
