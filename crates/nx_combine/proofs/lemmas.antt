@@ -13,6 +13,7 @@ pub mod Held
 pub mod Invented
 pub mod Joined
 pub mod Judged
+pub mod JudgedOn
 pub mod Noted
 pub mod Once
 pub mod PlacedGrow
@@ -26,5 +27,7 @@ pub mod TakerBits
 pub mod TakerPairs
 pub mod Taking
 pub mod Together
+pub mod TogetherFinish
+pub mod TogetherHears
 pub mod Whole
 pub mod Worse

@@ -1,5 +1,6 @@
 pub mod CombinedHearing
 pub mod CombinedPrinting
+pub mod CombinedReceiver
 pub mod CombinedTaker
 pub mod CombinedTakerLaws
 pub mod Combining

@@ -149,6 +149,14 @@ impl Combiner {
         Some(one)
     }
 
+    /// The text that was read of a family's positions last.
+    pub fn text(&self) -> &[u8]
+        ensures text { result.now ≡ self.now.finder.text }
+        ensures short { length result.now ≤ MAX_FOUND }
+    {
+        self.finder.text()
+    }
+
     /// The text of a copy that was judged last and is printed, by its own text.
     pub fn text_of<'a>(&'a self, printed: &PrintedCopy, own: &'a [u8]) -> &'a [u8]
         ensures text { result.now ≡ text_printed printed.now self.now.finder.text own.now }

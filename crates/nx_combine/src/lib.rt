@@ -9,6 +9,7 @@ pub mod laws;
 mod notes;
 mod position;
 mod reading;
+mod receiver;
 mod taker;
 
 pub use combiner::{Combiner, PrintedCopy};
@@ -18,4 +19,5 @@ pub use joining::{MAX_POSITIONS, is_of_one_text, join};
 pub use notes::{MAX_NOTED, PositionNotes};
 pub use position::Position;
 pub use reading::read_positions;
+pub use receiver::CombinedReceiver;
 pub use taker::CombinedTaker;

@@ -131,7 +131,9 @@ impl CombinedTaker {
         ensures all { (first : Setting) (held : Held) (bits : List Bool) (settings : List Setting)
             (copies : List HeardCopy) → CombinedStands first held self.old bits settings copies
             → AllHeard first held self.new bits settings copies }
-        ensures notes { self.new.notes ≡ self.old.notes }
+        ensures kept { self.new ≡ record self.old {
+          copies = record self.old.copies { reader = self.new.copies.reader };
+        } }
     {
         self.copies.reader.close();
     }
@@ -145,7 +147,9 @@ impl CombinedTaker {
             → LockHeard first held self.old bits settings copies
             → CombinedStands first held self.new bits settings copies }
         ensures text { self.new.copies.reader.finder.text ≡ self.old.copies.reader.finder.text }
-        ensures notes { self.new.notes ≡ self.old.notes }
+        ensures kept { self.new ≡ record self.old {
+          copies = record self.old.copies { reader = self.new.copies.reader };
+        } }
     {
         self.copies.reader.restart();
     }

@@ -1,5 +1,5 @@
 -- The laws of what is printed of several sendings taken together: there is one log, and it stays.
-use Rattle.std.proofs.Common.{◌≡◌, ℕ, ◌+◌, Bool, List, [], ◌∷◌, ◌++◌}
+use Rattle.std.proofs.Common.{◌≡◌, ℕ, Bool, List, [], ◌∷◌, ◌++◌}
 use Rattle.std.proofs.Common.{map, length, refl, sym, ap, ◌∙◌, subst, arith, append-nil}
 use Rattle.std.proofs.Common.{None, Option, Some, cond, true, false, ◌-◌, ◌≤◌}
 use Rattle.std.specs.List.{All}
@@ -13,11 +13,9 @@ use Rattle.nx_sync.specs.Locks.{IsNow, Lock, Now, hunting, locked}
 use Rattle.nx_sync.specs.Words.{whole_words}
 use Rattle.nx_sync.proofs.lemmas.states.StateChanges.{standing_after}
 use Rattle.nx_copies.specs.Events.{Event, Setting, Start, elements_among, first_setting, setting_at}
-use Rattle.nx_copies.specs.copies.FoundCopies.{FoundCopy, TaggedCopy, ended_so_far, tag}
-use Rattle.nx_copies.specs.copies.FoundCopies.{past_copies, ended_in, standing_text}
+use Rattle.nx_copies.specs.copies.FoundCopies.{FoundCopy, TaggedCopy, tag}
 use Rattle.nx_copies.specs.copies.Log.{IsPrinting}
 use Rattle.nx_copies.proofs.lemmas.locks.Found.{IsCopyIn, one_told}
-use Rattle.nx_copies.proofs.lemmas.locks.Growing.{ended_in-nil}
 use Rattle.nx_copies.proofs.lemmas.locks.Texts.{GoesOnAs, goes_on_behind}
 use Rattle.nx_copies.proofs.lemmas.printing.Logged.{bits_of-append, setting_at-more}
 use Rattle.nx_copies.proofs.lemmas.printing.Logged as logged
@@ -26,7 +24,7 @@ use Rattle.nx_combine.specs.CombinedPrinting.{entry_made_combined, if_printed_co
 use Rattle.nx_combine.specs.CombinedPrinting.{printed_combined, printed_of_placed}
 use Rattle.nx_combine.specs.CopyPositions.{HeardCopy, PlacedCopy, ended_placed}
 use Rattle.nx_combine.specs.CopyPositions.{heard_copies, lock_bytes, past_placed}
-use Rattle.nx_combine.specs.CopyPositions.{placed, placed_to_end, positions_in_past, standing_placed}
+use Rattle.nx_combine.specs.CopyPositions.{placed_to_end, standing_placed}
 use Rattle.nx_combine.specs.Families.{CombinedCopy, Family, combined_copies, combined_copy}
 use Rattle.nx_combine.specs.Families.{alone, combined as together_of, combined_at, families_after}
 use Rattle.nx_combine.specs.Families.{given_by, has_family, index_joined, joined_by, together}

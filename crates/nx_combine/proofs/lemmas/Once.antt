@@ -61,7 +61,7 @@ unselected_by entries before one fails none =
     || (is_remembered entries one.copy && b)) fails (better_alone before one none)
     ∙ and_false (is_remembered entries one.copy)
 
-unselected : (so_far : Judged) (heard : HeardCopy) → heard.copy.selected ≡ false
+pub unselected : (so_far : Judged) (heard : HeardCopy) → heard.copy.selected ≡ false
     → is_printed_combined so_far.entries so_far.printed (combined_copy so_far.families heard)
     ≡ false
 unselected so_far heard fails =

@@ -11,13 +11,10 @@ use Rattle.nx_envelope.specs.Header.{Header}
 use Rattle.nx_envelope.specs.Laws.{Grows}
 use Rattle.nx_envelope.proofs.lemmas.copies.OneOpenCopy.{copies_parts, grown}
 use Rattle.nx_sync.specs.Locks.{IsNow, IsPattern, Lock, Now, Past, hunting, locked}
-use Rattle.nx_sync.specs.Laws.{Extends, GoesOn, finds_one, found_and_past, hunts_on, is_past, newer}
-use Rattle.nx_sync.specs.Laws.{same, stands_still}
 use Rattle.nx_sync.specs.Words.{first_role, whole_words, word_of_lock}
 use Rattle.nx_sync.specs.declared.step.Change.{Change}
 use Rattle.nx_sync.specs.declared.step.Role.{Role}
 use Rattle.nx_sync.proofs.lemmas.states.KeptPast.{first_role-more, word_at-more}
-use Rattle.nx_sync.proofs.lemmas.states.StateChanges.{Extends-trans, goes-on}
 use Rattle.nx_copies.specs.copies.FoundCopies.{FoundCopy, found_copy}
 use Rattle.nx_copies.specs.copies.LockText.{PlacedByte, bytes_of, lock_text, positions, taken_at}
 use Rattle.nx_copies.proofs.lemmas.locks.AlikeWords.{alike-same}
@@ -25,7 +22,7 @@ use Rattle.nx_copies.proofs.lemmas.locks.Found.{IsHeaderIn, ended_headers_in, fo
 use Rattle.nx_copies.proofs.lemmas.locks.Told.{AddsToEnd, Telling, told, told_goes_on, told_past}
 use Rattle.nx_copies.proofs.lemmas.locks.Told.{told_standing, whole_heard}
 use Rattle.nx_copies.proofs.lemmas.locks.Texts.{GoesOnAs, bytes_are_reading, bytes_of-append}
-use Rattle.nx_copies.proofs.lemmas.locks.Texts.{goes_on_as_is, goes_on_behind, goes_on_then, goes_on_twice}
+use Rattle.nx_copies.proofs.lemmas.locks.Texts.{goes_on_as_is, goes_on_then}
 use Rattle.nx_copies.proofs.lemmas.locks.Texts.{lock_text-more, positions-same, text_by-grows}
 use Rattle.nx_combine.specs.CombinedTaker.{positions_after}
 use Rattle.nx_combine.specs.CopyPositions.{LockPositions, PlacedCopy, ended_placed, lock_bytes}

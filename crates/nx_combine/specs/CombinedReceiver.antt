@@ -1,0 +1,119 @@
+-- What a receiver that takes several sendings together holds, and after which events: the layer
+-- contract (this profile).
+use Rattle.std.specs.Prelude.{◌≡◌, ℕ, Bool, List, [], Option, if◌then◌else◌}
+use Rattle.nx_code.specs.Lists.{last_of}
+use Rattle.nx_memory.specs.Memory.{most_entries}
+use Rattle.nx_memory.specs.declared.memories.entry.MemoryEntry.{MemoryEntry}
+use Rattle.nx_sync.specs.Synchroniser.{Held}
+use Rattle.nx_copies.specs.Events.{Event, Setting, Start, elements_among, first_setting}
+use Rattle.nx_copies.specs.Events.{setting_after_all, settings}
+use Rattle.nx_copies.specs.copies.FoundCopies.{TaggedCopy}
+use Rattle.nx_copies.specs.declared.copy_taker.Over.{Over}
+use Rattle.nx_copies.specs.hearing.CopyHearing.{CopyHearing, in_force}
+use Rattle.nx_copies.specs.hearing.CopyTaker.{hearer_of}
+use Rattle.nx_receiver.specs.ChannelReceiver.{ReceiverKind}
+use Rattle.nx_combine.specs.CombinedHearing.{CombinedOver, CombinedStands}
+use Rattle.nx_combine.specs.CombinedPrinting.{combined, printed_combined}
+use Rattle.nx_combine.specs.CopyPositions.{HeardCopy}
+use Rattle.nx_combine.specs.Families.{combined_copies}
+use Rattle.nx_combine.specs.Judging.{CombinerView, Judged, StandsCombined, all_copies, judged_after}
+use Rattle.nx_combine.specs.Judging.{judged_behind, printed_by}
+use Rattle.nx_combine.specs.declared.taker.CombinedTaker.{CombinedTaker}
+
+-- what is left before any copy came, with these entries in the memory
+abbrev pub judged_none : List MemoryEntry → Judged
+judged_none entries = record { entries = entries; families = []; printed = [] }
+
+-- what contracts see of a receiver that combines: its synchroniser, its taker, what judges, whether
+-- the text of the entry that it handed out last is what a family gave, and its memory
+pub record CombiningReceiver (M : Type 0) : Type 0 where
+  pub synchroniser : Held
+  pub taker : CombinedTaker
+  pub combiner : CombinerView
+  pub is_given : Bool
+  pub memory : M
+
+-- its hearer of copies
+abbrev pub hearer_in : {M : Type 0} → CombiningReceiver M → CopyHearing
+hearer_in receiver = hearer_of receiver.synchroniser receiver.taker.copies
+
+-- the text that it has: what the family gave of which it printed a copy last, or that of the copy
+-- that stands open, or that ended last
+abbrev pub text_in : {M : Type 0} → CombiningReceiver M → List ℕ
+text_in receiver =
+    if receiver.is_given then receiver.combiner.finder.text
+    else receiver.taker.copies.reader.finder.text
+
+-- After these copies, which begin with this start, this was printed of them, and the combiner and
+-- the memory hold what they left. This tells the entries of a memory.
+pub record HasJudged {M : Type 0} (content : M → List MemoryEntry) (start : Start)
+    (receiver : CombiningReceiver M) (copies : List HeardCopy) (log : List TaggedCopy) : Type 0
+  where
+    pub printed : log
+        ≡ all_copies (printed_combined start.entries [] (combined_copies [] copies))
+    pub memory : content receiver.memory
+        ≡ last_of most_entries (judged_behind (judged_none start.entries) copies).entries
+    pub combiner : StandsCombined receiver.combiner
+        (judged_behind (judged_none start.entries) copies).families
+        (judged_behind (judged_none start.entries) copies).printed
+
+-- what a call that judges a copy says, by what other copies left: it judged one more
+pub record JudgesNext {M : Type 0} (content : M → List MemoryEntry) (memory : M)
+    (combiner : CombinerView) (so_far : Judged) (heard : HeardCopy) (printed : List TaggedCopy)
+    : Type 0 where
+  pub stands : StandsCombined combiner (judged_after so_far heard).families
+      (judged_after so_far heard).printed
+  pub entered : content memory ≡ last_of most_entries (judged_after so_far heard).entries
+  pub printed_is : all_copies (printed_by so_far heard) ≡ printed
+
+-- The receiver stands after these events, which begin with this start, and this is the log of what
+-- it handed out. Its synchroniser and its taker stand after the elements, with what is in force at
+-- each, and what is in force now is so after all events. The log is what is printed of the copies
+-- that have ended.
+pub record StandsTogether {M : Type 0} (content : M → List MemoryEntry) (start : Start)
+    (receiver : CombiningReceiver M) (bits : List Bool) (settings : List Setting) (now : Setting)
+    (log : List TaggedCopy) : Type 0 where
+  pub copies : List HeardCopy
+  pub stands : CombinedStands (first_setting start) receiver.synchroniser receiver.taker bits
+      settings copies
+  pub force : in_force (hearer_in receiver) ≡ now
+  pub judged : HasJudged content start receiver copies log
+
+abbrev pub StandsAfterAll : {M : Type 0} → (M → List MemoryEntry) → Start → CombiningReceiver M
+    → List Event → List TaggedCopy → Type 0
+StandsAfterAll content start receiver events log =
+    StandsTogether content start receiver (elements_among events)
+    (settings (first_setting start) events)
+    (setting_after_all (first_setting start) events) log
+
+-- The receiver stands so but for what is over with the last element, which is yet to be finished:
+-- the log is what is printed of the copies that ended before it.
+pub record AwaitsTogether {M : Type 0} (content : M → List MemoryEntry) (start : Start)
+    (receiver : CombiningReceiver M) (bits : List Bool) (settings : List Setting) (now : Setting)
+    (log : List TaggedCopy) (answer : Option Over) : Type 0 where
+  pub copies : List HeardCopy
+  pub over : CombinedOver (first_setting start) receiver.synchroniser receiver.taker bits settings
+      copies answer
+  pub force : in_force (hearer_in receiver) ≡ now
+  pub judged : HasJudged content start receiver copies log
+
+abbrev pub AwaitsAfterAll : {M : Type 0} → (M → List MemoryEntry) → Start → CombiningReceiver M
+    → List Event → List TaggedCopy → Option Over → Type 0
+AwaitsAfterAll content start receiver events log answer =
+    AwaitsTogether content start receiver (elements_among events)
+    (settings (first_setting start) events)
+    (setting_after_all (first_setting start) events) log answer
+
+-- such receivers: what they print is what several sendings come to
+abbrev pub combined_kind : {M : Type 0} → (M → List MemoryEntry)
+    → ReceiverKind (CombiningReceiver M)
+combined_kind content = record {
+  printing = combined;
+  stands = StandsAfterAll content;
+  start_of = λ receiver. record {
+    entries = content receiver.memory;
+    moment = receiver.taker.copies.moment;
+    refused = receiver.taker.copies.selection;
+  };
+  text_of = text_in;
+}

@@ -1,0 +1,203 @@
+//! The receiver that takes several sendings of a message together. It hears as the plain receiver
+//! does, and notes the positions of each copy; only what a copy comes to is another matter.
+
+ghost use Rattle.std.specs.Prelude.{◌≡◌, ◌+◌, ◌<◌, ◌≤◌, List, [], ◌∷◌, ◌++◌, length, take, drop, IfErr, IfOk, IfSome, None, Some};
+ghost use Rattle.nx_code.specs.Lists.{last_of};
+ghost use Rattle.nx_memory.specs.Memory.{most_entries, newest_moment};
+ghost use Rattle.nx_copies.specs.Events.{Event, Start};
+ghost use Rattle.nx_copies.specs.copies.FoundCopies.{TaggedCopy};
+ghost use Rattle.nx_copies.specs.hearing.CopyHearer.{ready_copies};
+ghost use Rattle.nx_receiver.specs.ChannelReceiver.{HandsOutNoneBeforeBy, HearsUpToBy};
+ghost use Rattle.nx_receiver.specs.Receiver.{HeadsText, RefusesStart, headed_list};
+ghost use Rattle.nx_combine.specs.CombinedReceiver.{AwaitsAfterAll, JudgesNext, StandsAfterAll, combined_kind, hearer_in, text_in};
+ghost use Rattle.nx_combine.specs.CopyPositions.{HeardCopy};
+ghost use Rattle.nx_combine.specs.Judging.{Judged, StandsCombined};
+ghost use Rattle.nx_combine.specs.Notes.{noted};
+
+use crate::combiner::Combiner;
+use crate::taker::CombinedTaker;
+use nx_copies::{CopyTag, EntryHead, Over, hear_elements};
+use nx_envelope::{LAST_MOMENT, MAX_FOUND};
+use nx_fec::PackedElements;
+use nx_memory::{Renewing, Selection};
+use nx_receiver::ReceiverFault;
+use nx_sync::Synchroniser;
+use std::alloc::Global;
+use std::marker::Model;
+
+/// A receiver of one channel that takes several sendings of a message together: what is printed is
+/// the message as all its sendings so far give it.
+///
+/// It holds the synchroniser, the taker of copies and of their positions, what judges them, whether
+/// the text of the entry that was printed last is what a family gave, and a memory of identities.
+#[derive(Drop)]
+pub struct CombinedReceiver<M: Renewing> {
+    synchroniser: Synchroniser,
+    taker: CombinedTaker,
+    combiner: Combiner,
+    is_given: bool,
+    memory: M,
+}
+
+impl<M: Renewing> Model for CombinedReceiver<M> {
+    ghost use Rattle.std.specs.Coded.{codes};
+    ghost use Rattle.nx_memory.specs.private.RefusedCode.{refused_code};
+    ghost use Rattle.nx_memory.specs.Memory.{newest_moment};
+    ghost use Rattle.nx_receiver.specs.private.Awaiting.{IsInOrder};
+    ghost use Rattle.nx_combine.specs.CombinedReceiver.{CombiningReceiver};
+
+    ghost Value = { CombiningReceiver M };
+
+    ghost coded = { Prim.hlevel (codes, refused_code, M.code) };
+
+    ghost view = { λ r. record {
+      synchroniser = r.synchroniser;
+      taker = r.taker;
+      combiner = r.combiner;
+      is_given = r.is_given;
+      memory = r.memory;
+    } };
+
+    ghost invariant = { λ r. IsInOrder (newest_moment (M.content r.memory))
+        r.taker.copies.tag.moment r.taker.copies.moment };
+
+    ghost inverse = { λ v. record {
+      synchroniser = v.synchroniser;
+      taker = v.taker;
+      combiner = v.combiner;
+      is_given = v.is_given;
+      memory = v.memory;
+    } };
+}
+
+impl<M: Renewing> CombinedReceiver<M> {
+    /// A receiver that has heard nothing, with a memory, the first moment, in whole seconds since
+    /// 1970-01-01 00:00:00 UTC, and the first selection. Takes all memory that it ever needs.
+    ///
+    /// `MomentRange` where the moment is past 2999-12-31 23:59:59 or before the newest of the
+    /// memory of identities; else `Memory` where there is no memory.
+    pub fn starting(
+        alloc: Global,
+        memory: M,
+        moment: u64,
+        selection: Selection,
+    ) -> Result<CombinedReceiver<M>, ReceiverFault>
+        ensures stands { (start : Start) → start.entries ≡ M.content memory → start.moment ≡ moment
+            → start.refused ≡ selection
+            → IfOk result (λ r. StandsAfterAll M.content start r [] []) }
+        ensures refused { IfErr result (RefusesStart (newest_moment (M.content memory)) moment) }
+    {
+        if moment > LAST_MOMENT || memory.newest().is_some_and(|newest| moment < newest) {
+            return Err(ReceiverFault::MomentRange);
+        }
+        let combiner = match Combiner::new(alloc) {
+            Ok(combiner) => combiner,
+            Err(refused) => return Err(ReceiverFault::Memory(refused)),
+        };
+        let taker = CombinedTaker::new(moment, selection);
+        Ok(CombinedReceiver {
+            synchroniser: Synchroniser::hunting(),
+            taker,
+            combiner,
+            is_given: false,
+            memory,
+        })
+    }
+
+    /// The text of the entry whose head was answered last, until more is heard.
+    pub fn text(&self) -> &[u8]
+        ensures text { result.now ≡ text_in self.now }
+        ensures short { length result.now ≤ MAX_FOUND }
+    {
+        if self.is_given {
+            self.combiner.text()
+        } else {
+            self.taker.copies.reader.finder().text()
+        }
+    }
+
+    /// Hears elements up to and with the first one with which something is over, all of them where
+    /// nothing is. Says how many, and what is over. `finish` is due then, before anything else is
+    /// heard.
+    #[inline(always)]
+    pub fn hear(&mut self, packed: &PackedElements, from: usize) -> (usize, Option<Over>)
+        requires { from ≤ length packed.now }
+        ensures within { from + result.0 ≤ length packed.now }
+        ensures stands { HearsUpToBy (combined_kind M.content) (AwaitsAfterAll M.content) self.old
+            self.new (take result.0 (drop from packed.now)) result.1 }
+        ensures first { HandsOutNoneBeforeBy (combined_kind M.content) self.old
+            (drop from packed.now) result.0 }
+        ensures all { result.1 ≡ None → from + result.0 ≡ length packed.now }
+        ensures some { from < length packed.now → 0 < result.0 }
+    {
+        let left = packed.len() - from;
+        let numbers = packed.numbers();
+        hear_elements(&mut self.taker, &mut self.synchroniser, numbers, from, left)
+    }
+
+    /// Finishes what is over, and says the head of the entry that it brings, if it brings one. Its
+    /// text is `text`, until more is heard. Where the lock alone is over, the end of its text ends
+    /// the copy that stood open. Where a copy is over with it, the copy is judged first, and then
+    /// the lock is left: that keeps the text.
+    #[inline(never)]
+    pub fn finish(&mut self, over: Over) -> Option<EntryHead>
+        ensures stands { (start : Start) (history : List Event) (log : List TaggedCopy) →
+            AwaitsAfterAll M.content start self.old history log (Some over)
+            → StandsAfterAll M.content start self.new history
+            (log ++ headed_list result (text_in self.new)) }
+        ensures head { IfSome result (λ head. HeadsText head (text_in self.new)) }
+    {
+        match over {
+            Over::Copy => self.judge_ready(),
+            Over::Lock => {
+                self.taker.close();
+                self.judge_ready()
+            }
+            Over::CopyAndLock => {
+                let head = self.judge_ready();
+                self.taker.leave_lock();
+                head
+            }
+        }
+    }
+
+    /// Judges the copy that the finder has, where it has one, with the positions that were noted.
+    /// Answers the head of its entry where it is printed.
+    fn judge_ready(&mut self) -> Option<EntryHead>
+        ensures none { ready_copies (hearer_in self.old) ≡ [] → (result ≡ None)
+            × (self.new.memory ≡ self.old.memory) × (self.new.combiner ≡ self.old.combiner) }
+        ensures judged { (so_far : Judged) (heard : HeardCopy)
+            → ready_copies (hearer_in self.old) ≡ heard.copy ∷ []
+            → self.old.taker.notes.positions ≡ noted heard.positions
+            → M.content self.old.memory ≡ last_of most_entries so_far.entries
+            → StandsCombined self.old.combiner so_far.families so_far.printed
+            → JudgesNext M.content self.new.memory self.new.combiner so_far heard
+            (headed_list result (text_in self.new)) }
+        ensures taker { self.new.taker ≡ self.old.taker }
+        ensures synchroniser { self.new.synchroniser ≡ self.old.synchroniser }
+        ensures head { IfSome result (λ head. HeadsText head (text_in self.new)) }
+    {
+        let CopyTag {
+            moment,
+            is_selected,
+        } = self.taker.copies.tag;
+        let finder = self.taker.copies.reader.finder();
+        let found = finder.ready_head()?;
+        let head = EntryHead {
+            identity: found.identity,
+            moment,
+            how: found.how,
+            errors: found.errors,
+        };
+        let positions = self.taker.notes.positions();
+        let printed = self.combiner.judge(
+            &head,
+            finder.text(),
+            is_selected,
+            positions,
+            &mut self.memory,
+        )?;
+        self.is_given = printed.is_given;
+        Some(printed.head)
+    }
+}
