@@ -210,7 +210,7 @@ class Clock:
         else:
             self.follow(lengths, abs(shown))
             shown = turned().sum()
-        self.past = (self.past * (first > 0 or not is_step) + [self.swings.pop(0)])[-PAST:]
+        self.past = (self.past * bool(first > 0 or not is_step) + [self.swings.pop(0)])[-PAST:]
         return float(-np.angle(shown) / (2 * np.pi) * PER), is_step and first == 0
 
     def follow(self, lengths, here):
