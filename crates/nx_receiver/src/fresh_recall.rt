@@ -2,7 +2,7 @@
 
 ghost use Rattle.std.specs.Prelude.{◌≡◌, [], IfOk};
 
-use nx_memory::{PlainRecall, Recall, RingRecall};
+use nx_memory::{PlainRecall, Recall, RenewingRecall, RingRecall};
 use std::alloc::{AllocError, Global};
 
 /// A memory that can be made with no entry, as a listener starts with three.
@@ -22,5 +22,12 @@ impl FreshRecall for RingRecall {
 impl FreshRecall for PlainRecall {
     fn fresh(_alloc: Global) -> Result<Self, AllocError> {
         Ok(PlainRecall::new())
+    }
+}
+
+/// Takes no memory of the allocator.
+impl FreshRecall for RenewingRecall {
+    fn fresh(_alloc: Global) -> Result<Self, AllocError> {
+        Ok(RenewingRecall::new())
     }
 }
