@@ -1,7 +1,7 @@
 -- What the arguments of the command line name, by clap's own reading of them (this profile).
 use Rattle.std.specs.Prelude.{◌≡◌, ◌≢◌, ◌⊎◌, ◌<◌, ◌≤◌, ◌∷◌, ◌++◌, ◌^◌, ⊤, ℕ, List, [], Some, codes}
 use Rattle.std.specs.Prelude.{fold, if◌then◌else◌}
-use Rattle.std.specs.Prelude.{true}
+use Rattle.std.specs.Prelude.{Bool, true, false}
 use Rattle.std.specs.Str.{bytes_eq}
 use Rattle.std.specs.Str.Parse.{IsNumeral, digits_value, without_leading_plus}
 use Rattle.clap.specs.Words.{App, IsAmong, Row, Rule, Text, fault_of, first_of, new_app}
@@ -15,23 +15,29 @@ use Rattle.nx_envelope.specs.Moment.{last_moment}
 use Rattle.nx_envelope.specs.declared.letter.Letter.{Letter}
 use Rattle.nx_log.specs.declared.writing.form.Form.{Form}
 use Rattle.nx_log.specs.declared.queries.query.Query.{Query}
-use Rattle.nx_program.specs.LogArguments.{IsForm, IsQuery, IsReading, IsReported, log_tree}
+use Rattle.nx_program.specs.LogArguments.{IsForm, IsQuery, IsReading, IsReported, flag_rule, has_flag}
+use Rattle.nx_program.specs.LogArguments.{log_tree}
 use Rattle.nx_program.specs.declared.log_arguments.ReadAs.{ReadAs}
 use Rattle.nx_program.specs.declared.arguments.Call.{Call}
 use Rattle.nx_program.specs.declared.arguments.Call.TheVariants.{Check, Code, Decode, Encode, Listen}
 use Rattle.nx_program.specs.declared.arguments.Call.TheVariants.{Log, Show}
 use Rattle.nx_program.specs.declared.arguments.Call.TheVariants.{Damage, Locks, Resume, Save, Send}
 use Rattle.nx_program.specs.declared.arguments.Call.TheVariants.{Slots, Watch}
+use Rattle.nx_program.specs.declared.arguments.Sendings.{Sendings}
+use Rattle.nx_program.specs.declared.arguments.Sendings.TheVariants.{Alone, Together}
 use Rattle.nx_station.specs.declared.damaging.DamageKind.{DamageKind}
 use Rattle.nx_station.specs.declared.damaging.DamageKind.TheVariants.{Dx, Rx, All}
 
--- what asks for the help of a command whose name may stand first here, or else of the program
+-- what asks for the help of a command whose name may stand first here, or else of the program: also
+-- where `help` stands there, which is no command
 abbrev pub help_words : List Text → List Text
 help_words [] = codes "--help" ∷ []
-help_words (command ∷ rest) = command ∷ codes "--help" ∷ []
+help_words (command ∷ rest) =
+    if bytes_eq command (codes "help") then codes "--help" ∷ []
+    else command ∷ codes "--help" ∷ []
 
 -- The arguments as they are read, of which the first is the program's name: `help` and a command's
--- name is that name and `--help`, whatever stands behind, and `help` alone is `--help`.
+-- name is that name and `--help`, whatever stands behind, and `help` alone or twice is `--help`.
 abbrev pub as_read : List Text → List Text
 as_read (program ∷ word ∷ rest) =
     if bytes_eq word (codes "help") then program ∷ help_words rest else program ∷ word ∷ rest
@@ -44,7 +50,7 @@ command_name Encode = codes "encode"
 command_name Code = codes "code"
 command_name Show = codes "show"
 command_name Check = codes "check"
-command_name Listen = codes "listen"
+command_name (Listen sendings) = codes "listen"
 command_name (Watch name moment) = codes "watch"
 command_name Resume = codes "resume"
 command_name Save = codes "save"
@@ -63,6 +69,10 @@ kind_name All = codes "all"
 -- a command that takes no value
 abbrev pub plain_tree : Text → App
 plain_tree name = new_app name
+
+-- a command that takes the flag `combine`
+abbrev pub listen_tree : Text → App
+listen_tree name = with_rule (new_app name) (flag_rule (codes "combine"))
 
 -- a value of this name, which is any text and must be given
 abbrev pub text_rule : Text → Rule
@@ -105,11 +115,12 @@ bare_tree = on_top (λ s. record s {
   has_version = true;
 }) (new_app (codes "navtex"))
 
--- What a command takes, and the call that it makes of it. It takes nothing; or a station and a
--- moment; or a file and a moment; or a kind of damage and two numbers; or the options of a query,
--- of a form and of how a log is read.
+-- What a command takes, and the call that it makes of it. It takes nothing; or how sendings are
+-- taken; or a station and a moment; or a file and a moment; or a kind of damage and two numbers; or
+-- the options of a query, of a form and of how a log is read.
 pub data Maker : Type 0 where
   plain : Call → Maker
+  by_sendings : (Sendings → Call) → Maker
   slot : (Letter → ℕ → Call) → Maker
   on_file : (Text → ℕ → Call) → Maker
   range : (DamageKind → ℕ → ℕ → Call) → Maker
@@ -118,6 +129,7 @@ pub data Maker : Type 0 where
 -- the command tree of a command of this name
 abbrev pub tree_of : Text → Maker → App
 tree_of name (plain call) = plain_tree name
+tree_of name (by_sendings make) = listen_tree name
 tree_of name (slot make) = slot_tree name
 tree_of name (on_file make) = file_tree name
 tree_of name (range make) = damage_tree name
@@ -131,8 +143,8 @@ CommandRow = Text × Maker
 -- the commands of the program, in the order in which help lists them
 abbrev pub command_rows : List CommandRow
 command_rows =
-    (codes "listen", plain Listen) ∷ (codes "watch", on_file Watch) ∷ (codes "log", options Log)
-    ∷ (codes "send", slot Send) ∷ (codes "resume", plain Resume) ∷ (codes "save", plain Save)
+    (codes "listen", by_sendings Listen) ∷ (codes "watch", on_file Watch)
+    ∷ (codes "log", options Log) ∷ (codes "send", slot Send) ∷ (codes "resume", plain Resume) ∷ (codes "save", plain Save)
     ∷ (codes "locks", plain Locks) ∷ (codes "slots", slot Slots)
     ∷ (codes "check", plain Check) ∷ (codes "damage", range Damage)
     ∷ (codes "decode", plain Decode) ∷ (codes "encode", plain Encode) ∷ (codes "show", plain Show)
@@ -182,8 +194,18 @@ pub record IsMoment (values : List Row) (moment : ℕ) : Type 0 where
 abbrev pub HasStationAndMoment : List Row → Letter → ℕ → Type 0
 HasStationAndMoment values station moment = IsStation values station × IsMoment values moment
 
+-- how sendings are taken, by the flag that asks to take them together
+abbrev pub sendings_of : Bool → Sendings
+sendings_of true = Together
+sendings_of false = Alone
+
+-- the values ask to take sendings so
+abbrev pub AsksSendings : List Row → Sendings → Type 0
+AsksSendings values sendings = sendings_of (has_flag (codes "combine") values) ≡ sendings
+
 -- the values are those that the call has; of a call that has none, nothing is said
 abbrev pub HasValues : Call → List Row → Type 0
+HasValues (Listen sendings) values = AsksSendings values sendings
 HasValues (Send station moment) values = HasStationAndMoment values station moment
 HasValues (Slots station moment) values = HasStationAndMoment values station moment
 HasValues (Watch name moment) values = IsFile values name × IsMoment values moment

@@ -38,7 +38,7 @@ option_name From = codes "from"
 -- what a TIME has to be
 abbrev pub time_wanted : Text
 time_wanted =
-    codes "TIME is 2025-01-01 or '2025-01-01 00:40', in UTC, or seconds since 1970, but not 4 or 8 digits"
+    codes "TIME is 2025-01-01 or '2025-01-01 00:40', in UTC, or seconds since 1970, not of 4 or 8 digits: $(date -ud '12 hours ago' +%s)"
 
 -- what help calls its value
 abbrev pub value_name : LogOption → Text
@@ -51,8 +51,8 @@ value_name From = codes "N"
 
 -- what its value has to be
 abbrev pub value_wanted : LogOption → Text
-value_wanted Station = codes "LETTERS are one letter A to Z or more, as AE"
-value_wanted Subject = codes "LETTERS are one letter A to Z or more, as AE"
+value_wanted Station = codes "LETTERS are one letter A to Z or more, as AE, with nothing between them"
+value_wanted Subject = codes "LETTERS are one letter A to Z or more, as AE, with nothing between them"
 value_wanted OfChannel = codes "N is 0, 1 or 2"
 value_wanted Since = time_wanted
 value_wanted Until = time_wanted

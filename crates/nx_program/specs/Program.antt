@@ -133,7 +133,7 @@ PerformsOnStreams Code d outcome =
     (WritesText (λ text. text ≡ table_text) d.contents d.writer d.writer_after) outcome
 PerformsOnStreams Show d outcome = Tells (λ why. call.Run why) (Shows d) outcome
 PerformsOnStreams Check d outcome = Tells (λ why. call.Check why) (Checks d) outcome
-PerformsOnStreams Listen d outcome =
+PerformsOnStreams (Listen sendings) d outcome =
     Tells (λ why. call.Listen why)
     (λ own. ListensOnce all_at_zero d own × IsUntouchedByWant d own) outcome
 PerformsOnStreams Resume d outcome =

@@ -4,7 +4,7 @@ ghost use Rattle.std.specs.Prelude.{◌≡◌, ◌≢◌, ℕ, [], ◌∷◌, If
 ghost use Rattle.std.specs.Prelude.{codes, map};
 ghost use Rattle.clap.specs.Words.{Text, found_of, rows_of};
 ghost use Rattle.std.specs.Prelude.{string_bytes};
-ghost use Rattle.nx_program.specs.Arguments.{HasValues, IsFile, IsKind, IsMoment, IsNumber, IsStation, Names};
+ghost use Rattle.nx_program.specs.Arguments.{AsksSendings, HasValues, IsFile, IsKind, IsMoment, IsNumber, IsStation, Names};
 ghost use Rattle.nx_program.specs.Arguments.{SaysMoment, command_name, kind_name};
 ghost use Rattle.nx_program.specs.Arguments.{moment_report as the_report};
 ghost use Rattle.nx_program.specs.private.Reading.{ExplainsMoment, HasFitMoment, HasUnfitMoment};
@@ -18,7 +18,9 @@ ghost use Rattle.nx_envelope.specs.declared.letter.Letter.{Letter};
 
 use crate::commands::navtex_command;
 use crate::file_name::FileName;
-use crate::log_arguments::{ReadAs, form_in, from_in, query_in, reading_in, unfit_report};
+use crate::log_arguments::{
+    ReadAs, form_in, from_in, is_flagged, query_in, reading_in, unfit_report,
+};
 use clap::ArgMatches;
 use clap::error::ErrorKind;
 use nx_envelope::{LAST_MOMENT, Letter};
@@ -26,6 +28,15 @@ use nx_log::{Form, Query};
 use nx_station::DamageKind;
 use std::alloc::{AllocError, Global};
 use std::convert::AsStr;
+
+/// How the sendings of a message are taken.
+#[derive(Clone, Copy, Debug, PartialEq, Eq)]
+pub enum Sendings {
+    /// Each copy by itself.
+    Alone,
+    /// All copies of a message so far, position by position.
+    Together,
+}
 
 /// A call of the program, which the arguments of the command line name.
 #[derive(Debug, Drop)]
@@ -41,7 +52,10 @@ pub enum Call<'a> {
     /// Print the messages of an air file that is exactly an emission.
     Check,
     /// Print the log of an air file.
-    Listen,
+    Listen {
+        /// How the sendings of a message are taken.
+        sendings: Sendings,
+    },
     /// Listen to the lines of any bytes, and put each entry into a log that is kept.
     Watch {
         /// The log.
@@ -217,7 +231,9 @@ impl<'a> Call<'a> {
             "code" => Some(Call::Code),
             "show" => Some(Call::Show),
             "check" => Some(Call::Check),
-            "listen" => Some(Call::Listen),
+            "listen" => Some(Call::Listen {
+                sendings: sendings_in(values),
+            }),
             "resume" => Some(Call::Resume),
             "save" => Some(Call::Save),
             "locks" => Some(Call::Locks),
@@ -239,6 +255,17 @@ impl<'a> Call<'a> {
             }
             _ => None,
         }
+    }
+}
+
+/// How the flag `--combine` asks to take the sendings of a message.
+fn sendings_in(values: &ArgMatches) -> Sendings
+    ensures { AsksSendings (rows_of (found_of values.now)) result }
+{
+    if is_flagged(values, "combine") {
+        Sendings::Together
+    } else {
+        Sendings::Alone
     }
 }
 

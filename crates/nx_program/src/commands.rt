@@ -1,12 +1,12 @@
 //! The command tree of the program, and the texts of its help.
 
 ghost use Rattle.std.specs.Prelude.{IfOk};
-ghost use Rattle.nx_program.specs.Arguments.{bare_tree, damage_tree, file_tree, navtex, number_rule, slot_tree};
+ghost use Rattle.nx_program.specs.Arguments.{bare_tree, damage_tree, file_tree, listen_tree, navtex, number_rule, slot_tree};
 ghost use Rattle.nx_program.specs.Arguments.{text_rule};
 ghost use Rattle.nx_program.specs.private.Reading.{AddsRule, IsBuiltAs, IsReadAs};
 ghost use Rattle.nx_program.specs.private.Reading.{row_tree, with_rows};
 
-use crate::log_command::{LOG_ABOUT, LOG_EXAMPLE, LOG_HELP, LOG_SHORT, log_command};
+use crate::log_command::{LOG_ABOUT, LOG_EXAMPLE, LOG_HELP, LOG_SHORT, log_command, with_flag};
 use clap::builder::ValueParser;
 use clap::{Arg, Command};
 use std::alloc::{AllocError, Global};
@@ -20,6 +20,8 @@ pub const VERSION: &str = "navtex 1.0.0, proved with rattle-kit-13f logic dac820
 enum Takes {
     /// No value.
     Nothing,
+    /// How the sendings of a message are taken.
+    Sendings,
     /// A station and a moment.
     Slot,
     /// A file and a moment.
@@ -91,6 +93,13 @@ printed again within 66 hours, unless 200 others came in between. One numbered
 /1 or /2 behind the identity, and no channel knows of the others. Nothing is
 kept for a later run: resume and save do that.
 
+With --combine all sendings of a message within 66 hours are taken together,
+position by position: what one has lost is taken of another. The message is
+printed again each time that it has become better, so of what several sendings
+gave the last entry is the best. It can't be told whether two sendings carry one
+text: where a station uses a number again within 66 hours, what is printed may
+be of both. It takes 5 megabytes of memory.
+
 An empty log can mean one of these; navtex locks < x.air tells some apart, as
 locks --help says:
   exchanged tones    each 1 should be a 0 and each 0 a 1. This exchanges them:
@@ -117,12 +126,23 @@ letter is damaged, and it is printed whole:
 The same on channel 1:
   $ sed 's/^B /B1 /' ea01.air | navtex listen
   [EA01/1 2025-01-01 00:40:00 full 0/5]
-  TEST";
+  TEST
+
+A buoy of which the first sending lost a shift, and its second sending:
+  $ navtex listen --combine < buoy.air
+  [EA01 2025-01-01 00:40:00 full 1/31]
+  BUOY *TQAWRMEN 002-11.0E UNLIT
+
+  [EA01 2025-01-01 04:40:00 full 0/30]
+  BUOY 51-24.3N 002-11.0E UNLIT";
+
+/// What help says of `--combine`.
+const COMBINE_HELP: &str = "Take the sendings of a message together";
 
 const LISTEN: Row = Row {
     name: "listen",
-    takes: Takes::Nothing,
-    usage: "navtex listen < x.air",
+    takes: Takes::Sendings,
+    usage: "navtex listen [--combine] < x.air",
     about: "Print the log of an air file",
     short: Some(LISTEN_SHORT),
     long: LISTEN_HELP,
@@ -660,6 +680,14 @@ fn with_number<'a>(
     )
 }
 
+/// A command that takes the flag `--combine`.
+fn listen_command<'a>(alloc: Global, name: &'a str) -> Result<Command<'a>, AllocError>
+    ensures { IfOk result (IsBuiltAs (listen_tree name.entry.now)) }
+{
+    let command = Command::new(alloc, name);
+    with_flag(alloc, command, "combine", COMBINE_HELP)
+}
+
 /// A command that takes a station and a moment.
 fn slot_command<'a>(alloc: Global, name: &'a str) -> Result<Command<'a>, AllocError>
     ensures { IfOk result (IsBuiltAs (slot_tree name.entry.now)) }
@@ -729,6 +757,7 @@ impl Row {
     {
         match self.takes {
             Takes::Nothing => Ok(Command::new(alloc, self.name)),
+            Takes::Sendings => listen_command(alloc, self.name),
             Takes::Slot => slot_command(alloc, self.name),
             Takes::File => file_command(alloc, self.name),
             Takes::Range => range_command(alloc, self.name),

@@ -7,6 +7,7 @@ ghost use Rattle.nx_program.specs.Arguments.{AsksForHelp, AsksForVersion, IsRefu
 ghost use Rattle.nx_program.specs.Arguments.{LacksKind, LacksMoment, LacksStation, Names, as_read, moment_report};
 ghost use Rattle.nx_program.specs.declared.arguments.Call.{Call};
 ghost use Rattle.nx_program.specs.declared.arguments.Call.TheVariants.{Check, Code, Decode, Encode, Listen, Show};
+ghost use Rattle.nx_program.specs.declared.arguments.Sendings.TheVariants.{Alone, Together};
 ghost use Rattle.nx_program.specs.declared.arguments.Call.TheVariants.{Damage, Locks, Resume, Save, Send, Slots, Watch};
 ghost use Rattle.nx_station.specs.declared.damaging.DamageKind.{DamageKind};
 ghost use Rattle.nx_station.specs.declared.damaging.DamageKind.TheVariants.{All, Dx};
@@ -39,7 +40,9 @@ pub fn arguments_in_examples()
     ensures code { (program : Text) → Names (program ∷ codes "code" ∷ []) Code }
     ensures show { (program : Text) → Names (program ∷ codes "show" ∷ []) Show }
     ensures check { (program : Text) → Names (program ∷ codes "check" ∷ []) Check }
-    ensures listen { (program : Text) → Names (program ∷ codes "listen" ∷ []) Listen }
+    ensures listen { (program : Text) → Names (program ∷ codes "listen" ∷ []) (Listen Alone) }
+    ensures combine { (program : Text)
+        → Names (program ∷ codes "listen" ∷ codes "--combine" ∷ []) (Listen Together) }
     ensures resume { (program : Text) → Names (program ∷ codes "resume" ∷ []) Resume }
     ensures save { (program : Text) → Names (program ∷ codes "save" ∷ []) Save }
     ensures locks { (program : Text) → Names (program ∷ codes "locks" ∷ []) Locks }
@@ -59,6 +62,8 @@ pub fn arguments_in_examples()
     ensures twice { (program : Text) → IsRefused (program ∷ codes "decode" ∷ codes "decode" ∷ []) }
     ensures option { (program : Text) → IsRefused (program ∷ codes "decode" ∷ codes "--frob" ∷ []) }
     ensures help_command { (program : Text) → AsksForHelp (as_read (program ∷ codes "help" ∷ [])) }
+    ensures help_twice { (program : Text)
+        → AsksForHelp (as_read (program ∷ codes "help" ∷ codes "help" ∷ [])) }
     ensures help_of_command { (program : Text) (rest : List Text)
         → as_read (program ∷ codes "help" ∷ codes "listen" ∷ rest)
         ≡ program ∷ codes "listen" ∷ codes "--help" ∷ [] }

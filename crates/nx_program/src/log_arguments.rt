@@ -56,7 +56,7 @@ pub enum ReadAs {
 
 /// What a TIME has to be.
 const TIME_WANTED: &str =
-    "TIME is 2025-01-01 or '2025-01-01 00:40', in UTC, or seconds since 1970, but not 4 or 8 digits";
+    "TIME is 2025-01-01 or '2025-01-01 00:40', in UTC, or seconds since 1970, not of 4 or 8 digits: $(date -ud '12 hours ago' +%s)";
 
 impl LogOption {
     /// The name of the option on the command line.
@@ -90,7 +90,7 @@ impl LogOption {
     {
         match self {
             LogOption::Station | LogOption::Subject => {
-                "LETTERS are one letter A to Z or more, as AE"
+                "LETTERS are one letter A to Z or more, as AE, with nothing between them"
             }
             LogOption::Channel => "N is 0, 1 or 2",
             LogOption::Since | LogOption::Until => TIME_WANTED,
@@ -247,7 +247,7 @@ pub fn from_in(values: &ArgMatches) -> Result<Option<u64>, LogOption>
 }
 
 /// Whether the flag of this name was given.
-fn is_flagged(values: &ArgMatches, name: &str) -> bool
+pub(crate) fn is_flagged(values: &ArgMatches, name: &str) -> bool
     ensures { result ≡ has_flag name.now (rows_of (found_of values.now)) }
 {
     match values.get_str(name) {

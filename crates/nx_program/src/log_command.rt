@@ -110,7 +110,7 @@ fn with_option<'a>(
 }
 
 /// The command with a flag.
-fn with_flag<'a>(
+pub(crate) fn with_flag<'a>(
     alloc: Global,
     command: Command<'a>,
     name: &'a str,

@@ -79,7 +79,7 @@ fn perform<R: Read, W: Write>(
         Call::Check => {
             check_run(alloc, reader, writer)?;
         }
-        Call::Listen => {
+        Call::Listen { sendings: _ } => {
             listen(alloc, reader, writer)?;
         }
         Call::Watch { .. } => unreachable!(),
@@ -388,6 +388,7 @@ fn help_words<'a, S: AsStr>(program: &'a str, rest: &'a [S]) -> ArrayVec<&'a str
     words.push(program);
     match rest {
         [] => words.push("--help"),
+        [command, ..] if command.as_str() == "help" => words.push("--help"),
         [command, ..] => {
             words.push(command.as_str());
             words.push("--help");

@@ -40,7 +40,7 @@ const MISSING: &str = "error: 'navtex' requires a subcommand but one was not pro
 
 #[test]
 fn reads_its_arguments(rt: HostRuntime) {
-    static ROWS: [(&[&str], u8, &str); 16] = [
+    static ROWS: [(&[&str], u8, &str); 17] = [
         (
             &["navtex", "frob"],
             64,
@@ -55,6 +55,11 @@ fn reads_its_arguments(rt: HostRuntime) {
         ),
         (
             &["navtex", "help"],
+            0,
+            "A NAVTEX broadcast station and receiver, for the elements of a signal",
+        ),
+        (
+            &["navtex", "help", "help"],
             0,
             "A NAVTEX broadcast station and receiver, for the elements of a signal",
         ),

@@ -186,17 +186,17 @@ fn refuses_values_and_bytes(rt: HostRuntime) {
         (
             &["navtex", "log", "--since", "now"],
             64,
-            "error: invalid value 'now' for '--since <TIME>'\n\n  tip: TIME is 2025-01-01 or '2025-01-01 00:40', in UTC, or seconds since 1970, but not 4 or 8 digits\n\nFor more information, try '--help'.\n",
+            "error: invalid value 'now' for '--since <TIME>'\n\n  tip: TIME is 2025-01-01 or '2025-01-01 00:40', in UTC, or seconds since 1970, not of 4 or 8 digits: $(date -ud '12 hours ago' +%s)\n\nFor more information, try '--help'.\n",
         ),
         (
             &["navtex", "log", "--since", "2025"],
             64,
-            "error: invalid value '2025' for '--since <TIME>'\n\n  tip: TIME is 2025-01-01 or '2025-01-01 00:40', in UTC, or seconds since 1970, but not 4 or 8 digits\n\nFor more information, try '--help'.\n",
+            "error: invalid value '2025' for '--since <TIME>'\n\n  tip: TIME is 2025-01-01 or '2025-01-01 00:40', in UTC, or seconds since 1970, not of 4 or 8 digits: $(date -ud '12 hours ago' +%s)\n\nFor more information, try '--help'.\n",
         ),
         (
             &["navtex", "log", "--until=20250101"],
             64,
-            "error: invalid value '20250101' for '--until <TIME>'\n\n  tip: TIME is 2025-01-01 or '2025-01-01 00:40', in UTC, or seconds since 1970, but not 4 or 8 digits\n\nFor more information, try '--help'.\n",
+            "error: invalid value '20250101' for '--until <TIME>'\n\n  tip: TIME is 2025-01-01 or '2025-01-01 00:40', in UTC, or seconds since 1970, not of 4 or 8 digits: $(date -ud '12 hours ago' +%s)\n\nFor more information, try '--help'.\n",
         ),
         (
             &["navtex", "log", "--channel", "3"],
@@ -206,7 +206,7 @@ fn refuses_values_and_bytes(rt: HostRuntime) {
         (
             &["navtex", "log", "--subject="],
             64,
-            "error: invalid value '' for '--subject <LETTERS>'\n\n  tip: LETTERS are one letter A to Z or more, as AE\n\nFor more information, try '--help'.\n",
+            "error: invalid value '' for '--subject <LETTERS>'\n\n  tip: LETTERS are one letter A to Z or more, as AE, with nothing between them\n\nFor more information, try '--help'.\n",
         ),
         (
             &["navtex", "log", "--keep", "--json"],

@@ -20,10 +20,11 @@ use Rattle.nx_program.specs.Arguments.{HasUnfitValue, IsFile, IsKind, IsMoment, 
 use Rattle.nx_program.specs.Arguments.{IsReportedMoment, IsStation, LacksKind, LacksStation}
 use Rattle.nx_program.specs.LogArguments.{log_tree}
 use Rattle.nx_program.specs.Program.{Tells, WritesText, version_text}
-use Rattle.nx_program.specs.Arguments.{SaysMoment, damage_tree, file_tree, plain_tree, slot_tree}
+use Rattle.nx_program.specs.Arguments.{SaysMoment, damage_tree, file_tree, listen_tree, plain_tree}
+use Rattle.nx_program.specs.Arguments.{slot_tree}
 use Rattle.nx_program.specs.declared.commands.Row.{Row as TableRow}
 use Rattle.nx_program.specs.declared.commands.Takes.{Takes}
-use Rattle.nx_program.specs.declared.commands.Takes.TheVariants.{File, Nothing, Query, Range, Slot}
+use Rattle.nx_program.specs.declared.commands.Takes.TheVariants.{File, Nothing, Query, Range, Sendings, Slot}
 use Rattle.nx_program.specs.declared.arguments.ArgumentsFault.{ArgumentsFault}
 use Rattle.nx_program.specs.declared.arguments.ArgumentsFault.TheVariants.{Help, Kind, Memory, Refused}
 use Rattle.nx_program.specs.declared.arguments.ArgumentsFault.TheVariants.{Station}
@@ -46,6 +47,7 @@ pub record IsReadAs (old new : Command) : Type 0 where
 -- the command tree of a command that takes this
 abbrev pub taking_tree : Takes → Text → App
 taking_tree Nothing name = plain_tree name
+taking_tree Sendings name = listen_tree name
 taking_tree Slot name = slot_tree name
 taking_tree File name = file_tree name
 taking_tree Range name = damage_tree name

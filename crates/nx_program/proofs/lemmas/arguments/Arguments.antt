@@ -29,6 +29,7 @@ use Rattle.nx_program.specs.Arguments.{AsksForHelp, AsksForVersion, HasUnfitValu
 use Rattle.nx_program.specs.Arguments.{IsMoment, IsNumber, IsRefusal, IsRefused, IsReportedMoment}
 use Rattle.nx_program.specs.Arguments.{IsStation, LacksKind, LacksMoment, LacksStation, LacksValue}
 use Rattle.nx_program.specs.Arguments.{TakesMoment, moment_report}
+use Rattle.nx_program.specs.Arguments.{by_sendings}
 use Rattle.nx_program.specs.Arguments.{Maker, Names, command_name, command_rows, navtex, on_file, options}
 use Rattle.nx_program.specs.Arguments.{plain, range, slot}
 use Rattle.nx_program.specs.LogArguments.{clash_report, value_report}
@@ -117,6 +118,7 @@ none_among (x ∷ xs) k e among = absurd (cc)
 
 leaf-no_help : (name : Text) (maker : Maker) → HasNoHelp (leaf (name, maker))
 leaf-no_help name (plain call) = refl
+leaf-no_help name (by_sendings make) = refl
 leaf-no_help name (slot make) = refl
 leaf-no_help name (on_file make) = refl
 leaf-no_help name (range make) = refl
@@ -288,6 +290,8 @@ lacks_value arguments name values taken entered none =
     go : (maker : Maker) → Makes name maker → Gives maker values
         → Lacks arguments name values
     go (plain call) makes gives = absurd (let has = makes values in none call has.0 has.1)
+    go (by_sendings make) makes gives =
+        absurd (let has = makes values _ refl in none (make _) has.0 has.1)
     go (slot make) makes gives = elim (moment_of_text gives.text) [
       | inr no_moment ↦ a_moment (slot-takes_moment name makes.0) gives.text
           (record { given = gives.given; no_moment = no_moment })

@@ -1,7 +1,7 @@
 -- The table of commands gives each call by its name and its values. A new kind of row asks for a
 -- line here, a new command that takes what others do for none.
 use Rattle.std.proofs.Common.{◌≡◌, ◌⊎◌, ℕ, List, [], ◌∷◌, Option, Some, None, codes, if◌then◌else◌}
-use Rattle.std.proofs.Common.{refl, rules}
+use Rattle.std.proofs.Common.{ap, refl, rules}
 use Rattle.std.specs.Str.{bytes_eq}
 use Rattle.clap.specs.Words.{Row, Text}
 use Rattle.nx_envelope.specs.declared.letter.Letter.{Letter}
@@ -11,7 +11,10 @@ use Rattle.nx_program.specs.LogArguments.{IsForm, IsQuery, IsReading}
 use Rattle.nx_program.specs.declared.log_arguments.ReadAs.{ReadAs}
 use Rattle.nx_station.specs.declared.damaging.DamageKind.{DamageKind}
 use Rattle.nx_program.specs.declared.arguments.Call.{Call}
-use Rattle.nx_program.specs.declared.arguments.Call.TheVariants.{Damage, Log, Send, Slots, Watch}
+use Rattle.nx_program.specs.declared.arguments.Call.TheVariants.{Damage, Listen, Log, Send, Slots, Watch}
+use Rattle.nx_program.specs.declared.arguments.Sendings.{Sendings}
+use Rattle.nx_program.specs.LogArguments.{has_flag}
+use Rattle.nx_program.specs.Arguments.{AsksSendings, sendings_of, by_sendings}
 use Rattle.nx_program.specs.Arguments.{CommandRow, HasValues, IsFile, IsKind, IsMoment, IsNumber, IsStation, Maker}
 use Rattle.nx_program.specs.Arguments.{command_name, command_rows, on_file, options, plain, range, slot}
 use Rattle.nx_program.proofs.lemmas.arguments.CallValues.{file_call, file_call-only, range_call, range_call-only}
@@ -22,6 +25,7 @@ use Rattle.nx_program.proofs.lemmas.EachFound.{Each}
 -- the call that a row of the table makes of the values, and the one that the row of this name makes
 abbrev pub made : Maker → List Row → Option Call
 made (plain call) rows = Some call
+made (by_sendings make) rows = Some (make (sendings_of (has_flag (codes "combine") rows)))
 made (slot make) rows = slot_call make rows
 made (on_file make) rows = file_call make rows
 made (range make) rows = range_call make rows
@@ -42,6 +46,8 @@ HasCall name rows call = (name ≡ command_name call) × HasValues call rows
 -- the calls that a row of the table makes have its name, and are given its values
 abbrev pub Makes : Text → Maker → Type 0
 Makes name (plain call) = (rows : List Row) → HasCall name rows call
+Makes name (by_sendings make) =
+    (rows : List Row) (s : Sendings) → AsksSendings rows s → HasCall name rows (make s)
 Makes name (slot make) =
     IsSlotName name × ((rows : List Row) (s : Letter) (m : ℕ) → IsStation rows s
     → IsMoment rows m
@@ -67,6 +73,7 @@ command_rows-sound = search rules
 -- the row of a call's name makes the call of its values
 pub call_in-only : (call : Call) (rows : List Row) → HasValues call rows
     → call_in command_rows (command_name call) rows ≡ Some call
+call_in-only (Listen sendings) rows given = ap (λ s. Some (Listen s)) given
 call_in-only (Send station moment) rows given = slot_call-only _ rows station moment given.0 given.1
 call_in-only (Slots station moment) rows given =
     slot_call-only _ rows station moment given.0 given.1

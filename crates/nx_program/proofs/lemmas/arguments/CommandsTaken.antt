@@ -17,6 +17,7 @@ use Rattle.nx_program.proofs.lemmas.arguments.NumbersGiven.{uses-wanted}
 use Rattle.nx_program.proofs.lemmas.arguments.RowsKept.{UsesWell, or-first, or-second}
 use Rattle.nx_program.proofs.lemmas.arguments.TextsGiven.{GivesText, IsTexted, gets-text, uses-other_text}
 use Rattle.nx_program.proofs.lemmas.arguments.TextsGiven.{uses-wanted_text}
+use Rattle.nx_program.specs.Arguments.{by_sendings}
 use Rattle.nx_program.specs.Arguments.{CommandRow, Maker, command_rows, navtex, number_rule, on_file, options}
 use Rattle.nx_program.specs.Arguments.{plain, range, slot, text_rule, tree_of}
 
@@ -107,6 +108,7 @@ both_wanted false false false e = absurd (cc)
 -- the texts and the numbers that the command of a row is given
 abbrev pub Gives : Maker → List Row → Type 0
 Gives (plain call) rows = Unit {0}
+Gives (by_sendings make) rows = Unit {0}
 Gives (slot make) rows = GivesText (codes "MOMENT") rows
 Gives (on_file make) rows =
     GivesText (codes "FILE") rows × GivesText (codes "MOMENT") rows
@@ -130,6 +132,11 @@ leaf c = built_leaf (tree_of c.0 c.1).top
 
 leaf-is : (name : Text) (maker : Maker) → Makes name maker → IsCommandOf (leaf (name, maker))
 leaf-is name (plain call) makes arguments e = record { maker = plain call; makes = makes; gives = tt }
+leaf-is name (by_sendings make) makes arguments e = record {
+  maker = by_sendings make;
+  makes = makes;
+  gives = tt;
+}
 leaf-is name (options make) makes arguments e = record {
   maker = options make;
   makes = makes;

@@ -9,6 +9,7 @@ use Rattle.nx_station.specs.declared.damaging.DamageKind.{DamageKind}
 use Rattle.nx_program.specs.declared.arguments.Call.{Call}
 use Rattle.nx_program.specs.declared.arguments.Call.TheVariants.{Log}
 use Rattle.std.specs.Prelude.{ℕ}
+use Rattle.nx_program.specs.Arguments.{by_sendings}
 use Rattle.nx_program.specs.Arguments.{CommandRow, HasValues, IsKind, IsMoment, IsStation, Maker}
 use Rattle.nx_program.specs.Arguments.{TakesMoment, command_name, command_rows, on_file, options}
 use Rattle.nx_program.specs.Arguments.{plain, range, slot}
@@ -22,6 +23,7 @@ use Rattle.nx_program.proofs.lemmas.EachFound.{Each}
 made-is : (name : Text) (maker : Maker) → Makes name maker → (rows : List Row)
     → IfSome (made maker rows) (HasCall name rows)
 made-is name (plain call) makes rows = makes rows
+made-is name (by_sendings make) makes rows = makes rows _ refl
 made-is name (slot make) makes rows = slot_call-is make rows (HasCall name rows) (makes.1 rows)
 made-is name (on_file make) makes rows = file_call-is make rows (HasCall name rows) (makes.1 rows)
 made-is name (range make) makes rows = range_call-is make rows (HasCall name rows) (makes.1 rows)

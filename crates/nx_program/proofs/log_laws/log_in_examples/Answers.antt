@@ -5,9 +5,7 @@ use Rattle.std.specs.FinSet as set
 use Rattle.std.specs.Ordering.{nat_cmp}
 use Rattle.clap.proofs.OnLiterals.{clap_on_literals}
 use Rattle.clap.specs.Words.{Row, Text}
-use Rattle.clap.specs.declared.builder.value_parser.Reading.TheVariants.{AsWritten}
 use Rattle.clap.specs.declared.error.kind.ErrorKind.TheVariants as kind
-use Rattle.clap.specs.declared.parser.matches.ValueSource.TheVariants.{DefaultValue}
 use Rattle.jiff_core.proofs.CalendarLemmas.{days_from_civil-day_count}
 use Rattle.jiff_core.proofs.MarchLemmas.{day_count-early}
 use Rattle.jiff_core.proofs.SignedLemmas.{signed_arith}
@@ -21,20 +19,11 @@ use Rattle.nx_program.specs.LogArguments.{Asks, IsReading, NamesLetters, given_t
 use Rattle.nx_program.specs.declared.log_arguments.Clash.TheVariants.{FromWithoutKept, JsonAndKeep, KeptAndSalvage}
 use Rattle.nx_program.specs.declared.log_arguments.LogOption.TheVariants.{From, Since, Station}
 use Rattle.nx_program.specs.declared.log_arguments.ReadAs.{ReadAs}
-use Rattle.nx_program.proofs.lemmas.arguments.GivenValues.{given}
+use Rattle.nx_program.proofs.lemmas.arguments.GivenValues.{given, off}
 use Rattle.nx_program.proofs.lemmas.arguments.Arguments.{conflict_is_refusal}
 use Rattle.nx_program.proofs.log_laws.log_in_examples.Goals as goal
 
--- a flag that was not given, and the rows of all
-abbrev off : Text → Row
-off name = record {
-  id = name;
-  values = codes "false" ∷ [];
-  count = None;
-  source = Some DefaultValue;
-  reading = AsWritten;
-}
-
+-- the rows of all flags where none was given
 abbrev all_off : List Row
 all_off =
     off (codes "good") ∷ off (codes "last") ∷ off (codes "json") ∷ off (codes "keep")
