@@ -54,7 +54,8 @@ returns-in_default-clause-stands g c start history log stands =
     c.loop-heard.invariant c.hear-count.ensures.within
     (λ start history log s. c.hear-count.ensures.stands start history log s)
     (λ start history log s k lt. c.hear-count.ensures.first start history log s k lt) in
-    fed_no_copy (fed_quiet h g.met.R.ChannelReceiver.none_awaited c.in_default.is) start history log stands
+    fed_no_copy (fed_quiet h g.met.R.ChannelReceiver.none_awaited c.in_default.is) start history log
+    stands
 
 pub returns-in_default-clause-first : goal.returns-in_default-clause-first
 returns-in_default-clause-first g c =

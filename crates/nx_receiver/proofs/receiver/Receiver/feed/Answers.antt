@@ -60,7 +60,8 @@ returns-in_default-clause-stands g c start history log stands =
     c.loop-at.invariant c.hear_bits-count.ensures.within
     (λ start history log s. c.hear_bits-count.ensures.stands start history log s)
     (λ start history log s k lt. c.hear_bits-count.ensures.first start history log s k lt) in
-    fed_no_copy (fed_quiet h (none-awaited g.M.Recall.content) c.in_default.is) start history log stands
+    fed_no_copy (fed_quiet h (none-awaited g.M.Recall.content) c.in_default.is) start history log
+    stands
 
 pub returns-in_default-clause-first : goal.returns-in_default-clause-first
 returns-in_default-clause-first g c =
