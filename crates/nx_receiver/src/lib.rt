@@ -10,7 +10,7 @@ mod listener;
 mod receiver;
 
 pub use air_file_runs::listen_fault::{LineRefusal, ListenFault};
-pub use air_file_runs::listening::{Report, listen, listen_from};
+pub use air_file_runs::listening::{Report, listen, listen_from, listen_with};
 pub use air_file_runs::resume_fault::{ResumeFault, Want};
 pub use air_file_runs::resuming::resume;
 pub use air_file_runs::state::{read_state, write_state};

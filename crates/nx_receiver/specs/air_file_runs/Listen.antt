@@ -23,8 +23,8 @@ use Rattle.nx_memory.specs.Selection.{is_vital}
 use Rattle.nx_copies.specs.Events as events
 use Rattle.nx_copies.specs.Events.{Command, Event, element, command}
 use Rattle.nx_receiver.specs.Moments.{Refuses}
-use Rattle.nx_copies.specs.copies.InTurn.{PrintAllToEnd, PrintsInTurn}
-use Rattle.nx_copies.specs.copies.Log.{IsLog}
+use Rattle.nx_copies.specs.copies.InTurn.{PrintAllToEndBy, PrintsInTurnBy}
+use Rattle.nx_copies.specs.copies.Log.{IsLog, Printing, plain}
 use Rattle.nx_copies.specs.copies.Shares.{Given, MarkedCopy, Starts, share, to_all, to_one}
 use Rattle.nx_receiver.specs.declared.air_file_runs.listen_fault.ListenFault.{ListenFault}
 use Rattle.nx_receiver.specs.declared.air_file_runs.listen_fault.ListenFault.TheVariants.{Memory, Read, Write}
@@ -92,45 +92,63 @@ pub record AreTaken (starts : Starts) (lines : List Line) : Type 0 where
 
 -- The log of an air file that is read to its end. Its lines, each taken after those before it,
 -- print these copies, where the end closes the copies that stand open; and these are the bytes of
--- their entries.
-pub record IsLogOfFile (starts : Starts) (bytes : List ℕ) (lines : List Line)
-    (copies : List MarkedCopy) (log : List ℕ) : Type 0 where
+-- their entries. What is printed of a channel is a parameter.
+pub record IsLogOfFileBy (printing : Printing) (starts : Starts) (bytes : List ℕ)
+    (lines : List Line) (copies : List MarkedCopy) (log : List ℕ) : Type 0 where
   pub file : IsAirFile air_limit bytes lines
   pub taken : AreTaken starts lines
-  pub printed : PrintAllToEnd starts (given_by lines) copies
+  pub printed : PrintAllToEndBy printing starts (given_by lines) copies
   pub spelled : IsLog copies log
 
--- the first half of the headline: the air file of these bytes has this log
-abbrev pub IsLogOf : Starts → List ℕ → List ℕ → Type 0
-IsLogOf starts bytes log =
-    (lines : List Line) × (copies : List MarkedCopy) × IsLogOfFile starts bytes lines copies log
+-- the air file of these bytes has this log
+abbrev pub IsLogOfBy : Printing → Starts → List ℕ → List ℕ → Type 0
+IsLogOfBy printing starts bytes log =
+    (lines : List Line) × (copies : List MarkedCopy)
+    × IsLogOfFileBy printing starts bytes lines copies log
 
 -- the log of these lines, of which each is taken after those before it, where nothing is closed:
 -- only copies that have ended count
-pub record IsLogOfLines (starts : Starts) (lines : List Line) (log : List ℕ) : Type 0 where
+pub record IsLogOfLinesBy (printing : Printing) (starts : Starts) (lines : List Line)
+    (log : List ℕ) : Type 0 where
   pub taken : AreTaken starts lines
   pub copies : List MarkedCopy
-  pub printed : PrintsInTurn starts (given_by lines) copies
+  pub printed : PrintsInTurnBy printing starts (given_by lines) copies
   pub spelled : IsLog copies log
 
 -- the log of the whole file was written, and the report counts its lines, its elements and its
 -- entries
-pub record HasListened (starts : Starts) (contents : Contents) (bytes : List ℕ)
-    (report : Report) : Type 0 where
+pub record HasListenedBy (printing : Printing) (starts : Starts) (contents : Contents)
+    (bytes : List ℕ) (report : Report) : Type 0 where
   pub lines : List Line
   pub copies : List MarkedCopy
   pub log : List ℕ
-  pub heard : IsLogOfFile starts bytes lines copies log
+  pub heard : IsLogOfFileBy printing starts bytes lines copies log
   pub written : Appends contents.before contents.after log
   pub lines_counted : report.lines ≡ length lines
   pub bits_counted : report.bits ≡ length (flat_map elements_of lines)
   pub printed_counted : report.printed ≡ length copies
 
 -- the log of these lines was written
-abbrev pub HasLogged : Starts → Contents → List Line → Type 0
-HasLogged starts contents lines =
-    (log : List ℕ) × IsLogOfLines starts lines log
+abbrev pub HasLoggedBy : Printing → Starts → Contents → List Line → Type 0
+HasLoggedBy printing starts contents lines =
+    (log : List ℕ) × IsLogOfLinesBy printing starts lines log
     × Appends contents.before contents.after log
+
+-- the same where each copy is judged alone; `IsLogOf` is the first half of the headline
+abbrev pub IsLogOfFile : Starts → List ℕ → List Line → List MarkedCopy → List ℕ → Type 0
+IsLogOfFile starts bytes lines copies log = IsLogOfFileBy plain starts bytes lines copies log
+
+abbrev pub IsLogOf : Starts → List ℕ → List ℕ → Type 0
+IsLogOf starts bytes log = IsLogOfBy plain starts bytes log
+
+abbrev pub IsLogOfLines : Starts → List Line → List ℕ → Type 0
+IsLogOfLines starts lines log = IsLogOfLinesBy plain starts lines log
+
+abbrev pub HasListened : Starts → Contents → List ℕ → Report → Type 0
+HasListened starts contents bytes report = HasListenedBy plain starts contents bytes report
+
+abbrev pub HasLogged : Starts → Contents → List Line → Type 0
+HasLogged starts contents lines = HasLoggedBy plain starts contents lines
 
 -- a write of a log, of which this holds, failed: some first bytes of the log were written, but not
 -- all, and `written` counts them
@@ -182,21 +200,28 @@ HasListenFault starts holds bytes fault = StopsAt bytes (λ lines rest more.
 -- and no copy that stands open is closed. A failed read comes behind those lines and the beginning
 -- of one more, and leaves what follows. Any further fault is the first of the file; `LineCut` comes
 -- only where the bytes are all.
+abbrev pub AnswersListeningBy : Printing → Starts → Extent → Contents
+    → Result Report ListenFault → List ℕ → Type 0
+AnswersListeningBy printing starts extent contents (Ok report) bytes =
+    extent.at_end × HasListenedBy printing starts contents bytes report
+AnswersListeningBy printing starts extent contents (Err (Memory error)) bytes = ⊤
+AnswersListeningBy printing starts extent contents (Err Read) bytes =
+    HasReadFault extent (HasLoggedBy printing starts contents) bytes
+AnswersListeningBy printing starts extent contents (Err (Write written)) bytes =
+    StopsAt bytes (λ lines rest more.
+    HasLoggedSome (IsLogOfLinesBy printing starts lines) contents written)
+    ⊎ (extent.at_end × HasLoggedSome (IsLogOfBy printing starts bytes) contents written)
+AnswersListeningBy printing starts extent contents (Err (LineCut line)) bytes =
+    extent.at_end
+    × HasListenFault starts (HasLoggedBy printing starts contents) bytes (LineCut line)
+AnswersListeningBy printing starts extent contents (Err fault) bytes =
+    HasListenFault starts (HasLoggedBy printing starts contents) bytes fault
+
+-- the same where each copy is judged alone
 abbrev pub AnswersListening : Starts → Extent → Contents → Result Report ListenFault → List ℕ
     → Type 0
-AnswersListening starts extent contents (Ok report) bytes =
-    extent.at_end × HasListened starts contents bytes report
-AnswersListening starts extent contents (Err (Memory error)) bytes = ⊤
-AnswersListening starts extent contents (Err Read) bytes =
-    HasReadFault extent (HasLogged starts contents) bytes
-AnswersListening starts extent contents (Err (Write written)) bytes =
-    StopsAt bytes (λ lines rest more.
-    HasLoggedSome (IsLogOfLines starts lines) contents written)
-    ⊎ (extent.at_end × HasLoggedSome (IsLogOf starts bytes) contents written)
-AnswersListening starts extent contents (Err (LineCut line)) bytes =
-    extent.at_end × HasListenFault starts (HasLogged starts contents) bytes (LineCut line)
-AnswersListening starts extent contents (Err fault) bytes =
-    HasListenFault starts (HasLogged starts contents) bytes fault
+AnswersListening starts extent contents outcome bytes =
+    AnswersListeningBy plain starts extent contents outcome bytes
 
 -- nothing is known of what a writer held and holds
 abbrev pub unknown_contents : Contents
@@ -213,15 +238,19 @@ AnswersUnlogged starts extent outcome bytes =
 -- file, however it came. Where a read fails, the log of the whole lines before it was written
 -- already; so it is written before each further read.
 -- A read failed, at most one, exactly where the outcome is `Read`, and a write where it is `Write`.
-pub record Listens {R W : Type 0} (starts : Starts) (d : Devices R W)
+pub record ListensBy {R W : Type 0} (printing : Printing) (starts : Starts) (d : Devices R W)
     (outcome : Result Report ListenFault) : Type 0 where
   pub bytes : List ℕ
   pub consumed : Consumes (d.remaining d.reader.inner) (d.remaining d.reader_after.inner) bytes
-  pub answer : AnswersListening starts (as_read d) (contents_of d) outcome bytes
+  pub answer : AnswersListeningBy printing starts (as_read d) (contents_of d) outcome bytes
   pub file : IfSome (d.remaining d.reader.inner)
-      (AnswersListening starts whole_input (contents_of d) outcome)
+      (AnswersListeningBy printing starts whole_input (contents_of d) outcome)
   pub unread : IsErrOf outcome Read ↔ (d.reader_after.failures ≡ 1)
   pub read_once : d.reader_after.failures ≤ 1
   pub unwritten : ((written : ℕ) × (outcome ≡ Err (Write written)))
       ↔ (d.writer_after.failures ≡ 1)
   pub write_once : d.writer_after.failures ≤ 1
+
+-- the same where each copy is judged alone
+abbrev pub Listens : {R W : Type 0} → Starts → Devices R W → Result Report ListenFault → Type 0
+Listens starts d outcome = ListensBy plain starts d outcome

@@ -10,11 +10,12 @@ use Rattle.nx_memory.specs.Selection.{is_vital}
 use Rattle.nx_copies.specs.Events as events
 use Rattle.nx_copies.specs.Events.{Event, Start, elements_among}
 use Rattle.nx_receiver.specs.Moments.{Refuses}
-use Rattle.nx_copies.specs.copies.InTurn.{PrintAllToEnd, PrintsInTurn}
+use Rattle.nx_copies.specs.copies.InTurn.{PrintAllToEndBy, PrintsInTurnBy}
 use Rattle.nx_receiver.specs.air_file_runs.Listen.{AreTaken, given_by, has_moment, moment_after}
-use Rattle.nx_copies.specs.copies.Log.{IsLog}
-use Rattle.nx_receiver.specs.Listener.{HearsGiven, Listening, ListeningOver}
-use Rattle.nx_receiver.specs.Listener.{elements_given, receiver_on, starts_of}
+use Rattle.nx_copies.specs.copies.Log.{IsLog, Printing, plain}
+use Rattle.nx_receiver.specs.Listener.{HearsBy, Listening, ListeningOver, content}
+use Rattle.nx_receiver.specs.Listener.{elements_given, receiver_on, starts_by}
+use Rattle.nx_receiver.specs.Receiver.{plain_kind}
 use Rattle.nx_receiver.specs.ChannelReceiver.{HandsOutNoneBeforeBy, ReceiverKind}
 use Rattle.nx_copies.specs.copies.Shares.{Given, MarkedCopy, Starts}
 use Rattle.nx_copies.specs.copies.FoundCopies.{TaggedCopy}
@@ -37,48 +38,51 @@ pub record HearsTo {R : Type 0} (kind : ReceiverKind R) (channel : Channel)
   pub first : HandsOutNoneBeforeBy kind (receiver_on old channel) bits count
 
 -- After it was given this, a listener printed copies, of which these bytes are the log.
-pub record HearsLog (starts : Starts) (listener : Listening) (given : List Given) (bytes : List ℕ)
+pub record HearsLogBy {R : Type 0} (kind : ReceiverKind R) (starts : Starts)
+    (listener : ListeningOver R) (given : List Given) (bytes : List ℕ)
     : Type 0 where
   pub log : List MarkedCopy
-  pub hears : HearsGiven starts listener given log
+  pub hears : HearsBy kind starts listener given log
   pub spelled : IsLog log bytes
 
 -- and this holds of these bytes
-pub record IsHearing (starts : Starts) (listener : Listening) (given : List Given)
-    (holds : List ℕ → Type 0)
+pub record IsHearingBy {R : Type 0} (kind : ReceiverKind R) (starts : Starts)
+    (listener : ListeningOver R) (given : List Given) (holds : List ℕ → Type 0)
     : Type 0 where
   pub bytes : List ℕ
-  pub hears : HearsLog starts listener given bytes
+  pub hears : HearsLogBy kind starts listener given bytes
   pub here : holds bytes
 
 -- the bytes are the log of the first copies of those that are printed of what is given
-pub record BeginsLog (starts : Starts) (given : List Given) (bytes : List ℕ) : Type 0 where
+pub record BeginsLogBy (printing : Printing) (starts : Starts) (given : List Given)
+    (bytes : List ℕ) : Type 0 where
   pub first : List MarkedCopy
   pub rest : List MarkedCopy
-  pub printed : PrintsInTurn starts given (first ++ rest)
+  pub printed : PrintsInTurnBy printing starts given (first ++ rest)
   pub spelled : IsLog first bytes
 
 -- such bytes were written in part
-pub record HeardSome (starts : Starts) (given : List Given) (old new : Option (List ℕ))
-    (written : ℕ)
+pub record HeardSomeBy (printing : Printing) (starts : Starts) (given : List Given)
+    (old new : Option (List ℕ)) (written : ℕ)
     : Type 0 where
   pub bytes : List ℕ
-  pub begun : BeginsLog starts given bytes
+  pub begun : BeginsLogBy printing starts given bytes
   pub some : WroteSome old new bytes written
 
 -- The listener stands so after these lines, with what it started, each taken after those before it;
 -- these bytes are their log.
-pub record IsListening (starts : Starts) (listener : Listening) (lines : List Line)
-    (bytes : List ℕ)
+pub record IsListeningBy {R : Type 0} (kind : ReceiverKind R) (starts : Starts)
+    (listener : ListeningOver R) (lines : List Line) (bytes : List ℕ)
     : Type 0 where
   pub taken : AreTaken starts lines
   pub moment : listener.has_moment ≡ has_moment lines
-  pub hears : HearsLog starts listener (given_by lines) bytes
+  pub hears : HearsLogBy kind starts listener (given_by lines) bytes
 
 -- the lines are taken, and the bytes are the log of the first copies of what they give
-pub record BeginsListening (starts : Starts) (lines : List Line) (bytes : List ℕ) : Type 0 where
+pub record BeginsListeningBy (printing : Printing) (starts : Starts) (lines : List Line)
+    (bytes : List ℕ) : Type 0 where
   pub taken : AreTaken starts lines
-  pub begun : BeginsLog starts (given_by lines) bytes
+  pub begun : BeginsLogBy printing starts (given_by lines) bytes
 
 -- why elements are not taken after these lines: there was no moment yet
 abbrev pub LacksMoment : List Line → Line → Type 0
@@ -103,17 +107,19 @@ RefusesLine starts lines line (Moment why) = RefusesMoment starts why lines line
 RefusesLine starts lines line (Vital subject) = RefusesVital subject lines line
 
 -- the same for a taker of lines that stood so at first, which is its start
-abbrev pub StandsFrom : Listening → Listening → List Line → List ℕ → Type 0
-StandsFrom first now lines bytes = IsListening (starts_of first) now lines bytes
+abbrev pub StandsFromBy : {R : Type 0} → ReceiverKind R → ListeningOver R → ListeningOver R
+    → List Line → List ℕ → Type 0
+StandsFromBy kind first now lines bytes =
+    IsListeningBy kind (starts_by kind first) now lines bytes
 
 -- The file ended after it was given this: the log of all copies was written, with those that the
 -- end closes, and the report counts the elements and the copies.
-pub record HasClosed (starts : Starts) (old new : Option (List ℕ)) (given : List Given)
-    (report : Report)
+pub record HasClosedBy (printing : Printing) (starts : Starts) (old new : Option (List ℕ))
+    (given : List Given) (report : Report)
     : Type 0 where
   pub copies : List MarkedCopy
   pub log : List ℕ
-  pub printed : PrintAllToEnd starts given copies
+  pub printed : PrintAllToEndBy printing starts given copies
   pub spelled : IsLog copies log
   pub written : Appends old new log
   pub bits_counted : report.bits ≡ count_of (length (elements_given given))
@@ -121,11 +127,23 @@ pub record HasClosed (starts : Starts) (old new : Option (List ℕ)) (given : Li
   pub few : length copies ≤ length (elements_given given) + 3
 
 -- the file ended so, and this log was written in part
-pub record HasClosedSome (starts : Starts) (old new : Option (List ℕ)) (given : List Given)
-    (written : ℕ)
+pub record HasClosedSomeBy (printing : Printing) (starts : Starts) (old new : Option (List ℕ))
+    (given : List Given) (written : ℕ)
     : Type 0 where
   pub copies : List MarkedCopy
   pub log : List ℕ
-  pub printed : PrintAllToEnd starts given copies
+  pub printed : PrintAllToEndBy printing starts given copies
   pub spelled : IsLog copies log
   pub some : WroteSome old new log written
+
+-- the same of the listener of the program
+abbrev pub HearsLog : Starts → Listening → List Given → List ℕ → Type 0
+HearsLog starts listener given bytes =
+    HearsLogBy (plain_kind content) starts listener given bytes
+
+abbrev pub IsListening : Starts → Listening → List Line → List ℕ → Type 0
+IsListening starts listener lines bytes =
+    IsListeningBy (plain_kind content) starts listener lines bytes
+
+abbrev pub HasClosed : Starts → Option (List ℕ) → Option (List ℕ) → List Given → Report → Type 0
+HasClosed starts old new given report = HasClosedBy plain starts old new given report

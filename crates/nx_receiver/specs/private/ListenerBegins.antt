@@ -5,14 +5,16 @@ use Rattle.nx_fec.specs.air_files.AirFile.{Line}
 use Rattle.nx_memory.specs.declared.memories.entry.MemoryEntry.{MemoryEntry}
 use Rattle.nx_copies.specs.Events.{Event, Setting, Start, first_setting, settings}
 use Rattle.nx_copies.specs.copies.FoundCopies.{FoundCopy, TaggedCopy, tagged_copies}
-use Rattle.nx_copies.specs.copies.InTurn.{PrintsInTurn}
+use Rattle.nx_copies.specs.copies.InTurn.{PrintsInTurnBy}
 use Rattle.nx_receiver.specs.air_file_runs.Listen.{given_by}
 use Rattle.nx_copies.specs.copies.Log.{HasPrinted}
 use Rattle.nx_copies.specs.copies.Printing.{printed_copies}
 use Rattle.nx_receiver.specs.Receiver.{Receiving, Stands}
 use Rattle.nx_copies.specs.copies.Shares.{Given, Starts}
-use Rattle.nx_receiver.specs.private.Listener.{BeginsListening, BeginsLog, HearsLog, IsListening}
-use Rattle.nx_receiver.specs.Listener.{Listening}
+use Rattle.nx_receiver.specs.ChannelReceiver.{ReceiverKind}
+use Rattle.nx_receiver.specs.private.Listener.{BeginsListeningBy, BeginsLogBy, HearsLogBy}
+use Rattle.nx_receiver.specs.private.Listener.{IsListeningBy}
+use Rattle.nx_receiver.specs.Listener.{ListeningOver}
 use Rattle.nx_copies.specs.hearing.CopyHearer.{copies_by}
 
 tagged-by : (first : Setting) (events : List Event) (copies : List FoundCopy)
@@ -36,16 +38,21 @@ printed-so_far content start receiver events log s =
     }
 
 -- the log so far is that of the first copies, which are all
-pub begins-log : (starts : Starts) (listener : Listening) (given : List Given) (bytes : List ℕ)
-    → HearsLog starts listener given bytes → BeginsLog starts given bytes
-begins-log starts listener given bytes h = record {
+pub begins-log : {R : Type 0} {kind : ReceiverKind R} (starts : Starts)
+    (listener : ListeningOver R) (given : List Given) (bytes : List ℕ)
+    → HearsLogBy kind starts listener given bytes
+    → BeginsLogBy kind.printing starts given bytes
+begins-log {R} {kind} starts listener given bytes h = record {
   first = h.log;
   rest = [];
-  printed = subst (PrintsInTurn starts given) (sym (append-nil h.log)) h.hears.in_turn;
+  printed = subst (PrintsInTurnBy kind.printing starts given) (sym (append-nil h.log))
+      h.hears.in_turn;
   spelled = h.spelled;
 }
 
-pub begins-listening : (starts : Starts) (now : Listening) (lines : List Line) (bytes : List ℕ)
-    → IsListening starts now lines bytes → BeginsListening starts lines bytes
+pub begins-listening : {R : Type 0} {kind : ReceiverKind R} (starts : Starts)
+    (now : ListeningOver R) (lines : List Line) (bytes : List ℕ)
+    → IsListeningBy kind starts now lines bytes
+    → BeginsListeningBy kind.printing starts lines bytes
 begins-listening starts now lines bytes h =
     record { taken = h.taken; begun = begins-log starts now (given_by lines) bytes h.hears }

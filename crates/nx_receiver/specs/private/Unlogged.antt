@@ -5,13 +5,14 @@ use Rattle.nx_fec.specs.Transfers.{AnswersToEnd, CountedDevice, Extent, Input, R
 use Rattle.nx_fec.specs.air_files.AirFile.{Line}
 use Rattle.nx_fec.specs.air_files.LineRuns.{HasHeardAll}
 use Rattle.nx_memory.specs.Saved.{SavedStates}
+use Rattle.nx_copies.specs.copies.Log.{plain}
 use Rattle.nx_copies.specs.copies.Shares.{Given, Starts, starts_from}
 use Rattle.nx_receiver.specs.Listener.{Listening, starts_of}
 use Rattle.nx_receiver.specs.air_file_runs.Chain.{HasGoneOn}
 use Rattle.nx_receiver.specs.air_file_runs.Listen.{AnswersUnlogged, unknown_contents}
 use Rattle.nx_receiver.specs.air_file_runs.ListenFrom.{reported}
 use Rattle.nx_receiver.specs.private.Listener.{HearsLog, IsListening}
-use Rattle.nx_receiver.specs.private.Runs.{ExplainsLog}
+use Rattle.nx_receiver.specs.private.Runs.{ExplainsLogBy}
 use Rattle.nx_receiver.specs.declared.air_file_runs.listen_fault.ListenFault.{ListenFault}
 use Rattle.nx_receiver.specs.declared.air_file_runs.listen_fault.ListenFault.TheVariants.{Read, Write}
 use Rattle.nx_receiver.specs.declared.air_file_runs.listening.Report.{Report}
@@ -32,7 +33,8 @@ HasHeardGiven starts listener given = (log : List ℕ) × HearsLog starts listen
 -- failed, and nothing is known of the log.
 abbrev pub ExplainsUnlogged : Starts → Extent → List ℕ → ListenFault → Type 0
 ExplainsUnlogged starts extent bytes (Write written) = ⊥
-ExplainsUnlogged starts extent bytes fault = ExplainsLog starts unknown_contents extent bytes fault
+ExplainsUnlogged starts extent bytes fault =
+    ExplainsLogBy plain starts unknown_contents extent bytes fault
 
 -- A run over the lines of an air file, which this listener hears, and for which nothing is written:
 -- it answers so to the bytes that it read, and to the whole file, however it came.

@@ -8,26 +8,29 @@ ghost use Rattle.nx_fec.specs.air_files.AirFile as line;
 ghost use Rattle.nx_fec.specs.air_files.Scanner.{kind_of, line_with};
 ghost use Rattle.nx_fec.specs.Transfers.{FailsOnce, HasWritten, WroteSome, devices, count_of};
 ghost use Rattle.nx_fec.specs.air_files.LineRuns.{HasGiven, HasTaken};
-ghost use Rattle.nx_receiver.specs.air_file_runs.Listen.{HasLoggedSome, IsLogOfLines};
+ghost use Rattle.nx_receiver.specs.air_file_runs.Listen.{HasLoggedSome, IsLogOfLinesBy};
 ghost use Rattle.nx_receiver.specs.air_file_runs.ListenFrom.{GoesOnBy};
 ghost use Rattle.nx_receiver.specs.air_file_runs.ListenOnce.{ListensOnce};
 ghost use Rattle.nx_copies.specs.copies.Log.{IsLog};
 ghost use Rattle.nx_receiver.specs.Receiver.{entry_list};
 ghost use Rattle.nx_copies.specs.copies.Shares.{Given, Starts, all_at_zero, marked};
-ghost use Rattle.nx_receiver.specs.Listener.{Listening, starts_of, then_elements};
-ghost use Rattle.nx_receiver.specs.private.Listener.{HasClosed, HasClosedSome, HeardSome, HearsLog, IsHearing, IsListening, RefusesLine, StandsFrom};
+ghost use Rattle.nx_receiver.specs.Listener.{ListeningOver, starts_by, then_elements};
+ghost use Rattle.nx_receiver.specs.private.Listener.{HasClosedBy, HasClosedSomeBy, HeardSomeBy, HearsLogBy, IsHearingBy, IsListeningBy, RefusesLine, StandsFromBy};
 ghost use Rattle.nx_receiver.specs.declared.air_file_runs.listen_fault.ListenFault.TheVariants.{Memory};
 
 mod logged;
+mod of_kind;
 mod unlogged;
 
 use crate::air_file_runs::listen_fault::{LineRefusal, ListenFault};
+use crate::channel_receiver::ChannelReceiver;
 use crate::command::Command;
 use crate::listener::Listener;
 use logged::listen_lines;
 use nx_copies::{Entry, entry_bytes, give_entry};
 use nx_fec::{Batch, Channel, Counting, LineKind, LinesRead, PackedElements, WriteFault, write_on};
 use nx_memory::SavedSet;
+pub use of_kind::listen_with;
 use std::alloc::{AllocError, Global};
 use std::io::{Read, Write};
 pub(crate) use unlogged::listen_unlogged;
@@ -103,7 +106,7 @@ pub fn listen_from<R: Read, W: Write>(
     ensures memory { (error : AllocError) → result ≡ Err (Memory error)
         → (reader.new ≡ reader.old) × (writer.new ≡ writer.old) }
 {
-    let mut listener = Listener::starting(alloc, saved)?;
+    let mut listener: Listener = Listener::starting(alloc, saved)?;
     let read = listen_lines(reader, writer, &mut listener)?;
     // Before the end: the copy that the end closes is cut, and makes no entry.
     let left = listener.saved();
@@ -113,11 +116,15 @@ pub fn listen_from<R: Read, W: Write>(
 
 /// Takes a line that sets what is in force: a moment, or a command of selection.
 #[inline(always)]
-fn take_setting(listener: &mut Listener, kind: LineKind) -> Result<(), LineRefusal>
+fn take_setting<C: ChannelReceiver>(
+    listener: &mut Listener<C>,
+    kind: LineKind,
+) -> Result<(), LineRefusal>
     requires { IsLine (line_with kind []) }
     ensures { (starts : Starts) (lines : List Line) (line : Line) (bytes : List ℕ)
-        → kind_of line ≡ kind → IsListening starts listener.old lines bytes
-        → MatchResult result (λ _. IsListening starts listener.new (lines ++ line ∷ []) bytes)
+        → kind_of line ≡ kind → IsListeningBy C.kind starts listener.old lines bytes
+        → MatchResult result
+        (λ _. IsListeningBy C.kind starts listener.new (lines ++ line ∷ []) bytes)
         (λ why. RefusesLine starts lines line why × (listener.new ≡ listener.old)) }
 {
     match kind {
@@ -131,11 +138,14 @@ fn take_setting(listener: &mut Listener, kind: LineKind) -> Result<(), LineRefus
 }
 
 /// Takes a moment, which belongs to all channels.
-fn take_moment(listener: &mut Listener, moment: u64) -> Result<(), LineRefusal>
+fn take_moment<C: ChannelReceiver>(
+    listener: &mut Listener<C>,
+    moment: u64,
+) -> Result<(), LineRefusal>
     ensures { (starts : Starts) (lines : List Line) (bytes : List ℕ)
-        → IsListening starts listener.old lines bytes
+        → IsListeningBy C.kind starts listener.old lines bytes
         → MatchResult result
-        (λ _. IsListening starts listener.new (lines ++ line.moment moment ∷ []) bytes)
+        (λ _. IsListeningBy C.kind starts listener.new (lines ++ line.moment moment ∷ []) bytes)
         (λ why. RefusesLine starts lines (line.moment moment) why
         × (listener.new ≡ listener.old)) }
 {
@@ -145,8 +155,8 @@ fn take_moment(listener: &mut Listener, moment: u64) -> Result<(), LineRefusal>
 
 /// Takes the elements of a line, for the channel that it names: hears them, and gives the entries
 /// of the copies that they end. There was a moment before them.
-fn take_elements<W: Write>(
-    listener: &mut Listener,
+fn take_elements<C: ChannelReceiver, W: Write>(
+    listener: &mut Listener<C>,
     mark: Option<Channel>,
     packed: &PackedElements,
     writer: &mut Counting<W>,
@@ -154,13 +164,13 @@ fn take_elements<W: Write>(
 ) -> Result<(), WriteFault>
     requires moment { listener.old.has_moment ≡ true }
     requires none { writer.old.failures ≡ 0 }
-    ensures taken { (first : Listening) (old : Option (List ℕ)) (lines : List Line)
-        → HasTaken StandsFrom first listener.old lines
+    ensures taken { (first : ListeningOver C) (old : Option (List ℕ)) (lines : List Line)
+        → HasTaken (StandsFromBy C.kind) first listener.old lines
         (HasGiven old (W.contents writer.old.inner) batch.old) → MatchResult result
-        (λ _. HasTaken StandsFrom first listener.new
+        (λ _. HasTaken (StandsFromBy C.kind) first listener.new
         (lines ++ line.elements mark packed.now ∷ [])
         (HasGiven old (W.contents writer.new.inner) batch.new))
-        (λ fault. HasLoggedSome (IsLogOfLines (starts_of first)
+        (λ fault. HasLoggedSome (IsLogOfLinesBy C.kind.printing (starts_by C.kind first)
         (lines ++ line.elements mark packed.now ∷ []))
         record { before = old; after = W.contents writer.new.inner } fault.written) }
     ensures counts { FailsOnce writer.new result }
@@ -175,8 +185,8 @@ fn take_elements<W: Write>(
 
 /// Hears elements of a channel up to and with the one that ends the first copy that is printed, and
 /// gives its entry. Answers how many it heard.
-fn hear_next<W: Write>(
-    listener: &mut Listener,
+fn hear_next<C: ChannelReceiver, W: Write>(
+    listener: &mut Listener<C>,
     channel: Channel,
     packed: &PackedElements,
     from: usize,
@@ -186,13 +196,14 @@ fn hear_next<W: Write>(
     requires some { from < length packed.now }
     requires none { writer.old.failures ≡ 0 }
     ensures heard { (starts : Starts) (old : Option (List ℕ)) (given : List Given)
-        (part : List Bool) → IsHearing starts listener.old (then_elements given channel part)
+        (part : List Bool)
+        → IsHearingBy C.kind starts listener.old (then_elements given channel part)
         (HasGiven old (W.contents writer.old.inner) batch.old)
         → MatchResult result
-        (λ count. IsHearing starts listener.new
+        (λ count. IsHearingBy C.kind starts listener.new
         (then_elements given channel (part ++ take count (drop from packed.now)))
         (HasGiven old (W.contents writer.new.inner) batch.new))
-        (λ fault. HeardSome starts
+        (λ fault. HeardSomeBy C.kind.printing starts
         (then_elements given channel (part ++ drop from packed.now)) old
         (W.contents writer.new.inner) fault.written) }
     ensures within { IfOk result (λ count. (0 < count) × (from + count ≤ length packed.now)) }
@@ -209,17 +220,19 @@ fn hear_next<W: Write>(
 
 /// Ends the file: writes, channel by channel, the entry of the copy that its end closes, where that
 /// is printed, and counts.
-fn close_log<W: Write>(
-    listener: Listener,
+fn close_log<C: ChannelReceiver, W: Write>(
+    listener: Listener<C>,
     writer: &mut Counting<W>,
     read: LinesRead,
 ) -> Result<Report, WriteFault>
     requires { writer.old.failures ≡ 0 }
     ensures closed { (starts : Starts) (old : Option (List ℕ)) (given : List Given)
-        (bytes : List ℕ) → HearsLog starts listener given bytes
+        (bytes : List ℕ) → HearsLogBy C.kind starts listener given bytes
         → HasWritten old (W.contents writer.old.inner) bytes read.written → MatchResult result
-        (λ report. HasClosed starts old (W.contents writer.new.inner) given report)
-        (λ fault. HasClosedSome starts old (W.contents writer.new.inner) given fault.written) }
+        (λ report. HasClosedBy C.kind.printing starts old (W.contents writer.new.inner) given
+        report)
+        (λ fault. HasClosedSomeBy C.kind.printing starts old (W.contents writer.new.inner) given
+        fault.written) }
     ensures lines { IfOk result (λ report. report.lines ≡ read.lines) }
     ensures counts { FailsOnce writer.new result }
 {

@@ -16,15 +16,15 @@ use Rattle.nx_fec.specs.declared.air_files.channel.Channel.TheVariants.{Zero, On
 use Rattle.nx_fec.proofs.lemmas.devices.WritingLaws.{WroteSome-front}
 use Rattle.nx_copies.specs.Events.{Event, Start}
 use Rattle.nx_copies.specs.copies.FoundCopies.{TaggedCopy, copy_of}
-use Rattle.nx_copies.specs.copies.InTurn.{PrintAllToEnd, PrintAllToEndBy}
-use Rattle.nx_copies.specs.copies.Log.{IsLog}
+use Rattle.nx_copies.specs.copies.InTurn.{PrintAllToEndBy}
+use Rattle.nx_copies.specs.copies.Log.{IsLog, Printing}
 use Rattle.nx_receiver.specs.ChannelReceiver.{ReceiverKind}
 use Rattle.nx_receiver.specs.Receiver.{entry_list}
 use Rattle.nx_copies.specs.copies.Shares.{Given, MarkedCopy, Starts, copies_on, marked, share}
 use Rattle.nx_copies.specs.copies.Shares.{start_on}
 use Rattle.nx_receiver.specs.Listener.{AreInRange, HearsBy, last_copies}
-use Rattle.nx_receiver.specs.private.Listener.{HasClosed, HasClosedSome, HearsLog}
-use Rattle.nx_receiver.specs.Listener.{Listening, ListeningOver}
+use Rattle.nx_receiver.specs.private.Listener.{HasClosedBy, HasClosedSomeBy, HearsLogBy}
+use Rattle.nx_receiver.specs.Listener.{ListeningOver}
 use Rattle.nx_copies.specs.declared.entry.Entry.{Entry}
 use Rattle.nx_receiver.specs.declared.listener.LastEntries.{LastEntries}
 use Rattle.nx_receiver.specs.declared.air_file_runs.listening.Report.{Report}
@@ -119,14 +119,15 @@ prints-last {R} {kind} starts listener closing given copies c h =
     (print-all starts listener closing given copies c h)
 
 -- what the end prints, as its parts by channel
-pub printed-parts : (starts : Starts) (closing : LastEntries) (given : List Given)
-    (copies : List MarkedCopy) → PrintAllToEnd starts given (copies ++ last_copies closing)
-    → PrintAllToEnd starts given (all_copies copies closing)
-printed-parts starts closing given copies h =
+pub printed-parts : {printing : Printing} (starts : Starts) (closing : LastEntries)
+    (given : List Given) (copies : List MarkedCopy) → PrintAllToEndBy printing starts given
+    (copies ++ last_copies closing)
+    → PrintAllToEndBy printing starts given (all_copies copies closing)
+printed-parts {printing} starts closing given copies h =
     let a = marked_on closing Zero in
     let b = marked_on closing One in
     let last = marked_on closing Two in
-    subst (PrintAllToEnd starts given)
+    subst (PrintAllToEndBy printing starts given)
     (sym (ap (λ l. l ++ last) (append_assoc copies a b) ∙ append_assoc copies (a ++ b) last)) h
 
 -- an entry whose moment is in range has bytes
@@ -152,10 +153,11 @@ bool-counted None is k e f = f ∙ ap bool_byte e
 bool-counted (Some entry) is k e f = f ∙ ap bool_byte e
 
 -- what the end printed was written, and counted
-pub closed-all : (starts : Starts) (listener : Listening) (closing : LastEntries)
+pub closed-all : {R : Type 0} {kind : ReceiverKind R} (starts : Starts)
+    (listener : ListeningOver R) (closing : LastEntries)
     (old new : Option (List ℕ)) (given : List Given) (bytes on_0 on_1 on_2 : List ℕ)
-    (n first second : ℕ) (report : Report) (h : HearsLog starts listener given bytes)
-    → PrintAllToEnd starts given (h.log ++ last_copies closing)
+    (n first second : ℕ) (report : Report) (h : HearsLogBy kind starts listener given bytes)
+    → PrintAllToEndBy kind.printing starts given (h.log ++ last_copies closing)
     → IsLog (marked_on closing Zero) on_0 → IsLog (marked_on closing One) on_1
     → IsLog (marked_on closing Two) on_2
     → Appends old new (((bytes ++ on_0) ++ on_1) ++ on_2)
@@ -164,7 +166,7 @@ pub closed-all : (starts : Starts) (listener : Listening) (closing : LastEntries
     → (n ≤ 2 ^ 64 - 1 → first ≡ count_of (n + length (entry_list closing.on_0)))
     → (first ≤ 2 ^ 64 - 1 → second ≡ count_of (first + length (entry_list closing.on_1)))
     → (second ≤ 2 ^ 64 - 1 → report.printed ≡ count_of (second + length (entry_list closing.on_2)))
-    → HasClosed starts old new given report
+    → HasClosedBy kind.printing starts old new given report
 closed-all starts listener closing old new given bytes on_0 on_1 on_2 n first second report h c is_0
     is_1 is_2 written bits same one two three =
     let a = marked_on closing Zero in
@@ -208,11 +210,11 @@ closed-all starts listener closing old new given bytes on_0 on_1 on_2 n first se
     }
 
 -- the first of what is printed to the end was written in part
-some-closed : (starts : Starts) (old new : Option (List ℕ)) (given : List Given)
-    (first rest : List MarkedCopy) (log : List ℕ) (written : ℕ)
-    → PrintAllToEnd starts given (first ++ rest) → IsLog first log
+some-closed : {printing : Printing} (starts : Starts) (old new : Option (List ℕ))
+    (given : List Given) (first rest : List MarkedCopy) (log : List ℕ) (written : ℕ)
+    → PrintAllToEndBy printing starts given (first ++ rest) → IsLog first log
     → All (λ (one : MarkedCopy). one.copy.moment ≤ last_moment) rest → WroteSome old new log written
-    → HasClosedSome starts old new given written
+    → HasClosedSomeBy printing starts old new given written
 some-closed starts old new given first rest log written printed spelled range some =
     let more = some_log rest range in
     record {
@@ -224,18 +226,19 @@ some-closed starts old new given first rest log written printed spelled range so
     }
 
 -- the entry that the end printed on channel 0 was written in part
-pub closed-part-0 : (starts : Starts) (listener : Listening) (closing : LastEntries)
+pub closed-part-0 : {R : Type 0} {kind : ReceiverKind R} (starts : Starts)
+    (listener : ListeningOver R) (closing : LastEntries)
     (old new : Option (List ℕ)) (given : List Given) (bytes on_0 : List ℕ) (written : ℕ)
-    → (h : HearsLog starts listener given bytes)
-    → PrintAllToEnd starts given (h.log ++ last_copies closing) → AreInRange closing
+    → (h : HearsLogBy kind starts listener given bytes)
+    → PrintAllToEndBy kind.printing starts given (h.log ++ last_copies closing) → AreInRange closing
     → IsLog (marked_on closing Zero) on_0 → WroteSome old new (bytes ++ on_0) written
-    → HasClosedSome starts old new given written
-closed-part-0 starts listener closing old new given bytes on_0 written h c r is_0 some =
+    → HasClosedSomeBy kind.printing starts old new given written
+closed-part-0 {R} {kind} starts listener closing old new given bytes on_0 written h c r is_0 some =
     let a = marked_on closing Zero in
     let b = marked_on closing One in
     let last = marked_on closing Two in
     some-closed starts old new given (h.log ++ a) (b ++ last) (bytes ++ on_0) written
-    (subst (PrintAllToEnd starts given) (append_assoc (h.log ++ a) b last)
+    (subst (PrintAllToEndBy kind.printing starts given) (append_assoc (h.log ++ a) b last)
     (printed-parts starts closing given h.log c))
     (logs_join h.log a bytes on_0 h.spelled is_0)
     (All-append (λ (one : MarkedCopy). one.copy.moment ≤ last_moment) b last
@@ -244,13 +247,14 @@ closed-part-0 starts listener closing old new given bytes on_0 written h c r is_
     some
 
 -- that on channel 1
-pub closed-part-1 : (starts : Starts) (listener : Listening) (closing : LastEntries)
+pub closed-part-1 : {R : Type 0} {kind : ReceiverKind R} (starts : Starts)
+    (listener : ListeningOver R) (closing : LastEntries)
     (old new : Option (List ℕ)) (given : List Given) (bytes on_0 on_1 : List ℕ) (written : ℕ)
-    → (h : HearsLog starts listener given bytes)
-    → PrintAllToEnd starts given (h.log ++ last_copies closing) → AreInRange closing
+    → (h : HearsLogBy kind starts listener given bytes)
+    → PrintAllToEndBy kind.printing starts given (h.log ++ last_copies closing) → AreInRange closing
     → IsLog (marked_on closing Zero) on_0 → IsLog (marked_on closing One) on_1
     → WroteSome old new ((bytes ++ on_0) ++ on_1) written
-    → HasClosedSome starts old new given written
+    → HasClosedSomeBy kind.printing starts old new given written
 closed-part-1 starts listener closing old new given bytes on_0 on_1 written h c r is_0 is_1 some =
     let a = marked_on closing Zero in
     let b = marked_on closing One in
@@ -262,14 +266,15 @@ closed-part-1 starts listener closing old new given bytes on_0 on_1 written h c 
     (range-of closing.on_2 Two r.2) some
 
 -- and that on channel 2
-pub closed-part-2 : (starts : Starts) (listener : Listening) (closing : LastEntries)
+pub closed-part-2 : {R : Type 0} {kind : ReceiverKind R} (starts : Starts)
+    (listener : ListeningOver R) (closing : LastEntries)
     (old new : Option (List ℕ)) (given : List Given) (bytes on_0 on_1 on_2 : List ℕ) (written : ℕ)
-    → (h : HearsLog starts listener given bytes)
-    → PrintAllToEnd starts given (h.log ++ last_copies closing) → AreInRange closing
+    → (h : HearsLogBy kind starts listener given bytes)
+    → PrintAllToEndBy kind.printing starts given (h.log ++ last_copies closing) → AreInRange closing
     → IsLog (marked_on closing Zero) on_0 → IsLog (marked_on closing One) on_1
     → IsLog (marked_on closing Two) on_2
     → WroteSome old new (((bytes ++ on_0) ++ on_1) ++ on_2) written
-    → HasClosedSome starts old new given written
+    → HasClosedSomeBy kind.printing starts old new given written
 closed-part-2 starts listener closing old new given bytes on_0 on_1 on_2 written h c r is_0 is_1
     is_2 some =
     let a = marked_on closing Zero in

@@ -1,29 +1,26 @@
 -- What a run that goes on from what is saved answers and leaves.
 use Rattle.std.proofs.Common.{◌≡◌, ℕ, List, Option, Result, Ok, Err, IsErr, IsErrAnd, sym, subst}
-use Rattle.std.specs.Prelude.{⊤}
 use Rattle.std.specs.Io.KnownBytes.{Appends}
 use Rattle.nx_fec.specs.air_files.AirFile.{Line}
-use Rattle.nx_fec.specs.Transfers.{Contents, CountedDevice, Devices, Extent, HasWritten, Reads}
-use Rattle.nx_fec.specs.Transfers.{contents_of, devices, input}
-use Rattle.nx_fec.proofs.lemmas.devices.TransferLaws.{Ok-not_err, Reads-on, Writes-none}
+use Rattle.nx_fec.specs.Transfers.{Contents, CountedDevice, Devices, HasWritten, contents_of}
+use Rattle.nx_fec.specs.Transfers.{devices}
 use Rattle.nx_fec.specs.air_files.LineRuns.{HasHeardAll, HasTaken}
 use Rattle.nx_fec.specs.declared.air_files.line_runs.LinesRead.{LinesRead}
 use Rattle.nx_memory.specs.Saved.{SavedStates}
 use Rattle.nx_receiver.specs.air_file_runs.Chain.{HasGoneOn}
-use Rattle.nx_receiver.specs.air_file_runs.Listen.{AnswersListening, AreTaken, IsLogOfFile, Listens}
+use Rattle.nx_receiver.specs.air_file_runs.Listen.{AreTaken, IsLogOfFile, Listens}
 use Rattle.nx_receiver.specs.air_file_runs.Listen.{given_by}
 use Rattle.nx_receiver.specs.air_file_runs.ListenFrom.{GoesOnBy, reported}
-use Rattle.nx_receiver.specs.Listener.{Listening}
-use Rattle.nx_receiver.specs.private.Listener.{HasClosed, IsListening, StandsFrom}
-use Rattle.nx_receiver.specs.private.Runs.{HasTakenAll, TakesLines}
-use Rattle.nx_receiver.specs.Listener.{starts_of}
+use Rattle.nx_receiver.specs.Listener.{Listening, content, starts_of}
+use Rattle.nx_receiver.specs.Receiver.{plain_kind}
+use Rattle.nx_receiver.specs.private.Listener.{HasClosed, IsListening, StandsFromBy}
+use Rattle.nx_receiver.specs.private.Runs.{TakesLinesBy}
 use Rattle.nx_copies.specs.copies.Shares.{Starts, starts_from}
 use Rattle.nx_receiver.specs.declared.air_file_runs.listen_fault.ListenFault.{ListenFault}
-use Rattle.nx_receiver.specs.declared.air_file_runs.listen_fault.ListenFault.TheVariants.{Read, Write}
 use Rattle.nx_receiver.specs.declared.air_file_runs.listening.Report.{Report}
 use Rattle.nx_receiver.proofs.lemmas.chain.Runs.{LeavesEach, goes_on}
-use Rattle.nx_receiver.proofs.lemmas.listening.Runs.{listened}
-use Rattle.nx_receiver.proofs.lemmas.listening.Once.{listens-once, on-some, printed-once}
+use Rattle.nx_receiver.proofs.lemmas.listening.Runs.{listens-all}
+use Rattle.nx_receiver.proofs.lemmas.listening.Once.{listens-once, printed-once}
 
 -- an outcome that is this fault
 pub err-is : (outcome : Result (Report × SavedStates) ListenFault) (fault : ListenFault)
@@ -61,7 +58,8 @@ pub goes-on : {R W : Type 0} (remaining : R → Option (List ℕ)) (contents : W
     (saved left : SavedStates) (first now : Listening) (reader reader_after : CountedDevice R)
     (writer mid new : CountedDevice W) (read : LinesRead) (report : Report)
     → starts_of first ≡ starts_from saved
-    → TakesLines first now (devices remaining contents reader reader_after writer mid) (Ok read)
+    → TakesLinesBy (plain_kind content) first now
+    (devices remaining contents reader reader_after writer mid) (Ok read)
     → ((lines : List Line) (given : List ℕ) → IsListening (starts_of first) now lines given
     → HasWritten (contents writer.inner) (contents mid.inner) given read.written
     → HasClosed (starts_of first) (contents writer.inner) (contents new.inner) (given_by lines)
@@ -71,46 +69,20 @@ pub goes-on : {R W : Type 0} (remaining : R → Option (List ℕ)) (contents : W
     → report.lines ≡ read.lines → new.failures ≡ 0
     → GoesOnBy saved (devices remaining contents reader reader_after writer new)
     (Ok (report, left))
-goes-on remaining contents saved left first now' reader reader_after writer mid new read report
+goes-on remaining contents saved left first now reader reader_after writer mid new read report
     begins h closed leaves counted none =
     let d = devices remaining contents reader reader_after writer new in
-    let ends : (lines : List Line) → HasTaken StandsFrom first now' lines
+    let ends : (lines : List Line) → HasTaken (StandsFromBy (plain_kind content)) first now lines
     (λ log. HasWritten (contents writer.inner) (contents mid.inner) log read.written)
     → AreTaken (starts_of first) lines × HasClosed (starts_of first) (contents writer.inner)
     (contents new.inner) (given_by lines) report =
     λ lines t. (t.stood.taken, closed lines t.given t.stood t.here) in
-    let heard : (extent : Extent) (bytes : List ℕ) → extent.at_end × HasTakenAll first now'
-    (contents_of (devices remaining contents reader reader_after writer mid)) read bytes
-    → AnswersListening (starts_of first) extent (contents_of d) (Ok report) bytes
-    × HasGoneOn saved (contents_of d) bytes left = λ extent bytes k. (
-      (k.0, listened (starts_of first) _ bytes read.lines report _ k.1 ends counted),
-      gone saved left (starts_of first) _ bytes read.lines report _ begins k.1 ends
-          (λ lines t. leaves lines t.given t.stood),
-    ) in
-    let r : Reads (input remaining reader reader_after) Read (λ fault bytes. ⊤) (Ok report)
-    (λ extent bytes. AnswersListening (starts_of first) extent (contents_of d) (Ok report) bytes
-    × HasGoneOn saved (contents_of d) bytes left) =
-    Reads-on (input remaining reader reader_after) Read Read (Ok read) (Ok report) _ _ h.reads
-    heard
-    (λ bytes k h. h) (λ e. absurd (Ok-not_err _ _ e)) (λ e. absurd (Ok-not_err _ _ e)) in
-    let writes = Writes-none new (λ written. Write written) (Ok report)
-    (λ written. Ok-not_err _ _) none in
-    let P : Starts → Type 0 = λ starts. (run : Listens starts d (Ok report))
-    × HasGoneOn saved (contents_of d) run.bytes left in
-    let here : P (starts_of first) = (
-      record {
-        bytes = r.bytes;
-        consumed = r.consumed;
-        answer = r.answer.0;
-        file = on-some (remaining reader.inner) _ _ (λ file k. k.0) r.file;
-        unread = r.failed;
-        read_once = r.once;
-        unwritten = writes.failed;
-        write_once = writes.once;
-      },
-      r.answer.1,
-    ) in
-    let there = subst P begins here in
+    let here = listens-all (plain_kind content) remaining contents first now reader
+    reader_after writer mid new read report (λ bytes. HasGoneOn saved (contents_of d) bytes left) h
+    ends (λ bytes k. gone saved left (starts_of first) _ bytes read.lines report _ begins k ends
+    (λ lines t. leaves lines t.given t.stood)) counted none in
+    let there = subst (λ (starts : Starts). (run : Listens starts d (Ok report))
+    × HasGoneOn saved (contents_of d) run.bytes left) begins here in
     record {
       listens = record {
         run = there.0;

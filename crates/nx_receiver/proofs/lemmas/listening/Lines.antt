@@ -18,13 +18,14 @@ use Rattle.nx_receiver.specs.Commands.{refuses_vital}
 use Rattle.nx_copies.specs.Events.{Command, command}
 use Rattle.nx_copies.specs.Events as fed
 use Rattle.nx_receiver.specs.air_file_runs.Listen.{given_by, given_of, is_moment_line}
-use Rattle.nx_receiver.specs.Receiver.{TakesEvent}
+use Rattle.nx_receiver.specs.ChannelReceiver.{IsReceiver, ReceiverKind, TakesEventBy}
 use Rattle.nx_copies.specs.copies.Shares.{Given, Starts, to_one}
-use Rattle.nx_receiver.specs.Listener.{Listening}
-use Rattle.nx_receiver.specs.private.Listener.{IsListening}
+use Rattle.nx_receiver.specs.Listener.{Listening, ListeningOver}
+use Rattle.nx_receiver.specs.private.Listener.{IsListening, IsListeningBy}
 use Rattle.nx_receiver.specs.Listener.{content, receiver_on}
-use Rattle.nx_receiver.specs.private.Listener.{RefusesLine, StandsFrom}
-use Rattle.nx_receiver.specs.Listener.{starts_of, then_elements, with_receiver}
+use Rattle.nx_receiver.specs.private.Listener.{RefusesLine, StandsFromBy}
+use Rattle.nx_receiver.specs.private.PlainReceiver.{plain-receiver}
+use Rattle.nx_receiver.specs.Listener.{starts_by, then_elements, with_receiver}
 use Rattle.nx_receiver.specs.private.Taken.{IsTakenAfter}
 use Rattle.nx_receiver.specs.private.Unlogged.{HasHeard, HasHeardGiven}
 use Rattle.nx_receiver.specs.declared.air_file_runs.listen_fault.LineRefusal.{LineRefusal}
@@ -94,25 +95,27 @@ kind-with (RefuseSubject mark letter) bits = refl
 kind-with (AcceptSubject mark letter) bits = refl
 
 -- a line that sets something is taken, and prints nothing
-pub taken-line : (first before after : Listening) (old new : Option (List ℕ)) (batch : Waiting)
-    (lines : List Line) (line : Line)
-    → HasTaken StandsFrom first before lines (HasGiven old new batch)
-    → ((bytes : List ℕ) → IsListening (starts_of first) before lines bytes
-    → IsListening (starts_of first) after (lines ++ line ∷ []) bytes)
-    → HasTaken StandsFrom first after (lines ++ line ∷ []) (HasGiven old new batch)
+pub taken-line : {R : Type 0} {kind : ReceiverKind R} (first before after : ListeningOver R)
+    (old new : Option (List ℕ)) (batch : Waiting) (lines : List Line) (line : Line)
+    → HasTaken (StandsFromBy kind) first before lines (HasGiven old new batch)
+    → ((bytes : List ℕ) → IsListeningBy kind (starts_by kind first) before lines bytes
+    → IsListeningBy kind (starts_by kind first) after (lines ++ line ∷ []) bytes)
+    → HasTaken (StandsFromBy kind) first after (lines ++ line ∷ []) (HasGiven old new batch)
 taken-line first before after old new batch lines line h takes =
     record { given = h.given; stood = takes h.given h.stood; here = h.here }
 
 -- or it is refused, and changes nothing
-pub refused-line : (first before after : Listening) (lines : List Line) (line : Line)
-    (why : LineRefusal) (holds : List ℕ → Type 0) → HasTaken StandsFrom first before lines holds
-    → ((bytes : List ℕ) → IsListening (starts_of first) before lines bytes
-    → RefusesLine (starts_of first) lines line why × (after ≡ before))
-    → RefusesLine (starts_of first) lines line why × HasTaken StandsFrom first after lines holds
-refused-line first before after lines line why holds h refuses =
+pub refused-line : {R : Type 0} {kind : ReceiverKind R} (first before after : ListeningOver R)
+    (lines : List Line) (line : Line) (why : LineRefusal) (holds : List ℕ → Type 0)
+    → HasTaken (StandsFromBy kind) first before lines holds
+    → ((bytes : List ℕ) → IsListeningBy kind (starts_by kind first) before lines bytes
+    → RefusesLine (starts_by kind first) lines line why × (after ≡ before))
+    → RefusesLine (starts_by kind first) lines line why
+    × HasTaken (StandsFromBy kind) first after lines holds
+refused-line {R} {kind} first before after lines line why holds h refuses =
     let refused = refuses h.given h.stood in (
       refused.0,
-      subst (λ n. HasTaken StandsFrom first n lines holds) (sym refused.1) h,
+      subst (λ n. HasTaken (StandsFromBy kind) first n lines holds) (sym refused.1) h,
     )
 
 -- a line for which nothing is given: there is a log
@@ -160,7 +163,7 @@ pub heard-elements : (starts : Starts) (old new : Listening) (lines : List Line)
     (λ why. RefusesLine starts lines (elements mark bits) why × (new ≡ old))
 heard-elements starts old new lines mark channel bits log (Ok x) e h heard some =
     let more = heard starts (given_by lines)
-    (log, none-heard starts old (given_by lines) channel log h.hears) in (
+    (log, none-heard (plain-receiver content) starts old (given_by lines) channel log h.hears) in (
       more.0,
       heard-line starts old new lines mark channel bits log more.0 e h (sym h.moment ∙ some.0)
           some.1 more.1,
@@ -171,14 +174,15 @@ heard-elements starts old new lines mark channel bits log (Err why) e h heard no
 )
 
 -- what is taken is the line that its kind says
-pub taken-as : (starts : Starts) (old new : Listening) (lines : List Line) (line is : Line)
-    (bytes : List ℕ) (result : Result (Unit {0}) LineRefusal) → line ≡ is
-    → MatchResult result (λ _. IsListening starts new (lines ++ is ∷ []) bytes)
+pub taken-as : {R : Type 0} (kind : ReceiverKind R) (starts : Starts)
+    (old new : ListeningOver R) (lines : List Line) (line is : Line) (bytes : List ℕ)
+    (result : Result (Unit {0}) LineRefusal) → line ≡ is
+    → MatchResult result (λ _. IsListeningBy kind starts new (lines ++ is ∷ []) bytes)
     (λ why. RefusesLine starts lines is why × (new ≡ old))
-    → MatchResult result (λ _. IsListening starts new (lines ++ line ∷ []) bytes)
+    → MatchResult result (λ _. IsListeningBy kind starts new (lines ++ line ∷ []) bytes)
     (λ why. RefusesLine starts lines line why × (new ≡ old))
-taken-as starts old new lines line is bytes result same h =
-    subst (λ l. MatchResult result (λ _. IsListening starts new (lines ++ l ∷ []) bytes)
+taken-as kind starts old new lines line is bytes result same h =
+    subst (λ l. MatchResult result (λ _. IsListeningBy kind starts new (lines ++ l ∷ []) bytes)
     (λ why. RefusesLine starts lines l why × (new ≡ old))) (sym same) h
 
 -- a line gives the command that its kind says
@@ -226,13 +230,15 @@ pub spared : (vital : Bool) → (IsTrue vital → IsTrue false) → vital ≡ fa
 spared false h = refl
 spared true h = let bad = h refl in cc
 
-pub command-taken : (starts : Starts) (old new : Listening) (lines : List Line) (line : Line)
+pub command-taken : {R : Type 0} {kind : ReceiverKind R} (laws : IsReceiver kind)
+    (starts : Starts) (old new : ListeningOver R) (lines : List Line) (line : Line)
     (channel : Channel) (given : Command) (bytes : List ℕ)
     → given_of line ≡ to_one channel (command given ∷ []) → refuses_vital given ≡ false
     → new ≡ with_receiver old channel (receiver_on new channel)
-    → TakesEvent content (receiver_on old channel) (receiver_on new channel) (command given)
-    → IsListening starts old lines bytes → IsListening starts new (lines ++ line ∷ []) bytes
-command-taken starts old new lines line channel given bytes gives spared only takes h =
-    commanded-on starts old new lines line channel given bytes h
+    → TakesEventBy kind (receiver_on old channel) (receiver_on new channel) (command given)
+    → IsListeningBy kind starts old lines bytes
+    → IsListeningBy kind starts new (lines ++ line ∷ []) bytes
+command-taken laws starts old new lines line channel given bytes gives spared only takes h =
+    commanded-on laws starts old new lines line channel given bytes h
     (spared-line starts lines line channel given gives spared) gives
     (other-line line channel given gives) only takes

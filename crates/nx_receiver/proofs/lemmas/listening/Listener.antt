@@ -25,19 +25,18 @@ use Rattle.nx_receiver.specs.air_file_runs.Listen.{has_moment}
 use Rattle.nx_receiver.specs.air_file_runs.Listen.{is_moment_line, moment_after}
 use Rattle.nx_receiver.specs.private.Taken.{AreTakenAfter, IsTakenAfter}
 use Rattle.nx_receiver.proofs.lemmas.listening.Taken.{are-taken, taken-each}
-use Rattle.nx_receiver.specs.Listener.{HearsBy, HearsGiven, Listening, ListeningOver, text_by}
-use Rattle.nx_receiver.specs.Listener.{content}
+use Rattle.nx_receiver.specs.Listener.{HearsBy, ListeningOver, text_by}
 use Rattle.nx_receiver.specs.Listener.{elements_given, elements_in, moment_in_force, receiver_on}
-use Rattle.nx_receiver.specs.Listener.{starts_by, starts_of, then_command, then_elements}
+use Rattle.nx_receiver.specs.Listener.{starts_by, then_command, then_elements}
 use Rattle.nx_receiver.specs.Listener.{then_moment}
 use Rattle.nx_receiver.specs.Listener.{with_receiver}
-use Rattle.nx_receiver.specs.private.Listener.{BeginsListening, BeginsLog, HearsTo}
-use Rattle.nx_receiver.specs.private.Listener.{HearsLog, IsListening, StandsFrom}
-use Rattle.nx_receiver.specs.private.PlainReceiver.{plain-receiver}
-use Rattle.nx_copies.specs.copies.Log.{HasPrinted, IsLog}
+use Rattle.nx_receiver.specs.private.Listener.{BeginsListeningBy, BeginsLogBy, HearsTo}
+use Rattle.nx_receiver.specs.private.Listener.{HearsLogBy, IsListeningBy, StandsFromBy}
+use Rattle.nx_copies.specs.copies.Log.{IsLog, Printing}
 use Rattle.nx_receiver.specs.ChannelReceiver.{AwaitsFinish, FinishesNextBy, HandsOutNoneBeforeBy}
-use Rattle.nx_receiver.specs.ChannelReceiver.{HearsUpToBy, IsReceiver, ReceiverKind, TakesEventBy}
-use Rattle.nx_receiver.specs.Receiver.{HeadsText, TakesEvent, headed_list}
+use Rattle.nx_receiver.specs.ChannelReceiver.{HearsUpToBy, IsReceiver, NothingAwaited}
+use Rattle.nx_receiver.specs.ChannelReceiver.{ReceiverKind, TakesEventBy}
+use Rattle.nx_receiver.specs.Receiver.{HeadsText, headed_list}
 use Rattle.nx_receiver.proofs.lemmas.receiver.Feeds.{heard_then, printed_then}
 use Rattle.std.specs.Prelude.{IfSome, Result, Ok, Err, OnOk}
 use Rattle.std.proofs.lemmas.List.Elements.{All-nil, All-cons}
@@ -52,7 +51,6 @@ use Rattle.nx_copies.proofs.lemmas.channels.Shares.{in_turn-more, in_turn-none, 
 use Rattle.nx_copies.proofs.lemmas.channels.Shares.{same_channel-refl}
 use Rattle.nx_copies.proofs.lemmas.channels.Shares.{share-one}
 use Rattle.nx_copies.proofs.lemmas.printing.Log.{logs_join, no-log, some_log}
-use Rattle.nx_copies.proofs.lemmas.printing.Logged.{has_printed_on, some_printed}
 use Rattle.nx_receiver.proofs.lemmas.receiver.Events.{bits_of-more, force-append, force-more}
 
 -- what one more line gives
@@ -239,14 +237,6 @@ moment-on channel setting (accept_subject mark letter ∷ lines) =
     (λ after. moment-on channel after lines)
     (command-keeps (same_channel (channel_of mark) channel) setting (fed.accept_subject letter))
 
--- the receivers of all channels have that moment in force
-pub force-now : (starts : Starts) (listener : Listening) (lines : List Line) (bytes : List ℕ)
-    → IsListening starts listener lines bytes → (channel : Channel)
-    → (receiver_on listener channel).hearer.moment ≡ moment_after starts.moment lines
-force-now starts listener lines bytes h channel =
-    ap (λ (s : Setting). s.moment) (h.hears.hears.receivers channel).force
-    ∙ moment-on channel (first_setting (start_on starts channel)) lines
-
 -- the moment in force after what is given in two parts
 pub in_force-append : (first : ℕ) (given more : List Given)
     → moment_in_force first (given ++ more) ≡ moment_in_force (moment_in_force first given) more
@@ -402,38 +392,42 @@ commanded {R} {kind} laws starts old new given copies channel command h only tak
     (sym (differs.others on not)) s)))
 
 -- one more line is taken, as what it gives is
-pub takes-line : (starts : Starts) (old new : Listening) (lines : List Line) (line : Line)
-    (bytes : List ℕ) → IsListening starts old lines bytes → IsTakenAfter starts lines line
+pub takes-line : {R : Type 0} {kind : ReceiverKind R} (starts : Starts)
+    (old new : ListeningOver R) (lines : List Line) (line : Line) (bytes : List ℕ)
+    → IsListeningBy kind starts old lines bytes → IsTakenAfter starts lines line
     → new.has_moment ≡ has_moment (lines ++ line ∷ [])
-    → ((copies : List MarkedCopy) → HearsGiven starts old (given_by lines) copies
-    → HearsGiven starts new (given_by lines ++ given_of line ∷ []) copies)
-    → IsListening starts new (lines ++ line ∷ []) bytes
-takes-line starts old new lines line bytes h taken said hears = record {
+    → ((copies : List MarkedCopy) → HearsBy kind starts old (given_by lines) copies
+    → HearsBy kind starts new (given_by lines ++ given_of line ∷ []) copies)
+    → IsListeningBy kind starts new (lines ++ line ∷ []) bytes
+takes-line {R} {kind} starts old new lines line bytes h taken said hears = record {
   taken = taken-one starts lines line h.taken taken;
   moment = said;
   hears = record {
     log = h.hears.log;
-    hears = subst (λ given. HearsGiven starts new given h.hears.log)
+    hears = subst (λ given. HearsBy kind starts new given h.hears.log)
         (sym (given_by-one lines line)) (hears h.hears.log h.hears.hears);
     spelled = h.hears.spelled;
   };
 }
 
 -- a command for a channel, as a line says it
-pub commanded-on : (starts : Starts) (old new : Listening) (lines : List Line) (line : Line)
+pub commanded-on : {R : Type 0} {kind : ReceiverKind R} (laws : IsReceiver kind)
+    (starts : Starts) (old new : ListeningOver R) (lines : List Line) (line : Line)
     (channel : Channel) (command : fed.Command) (bytes : List ℕ)
-    → IsListening starts old lines bytes → IsTakenAfter starts lines line
+    → IsListeningBy kind starts old lines bytes → IsTakenAfter starts lines line
     → given_of line ≡ to_one channel (fed.command command ∷ [])
     → is_moment_line line ≡ false → new ≡ with_receiver old channel (receiver_on new channel)
-    → TakesEvent content (receiver_on old channel) (receiver_on new channel) (fed.command command)
-    → IsListening starts new (lines ++ line ∷ []) bytes
-commanded-on starts old new lines line channel command bytes h taken gives other only takes =
+    → TakesEventBy kind (receiver_on old channel) (receiver_on new channel)
+    (fed.command command)
+    → IsListeningBy kind starts new (lines ++ line ∷ []) bytes
+commanded-on {R} {kind} laws starts old new lines line channel command bytes h taken gives other
+    only takes =
     takes-line starts old new lines line bytes h taken
     (moment-other lines line new.has_moment ((differs-on channel old new only).moment ∙ h.moment)
     other)
-    (λ copies heard. subst (λ one. HearsGiven starts new (given_by lines ++ one ∷ []) copies)
-    (sym gives) (commanded (plain-receiver content) starts old new (given_by lines) copies channel
-    command heard only takes))
+    (λ copies heard. subst (λ one. HearsBy kind starts new (given_by lines ++ one ∷ []) copies)
+    (sym gives) (commanded laws starts old new (given_by lines) copies channel command heard only
+    takes))
 
 -- a moment for all channels
 pub set-all : {R : Type 0} {kind : ReceiverKind R} (laws : IsReceiver kind)
@@ -651,9 +645,7 @@ none-before {R} {kind} starts old mid given channel part bits n copies next h he
 pub hears-quiet : {R Over : Type 0} {kind : ReceiverKind R} (awaits : AwaitsFinish R Over)
     (channel : Channel) (old new : ListeningOver R) (bits : List Bool) (n : ℕ)
     (left : Option Over)
-    → ((start : Start) (receiver : R) (events : List Event) (log : List TaggedCopy)
-    → awaits start receiver events log None → kind.stands start receiver events log)
-    → left ≡ None
+    → NothingAwaited kind awaits → left ≡ None
     → HearsUpToBy kind awaits (receiver_on old channel) (receiver_on new channel) (take n bits) left
     → HandsOutNoneBeforeBy kind (receiver_on old channel) bits n
     → HearsTo kind channel old new bits n []
@@ -730,10 +722,12 @@ head-log channel (Some head) text h =
     (All-nil (λ (one : MarkedCopy). one.copy.moment ≤ last_moment)))
 
 -- More was given, and these copies were printed, of which these bytes are the log.
-pub logs-more : (starts : Starts) (old new : Listening) (given more : List Given)
-    (bytes next : List ℕ) (copies : List MarkedCopy) → IsLog copies next
-    → (h : HearsLog starts old given bytes) → HearsGiven starts new more (h.log ++ copies)
-    → HearsLog starts new more (bytes ++ next)
+pub logs-more : {R : Type 0} {kind : ReceiverKind R} (starts : Starts)
+    (old new : ListeningOver R) (given more : List Given) (bytes next : List ℕ)
+    (copies : List MarkedCopy) → IsLog copies next
+    → (h : HearsLogBy kind starts old given bytes)
+    → HearsBy kind starts new more (h.log ++ copies)
+    → HearsLogBy kind starts new more (bytes ++ next)
 logs-more starts old new given more bytes next copies spelled h hears = record {
   log = h.log ++ copies;
   hears = hears;
@@ -741,25 +735,26 @@ logs-more starts old new given more bytes next copies spelled h hears = record {
 }
 
 -- a log so far is that of the first copies of more
-pub begins-more : (starts : Starts) (listener : Listening) (given : List Given)
-    (channel : Channel) (part more : List Bool) (bytes : List ℕ)
-    → HearsLog starts listener (then_elements given channel part) bytes
-    → BeginsLog starts (then_elements given channel (part ++ more)) bytes
-begins-more starts listener given channel part more bytes h =
+pub begins-more : {R : Type 0} {kind : ReceiverKind R} (laws : IsReceiver kind)
+    (starts : Starts) (listener : ListeningOver R) (given : List Given) (channel : Channel)
+    (part more : List Bool) (bytes : List ℕ)
+    → HearsLogBy kind starts listener (then_elements given channel part) bytes
+    → BeginsLogBy kind.printing starts (then_elements given channel (part ++ more)) bytes
+begins-more {R} {kind} laws starts listener given channel part more bytes h =
     let start = start_on starts channel in
     let was = share channel (then_elements given channel part) in
-    let all = some_printed start (was ++ fed.elements more) in
-    let on = has_printed_on start was (fed.elements more) (copies_on channel h.log) all.0
+    let all = laws.printing.some start (was ++ fed.elements more) in
+    let on = laws.printing.stays start was (fed.elements more) (copies_on channel h.log) all.0
     (h.hears.in_turn.each channel) all.1 in
     record {
       first = h.log;
-      rest = map (marked channel) on.rest;
+      rest = map (marked channel) on.0;
       printed = in_turn-other starts given (to_one channel (fed.elements part))
-          (to_one channel (fed.elements (part ++ more))) h.log (map (marked channel) on.rest)
+          (to_one channel (fed.elements (part ++ more))) h.log (map (marked channel) on.0)
           h.hears.in_turn
-          (grows-on (λ other es log. HasPrinted (start_on starts other) es log) given channel part
-          more h.log on.rest
-          (subst (HasPrinted start (was ++ fed.elements more)) on.whole all.1)
+          (grows-on (λ other es log. kind.printing.so_far (start_on starts other) es log) given
+          channel part more h.log on.0
+          (subst (kind.printing.so_far start (was ++ fed.elements more)) on.1 all.1)
           (λ other not. h.hears.in_turn.each other));
       spelled = h.spelled;
     }
@@ -800,12 +795,13 @@ none-given {R} {kind} laws starts listener given channel copies h =
     (sym (ap (λ es. share other given ++ es) (if-empty (same_channel channel other))
     ∙ append-nil (share other given))) s)
 
-pub none-heard : (starts : Starts) (listener : Listening) (given : List Given)
-    (channel : Channel) (bytes : List ℕ) → HearsLog starts listener given bytes
-    → HearsLog starts listener (then_elements given channel []) bytes
-none-heard starts listener given channel bytes h = record {
+pub none-heard : {R : Type 0} {kind : ReceiverKind R} (laws : IsReceiver kind)
+    (starts : Starts) (listener : ListeningOver R) (given : List Given)
+    (channel : Channel) (bytes : List ℕ) → HearsLogBy kind starts listener given bytes
+    → HearsLogBy kind starts listener (then_elements given channel []) bytes
+none-heard laws starts listener given channel bytes h = record {
   log = h.log;
-  hears = none-given (plain-receiver content) starts listener given channel h.log h.hears;
+  hears = none-given laws starts listener given channel h.log h.hears;
   spelled = h.spelled;
 }
 
@@ -885,9 +881,10 @@ starts-first {R} {kind} laws starts on_0 on_1 on_2 zero one two same_0 same_1 sa
     ≡ starts.entries channel) same_0 same_1 same_2)
 
 -- and took no line
-pub took-nothing : (starts : Starts) (listener : Listening) → starts.moment ≤ last_moment
-    → HearsGiven starts listener [] [] → listener.has_moment ≡ false
-    → IsListening starts listener [] []
+pub took-nothing : {R : Type 0} {kind : ReceiverKind R} (starts : Starts)
+    (listener : ListeningOver R) → starts.moment ≤ last_moment
+    → HearsBy kind starts listener [] [] → listener.has_moment ≡ false
+    → IsListeningBy kind starts listener [] []
 unfolding AreTakenAfter
 took-nothing starts listener within heard none = record {
   taken = are-taken starts [] within tt;
@@ -896,11 +893,12 @@ took-nothing starts listener within heard none = record {
 }
 
 -- a listener that starts with what is saved took no line
-pub begins-from : (starts : Starts) (listener : Listening) → starts_of listener ≡ starts
-    → starts.moment ≤ last_moment → HearsGiven starts listener [] []
-    → listener.has_moment ≡ false → StandsFrom listener listener [] []
-begins-from starts listener start within heard none =
-    subst (λ (from : Starts). IsListening from listener [] []) (sym start)
+pub begins-from : {R : Type 0} {kind : ReceiverKind R} (starts : Starts)
+    (listener : ListeningOver R) → starts_by kind listener ≡ starts
+    → starts.moment ≤ last_moment → HearsBy kind starts listener [] []
+    → listener.has_moment ≡ false → StandsFromBy kind listener listener [] []
+begins-from {R} {kind} starts listener start within heard none =
+    subst (λ (from : Starts). IsListeningBy kind from listener [] []) (sym start)
     (took-nothing starts listener within heard none)
 
 -- after the elements of a line, of the channel that it names
@@ -911,28 +909,30 @@ elements-of lines mark channel bits e =
     ap (λ on. then_elements (given_by lines) on bits) e
     ∙ sym (given_by-one lines (elements mark bits))
 
-pub heard-line : (starts : Starts) (old new : Listening) (lines : List Line)
-    (mark : Option Channel) (channel : Channel) (bits : List Bool) (bytes more : List ℕ)
-    → channel ≡ channel_of mark
-    → IsListening starts old lines bytes → has_moment lines ≡ true
+pub heard-line : {R : Type 0} {kind : ReceiverKind R} (starts : Starts)
+    (old new : ListeningOver R) (lines : List Line) (mark : Option Channel) (channel : Channel)
+    (bits : List Bool) (bytes more : List ℕ) → channel ≡ channel_of mark
+    → IsListeningBy kind starts old lines bytes → has_moment lines ≡ true
     → new.has_moment ≡ old.has_moment
-    → HearsLog starts new (then_elements (given_by lines) channel bits) more
-    → IsListening starts new (lines ++ elements mark bits ∷ []) more
-heard-line starts old new lines mark channel bits bytes more e h some same heard = record {
-  taken = taken-one starts lines (elements mark bits) h.taken some;
-  moment = moment-other lines (elements mark bits) _ (same ∙ h.moment) refl;
-  hears = subst (λ given. HearsLog starts new given more) (elements-of lines mark channel bits e)
-      heard;
-}
+    → HearsLogBy kind starts new (then_elements (given_by lines) channel bits) more
+    → IsListeningBy kind starts new (lines ++ elements mark bits ∷ []) more
+heard-line {R} {kind} starts old new lines mark channel bits bytes more e h some same heard =
+    record {
+      taken = taken-one starts lines (elements mark bits) h.taken some;
+      moment = moment-other lines (elements mark bits) _ (same ∙ h.moment) refl;
+      hears = subst (λ given. HearsLogBy kind starts new given more)
+          (elements-of lines mark channel bits e) heard;
+    }
 
-pub begins-line : (starts : Starts) (lines : List Line) (mark : Option Channel)
-    (channel : Channel) (bits : List Bool) (bytes : List ℕ) → channel ≡ channel_of mark
-    → AreTaken starts lines → has_moment lines ≡ true
-    → BeginsLog starts (then_elements (given_by lines) channel bits) bytes
-    → BeginsListening starts (lines ++ elements mark bits ∷ []) bytes
-begins-line starts lines mark channel bits bytes e taken some h = record {
+pub begins-line : (printing : Printing) (starts : Starts) (lines : List Line)
+    (mark : Option Channel) (channel : Channel) (bits : List Bool) (bytes : List ℕ)
+    → channel ≡ channel_of mark → AreTaken starts lines → has_moment lines ≡ true
+    → BeginsLogBy printing starts (then_elements (given_by lines) channel bits) bytes
+    → BeginsListeningBy printing starts (lines ++ elements mark bits ∷ []) bytes
+begins-line printing starts lines mark channel bits bytes e taken some h = record {
   taken = taken-one starts lines (elements mark bits) taken some;
-  begun = subst (λ given. BeginsLog starts given bytes) (elements-of lines mark channel bits e) h;
+  begun = subst (λ given. BeginsLogBy printing starts given bytes)
+      (elements-of lines mark channel bits e) h;
 }
 
 pub none-left : {A : Type 0} (o : Option A) → ((x : A) → o ≡ Some x → ⊥) → o ≡ None

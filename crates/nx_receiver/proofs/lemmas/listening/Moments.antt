@@ -15,11 +15,11 @@ use Rattle.nx_fec.proofs.lemmas.lines.LineLaws.{IsAirFile-unique}
 use Rattle.nx_fec.proofs.lemmas.devices.WritingLaws.{WroteSome-front}
 use Rattle.nx_copies.specs.Events.{Event, element}
 use Rattle.nx_copies.specs.copies.FoundCopies.{TaggedCopy}
-use Rattle.nx_receiver.specs.air_file_runs.Listen.{AreTaken, HasLoggedSome, IsLogOf, IsLogOfLines, events_on}
-use Rattle.nx_receiver.specs.air_file_runs.Listen.{given_by, given_of}
+use Rattle.nx_receiver.specs.air_file_runs.Listen.{AreTaken, HasLoggedSome, IsLogOf, IsLogOfLines}
+use Rattle.nx_receiver.specs.air_file_runs.Listen.{IsLogOfLinesBy, events_on, given_by, given_of}
 use Rattle.nx_receiver.specs.private.Taken.{AreTakenAfter, IsTakenAfter}
 use Rattle.nx_receiver.proofs.lemmas.listening.Taken.{taken-each}
-use Rattle.nx_receiver.specs.private.Listener.{BeginsListening}
+use Rattle.nx_receiver.specs.private.Listener.{BeginsListeningBy}
 use Rattle.nx_copies.specs.copies.InTurn.{HavePrintedBy, PrintAllToEnd, PrintAllToEndBy}
 use Rattle.nx_copies.specs.copies.Log.{IsLog, IsPrinting, IsUpTo, Printing, plain}
 use Rattle.nx_copies.specs.Events as fed
@@ -127,13 +127,15 @@ one-closed starts bytes log other a b =
     one_log b.1 log other (subst (λ copies. IsLog copies log) same a.2.spelled) b.2.spelled
 
 -- what is the log of the first copies of lines was written in part: so was the log of the lines
-pub logged-some : (starts : Starts) (old new : Option (List ℕ)) (written : ℕ) (lines : List Line)
-    (bytes : List ℕ) → BeginsListening starts lines bytes → WroteSome old new bytes written
-    → HasLoggedSome (IsLogOfLines starts lines) (record { before = old; after = new }) written
-logged-some starts old new written lines bytes h some =
+pub logged-some : {printing : Printing} (laws : IsPrinting printing) (starts : Starts)
+    (old new : Option (List ℕ)) (written : ℕ) (lines : List Line) (bytes : List ℕ)
+    → BeginsListeningBy printing starts lines bytes → WroteSome old new bytes written
+    → HasLoggedSome (IsLogOfLinesBy printing starts lines)
+    (record { before = old; after = new }) written
+logged-some {printing} laws starts old new written lines bytes h some =
     let b = h.begun in
     let copies = b.first ++ b.rest in
-    let log = some_log copies (open-in_range plain plain-laws starts lines copies h.taken
+    let log = some_log copies (open-in_range printing laws starts lines copies h.taken
     b.printed.each) in
     let front = log_begins b.first b.rest bytes log.0 b.spelled log.1 in (
       log.0,

@@ -1,6 +1,6 @@
 -- A message that is heard in time in an air file has one entry in the log that `listen` writes of
 -- it.
-use Rattle.std.proofs.Common.{ℕ, List, Option, None, Some, IfSome, Result, Ok, Err, subst}
+use Rattle.std.proofs.Common.{ℕ, List, Result, Ok, Err, subst}
 use Rattle.nx_envelope.specs.Message.{MessageView}
 use Rattle.nx_fec.specs.air_files.AirFile.{Line}
 use Rattle.nx_fec.specs.Transfers.{Contents, Devices}
@@ -37,11 +37,6 @@ printed-once starts contents file report h = record {
   once = λ channel message k. one-entry starts file h.log h.lines h.copies channel message h.heard
       k;
 }
-
-pub on-some : (o : Option (List ℕ)) (P Q : List ℕ → Type 0) → ((xs : List ℕ) → P xs → Q xs)
-    → IfSome o P → IfSome o Q
-on-some None P Q f h = tt
-on-some (Some xs) P Q f h = f xs h
 
 -- a run that listens keeps both halves of the headline
 pub listens-once : {R W : Type 0} (starts : Starts) (d : Devices R W)

@@ -1,5 +1,5 @@
 -- What a run over lines says, said of the log and in the faults of `listen`.
-use Rattle.std.proofs.Common.{◌≡◌, inr, ℕ, ◌+◌, ◌≤◌, List, [], ◌∷◌, ◌++◌, length, map, Option}
+use Rattle.std.proofs.Common.{◌≡◌, inl, inr, ℕ, ◌+◌, ◌≤◌, List, [], ◌∷◌, ◌++◌, length, map, Option}
 use Rattle.std.proofs.Common.{None, Some, IfSome, Result, Ok, Err, refl, ap, ap₂, ◌∙◌, arith}
 use Rattle.std.proofs.Common.{length-append, subst}
 use Rattle.std.specs.Prelude.{⊤}
@@ -22,18 +22,22 @@ use Rattle.nx_fec.proofs.lemmas.line_runs.LineRun.{HasGiven-empty, HasTaken-map}
 use Rattle.nx_fec.proofs.lemmas.devices.TransferLaws.{Ok-not_err, Reads-on, Writes-fault, Writes-none}
 use Rattle.nx_fec.proofs.lemmas.devices.TransferLaws.{read_failed-none}
 use Rattle.nx_copies.specs.Events.{elements_among}
-use Rattle.nx_receiver.specs.air_file_runs.Listen.{AnswersListening, AreTaken, HasListened, HasLogged}
-use Rattle.nx_receiver.specs.air_file_runs.Listen.{HasLoggedSome, IsLogOf, IsLogOfLines, Listens}
+use Rattle.nx_copies.specs.copies.Log.{Printing}
+use Rattle.nx_receiver.specs.ChannelReceiver.{IsReceiver, ReceiverKind}
+use Rattle.nx_receiver.specs.air_file_runs.Listen.{AnswersListeningBy, AreTaken, HasListenedBy}
+use Rattle.nx_receiver.specs.air_file_runs.Listen.{HasLoggedBy, HasLoggedSome, IsLogOfBy}
+use Rattle.nx_receiver.specs.air_file_runs.Listen.{IsLogOfLinesBy, ListensBy}
 use Rattle.nx_receiver.specs.air_file_runs.Listen.{RefusesAfter, given_by, given_of}
 use Rattle.nx_receiver.specs.air_file_runs.Listen.{lines_fault, refusal_fault}
 use Rattle.nx_copies.specs.copies.Shares.{Starts}
-use Rattle.nx_receiver.specs.private.Listener.{HasClosed, HasClosedSome, IsListening}
-use Rattle.nx_receiver.specs.Listener.{Listening}
-use Rattle.nx_receiver.specs.private.Listener.{RefusesLine, StandsFrom}
+use Rattle.nx_receiver.specs.private.Listener.{HasClosedBy, HasClosedSomeBy, IsListeningBy}
+use Rattle.nx_receiver.specs.Listener.{ListeningOver}
+use Rattle.nx_receiver.specs.private.Listener.{RefusesLine, StandsFromBy}
 use Rattle.nx_receiver.specs.private.ListenerBegins.{begins-listening}
-use Rattle.nx_receiver.specs.private.Runs.{ExplainsLog, TakesLines}
+use Rattle.nx_receiver.specs.private.Runs.{ExplainsLogBy, HasTakenAllBy, StopsAtLineBy}
+use Rattle.nx_receiver.specs.private.Runs.{TakesLinesBy, TellsRefusal}
 use Rattle.nx_receiver.specs.Listener.{elements_given, elements_in}
-use Rattle.nx_receiver.specs.Listener.{starts_of}
+use Rattle.nx_receiver.specs.Listener.{starts_by}
 use Rattle.nx_receiver.specs.declared.air_file_runs.listen_fault.ListenFault.{ListenFault}
 use Rattle.nx_receiver.specs.declared.air_file_runs.listen_fault.ListenFault.TheVariants.{Memory, Read, Write}
 use Rattle.nx_receiver.specs.declared.air_file_runs.listen_fault.ListenFault.TheVariants.{AirTooLong, LineLong}
@@ -46,9 +50,10 @@ use Rattle.nx_receiver.proofs.lemmas.listening.Moments.{logged-some}
 use Rattle.nx_receiver.proofs.lemmas.receiver.Events.{bits_of-more}
 
 -- what the lines gave was written: their log
-pub logged : (first now : Listening) (old new : Option (List ℕ)) (lines : List Line)
-    → HasTaken StandsFrom first now lines (Appends old new)
-    → HasLogged (starts_of first) (record { before = old; after = new }) lines
+pub logged : {R : Type 0} {kind : ReceiverKind R} (first now : ListeningOver R)
+    (old new : Option (List ℕ)) (lines : List Line)
+    → HasTaken (StandsFromBy kind) first now lines (Appends old new)
+    → HasLoggedBy kind.printing (starts_by kind first) (record { before = old; after = new }) lines
 logged first now old new lines h = (
   h.given,
   record {
@@ -61,25 +66,56 @@ logged first now old new lines h = (
 )
 
 -- where nothing waits all of it was
-pub all-logged : (first now : Listening) (old new : Option (List ℕ)) (batch : Waiting)
-    (lines : List Line) → batch.bytes ≡ []
-    → HasTaken StandsFrom first now lines (HasGiven old new batch)
-    → HasLogged (starts_of first) (record { before = old; after = new }) lines
-all-logged first now old new batch lines empty h =
+pub all-logged : {R : Type 0} {kind : ReceiverKind R} (first now : ListeningOver R)
+    (old new : Option (List ℕ)) (batch : Waiting) (lines : List Line) → batch.bytes ≡ []
+    → HasTaken (StandsFromBy kind) first now lines (HasGiven old new batch)
+    → HasLoggedBy kind.printing (starts_by kind first) (record { before = old; after = new }) lines
+all-logged {R} {kind} first now old new batch lines empty h =
     logged first now old new lines
-    (HasTaken-map StandsFrom first now lines (HasGiven old new batch) (Appends old new)
+    (HasTaken-map (StandsFromBy kind) first now lines (HasGiven old new batch) (Appends old new)
     (λ given k. HasGiven-empty old new batch given empty k) h)
 
 -- or a write of it failed
-pub some-logged : (first now : Listening) (old mid new : Option (List ℕ)) (batch : Waiting)
+pub some-logged : {R : Type 0} {kind : ReceiverKind R} (laws : IsReceiver kind)
+    (first now : ListeningOver R) (old mid new : Option (List ℕ)) (batch : Waiting)
     (lines : List Line) (written : ℕ)
-    → HasTaken StandsFrom first now lines (HasGiven old mid batch)
+    → HasTaken (StandsFromBy kind) first now lines (HasGiven old mid batch)
     → ((given : List ℕ) → HasGiven old mid batch given → WroteSome old new given written)
-    → HasLoggedSome (IsLogOfLines (starts_of first) lines)
+    → HasLoggedSome (IsLogOfLinesBy kind.printing (starts_by kind first) lines)
     (record { before = old; after = new }) written
-some-logged first now old mid new batch lines written h lost =
-    logged-some (starts_of first) old new written lines h.given
-    (begins-listening (starts_of first) now lines h.given h.stood) (lost h.given h.here)
+some-logged {R} {kind} laws first now old mid new batch lines written h lost =
+    logged-some laws.printing (starts_by kind first) old new written lines h.given
+    (begins-listening (starts_by kind first) now lines h.given h.stood) (lost h.given h.here)
+
+-- a line is refused, and that is told: the log of the lines before it was written, or not all of it
+pub refusal-stops : {R : Type 0} {kind : ReceiverKind R} (laws : IsReceiver kind)
+    (first now : ListeningOver R) (old mid new : Option (List ℕ)) (batch : Waiting)
+    (lines : List Line) (line : Line) (number : ℕ) (why : LineRefusal) (fault : ListenFault)
+    → RefusesLine (starts_by kind first) lines line why
+    → HasTaken (StandsFromBy kind) first now lines (HasGiven old mid batch)
+    → TellsRefusal number why mid new batch fault
+    → StopsAtLineBy kind.printing (starts_by kind first) (record { before = old; after = new })
+    lines line number fault
+refusal-stops {R} {kind} laws first now old mid new batch lines line number why fault refuses h
+    (inl told) =
+    inl (record {
+      why = why;
+      is = told.0;
+      explained = (
+        refuses,
+        logged first now old new lines
+            (HasTaken-map (StandsFromBy kind) first now lines (HasGiven old mid batch)
+            (Appends old new) (told.1 old) h),
+      );
+    })
+refusal-stops {R} {kind} laws first now old mid new batch lines line number why fault refuses h
+    (inr lost) =
+    inr (record {
+      why = lost.why;
+      is = lost.is;
+      explained = inl (some-logged laws first now old mid new batch lines lost.why h
+          (lost.explained old));
+    })
 
 -- a line that is refused isn't taken, as its fault says
 fault-says : (starts : Starts) (number : ℕ) (lines : List Line) (line : Line) (why : LineRefusal)
@@ -158,12 +194,13 @@ pub as-err : {N F : Type 0} (a b : F) → a ≡ b → ◌≡◌ {A = Result N F}
 as-err {N} {F} a b e = let out : F → Result N F = λ x. Err x in ap out e
 
 -- what a run says of both devices is what it says as one that listens
-listens-by : {R W : Type 0} (starts : Starts) (d : Devices R W)
+listens-by : {R W : Type 0} (printing : Printing) (starts : Starts) (d : Devices R W)
     (outcome : Result Report ListenFault)
     → Reads (input_of d) Read (λ fault bytes. ⊤) outcome
-    (λ extent. AnswersListening starts extent (contents_of d) outcome)
-    → Writes d.writer_after (λ written. Write written) outcome → Listens starts d outcome
-listens-by starts d outcome r w = record {
+    (λ extent. AnswersListeningBy printing starts extent (contents_of d) outcome)
+    → Writes d.writer_after (λ written. Write written) outcome
+    → ListensBy printing starts d outcome
+listens-by printing starts d outcome r w = record {
   bytes = r.bytes;
   consumed = r.consumed;
   answer = r.answer;
@@ -175,36 +212,40 @@ listens-by starts d outcome r w = record {
 }
 
 -- what a fault says, as a run that listens answers it
-as-answer : (starts : Starts) (contents : Contents) (extent : Extent) (bytes : List ℕ)
-    (fault : ListenFault) → ExplainsLog starts contents extent bytes fault
-    → AnswersListening starts extent contents (Err fault) bytes
-as-answer starts contents extent bytes Read h = h
-as-answer starts contents extent bytes AirTooLong h = h
-as-answer starts contents extent bytes (LineLong line) h = h
-as-answer starts contents extent bytes (LineCut line) h = h
-as-answer starts contents extent bytes (BadLine line) h = h
-as-answer starts contents extent bytes (NoMoment line) h = h
-as-answer starts contents extent bytes (Moment line why) h = h
-as-answer starts contents extent bytes (Vital line subject) h = h
-as-answer starts contents extent bytes (Write written) h = h
-as-answer starts contents extent bytes (Memory error) h = tt
+as-answer : (printing : Printing) (starts : Starts) (contents : Contents) (extent : Extent)
+    (bytes : List ℕ) (fault : ListenFault)
+    → ExplainsLogBy printing starts contents extent bytes fault
+    → AnswersListeningBy printing starts extent contents (Err fault) bytes
+as-answer printing starts contents extent bytes Read h = h
+as-answer printing starts contents extent bytes AirTooLong h = h
+as-answer printing starts contents extent bytes (LineLong line) h = h
+as-answer printing starts contents extent bytes (LineCut line) h = h
+as-answer printing starts contents extent bytes (BadLine line) h = h
+as-answer printing starts contents extent bytes (NoMoment line) h = h
+as-answer printing starts contents extent bytes (Moment line why) h = h
+as-answer printing starts contents extent bytes (Vital line subject) h = h
+as-answer printing starts contents extent bytes (Write written) h = h
+as-answer printing starts contents extent bytes (Memory error) h = tt
 
 -- a run over lines that ended early is a run of `listen` that did
-pub listens-fault : {R W : Type 0} (first now : Listening) (d : Devices R W) (fault : ListenFault)
-    → TakesLines first now d (Err fault) → Listens (starts_of first) d (Err fault)
-listens-fault first now d fault h =
-    listens-by (starts_of first) d (Err fault)
+pub listens-fault : {C R W : Type 0} (kind : ReceiverKind C) (first now : ListeningOver C)
+    (d : Devices R W) (fault : ListenFault) → TakesLinesBy kind first now d (Err fault)
+    → ListensBy kind.printing (starts_by kind first) d (Err fault)
+listens-fault kind first now d fault h =
+    let starts = starts_by kind first in
+    listens-by kind.printing starts d (Err fault)
     (Reads-on (input_of d) Read Read (Err fault) (Err fault) _ _ h.reads
-    (λ extent bytes k. as-answer (starts_of first) (contents_of d) extent bytes fault k)
+    (λ extent bytes k. as-answer kind.printing starts (contents_of d) extent bytes fault k)
     (λ bytes k h. tt) (λ e. as-err _ _ (err-of _ _ e)) (λ e. as-err _ _ (err-of _ _ e)))
     (Writes-fault d.writer_after (λ written. Write written) fault h.writes)
 
 -- and it is no want of memory
-pub not-memory : {R W : Type 0} (first now : Listening) (d : Devices R W) (fault : ListenFault)
-    (error : AllocError) → TakesLines first now d (Err fault) → fault ≡ Memory error → ⊥
-not-memory first now d fault error h is =
-    subst (ExplainsLog (starts_of first) (contents_of d) (as_read d) h.reads.bytes) is
-    h.reads.answer
+pub not-memory : {C R W : Type 0} (kind : ReceiverKind C) (first now : ListeningOver C)
+    (d : Devices R W) (fault : ListenFault) (error : AllocError)
+    → TakesLinesBy kind first now d (Err fault) → fault ≡ Memory error → ⊥
+not-memory kind first now d fault error h is =
+    subst (ExplainsLogBy kind.printing (starts_by kind first) (contents_of d) (as_read d)
+    h.reads.bytes) is h.reads.answer
 
 line-given : (line : Line) → elements_in (given_of line) ≡ elements_of line
 unfolding elements_among
@@ -252,11 +293,11 @@ lines-fewer (line ∷ lines) =
     )
 
 -- the whole file was read, and its end printed
-pub listened : (starts : Starts) (contents : Contents) (bytes : List ℕ) (count : ℕ)
-    (report : Report) (holds : List Line → Type 0) → HasHeardAll holds bytes count
+pub listened : {printing : Printing} (starts : Starts) (contents : Contents) (bytes : List ℕ)
+    (count : ℕ) (report : Report) (holds : List Line → Type 0) → HasHeardAll holds bytes count
     → ((lines : List Line) → holds lines → AreTaken starts lines
-    × HasClosed starts contents.before contents.after (given_by lines) report)
-    → report.lines ≡ count → HasListened starts contents bytes report
+    × HasClosedBy printing starts contents.before contents.after (given_by lines) report)
+    → report.lines ≡ count → HasListenedBy printing starts contents bytes report
 listened starts contents bytes count report holds h closed counted =
     let end = closed h.lines h.here in
     let e = end.1 in
@@ -276,11 +317,11 @@ listened starts contents bytes count report holds h closed counted =
     }
 
 -- the whole file was read, and a write of what its end prints failed
-part-listened : (starts : Starts) (contents : Contents) (bytes : List ℕ) (count written : ℕ)
-    (holds : List Line → Type 0) → HasHeardAll holds bytes count
+part-listened : {printing : Printing} (starts : Starts) (contents : Contents) (bytes : List ℕ)
+    (count written : ℕ) (holds : List Line → Type 0) → HasHeardAll holds bytes count
     → ((lines : List Line) → holds lines → AreTaken starts lines
-    × HasClosedSome starts contents.before contents.after (given_by lines) written)
-    → HasLoggedSome (IsLogOf starts bytes) contents written
+    × HasClosedSomeBy printing starts contents.before contents.after (given_by lines) written)
+    → HasLoggedSome (IsLogOfBy printing starts bytes) contents written
 part-listened starts contents bytes count written holds h closed =
     let end = closed h.lines h.here in
     let e = end.1 in (
@@ -297,25 +338,29 @@ pub write-not_read : {N : Type 0} (written : ℕ)
     → ◌≡◌ {A = Result N ListenFault} (Err (Write written)) (Err Read) → ⊥
 write-not_read written e = cc
 
-pub listens-part : {R W : Type 0} (remaining : R → Option (List ℕ)) (contents : W → Option (List ℕ))
-    (first now : Listening) (reader reader_after : CountedDevice R)
-    (writer mid new : CountedDevice W) (read : LinesRead) (written : ℕ)
-    → TakesLines first now (devices remaining contents reader reader_after writer mid) (Ok read)
-    → ((lines : List Line) (given : List ℕ) → IsListening (starts_of first) now lines given
+pub listens-part : {C R W : Type 0} (kind : ReceiverKind C) (remaining : R → Option (List ℕ))
+    (contents : W → Option (List ℕ)) (first now : ListeningOver C)
+    (reader reader_after : CountedDevice R) (writer mid new : CountedDevice W) (read : LinesRead)
+    (written : ℕ)
+    → TakesLinesBy kind first now (devices remaining contents reader reader_after writer mid)
+    (Ok read)
+    → ((lines : List Line) (given : List ℕ)
+    → IsListeningBy kind (starts_by kind first) now lines given
     → HasWritten (contents writer.inner) (contents mid.inner) given read.written
-    → HasClosedSome (starts_of first) (contents writer.inner) (contents new.inner) (given_by lines)
-    written)
-    → new.failures ≡ 1 → Listens (starts_of first)
+    → HasClosedSomeBy kind.printing (starts_by kind first) (contents writer.inner)
+    (contents new.inner) (given_by lines) written)
+    → new.failures ≡ 1 → ListensBy kind.printing (starts_by kind first)
     (devices remaining contents reader reader_after writer new) (Err (Write written))
-listens-part remaining contents first now reader reader_after writer mid new read written h closed
-    one =
-    listens-by (starts_of first) (devices remaining contents reader reader_after writer new)
+listens-part kind remaining contents first now reader reader_after writer mid new read
+    written h closed one =
+    let starts = starts_by kind first in
+    listens-by kind.printing starts (devices remaining contents reader reader_after writer new)
     (Err (Write written))
     (Reads-on (input remaining reader reader_after) Read Read (Ok read) (Err (Write written)) _ _
     h.reads
     (λ extent bytes k. inr (
       k.0,
-      part-listened (starts_of first) _ bytes read.lines written _ k.1 (λ lines t. (
+      part-listened starts _ bytes read.lines written _ k.1 (λ lines t. (
         t.stood.taken,
         closed lines t.given t.stood t.here,
       )),
@@ -323,6 +368,62 @@ listens-part remaining contents first now reader reader_after writer mid new rea
     (λ bytes k h. tt) (λ e. absurd (write-not_read written e))
     (λ e. absurd (Ok-not_err _ _ e)))
     (record { failed = (λ w. one, λ k. (written, refl)); once = omega (arith, one) })
+
+on-some : (o : Option (List ℕ)) (P Q : List ℕ → Type 0) → ((xs : List ℕ) → P xs → Q xs)
+    → IfSome o P → IfSome o Q
+on-some None P Q f h = tt
+on-some (Some xs) P Q f h = f xs h
+
+-- A run over lines that read its file to the end, and what the end printed, is one that listens.
+-- What the bytes tell besides is told of those that it read.
+pub listens-all : {C R W : Type 0} (kind : ReceiverKind C) (remaining : R → Option (List ℕ))
+    (contents : W → Option (List ℕ)) (first now : ListeningOver C)
+    (reader reader_after : CountedDevice R) (writer mid new : CountedDevice W) (read : LinesRead)
+    (report : Report) (tells : List ℕ → Type 0)
+    → TakesLinesBy kind first now (devices remaining contents reader reader_after writer mid)
+    (Ok read)
+    → ((lines : List Line) → HasTaken (StandsFromBy kind) first now lines
+    (λ log. HasWritten (contents writer.inner) (contents mid.inner) log read.written)
+    → AreTaken (starts_by kind first) lines
+    × HasClosedBy kind.printing (starts_by kind first) (contents writer.inner)
+    (contents new.inner) (given_by lines) report)
+    → ((bytes : List ℕ) → HasTakenAllBy kind first now
+    (contents_of (devices remaining contents reader reader_after writer mid)) read bytes
+    → tells bytes)
+    → report.lines ≡ read.lines → new.failures ≡ 0
+    → (run : ListensBy kind.printing (starts_by kind first)
+    (devices remaining contents reader reader_after writer new) (Ok report)) × tells run.bytes
+listens-all kind remaining contents first now reader reader_after writer mid new read
+    report tells h closed told counted none =
+    let d = devices remaining contents reader reader_after writer new in
+    let starts = starts_by kind first in
+    let heard : (extent : Extent) (bytes : List ℕ) → extent.at_end × HasTakenAllBy kind first now
+    (contents_of (devices remaining contents reader reader_after writer mid)) read bytes
+    → AnswersListeningBy kind.printing starts extent (contents_of d) (Ok report) bytes
+    × tells bytes = λ extent bytes k. (
+      (k.0, listened starts _ bytes read.lines report _ k.1 closed counted),
+      told bytes k.1,
+    ) in
+    let r : Reads (input remaining reader reader_after) Read (λ fault bytes. ⊤) (Ok report)
+    (λ extent bytes. AnswersListeningBy kind.printing starts extent (contents_of d) (Ok report)
+    bytes × tells bytes) =
+    Reads-on (input remaining reader reader_after) Read Read (Ok read) (Ok report) _ _ h.reads
+    heard
+    (λ bytes k h. h) (λ e. absurd (Ok-not_err _ _ e)) (λ e. absurd (Ok-not_err _ _ e)) in
+    let writes = Writes-none new (λ written. Write written) (Ok report)
+    (λ written. Ok-not_err _ _) none in (
+      record {
+        bytes = r.bytes;
+        consumed = r.consumed;
+        answer = r.answer.0;
+        file = on-some (remaining reader.inner) _ _ (λ file k. k.0) r.file;
+        unread = r.failed;
+        read_once = r.once;
+        unwritten = writes.failed;
+        write_once = writes.once;
+      },
+      r.answer.1,
+    )
 
 pub memory-read : {N : Type 0} (error : AllocError)
     → ◌≡◌ {A = Result N ListenFault} (Err (Memory error)) (Err Read) → ⊥
@@ -337,13 +438,13 @@ whatever None = tt
 whatever (Some xs) = tt
 
 -- memory ran out before anything was read
-pub listens-memory : {R W : Type 0} (starts : Starts) (remaining : R → Option (List ℕ))
-    (contents : W → Option (List ℕ)) (reader : CountedDevice R) (writer : CountedDevice W)
-    (error : AllocError)
+pub listens-memory : {R W : Type 0} (printing : Printing) (starts : Starts)
+    (remaining : R → Option (List ℕ)) (contents : W → Option (List ℕ))
+    (reader : CountedDevice R) (writer : CountedDevice W) (error : AllocError)
     → reader.failures ≡ 0 → writer.failures ≡ 0
-    → Listens starts (devices remaining contents reader reader writer writer)
+    → ListensBy printing starts (devices remaining contents reader reader writer writer)
     (Err (Memory error))
-listens-memory starts remaining contents reader writer error read written =
+listens-memory printing starts remaining contents reader writer error read written =
     let outcome : Result Report ListenFault = Err (Memory error) in
     let writes : Writes writer (λ written. Write written) outcome =
     Writes-none _ _ _ (memory-write error) written in

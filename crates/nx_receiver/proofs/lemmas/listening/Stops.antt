@@ -19,12 +19,16 @@ use Rattle.nx_fec.proofs.lemmas.line_runs.LineReading.{Line-not_read, unfailed}
 use Rattle.nx_fec.proofs.lemmas.line_runs.LineRun.{StopsAt-map}
 use Rattle.nx_fec.proofs.lemmas.line_runs.LinesRead.{IsBefore, IsFaulty, read-all, read-before, read-behind}
 use Rattle.nx_fec.proofs.lemmas.line_runs.LinesRead.{read-failed, read-fault}
+use Rattle.nx_copies.specs.copies.Log.{Printing, plain}
 use Rattle.nx_copies.specs.copies.Shares.{Starts}
-use Rattle.nx_receiver.specs.Listener.{Listening, starts_of}
-use Rattle.nx_receiver.specs.air_file_runs.Listen.{HasLogged, HasLoggedSome, IsLogOfLines, RefusesAfter}
-use Rattle.nx_receiver.specs.air_file_runs.Listen.{air_fault, file_fault, refusal_fault, unknown_contents}
-use Rattle.nx_receiver.specs.private.Listener.{RefusesLine, StandsFrom}
-use Rattle.nx_receiver.specs.private.Runs.{ExplainsLog, StopsAtLine, TakesLines}
+use Rattle.nx_receiver.specs.ChannelReceiver.{ReceiverKind}
+use Rattle.nx_receiver.specs.Listener.{Listening, ListeningOver, content, starts_by, starts_of}
+use Rattle.nx_receiver.specs.Receiver.{plain_kind}
+use Rattle.nx_receiver.specs.air_file_runs.Listen.{HasLoggedBy, HasLoggedSome, IsLogOfLinesBy}
+use Rattle.nx_receiver.specs.air_file_runs.Listen.{RefusesAfter, air_fault, file_fault, refusal_fault}
+use Rattle.nx_receiver.specs.air_file_runs.Listen.{unknown_contents}
+use Rattle.nx_receiver.specs.private.Listener.{RefusesLine, StandsFromBy}
+use Rattle.nx_receiver.specs.private.Runs.{ExplainsLogBy, StopsAtLineBy, TakesLinesBy}
 use Rattle.nx_receiver.specs.private.Unlogged.{ExplainsUnlogged, HearsLines, StandsUnlogged}
 use Rattle.nx_receiver.specs.declared.air_file_runs.listen_fault.LineRefusal.{LineRefusal}
 use Rattle.nx_receiver.specs.declared.air_file_runs.listen_fault.LineRefusal.TheVariants as refusal
@@ -63,31 +67,32 @@ refusal-not_write number (refusal.Vital subject) written e = cc
 
 -- ---- what a fault says, behind lines of which this holds
 
-explains-line : (starts : Starts) (contents : Contents) (extent : Extent) (lines : List Line)
-    (bytes : List ℕ) (why : LineFault) → HasLogged starts contents lines
+explains-line : (printing : Printing) (starts : Starts) (contents : Contents) (extent : Extent)
+    (lines : List Line) (bytes : List ℕ) (why : LineFault)
+    → HasLoggedBy printing starts contents lines
     → IsFaulty air_limit lines why extent bytes
-    → ExplainsLog starts contents extent bytes (file_fault why)
-explains-line starts contents extent lines bytes file.TooLong written k =
+    → ExplainsLogBy printing starts contents extent bytes (file_fault why)
+explains-line printing starts contents extent lines bytes file.TooLong written k =
     StopsAt-map bytes _ _ (λ before rest more p. (
       p.0,
-      subst (HasLogged starts contents) (sym p.1) written,
+      subst (HasLoggedBy printing starts contents) (sym p.1) written,
     )) k.1
-explains-line starts contents extent lines bytes (file.LineLong line) written k =
+explains-line printing starts contents extent lines bytes (file.LineLong line) written k =
     StopsAt-map bytes _ _ (λ before rest more p. (
       p.0,
-      subst (HasLogged starts contents) (sym p.1) written,
+      subst (HasLoggedBy printing starts contents) (sym p.1) written,
     )) k.1
-explains-line starts contents extent lines bytes (file.LineCut line) written k = (
+explains-line printing starts contents extent lines bytes (file.LineCut line) written k = (
   k.0,
   StopsAt-map bytes _ _ (λ before rest more p. (
     p.0,
-    subst (HasLogged starts contents) (sym p.1) written,
+    subst (HasLoggedBy printing starts contents) (sym p.1) written,
   )) k.1,
 )
-explains-line starts contents extent lines bytes (file.BadLine line) written k =
+explains-line printing starts contents extent lines bytes (file.BadLine line) written k =
     StopsAt-map bytes _ _ (λ before rest more p. (
       p.0,
-      subst (HasLogged starts contents) (sym p.1) written,
+      subst (HasLoggedBy printing starts contents) (sym p.1) written,
     )) k.1
 
 refused-here : (starts : Starts) (number : ℕ) (lines before : List Line) (line : Line)
@@ -109,32 +114,33 @@ refused-here starts number lines before line rest more why refuses h =
           (subst (λ x. RefusesLine starts lines x why) (sym h.refused.1) refuses);
     })
 
-explains-refused : (starts : Starts) (contents : Contents) (extent : Extent) (lines : List Line)
-    (line : Line) (number : ℕ) (bytes : List ℕ) (why : LineRefusal)
-    → RefusesLine starts lines line why → HasLogged starts contents lines
+explains-refused : (printing : Printing) (starts : Starts) (contents : Contents) (extent : Extent)
+    (lines : List Line) (line : Line) (number : ℕ) (bytes : List ℕ) (why : LineRefusal)
+    → RefusesLine starts lines line why → HasLoggedBy printing starts contents lines
     → IsBefore air_limit lines line number bytes
-    → ExplainsLog starts contents extent bytes (refusal_fault number why)
-explains-refused starts contents extent lines line number bytes refusal.NoMoment refuses written k =
-    StopsAt-map bytes _ _ (λ before rest more p. (
-      refused-here starts number lines before line rest more refusal.NoMoment refuses p.0,
-      subst (HasLogged starts contents) (sym p.1) written,
-    )) k
-explains-refused starts contents extent lines line number bytes (refusal.Moment why) refuses written
-    k =
-    StopsAt-map bytes _ _ (λ before rest more p. (
-      refused-here starts number lines before line rest more (refusal.Moment why) refuses p.0,
-      subst (HasLogged starts contents) (sym p.1) written,
-    )) k
-explains-refused starts contents extent lines line number bytes (refusal.Vital subject) refuses
+    → ExplainsLogBy printing starts contents extent bytes (refusal_fault number why)
+explains-refused printing starts contents extent lines line number bytes refusal.NoMoment refuses
     written k =
     StopsAt-map bytes _ _ (λ before rest more p. (
+      refused-here starts number lines before line rest more refusal.NoMoment refuses p.0,
+      subst (HasLoggedBy printing starts contents) (sym p.1) written,
+    )) k
+explains-refused printing starts contents extent lines line number bytes (refusal.Moment why)
+    refuses written k =
+    StopsAt-map bytes _ _ (λ before rest more p. (
+      refused-here starts number lines before line rest more (refusal.Moment why) refuses p.0,
+      subst (HasLoggedBy printing starts contents) (sym p.1) written,
+    )) k
+explains-refused printing starts contents extent lines line number bytes (refusal.Vital subject)
+    refuses written k =
+    StopsAt-map bytes _ _ (λ before rest more p. (
       refused-here starts number lines before line rest more (refusal.Vital subject) refuses p.0,
-      subst (HasLogged starts contents) (sym p.1) written,
+      subst (HasLoggedBy printing starts contents) (sym p.1) written,
     )) k
 
 -- ---- what a run says of its reader
 
-module _ {R : Type 0} (starts : Starts) (i : Input R) (contents : Contents)
+module _ {R : Type 0} (printing : Printing) (starts : Starts) (i : Input R) (contents : Contents)
     (reader : LineReader R) (same : reader.reader.now ≡ i.reader_after) (lines : List Line)
   where
     abbrev from : Option (List ℕ)
@@ -144,7 +150,7 @@ module _ {R : Type 0} (starts : Starts) (i : Input R) (contents : Contents)
     behind fault bytes = ⊤
 
     abbrev answers : ListenFault → Extent → List ℕ → Type 0
-    answers fault extent bytes = ExplainsLog starts contents extent bytes fault
+    answers fault extent bytes = ExplainsLogBy printing starts contents extent bytes fault
 
     after : (failures : ℕ) → reader.reader.now.failures ≡ failures
         → i.reader_after.failures ≡ failures
@@ -154,7 +160,7 @@ module _ {R : Type 0} (starts : Starts) (i : Input R) (contents : Contents)
     early : {N M : Type 0} (fault : AirFault)
         → EndsEarly i.remaining air_limit from reader lines fault
         → IsErrOf {T = M} (Err fault) air.Read ↔ (reader.reader.now.failures ≡ 1)
-        → reader.reader.now.failures ≤ 1 → HasLogged starts contents lines
+        → reader.reader.now.failures ≤ 1 → HasLoggedBy printing starts contents lines
         → Reads {N = N} i Read behind (Err (air_fault fault)) (answers (air_fault fault))
     early {N} {M} air.Read h failed once written =
         read-failed i Read behind (Err Read) (answers Read) air_limit reader same lines h.0 h.1
@@ -162,20 +168,20 @@ module _ {R : Type 0} (starts : Starts) (i : Input R) (contents : Contents)
         (λ extent bytes k. StopsAt-map bytes _ _ (λ before rest more p. (
           p.0,
           p.1,
-          subst (HasLogged starts contents) (sym p.2) written,
+          subst (HasLoggedBy printing starts contents) (sym p.2) written,
         )) k)
     early {N} {M} (air.Line why) h failed once written =
         read-fault i Read behind (Err (file_fault why)) (answers (file_fault why)) air_limit reader
         same lines why h (after 0 (unfailed {N = M} _ _ (Line-not_read why) failed once))
         (file-not_read why) (λ bytes. tt)
-        (λ extent bytes k. explains-line starts contents extent lines bytes why written k)
+        (λ extent bytes k. explains-line printing starts contents extent lines bytes why written k)
 
     -- or writing it failed
     lost-early : {N M : Type 0} (fault : AirFault) (written : ℕ)
         → EndsEarly i.remaining air_limit from reader lines fault
         → IsErrOf {T = M} (Err fault) air.Read ↔ (reader.reader.now.failures ≡ 1)
         → reader.reader.now.failures ≤ 1 → (fault ≡ air.Read → ⊥)
-        → HasLoggedSome (IsLogOfLines starts lines) contents written
+        → HasLoggedSome (IsLogOfLinesBy printing starts lines) contents written
         → Reads {N = N} i Read behind (Err (Write written)) (answers (Write written))
     lost-early {N} {M} air.Read written h failed once other some = absurd (other refl)
     lost-early {N} {M} (air.Line why) written h failed once other some =
@@ -183,72 +189,76 @@ module _ {R : Type 0} (starts : Starts) (i : Input R) (contents : Contents)
         same lines why h (after 0 (unfailed {N = M} _ _ (Line-not_read why) failed once))
         (write-not_read written) (λ bytes. tt)
         (λ extent bytes k. inl (StopsAt-map bytes _ _ (λ before rest more p.
-        subst (λ l. HasLoggedSome (IsLogOfLines starts l) contents written) (sym p.1) some) k.1))
+        subst (λ l. HasLoggedSome (IsLogOfLinesBy printing starts l) contents written) (sym p.1)
+        some) k.1))
 
     -- so it did behind the lines that were read by then
     lost : {N : Type 0} (written : ℕ) → HasGivenLines i.remaining air_limit from reader lines
         → reader.reader.now.failures ≡ 0
-        → HasLoggedSome (IsLogOfLines starts lines) contents written
+        → HasLoggedSome (IsLogOfLinesBy printing starts lines) contents written
         → Reads {N = N} i Read behind (Err (Write written)) (answers (Write written))
     lost {N} written h none some =
         read-behind i Read behind (Err (Write written)) (answers (Write written)) air_limit reader
         same lines h (after 0 none) (write-not_read written) (λ bytes. tt)
         (λ extent bytes k. inl (StopsAt-map bytes _ _ (λ before rest more p.
-        subst (λ l. HasLoggedSome (IsLogOfLines starts l) contents written) (sym p) some) k))
+        subst (λ l. HasLoggedSome (IsLogOfLinesBy printing starts l) contents written) (sym p) some)
+        k))
 
     -- or before a line that is refused
     lost-before : {N : Type 0} (line : Line) (written : ℕ) → IsLine line
         → HasGivenLines i.remaining air_limit from reader (lines ++ line ∷ [])
         → reader.reader.now.failures ≡ 0
-        → HasLoggedSome (IsLogOfLines starts lines) contents written
+        → HasLoggedSome (IsLogOfLinesBy printing starts lines) contents written
         → Reads {N = N} i Read behind (Err (Write written)) (answers (Write written))
     lost-before {N} line written good h none some =
         read-before i Read behind (Err (Write written)) (answers (Write written)) air_limit reader
         same lines line good h (after 0 none) (write-not_read written) (λ bytes. tt)
         (λ extent bytes k. inl (StopsAt-map bytes _ _ (λ before rest more p.
-        subst (λ l. HasLoggedSome (IsLogOfLines starts l) contents written) (sym p.1) some) k))
+        subst (λ l. HasLoggedSome (IsLogOfLinesBy printing starts l) contents written) (sym p.1)
+        some) k))
 
     -- the log of the lines before it was written
     refused : {N : Type 0} (line : Line) (why : LineRefusal) → IsLine line
         → HasGivenLines i.remaining air_limit from reader (lines ++ line ∷ [])
         → reader.reader.now.failures ≡ 0 → RefusesLine starts lines line why
-        → HasLogged starts contents lines
+        → HasLoggedBy printing starts contents lines
         → Reads {N = N} i Read behind (Err (refusal_fault reader.scanner.lines why))
         (answers (refusal_fault reader.scanner.lines why))
     refused {N} line why good h none refuses written =
         read-before i Read behind (Err (refusal_fault reader.scanner.lines why))
         (answers (refusal_fault reader.scanner.lines why)) air_limit reader same lines line good h
         (after 0 none) (refusal-not_read reader.scanner.lines why) (λ bytes. tt)
-        (λ extent bytes k. explains-refused starts contents extent lines line reader.scanner.lines
-        bytes why refuses written k)
+        (λ extent bytes k. explains-refused printing starts contents extent lines line
+        reader.scanner.lines bytes why refuses written k)
 
 -- a line stopped the run
-at-line : {R N : Type 0} (starts : Starts) (i : Input R) (contents : Contents)
+at-line : {R N : Type 0} (printing : Printing) (starts : Starts) (i : Input R) (contents : Contents)
     (reader : LineReader R) (same : reader.reader.now ≡ i.reader_after) (lines : List Line)
     (line : Line) (fault : ListenFault) → IsLine line
     → HasGivenLines i.remaining air_limit (i.remaining i.reader.inner) reader (lines ++ line ∷ [])
     → reader.reader.now.failures ≡ 0
-    → StopsAtLine starts contents lines line reader.scanner.lines fault
+    → StopsAtLineBy printing starts contents lines line reader.scanner.lines fault
     → Reads {N = N} i Read (λ fault bytes. ⊤) (Err fault)
-    (λ extent bytes. ExplainsLog starts contents extent bytes fault)
-at-line {R} {N} starts i contents reader same lines line fault good h none stopped =
+    (λ extent bytes. ExplainsLogBy printing starts contents extent bytes fault)
+at-line {R} {N} printing starts i contents reader same lines line fault good h none stopped =
     let says : ListenFault → Type 0 = λ fault. Reads {N = N} i Read (λ fault bytes. ⊤) (Err fault)
-    (λ extent bytes. ExplainsLog starts contents extent bytes fault) in
+    (λ extent bytes. ExplainsLogBy printing starts contents extent bytes fault) in
     elim stopped [
       | inl k ↦ subst says (sym k.is)
-          (refused starts i contents reader same lines {N = N} line k.why good h none k.explained.0
-          k.explained.1)
+          (refused printing starts i contents reader same lines {N = N} line k.why good h none
+          k.explained.0 k.explained.1)
       | inr k ↦ subst says (sym k.is) (elim k.explained [
-        | inl some ↦ lost-before starts i contents reader same lines {N = N} line k.why good h
-            none some
-        | inr some ↦ lost starts i contents reader same (lines ++ line ∷ []) {N = N} k.why h none
-            some
+        | inl some ↦ lost-before printing starts i contents reader same lines {N = N} line k.why
+            good h none some
+        | inr some ↦ lost printing starts i contents reader same (lines ++ line ∷ []) {N = N} k.why
+            h none some
       ])
     ]
 
 -- ---- what a run says that writes the log
 
-module _ {R W : Type 0} (first now : Listening) (d : Devices R W) (reader : LineReader R)
+module _ {C R W : Type 0} (kind : ReceiverKind C) (first now : ListeningOver C)
+    (d : Devices R W) (reader : LineReader R)
     (same : reader.reader.now ≡ d.reader_after) (lines : List Line)
   where
     abbrev begun : Option (List ℕ)
@@ -256,10 +266,10 @@ module _ {R W : Type 0} (first now : Listening) (d : Devices R W) (reader : Line
 
     pub takes-all : (count written : ℕ) → HasGivenAll d.remaining air_limit begun reader lines
         → reader.reader.now.failures ≡ 0
-        → HasTaken StandsFrom first now lines (λ log. HasWritten (d.contents d.writer.inner)
-        (d.contents d.writer_after.inner) log written)
+        → HasTaken (StandsFromBy kind) first now lines (λ log. HasWritten
+        (d.contents d.writer.inner) (d.contents d.writer_after.inner) log written)
         → count ≡ length lines → d.writer_after.failures ≡ 0
-        → TakesLines first now d (Ok (record { lines = count; written = written }))
+        → TakesLinesBy kind first now d (Ok (record { lines = count; written = written }))
     takes-all count written h none taken counted well = record {
       reads = read-all (input_of d) Read (λ fault bytes. ⊤)
           (Ok (record { lines = count; written = written })) _ air_limit reader same lines h
@@ -275,20 +285,21 @@ module _ {R W : Type 0} (first now : Listening) (d : Devices R W) (reader : Line
     pub takes-early : {M : Type 0} (fault : AirFault)
         → EndsEarly d.remaining air_limit begun reader lines fault
         → IsErrOf {T = M} (Err fault) air.Read ↔ (reader.reader.now.failures ≡ 1)
-        → reader.reader.now.failures ≤ 1 → HasLogged (starts_of first) (contents_of d) lines
-        → d.writer_after.failures ≡ 0 → TakesLines first now d (Err (air_fault fault))
+        → reader.reader.now.failures ≤ 1 → HasLoggedBy kind.printing (starts_by kind first)
+        (contents_of d) lines
+        → d.writer_after.failures ≡ 0 → TakesLinesBy kind first now d (Err (air_fault fault))
     takes-early fault h failed once written well = record {
-      reads = early (starts_of first) (input_of d) (contents_of d) reader same lines fault h failed
-          once written;
+      reads = early kind.printing (starts_by kind first) (input_of d) (contents_of d) reader same
+          lines fault h failed once written;
       writes = Writes-none _ _ _ (air-not_write fault) well;
       unwritten = tt;
     }
 
     fails : (written : ℕ)
         → Reads {N = LinesRead} (input_of d) Read (λ fault bytes. ⊤) (Err (Write written))
-        (λ extent bytes. ExplainsLog (starts_of first) (contents_of d) extent bytes
-        (Write written))
-        → d.writer_after.failures ≡ 1 → TakesLines first now d (Err (Write written))
+        (λ extent bytes. ExplainsLogBy kind.printing (starts_by kind first) (contents_of d) extent
+        bytes (Write written))
+        → d.writer_after.failures ≡ 1 → TakesLinesBy kind first now d (Err (Write written))
     fails written reads one = record {
       reads = reads;
       writes =
@@ -300,29 +311,32 @@ module _ {R W : Type 0} (first now : Listening) (d : Devices R W) (reader : Line
         → EndsEarly d.remaining air_limit begun reader lines fault
         → IsErrOf {T = M} (Err fault) air.Read ↔ (reader.reader.now.failures ≡ 1)
         → reader.reader.now.failures ≤ 1 → (fault ≡ air.Read → ⊥)
-        → HasLoggedSome (IsLogOfLines (starts_of first) lines) (contents_of d) written
-        → d.writer_after.failures ≡ 1 → TakesLines first now d (Err (Write written))
+        → HasLoggedSome (IsLogOfLinesBy kind.printing (starts_by kind first) lines) (contents_of d)
+        written
+        → d.writer_after.failures ≡ 1 → TakesLinesBy kind first now d (Err (Write written))
     takes-lost-early fault written h failed once other some one =
-        fails written (lost-early (starts_of first) (input_of d) (contents_of d) reader same lines
-        fault written h failed once other some) one
+        fails written (lost-early kind.printing (starts_by kind first) (input_of d) (contents_of d)
+        reader same lines fault written h failed once other some) one
 
     pub takes-lost : (written : ℕ) → HasGivenLines d.remaining air_limit begun reader lines
         → reader.reader.now.failures ≡ 0
-        → HasLoggedSome (IsLogOfLines (starts_of first) lines) (contents_of d) written
-        → d.writer_after.failures ≡ 1 → TakesLines first now d (Err (Write written))
+        → HasLoggedSome (IsLogOfLinesBy kind.printing (starts_by kind first) lines) (contents_of d)
+        written
+        → d.writer_after.failures ≡ 1 → TakesLinesBy kind first now d (Err (Write written))
     takes-lost written h none some one =
-        fails written (lost (starts_of first) (input_of d) (contents_of d) reader same lines
-        written h none some) one
+        fails written (lost kind.printing (starts_by kind first) (input_of d) (contents_of d) reader
+        same lines written h none some) one
 
     pub takes-to : (line : Line) (fault : ListenFault) → IsLine line
         → HasGivenLines d.remaining air_limit begun reader (lines ++ line ∷ [])
         → reader.reader.now.failures ≡ 0
-        → StopsAtLine (starts_of first) (contents_of d) lines line reader.scanner.lines fault
+        → StopsAtLineBy kind.printing (starts_by kind first) (contents_of d) lines line
+        reader.scanner.lines fault
         → Writes {N = Unit {0}} d.writer_after (λ written. Write written) (Err fault)
-        → TakesLines first now d (Err fault)
+        → TakesLinesBy kind first now d (Err fault)
     takes-to line fault good h none stopped writes = record {
-      reads = at-line (starts_of first) (input_of d) (contents_of d) reader same lines line fault
-          good h none stopped;
+      reads = at-line kind.printing (starts_by kind first) (input_of d) (contents_of d) reader same
+          lines line fault good h none stopped;
       writes = Writes-fault d.writer_after (λ written. Write written) fault writes;
       unwritten = tt;
     }
@@ -331,7 +345,7 @@ module _ {R W : Type 0} (first now : Listening) (d : Devices R W) (reader : Line
 
 -- a fault that isn't one of a write says the same without a log
 unlogged-line : (starts : Starts) (extent : Extent) (bytes : List ℕ) (why : LineFault)
-    → ExplainsLog starts unknown_contents extent bytes (file_fault why)
+    → ExplainsLogBy plain starts unknown_contents extent bytes (file_fault why)
     → ExplainsUnlogged starts extent bytes (file_fault why)
 unlogged-line starts extent bytes file.TooLong h = h
 unlogged-line starts extent bytes (file.LineLong line) h = h
@@ -339,14 +353,14 @@ unlogged-line starts extent bytes (file.LineCut line) h = h
 unlogged-line starts extent bytes (file.BadLine line) h = h
 
 unlogged-air : (starts : Starts) (extent : Extent) (bytes : List ℕ) (fault : AirFault)
-    → ExplainsLog starts unknown_contents extent bytes (air_fault fault)
+    → ExplainsLogBy plain starts unknown_contents extent bytes (air_fault fault)
     → ExplainsUnlogged starts extent bytes (air_fault fault)
 unlogged-air starts extent bytes air.Read h = h
 unlogged-air starts extent bytes (air.Line why) h = unlogged-line starts extent bytes why h
 
 unlogged-refusal : (starts : Starts) (extent : Extent) (bytes : List ℕ) (number : ℕ)
-    (why : LineRefusal) → ExplainsLog starts unknown_contents extent bytes (refusal_fault number
-    why)
+    (why : LineRefusal) → ExplainsLogBy plain starts unknown_contents extent bytes
+    (refusal_fault number why)
     → ExplainsUnlogged starts extent bytes (refusal_fault number why)
 unlogged-refusal starts extent bytes number refusal.NoMoment h = h
 unlogged-refusal starts extent bytes number (refusal.Moment why) h = h
@@ -359,8 +373,11 @@ module _ {R : Type 0} (first now : Listening) (i : Input R) (reader : LineReader
     started = i.remaining i.reader.inner
 
     -- there is a log, and whatever a writer has that tells nothing
-    told : StandsUnlogged first now lines → HasLogged (starts_of first) unknown_contents lines
-    told h = logged first now None None lines (record { given = h.0; stood = h.1; here = tt })
+    told : StandsUnlogged first now lines
+        → HasLoggedBy plain (starts_of first) unknown_contents lines
+    told h =
+        logged {kind = plain_kind content} first now None None lines
+        (record { given = h.0; stood = h.1; here = tt })
 
     pub hears-all : (count : ℕ) → HasGivenAll i.remaining air_limit started reader lines
         → reader.reader.now.failures ≡ 0 → StandsUnlogged first now lines → count ≡ length lines
@@ -380,7 +397,7 @@ module _ {R : Type 0} (first now : Listening) (i : Input R) (reader : LineReader
         → HearsLines first now i (Err (air_fault fault))
     hears-early fault h failed once stood =
         Reads-on {N = ℕ} i Read Read (Err (air_fault fault)) (Err (air_fault fault)) _ _
-        (early (starts_of first) i unknown_contents reader same lines fault h failed once
+        (early plain (starts_of first) i unknown_contents reader same lines fault h failed once
         (told stood))
         (λ extent bytes k. unlogged-air (starts_of first) extent bytes fault k)
         (λ bytes k h. h) (λ e. e) (λ e. e)
@@ -393,8 +410,8 @@ module _ {R : Type 0} (first now : Listening) (i : Input R) (reader : LineReader
     hears-to line why good h none refuses stood =
         let fault = refusal_fault reader.scanner.lines why in
         Reads-on {N = ℕ} i Read Read (Err fault) (Err fault) _ _
-        (refused (starts_of first) i unknown_contents reader same lines line why good h none refuses
-        (told stood))
+        (refused plain (starts_of first) i unknown_contents reader same lines line why good h none
+        refuses (told stood))
         (λ extent bytes k. unlogged-refusal (starts_of first) extent bytes reader.scanner.lines why
         k)
         (λ bytes k h. h) (λ e. e) (λ e. e)

@@ -7,12 +7,13 @@ ghost use Rattle.nx_fec.specs.air_files.LineReading.{SaysLatest, latest_of, line
 ghost use Rattle.nx_fec.specs.air_files.LineRuns.{HasGiven, HasTaken};
 ghost use Rattle.nx_fec.specs.declared.air_files.line_reader.NextLine.TheVariants as next;
 ghost use Rattle.nx_fec.specs.Transfers.{Writes, devices};
-ghost use Rattle.nx_receiver.specs.Listener.{Listening, starts_of};
-ghost use Rattle.nx_receiver.specs.private.Listener.{RefusesLine, StandsFrom};
-ghost use Rattle.nx_receiver.specs.private.Runs.{StopsAtLine, TakesLines};
+ghost use Rattle.nx_receiver.specs.Listener.{ListeningOver, starts_by};
+ghost use Rattle.nx_receiver.specs.private.Listener.{StandsFromBy};
+ghost use Rattle.nx_receiver.specs.private.Runs.{StopsAtLineBy, TakesLinesBy, TellsRefusal};
 
 use crate::air_file_runs::listen_fault::{LineRefusal, ListenFault};
 use crate::air_file_runs::listening::{take_elements, take_setting};
+use crate::channel_receiver::ChannelReceiver;
 use crate::listener::Listener;
 use nx_fec::{AIR_LIMIT, Batch, Counting, LineKind, LineReader, LinesRead, NextLine};
 use std::io::{Read, Write};
@@ -23,15 +24,15 @@ use std::io::{Read, Write};
 /// The first fault in the order of the bytes ends the run. After a fault of a line, `AirTooLong`
 /// and `Read` what the whole lines before it print was written, and nothing more. After `Write` no
 /// device is called any more.
-pub(super) fn listen_lines<R: Read, W: Write>(
+pub(super) fn listen_lines<C: ChannelReceiver, R: Read, W: Write>(
     reader: &mut Counting<R>,
     writer: &mut Counting<W>,
-    listener: &mut Listener,
+    listener: &mut Listener<C>,
 ) -> Result<LinesRead, ListenFault>
     requires reader { reader.old.failures ≡ 0 }
     requires writer { writer.old.failures ≡ 0 }
-    ensures { (first : Listening) → StandsFrom first listener.old [] []
-        → TakesLines first listener.new
+    ensures { (first : ListeningOver C) → StandsFromBy C.kind first listener.old [] []
+        → TakesLinesBy C.kind first listener.new
         (devices R.remaining W.contents reader.old reader.new writer.old writer.new) result }
 {
     let mut lines = LineReader::new(reader, AIR_LIMIT);
@@ -58,8 +59,8 @@ pub(super) fn listen_lines<R: Read, W: Write>(
 
 /// Takes the line that was given last, which says this, and gives the batch what it prints. A line
 /// that is refused changes nothing, and what the lines before it print is written.
-fn take_line<R, W: Write>(
-    listener: &mut Listener,
+fn take_line<C: ChannelReceiver, R, W: Write>(
+    listener: &mut Listener<C>,
     kind: LineKind,
     lines: &LineReader<R>,
     writer: &mut Counting<W>,
@@ -67,13 +68,13 @@ fn take_line<R, W: Write>(
 ) -> Result<(), ListenFault>
     requires line { SaysLatest (latest_of lines.now) (next.Line kind) }
     requires writer { writer.old.failures ≡ 0 }
-    ensures taken { (first : Listening) (old : Option (List ℕ)) (before : List Line) (line : Line)
-        → latest_of lines.now ≡ Some line
-        → HasTaken StandsFrom first listener.old before
+    ensures taken { (first : ListeningOver C) (old : Option (List ℕ)) (before : List Line)
+        (line : Line) → latest_of lines.now ≡ Some line
+        → HasTaken (StandsFromBy C.kind) first listener.old before
         (HasGiven old (W.contents writer.old.inner) batch.old) → MatchResult result
-        (λ _. HasTaken StandsFrom first listener.new (before ++ line ∷ [])
+        (λ _. HasTaken (StandsFromBy C.kind) first listener.new (before ++ line ∷ [])
         (HasGiven old (W.contents writer.new.inner) batch.new))
-        (StopsAtLine (starts_of first)
+        (StopsAtLineBy C.kind.printing (starts_by C.kind first)
         record { before = old; after = W.contents writer.new.inner } before line
         (lines_given lines.now)) }
     ensures writes { Writes writer.new ListenFault.Write result }
@@ -102,12 +103,8 @@ fn refuse<W: Write>(
     batch: &mut Batch,
 ) -> ListenFault
     requires { writer.old.failures ≡ 0 }
-    ensures stops { (first now : Listening) (old : Option (List ℕ)) (before : List Line)
-        (line : Line) → RefusesLine (starts_of first) before line why
-        → HasTaken StandsFrom first now before
-        (HasGiven old (W.contents writer.old.inner) batch.old)
-        → StopsAtLine (starts_of first)
-        record { before = old; after = W.contents writer.new.inner } before line number result }
+    ensures stops { TellsRefusal number why (W.contents writer.old.inner)
+        (W.contents writer.new.inner) batch.old result }
     ensures writes { Writes {N = Unit {0}} writer.new ListenFault.Write (Err result) }
 {
     match batch.send(writer) {

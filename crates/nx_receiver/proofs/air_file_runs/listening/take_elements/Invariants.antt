@@ -2,7 +2,7 @@ use Rattle.std.proofs.Common.{◌≡◌, ◌-◌, ◌≤◌, ℕ, Option, List, 
 use Rattle.nx_fec.specs.air_files.LineRuns.{HasGiven}
 use Rattle.nx_copies.specs.copies.Shares.{Given, Starts}
 use Rattle.nx_receiver.specs.Listener.{then_elements}
-use Rattle.nx_receiver.specs.private.Listener.{IsHearing}
+use Rattle.nx_receiver.specs.private.Listener.{IsHearingBy}
 use Rattle.nx_receiver.proofs.air_file_runs.listening.take_elements.Given as goal
 
 -- the first elements were heard
@@ -12,9 +12,10 @@ invariant-loop-at g l = record {
   within : l.at ≤ length l.packed;
   moment : l.listener.has_moment ≡ l.fn.listener.has_moment;
   heard : (starts : Starts) (old : Option (List ℕ)) (given : List Given)
-      → IsHearing starts l.fn.listener (then_elements given l.channel [])
+      → IsHearingBy g.C.ChannelReceiver.kind starts l.fn.listener (then_elements given l.channel [])
       (HasGiven old (g.W.Write.contents l.fn.writer.inner) l.fn.batch)
-      → IsHearing starts l.listener (then_elements given l.channel (take l.at l.packed))
+      → IsHearingBy g.C.ChannelReceiver.kind starts l.listener
+      (then_elements given l.channel (take l.at l.packed))
       (HasGiven old (g.W.Write.contents l.writer.inner) l.batch);
 }
 

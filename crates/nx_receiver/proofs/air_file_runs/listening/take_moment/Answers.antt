@@ -7,7 +7,7 @@ use Rattle.nx_receiver.proofs.lemmas.listening.Listener.{in_force-lines, moment-
 use Rattle.nx_receiver.proofs.air_file_runs.listening.take_moment.Goals as goal
 
 pub returns : goal.returns
-returns c = λ starts lines bytes h.
+returns g c = λ starts lines bytes h.
     let n = c.args.moment in
     let heard = c.in_ok-set_moment.ensures.heard starts (given_by lines) in
     let after = subst (λ m. m ≤ n) (in_force-lines starts.moment lines)
@@ -18,7 +18,7 @@ returns c = λ starts lines bytes h.
     (λ copies given. (heard copies given).2)
 
 pub returns-in_err-set_moment : goal.returns-in_err-set_moment
-returns-in_err-set_moment c =
+returns-in_err-set_moment g c =
     let p = err_from_is_err_and c.from_residual.result c.from_residual.ensures.1 in
     rw p.1 (rw p.2 (λ starts lines bytes h.
     let refused = c.in_err-set_moment.ensures.heard starts (given_by lines) h.hears.log

@@ -5,17 +5,17 @@ use Rattle.nx_receiver.proofs.lemmas.listening.Lines.{spared}
 use Rattle.nx_receiver.proofs.air_file_runs.listening.take_setting.Goals as goal
 
 pub returns-in-Moment : goal.returns-in-Moment
-returns-in-Moment c = λ starts lines line bytes e h.
-    taken-as starts c.args.listener.now c.take_moment.new.listener lines line (moment
-    c.in-Moment.moment)
+returns-in-Moment g c = λ starts lines line bytes e h.
+    taken-as g.C.ChannelReceiver.kind starts c.args.listener.now c.take_moment.new.listener lines
+    line (moment c.in-Moment.moment)
     bytes c.take_moment.result (of-kind line _ _ e c.in-Moment.is)
     (c.take_moment.ensures starts lines bytes h)
 
 pub returns-in_ok-command-in_default : goal.returns-in_ok-command-in_default
-returns-in_ok-command-in_default c = λ starts lines line bytes e h.
+returns-in_ok-command-in_default g c = λ starts lines line bytes e h.
     let on = c.of_line-channel.result in
     let given = said on.1 in
     let done = c.in_ok-command-in_default.ensures in
-    command-taken starts c.args.listener.now c.command.new.self lines line on.0 given bytes
-    (kind-gives line c.args.kind on.0 given e c.of_line-channel.ensures)
+    command-taken g.met.C.ChannelReceiver.laws starts c.args.listener.now c.command.new.self lines
+    line on.0 given bytes (kind-gives line c.args.kind on.0 given e c.of_line-channel.ensures)
     (spared (refuses_vital given) done.vital.1) done.only done.stands h

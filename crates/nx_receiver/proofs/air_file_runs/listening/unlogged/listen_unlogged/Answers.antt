@@ -1,6 +1,7 @@
 use Rattle.std.proofs.Common.{◌∙◌, [], sym}
 use Rattle.nx_receiver.specs.air_file_runs.Listen.{given_by}
-use Rattle.nx_receiver.specs.Listener.{starts_of}
+use Rattle.nx_receiver.specs.Listener.{content, starts_of}
+use Rattle.nx_receiver.specs.Receiver.{plain_kind}
 use Rattle.nx_receiver.specs.private.Unlogged.{StandsUnlogged}
 use Rattle.std.proofs.lemmas.Result.{err_from_is_err_and}
 use Rattle.nx_receiver.proofs.lemmas.listening.Listener.{begins-from}
@@ -20,7 +21,8 @@ returns-in_err-lines-clause-listens g c =
     let first = c.in_ok-listener.listener in
     let begun : StandsUnlogged first first [] = (
       [],
-      begins-from _ first c.in_ok-listener.ensures.start c.in_ok-listener.ensures.range
+      begins-from {kind = plain_kind content} _ first c.in_ok-listener.ensures.start
+          c.in_ok-listener.ensures.range
           c.in_ok-listener.ensures.heard c.in_ok-listener.ensures.none,
     ) in
     let ran = c.in_err-lines.ensures first begun in
@@ -34,7 +36,8 @@ returns-in_err-lines-clause-memory g c = λ error e.
     let first = c.in_ok-listener.listener in
     let begun : StandsUnlogged first first [] = (
       [],
-      begins-from _ first c.in_ok-listener.ensures.start c.in_ok-listener.ensures.range
+      begins-from {kind = plain_kind content} _ first c.in_ok-listener.ensures.start
+          c.in_ok-listener.ensures.range
           c.in_ok-listener.ensures.heard c.in_ok-listener.ensures.none,
     ) in
     let ran = c.in_err-lines.ensures first begun in
@@ -49,7 +52,8 @@ returns-clause-listens g c =
     let first = c.in_ok-listener.listener in
     let begun : StandsUnlogged first first [] = (
       [],
-      begins-from _ first c.in_ok-listener.ensures.start c.in_ok-listener.ensures.range
+      begins-from {kind = plain_kind content} _ first c.in_ok-listener.ensures.start
+          c.in_ok-listener.ensures.range
           c.in_ok-listener.ensures.heard c.in_ok-listener.ensures.none,
     ) in
     unlogged-ok c.args.saved.now c.saved-left.result first c.hear_lines.new.listener _ _ _
