@@ -18,6 +18,7 @@ pub mod TakerBits
 pub mod TakerPairs
 pub mod Taking
 pub mod Together
+pub mod TogetherEvents
 pub mod TogetherFinish
 pub mod TogetherHears
 pub mod Whole
