@@ -1,6 +1,6 @@
 -- What contracts say of a receiver of a channel, of whatever kind: the layer contract of a listener
 -- (this profile).
-use Rattle.std.specs.Prelude.{◌≡◌, ℕ, ◌<◌, Bool, List, [], ◌∷◌, ◌++◌, Option, Some, take}
+use Rattle.std.specs.Prelude.{◌≡◌, ℕ, ◌<◌, Bool, List, [], ◌∷◌, ◌++◌, Option, Some, None, take}
 use Rattle.nx_copies.specs.Events.{Event, Start, elements, first_setting, setting_after_all}
 use Rattle.nx_copies.specs.copies.FoundCopies.{TaggedCopy}
 use Rattle.nx_copies.specs.copies.Log.{IsPrinting, Printing}
@@ -52,6 +52,12 @@ abbrev pub HearsUpToBy : {R Over : Type 0} → ReceiverKind R → AwaitsFinish R
 HearsUpToBy kind awaits old new bits over =
     (start : Start) (history : List Event) (log : List TaggedCopy)
     → kind.stands start old history log → awaits start new (history ++ elements bits) log over
+
+-- where nothing is over, nothing is awaited
+abbrev pub NothingAwaited : {R Over : Type 0} → ReceiverKind R → AwaitsFinish R Over → Type 0
+NothingAwaited {R} kind awaits =
+    (start : Start) (receiver : R) (history : List Event) (log : List TaggedCopy)
+    → awaits start receiver history log None → kind.stands start receiver history log
 
 -- Whatever a receiver was given before, what awaited to be finished was. Where that brought
 -- nothing, it heard so many of these elements. With the last of them it handed out these copies,

@@ -1,15 +1,15 @@
 //! A receiver of one channel, of whatever kind: what a listener calls of it, and what it may rely
 //! on.
 
-ghost use Rattle.std.specs.Prelude.{◌≡◌, ◌↔◌, ℕ, ◌+◌, ◌<◌, ◌≤◌, List, [], ◌++◌, length, take, drop, IfErr, IfOk, IfSome, IsErr, IsNone, IsTrue, None, OnErr, OnOk};
+ghost use Rattle.std.specs.Prelude.{◌≡◌, ◌↔◌, ℕ, ◌+◌, ◌<◌, ◌≤◌, List, [], ◌++◌, length, take, drop, IfErr, IfOk, IfSome, IsErr, IsNone, IsSome, IsTrue, None, OnErr, OnOk, Some};
 ghost use Rattle.nx_envelope.specs.Moment.{last_moment};
 ghost use Rattle.nx_memory.specs.Memory.{newest_moment};
 ghost use Rattle.nx_copies.specs.Events as events;
-ghost use Rattle.nx_copies.specs.Events.{Event, Start, at_moment};
+ghost use Rattle.nx_copies.specs.Events.{Event, Start, at_moment, elements};
 ghost use Rattle.nx_copies.specs.copies.FoundCopies.{TaggedCopy};
 ghost use Rattle.nx_receiver.specs.Commands.{refuses_vital, said};
 ghost use Rattle.nx_receiver.specs.declared.command.Command.TheVariants.{RefuseSubject};
-ghost use Rattle.nx_receiver.specs.ChannelReceiver.{AwaitsFinish, FinishesNextBy, HandsOutNoneBeforeBy, HearsUpToBy, IsReceiver, ReceiverKind, TakesEventBy};
+ghost use Rattle.nx_receiver.specs.ChannelReceiver.{AwaitsFinish, FinishesNextBy, HandsOutNoneBeforeBy, HearsUpToBy, IsReceiver, NothingAwaited, ReceiverKind, TakesEventBy};
 ghost use Rattle.nx_receiver.specs.Moments.{Refuses};
 ghost use Rattle.nx_receiver.specs.Receiver.{HeadsText, entry_list, headed_list};
 
@@ -71,8 +71,8 @@ pub trait ChannelReceiver: Drop {
         ensures unchanged { OnErr result (self.new ≡ self.old) };
 
     /// Hears elements from a place on, up to and with the first one with which something is over,
-    /// all of them where nothing is. Says how many, and what is over. `finish_next` is due then,
-    /// before anything else is heard.
+    /// all of them where nothing is. Says how many, and what is over. `finish` is due then, before
+    /// anything else is heard.
     fn hear(&mut self, packed: &PackedElements, from: usize) -> (usize, Option<Self::Over>)
         requires { from ≤ length packed.now }
         ensures within { from + result.0 ≤ length packed.now }
@@ -82,21 +82,14 @@ pub trait ChannelReceiver: Drop {
         ensures all { result.1 ≡ None → from + result.0 ≡ length packed.now }
         ensures some { from < length packed.now → 0 < result.0 };
 
-    /// Finishes what is over. Where that isn't printed it hears on, from a place on, up to and with
-    /// the element that ends the first copy that is printed. Says how many it heard, and the head
-    /// of the entry, whose text is `text`. With `None` it heard all.
-    fn finish_next(
-        &mut self,
-        over: Self::Over,
-        packed: &PackedElements,
-        from: usize,
-    ) -> (usize, Option<EntryHead>)
-        requires { from ≤ length packed.now }
-        ensures within { from + result.0 ≤ length packed.now }
-        ensures finishes { FinishesNextBy kind awaits self.old self.new over
-            (drop from packed.now) result.0 (headed_list result.1 (kind.text_of self.new)) }
-        ensures all { IsNone result.1 → from + result.0 ≡ length packed.now }
-        ensures head { IfSome result.1 (λ head. HeadsText head (kind.text_of self.new)) };
+    /// Finishes what is over, and says the head of the entry that it brings, where it brings one.
+    /// Its text is `text`, until more is heard.
+    fn finish(&mut self, over: Self::Over) -> Option<EntryHead>
+        ensures stands { (start : Start) (history : List Event) (log : List TaggedCopy)
+            → awaits start self.old history log (Some over)
+            → kind.stands start self.new history
+            (log ++ headed_list result (kind.text_of self.new)) }
+        ensures head { IfSome result (λ head. HeadsText head (kind.text_of self.new)) };
 
     /// The text of the entry whose head was answered last, until more is heard.
     fn text(&self) -> &[u8]
@@ -115,9 +108,7 @@ pub trait ChannelReceiver: Drop {
     ghost laws: { IsReceiver kind };
 
     /// Where nothing is over, nothing is awaited.
-    ghost none_awaited: { (start : Start) (receiver : Self) (history : List Event)
-        (log : List TaggedCopy)
-        → awaits start receiver history log None → kind.stands start receiver history log };
+    ghost none_awaited: { NothingAwaited kind awaits };
 }
 
 /// The receiver that judges each copy alone.
@@ -161,13 +152,8 @@ impl<M: FreshRecall> ChannelReceiver for Receiver<M> {
     }
 
     #[inline(always)]
-    fn finish_next(
-        &mut self,
-        over: Over,
-        packed: &PackedElements,
-        from: usize,
-    ) -> (usize, Option<EntryHead>) {
-        Receiver::finish_next(self, over, packed, from)
+    fn finish(&mut self, over: Over) -> Option<EntryHead> {
+        Receiver::finish(self, over)
     }
 
     #[inline(always)]
@@ -183,4 +169,62 @@ impl<M: FreshRecall> ChannelReceiver for Receiver<M> {
     ghost laws = { plain-receiver M.content };
 
     ghost none_awaited = { none-awaited M.content };
+}
+
+/// Hears packed elements from a place on, up to and with the one that ends the first copy that is
+/// printed; says how many it heard, and the head of the entry. Its text is that of the receiver,
+/// until more is heard. With `None` it heard all.
+pub(crate) fn next_printed_of<R: ChannelReceiver>(
+    receiver: &mut R,
+    packed: &PackedElements,
+    from: usize,
+) -> (usize, Option<EntryHead>)
+    requires { from ≤ length packed.now }
+    ensures within { from + result.0 ≤ length packed.now }
+    ensures stands { (start : Start) (history : List Event) (log : List TaggedCopy)
+        → R.kind.stands start receiver.old history log → R.kind.stands start receiver.new
+        (history ++ elements (take result.0 (drop from packed.now)))
+        (log ++ headed_list result.1 (R.kind.text_of receiver.new)) }
+    ensures first { HandsOutNoneBeforeBy R.kind receiver.old (drop from packed.now) result.0 }
+    ensures all { IsNone result.1 → from + result.0 ≡ length packed.now }
+    ensures some { IsSome result.1 → 0 < result.0 }
+    ensures head { IfSome result.1 (λ head. HeadsText head (R.kind.text_of receiver.new)) }
+{
+    let mut heard = 0;
+    while heard < packed.len() - from {
+        let (count, over) = receiver.hear(packed, from + heard);
+        heard += count;
+        let Some(over) = over else {
+            return (heard, None);
+        };
+        let head = receiver.finish(over);
+        if head.is_some() {
+            return (heard, head);
+        }
+    }
+    (heard, None)
+}
+
+/// Finishes what is over. Where that isn't printed it hears on, from a place on, as
+/// `next_printed_of` does.
+// A call, as few elements end anything.
+#[inline(never)]
+pub(crate) fn finish_next<R: ChannelReceiver>(
+    receiver: &mut R,
+    over: R::Over,
+    packed: &PackedElements,
+    from: usize,
+) -> (usize, Option<EntryHead>)
+    requires { from ≤ length packed.now }
+    ensures within { from + result.0 ≤ length packed.now }
+    ensures finishes { FinishesNextBy R.kind R.awaits receiver.old receiver.new over
+        (drop from packed.now) result.0 (headed_list result.1 (R.kind.text_of receiver.new)) }
+    ensures all { IsNone result.1 → from + result.0 ≡ length packed.now }
+    ensures head { IfSome result.1 (λ head. HeadsText head (R.kind.text_of receiver.new)) }
+{
+    let head = receiver.finish(over);
+    if head.is_some() {
+        return (0, head);
+    }
+    next_printed_of(receiver, packed, from)
 }

@@ -17,7 +17,7 @@ ghost use Rattle.nx_receiver.specs.Listener.{AreInRange, HearsBy, HearsOver, IsS
 ghost use Rattle.nx_receiver.specs.Receiver.{HeadsText, headed_list};
 ghost use Rattle.nx_copies.specs.copies.Shares.{Given, MarkedCopy, Starts, marked, saved_of, share, start_on, starts_from};
 
-use crate::channel_receiver::ChannelReceiver;
+use crate::channel_receiver::{ChannelReceiver, finish_next};
 use crate::command::Command;
 use crate::fault::MomentFault;
 use crate::fresh_recall::FreshRecall;
@@ -325,9 +325,9 @@ impl<R: ChannelReceiver> Listener<R> {
         ensures only { self.new ≡ with_receiver self.old channel (receiver_on self.new channel) }
     {
         match channel {
-            Channel::Zero => self.on_0.finish_next(over, packed, from),
-            Channel::One => self.on_1.finish_next(over, packed, from),
-            Channel::Two => self.on_2.finish_next(over, packed, from),
+            Channel::Zero => finish_next(&mut self.on_0, over, packed, from),
+            Channel::One => finish_next(&mut self.on_1, over, packed, from),
+            Channel::Two => finish_next(&mut self.on_2, over, packed, from),
         }
     }
 

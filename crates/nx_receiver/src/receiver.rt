@@ -19,12 +19,14 @@ ghost use Rattle.nx_receiver.specs.Moments.{Refuses};
 ghost use Rattle.nx_copies.specs.copies.Log.{PrintsToEnd};
 ghost use Rattle.nx_copies.specs.copies.Printing.{entries_after, printed_copies};
 ghost use Rattle.nx_receiver.specs.Receiver.{HandsOutNoneBefore, HeadsText, RefusesStart, Stands, TakesEvent, entry_list, headed_list, text_of};
-ghost use Rattle.nx_receiver.specs.private.Awaiting.{Awaits, FinishesNext, HearsUpTo};
+ghost use Rattle.nx_receiver.specs.private.Awaiting.{Awaits, HearsUpTo};
 ghost use Rattle.nx_copies.specs.copies.FoundCopies.{TaggedCopy};
 ghost use Rattle.nx_copies.specs.hearing.CopyHearer.{ready_copies};
 
+use crate::channel_receiver::next_printed_of;
 use crate::command::Command;
 use crate::fault::{MomentFault, ReceiverFault, check_moment};
+use crate::fresh_recall::FreshRecall;
 use nx_copies::{CopyTag, CopyTaker, Entry, EntryHead, Over, hear_elements, judge};
 use nx_envelope::{Identity, LAST_MOMENT, Letter, MAX_FOUND};
 use nx_fec::{MAX_ELEMENTS, PackedElements};
@@ -248,40 +250,6 @@ impl<M: Recall> Receiver<M> {
         (at, None)
     }
 
-    /// Hears packed elements from a place on, up to and with the one that ends the first copy that
-    /// is printed; says how many it heard, and the head of the entry. Its text is `text`, until
-    /// more is heard. With `None` it heard all.
-    pub fn next_printed(
-        &mut self,
-        packed: &PackedElements,
-        from: usize,
-    ) -> (usize, Option<EntryHead>)
-        requires { from ≤ length packed.now }
-        ensures within { from + result.0 ≤ length packed.now }
-        ensures stands { (start : Start) (history : List Event) (log : List TaggedCopy) →
-            Stands M.content start self.old history log → Stands M.content start self.new
-            (history ++ elements (take result.0 (drop from packed.now)))
-            (log ++ headed_list result.1 (text_of self.new)) }
-        ensures first { HandsOutNoneBefore M.content self.old (drop from packed.now) result.0 }
-        ensures all { IsNone result.1 → from + result.0 ≡ length packed.now }
-        ensures some { IsSome result.1 → 0 < result.0 }
-        ensures head { IfSome result.1 (λ head. HeadsText head (text_of self.new)) }
-    {
-        let mut heard = 0;
-        while heard < packed.len() - from {
-            let (count, over) = self.hear(packed, from + heard);
-            heard += count;
-            let Some(over) = over else {
-                return (heard, None);
-            };
-            let head = self.finish(over);
-            if head.is_some() {
-                return (heard, head);
-            }
-        }
-        (heard, None)
-    }
-
     /// The text of the copy that stands open, or that ended last: of the entry whose head was
     /// answered last, until more is heard.
     pub fn text(&self) -> &[u8]
@@ -359,7 +327,7 @@ impl<M: Recall> Receiver<M> {
     /// the copy that stood open. Where a copy is over with it, the copy is judged first, and then
     /// the lock is left: that keeps the text.
     #[inline(always)]
-    fn finish(&mut self, over: Over) -> Option<EntryHead>
+    pub(crate) fn finish(&mut self, over: Over) -> Option<EntryHead>
         ensures stands { (start : Start) (history : List Event) (log : List TaggedCopy) →
             Awaits M.content start self.old history log (Some over)
             → Stands M.content start self.new history
@@ -378,30 +346,6 @@ impl<M: Recall> Receiver<M> {
                 head
             }
         }
-    }
-
-    /// Finishes what is over. Where that isn't printed it hears on, from a place on, as
-    /// `next_printed` does.
-    // A call, as few elements end anything.
-    #[inline(never)]
-    pub(crate) fn finish_next(
-        &mut self,
-        over: Over,
-        packed: &PackedElements,
-        from: usize,
-    ) -> (usize, Option<EntryHead>)
-        requires { from ≤ length packed.now }
-        ensures within { from + result.0 ≤ length packed.now }
-        ensures finishes { FinishesNext M.content self.old self.new over (drop from packed.now)
-            result.0 (headed_list result.1 (text_of self.new)) }
-        ensures all { IsNone result.1 → from + result.0 ≡ length packed.now }
-        ensures head { IfSome result.1 (λ head. HeadsText head (text_of self.new)) }
-    {
-        let head = self.finish(over);
-        if head.is_some() {
-            return (0, head);
-        }
-        self.next_printed(packed, from)
     }
 
     /// Judges the copy that the finder has, where it has one. Answers the head of its entry where
@@ -434,6 +378,30 @@ impl<M: Recall> Receiver<M> {
             return None;
         }
         Some(head)
+    }
+}
+
+impl<M: FreshRecall> Receiver<M> {
+    /// Hears packed elements from a place on, up to and with the one that ends the first copy that
+    /// is printed; says how many it heard, and the head of the entry. Its text is `text`, until
+    /// more is heard. With `None` it heard all.
+    pub fn next_printed(
+        &mut self,
+        packed: &PackedElements,
+        from: usize,
+    ) -> (usize, Option<EntryHead>)
+        requires { from ≤ length packed.now }
+        ensures within { from + result.0 ≤ length packed.now }
+        ensures stands { (start : Start) (history : List Event) (log : List TaggedCopy) →
+            Stands M.content start self.old history log → Stands M.content start self.new
+            (history ++ elements (take result.0 (drop from packed.now)))
+            (log ++ headed_list result.1 (text_of self.new)) }
+        ensures first { HandsOutNoneBefore M.content self.old (drop from packed.now) result.0 }
+        ensures all { IsNone result.1 → from + result.0 ≡ length packed.now }
+        ensures some { IsSome result.1 → 0 < result.0 }
+        ensures head { IfSome result.1 (λ head. HeadsText head (text_of self.new)) }
+    {
+        next_printed_of(self, packed, from)
     }
 }
 

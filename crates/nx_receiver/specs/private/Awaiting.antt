@@ -9,7 +9,7 @@ use Rattle.nx_copies.specs.Events.{Event, Start, Setting, elements_among, first_
 use Rattle.nx_copies.specs.Events.{setting_after_all}
 use Rattle.nx_copies.specs.copies.FoundCopies.{TaggedCopy}
 use Rattle.nx_copies.specs.copies.Printing.{printed_copies, entries_after}
-use Rattle.nx_receiver.specs.ChannelReceiver.{FinishesNextBy, HearsUpToBy}
+use Rattle.nx_receiver.specs.ChannelReceiver.{HearsUpToBy}
 use Rattle.nx_receiver.specs.Receiver.{Receiving, plain_kind}
 use Rattle.nx_copies.specs.declared.copy_taker.Over.{Over}
 use Rattle.nx_copies.specs.hearing.CopyHearer.{IsOver}
@@ -33,17 +33,11 @@ Awaits content start receiver events log over =
     (settings (first_setting start) events)
     (setting_after_all (first_setting start) events) log over
 
--- the plain receiver hears these elements, and awaits what is over with the last of them; and it
--- finishes what awaited to be finished
+-- the plain receiver hears these elements, and awaits what is over with the last of them
 abbrev pub HearsUpTo : {M : Type 0} → (M → List MemoryEntry) → Receiving M → Receiving M
     → List Bool → Option Over → Type 0
 HearsUpTo content old new bits over =
     HearsUpToBy (plain_kind content) (Awaits content) old new bits over
-
-abbrev pub FinishesNext : {M : Type 0} → (M → List MemoryEntry) → Receiving M → Receiving M → Over
-    → List Bool → ℕ → List TaggedCopy → Type 0
-FinishesNext content old new over bits count copies =
-    FinishesNextBy (plain_kind content) (Awaits content) old new over bits count copies
 
 -- the moment of the memory's newest entry, that of the header that was heard last, the one in force
 -- and the last one rise in this order

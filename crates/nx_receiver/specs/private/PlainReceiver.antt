@@ -1,11 +1,9 @@
 -- The plain receiver meets the laws of a receiver of a channel.
-use Rattle.std.specs.Prelude.{List, None}
+use Rattle.std.specs.Prelude.{List}
 use Rattle.nx_memory.specs.declared.memories.entry.MemoryEntry.{MemoryEntry}
-use Rattle.nx_copies.specs.Events.{Event, Start}
-use Rattle.nx_copies.specs.copies.FoundCopies.{TaggedCopy}
 use Rattle.nx_copies.proofs.lemmas.printing.Laws.{plain-laws}
-use Rattle.nx_receiver.specs.ChannelReceiver.{IsReceiver}
-use Rattle.nx_receiver.specs.Receiver.{Receiving, Stands, plain_kind}
+use Rattle.nx_receiver.specs.ChannelReceiver.{IsReceiver, NothingAwaited}
+use Rattle.nx_receiver.specs.Receiver.{plain_kind}
 use Rattle.nx_receiver.specs.private.Awaiting.{Awaits}
 use Rattle.nx_receiver.specs.private.ListenerBegins.{printed-so_far}
 
@@ -17,10 +15,8 @@ plain-receiver content = record {
   in_force = λ start receiver events log s. s.force;
 }
 
--- where nothing is over, nothing is awaited
-pub none-awaited : {M : Type 0} (content : M → List MemoryEntry) (start : Start)
-    (receiver : Receiving M) (events : List Event) (log : List TaggedCopy)
-    → Awaits content start receiver events log None → Stands content start receiver events log
+pub none-awaited : {M : Type 0} (content : M → List MemoryEntry)
+    → NothingAwaited (plain_kind content) (Awaits content)
 none-awaited content start receiver events log a = record {
   copies = a.copies;
   hearer = a.hearer;

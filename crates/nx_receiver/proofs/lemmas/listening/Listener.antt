@@ -36,7 +36,8 @@ use Rattle.nx_receiver.specs.private.Listener.{HearsLog, IsListening, StandsFrom
 use Rattle.nx_receiver.specs.private.PlainReceiver.{plain-receiver}
 use Rattle.nx_copies.specs.copies.Log.{HasPrinted, IsLog}
 use Rattle.nx_receiver.specs.ChannelReceiver.{AwaitsFinish, FinishesNextBy, HandsOutNoneBeforeBy}
-use Rattle.nx_receiver.specs.ChannelReceiver.{HearsUpToBy, IsReceiver, ReceiverKind, TakesEventBy}
+use Rattle.nx_receiver.specs.ChannelReceiver.{HearsUpToBy, IsReceiver, NothingAwaited}
+use Rattle.nx_receiver.specs.ChannelReceiver.{ReceiverKind, TakesEventBy}
 use Rattle.nx_receiver.specs.Receiver.{HeadsText, TakesEvent, headed_list}
 use Rattle.nx_receiver.proofs.lemmas.receiver.Feeds.{heard_then, printed_then}
 use Rattle.std.specs.Prelude.{IfSome, Result, Ok, Err, OnOk}
@@ -651,9 +652,7 @@ none-before {R} {kind} starts old mid given channel part bits n copies next h he
 pub hears-quiet : {R Over : Type 0} {kind : ReceiverKind R} (awaits : AwaitsFinish R Over)
     (channel : Channel) (old new : ListeningOver R) (bits : List Bool) (n : ℕ)
     (left : Option Over)
-    → ((start : Start) (receiver : R) (events : List Event) (log : List TaggedCopy)
-    → awaits start receiver events log None → kind.stands start receiver events log)
-    → left ≡ None
+    → NothingAwaited kind awaits → left ≡ None
     → HearsUpToBy kind awaits (receiver_on old channel) (receiver_on new channel) (take n bits) left
     → HandsOutNoneBeforeBy kind (receiver_on old channel) bits n
     → HearsTo kind channel old new bits n []

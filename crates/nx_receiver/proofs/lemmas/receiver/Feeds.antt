@@ -11,9 +11,11 @@ use Rattle.nx_memory.specs.declared.memories.entry.MemoryEntry.{MemoryEntry}
 use Rattle.nx_copies.specs.declared.copy_taker.Over.{Over}
 use Rattle.nx_copies.specs.Events.{Event, Setting, Start, elements_among, element, first_setting}
 use Rattle.nx_copies.specs.Events.{setting_after_all, settings, elements}
-use Rattle.nx_copies.specs.copies.Log.{HasPrinted, Printing}
+use Rattle.nx_copies.specs.copies.Log.{Printing}
+use Rattle.nx_receiver.specs.ChannelReceiver.{AwaitsFinish, FinishesNextBy, HandsOutNoneBeforeBy}
+use Rattle.nx_receiver.specs.ChannelReceiver.{HearsUpToBy, NothingAwaited, ReceiverKind}
 use Rattle.nx_receiver.specs.Receiver.{HandsOutNoneBefore, Receiving, Stands, StandsOver}
-use Rattle.nx_receiver.specs.private.Awaiting.{Awaits, AwaitsOver, FinishesNext, HearsUpTo}
+use Rattle.nx_receiver.specs.private.Awaiting.{Awaits, AwaitsOver, HearsUpTo}
 use Rattle.nx_copies.specs.copies.FoundCopies.{TaggedCopy}
 use Rattle.nx_copies.specs.hearing.CopyHearer.{HasEnded, HearsAll, IsOver, all_in_force}
 use Rattle.nx_copies.specs.hearing.CopyHearing.{CopyHearing, in_force}
@@ -26,19 +28,19 @@ use Rattle.nx_copies.proofs.lemmas.copy_hearer.Packed.{rest_is}
 use Rattle.nx_copies.proofs.lemmas.copy_hearer.Parts.{part_of_all}
 
 -- the first so many of these elements were fed, and no entry was handed out
-pub record Fed {M : Type 0} (content : M → List MemoryEntry) (old now : Receiving M)
-    (bits : List Bool) (at : ℕ) : Type 0 where
+pub record Fed {R : Type 0} (kind : ReceiverKind R) (old now : R) (bits : List Bool) (at : ℕ)
+    : Type 0 where
   pub within : at ≤ length bits
   pub stands : (start : Start) (history : List Event) (log : List TaggedCopy)
-      → Stands content start old history log
-      → Stands content start now (history ++ elements (take at bits)) log
-  pub before : HandsOutNoneBefore content old bits at
+      → kind.stands start old history log
+      → kind.stands start now (history ++ elements (take at bits)) log
+  pub before : HandsOutNoneBeforeBy kind old bits at
 
-pub fed_none : {M : Type 0} (content : M → List MemoryEntry) (old : Receiving M) (bits : List Bool)
-    → Fed content old old bits 0
-fed_none content old bits = record {
+pub fed_none : {R : Type 0} (kind : ReceiverKind R) (old : R) (bits : List Bool)
+    → Fed kind old old bits 0
+fed_none kind old bits = record {
   within = omega arith;
-  stands = λ start history log s. subst (λ events. Stands content start old events log)
+  stands = λ start history log s. subst (λ events. kind.stands start old events log)
       (sym (append-nil history)) s;
   before = λ start history log s k lt. absurd (omega arith);
 }
@@ -198,35 +200,35 @@ printed_then printing start history log packed from n m first second k lt =
     ]
 
 -- what was over was finished
-pub finished_now : {M : Type 0} (content : M → List MemoryEntry) (old new : Receiving M)
-    (over : Over) (bits : List Bool) (copies : List TaggedCopy)
+pub finished_now : {R Over : Type 0} (kind : ReceiverKind R) (awaits : AwaitsFinish R Over)
+    (old new : R) (over : Over) (bits : List Bool) (copies : List TaggedCopy)
     → ((start : Start) (history : List Event) (log : List TaggedCopy)
-    → Awaits content start old history log (Some over)
-    → Stands content start new history (log ++ copies))
-    → FinishesNext content old new over bits 0 copies
-finished_now content old new over bits copies finishes = record {
+    → awaits start old history log (Some over)
+    → kind.stands start new history (log ++ copies))
+    → FinishesNextBy kind awaits old new over bits 0 copies
+finished_now kind awaits old new over bits copies finishes = record {
   stands = λ start history log a.
-      subst (λ events. Stands content start new events (log ++ copies))
+      subst (λ events. kind.stands start new events (log ++ copies))
       (sym (append-nil history)) (finishes start history log a);
   first = λ start history log a k lt. absurd (omega arith);
 }
 
 -- it brought nothing, and then elements were heard
-pub finished_then : {M : Type 0} (content : M → List MemoryEntry) (old mid new : Receiving M)
-    (over : Over) (bits : List Bool) (count : ℕ) (none copies : List TaggedCopy)
+pub finished_then : {R Over : Type 0} (kind : ReceiverKind R) (awaits : AwaitsFinish R Over)
+    (old mid new : R) (over : Over) (bits : List Bool) (count : ℕ) (none copies : List TaggedCopy)
     → ((start : Start) (history : List Event) (log : List TaggedCopy)
-    → Awaits content start old history log (Some over)
-    → Stands content start mid history (log ++ none))
+    → awaits start old history log (Some over)
+    → kind.stands start mid history (log ++ none))
     → none ≡ []
     → ((start : Start) (history : List Event) (log : List TaggedCopy)
-    → Stands content start mid history log
-    → Stands content start new (history ++ elements (take count bits)) (log ++ copies))
-    → HandsOutNoneBefore content mid bits count
-    → FinishesNext content old new over bits count copies
-finished_then content old mid new over bits count none copies finishes nothing hears before =
+    → kind.stands start mid history log
+    → kind.stands start new (history ++ elements (take count bits)) (log ++ copies))
+    → HandsOutNoneBeforeBy kind mid bits count
+    → FinishesNextBy kind awaits old new over bits count copies
+finished_then kind awaits old mid new over bits count none copies finishes nothing hears before =
     let stands : (start : Start) (history : List Event) (log : List TaggedCopy)
-    → Awaits content start old history log (Some over) → Stands content start mid history log =
-    λ start history log a. subst (λ l. Stands content start mid history l)
+    → awaits start old history log (Some over) → kind.stands start mid history log =
+    λ start history log a. subst (λ l. kind.stands start mid history l)
     (ap (λ l. log ++ l) nothing ∙ append-nil log) (finishes start history log a) in
     record {
       stands = λ start history log a. hears start history log (stands start history log a);
@@ -236,96 +238,99 @@ finished_then content old mid new over bits count none copies finishes nothing h
 
 -- So many more of the elements were heard behind those that were fed; what is over with the last of
 -- them awaits to be finished.
-pub record FedUpTo {M : Type 0} (content : M → List MemoryEntry) (old mid heard : Receiving M)
-    (bits : List Bool) (at n : ℕ) (left : Option Over) : Type 0 where
-  pub fed : Fed content old mid bits at
+pub record FedUpTo {R Over : Type 0} (kind : ReceiverKind R) (awaits : AwaitsFinish R Over)
+    (old mid heard : R) (bits : List Bool) (at n : ℕ) (left : Option Over) : Type 0 where
+  pub fed : Fed kind old mid bits at
   pub within : at + n ≤ length bits
-  pub hears : HearsUpTo content mid heard (take n (drop at bits)) left
-  pub none : HandsOutNoneBefore content mid (drop at bits) n
+  pub hears : HearsUpToBy kind awaits mid heard (take n (drop at bits)) left
+  pub none : HandsOutNoneBeforeBy kind mid (drop at bits) n
 
 -- packed elements, from a place on
-pub fed_packed : {M : Type 0} (content : M → List MemoryEntry) (old mid heard : Receiving M)
-    (packed : List Bool) (from at n : ℕ) (left : Option Over)
-    → Fed content old mid (drop from packed) at → (from + at) + n ≤ length packed
-    → HearsUpTo content mid heard (take n (drop (from + at) packed)) left
-    → HandsOutNoneBefore content mid (drop (from + at) packed) n
-    → FedUpTo content old mid heard (drop from packed) at n left
-fed_packed content old mid heard packed from at n left fed within hears none =
+pub fed_packed : {R Over : Type 0} (kind : ReceiverKind R) (awaits : AwaitsFinish R Over)
+    (old mid heard : R) (packed : List Bool) (from at n : ℕ) (left : Option Over)
+    → Fed kind old mid (drop from packed) at → (from + at) + n ≤ length packed
+    → HearsUpToBy kind awaits mid heard (take n (drop (from + at) packed)) left
+    → HandsOutNoneBeforeBy kind mid (drop (from + at) packed) n
+    → FedUpTo kind awaits old mid heard (drop from packed) at n left
+fed_packed kind awaits old mid heard packed from at n left fed within hears none =
     let same : drop (from + at) packed ≡ drop at (drop from packed) =
     sym (drop-drop at from packed) in
     record {
       fed = fed;
       within = omega (arith, within, length-drop from packed);
-      hears = subst (λ l. HearsUpTo content mid heard (take n l) left) same hears;
-      none = subst (λ l. HandsOutNoneBefore content mid l n) same none;
+      hears = subst (λ l. HearsUpToBy kind awaits mid heard (take n l) left) same hears;
+      none = subst (λ l. HandsOutNoneBeforeBy kind mid l n) same none;
     }
 
 -- elements that aren't packed
-pub fed_bits : {M : Type 0} (content : M → List MemoryEntry) (old mid heard : Receiving M)
-    (bits : List Bool) (at n : ℕ) (left : Option Over) → Fed content old mid bits at
+pub fed_bits : {R Over : Type 0} (kind : ReceiverKind R) (awaits : AwaitsFinish R Over)
+    (old mid heard : R) (bits : List Bool) (at n : ℕ) (left : Option Over)
+    → Fed kind old mid bits at
     → n ≤ length (take (length bits - at) (drop at bits))
-    → HearsUpTo content mid heard (take n (take (length bits - at) (drop at bits))) left
-    → HandsOutNoneBefore content mid (take (length bits - at) (drop at bits)) n
-    → FedUpTo content old mid heard bits at n left
-fed_bits content old mid heard bits at n left fed within hears none =
+    → HearsUpToBy kind awaits mid heard (take n (take (length bits - at) (drop at bits))) left
+    → HandsOutNoneBeforeBy kind mid (take (length bits - at) (drop at bits)) n
+    → FedUpTo kind awaits old mid heard bits at n left
+fed_bits kind awaits old mid heard bits at n left fed within hears none =
     let same = rest_is bits at in
     record {
       fed = fed;
       within = omega (arith, fed.within, within, ap length same, length-drop at bits);
-      hears = subst (λ l. HearsUpTo content mid heard (take n l) left) same hears;
-      none = subst (λ l. HandsOutNoneBefore content mid l n) same none;
+      hears = subst (λ l. HearsUpToBy kind awaits mid heard (take n l) left) same hears;
+      none = subst (λ l. HandsOutNoneBeforeBy kind mid l n) same none;
     }
 
-module _ {M : Type 0} {content : M → List MemoryEntry} {old mid heard : Receiving M}
-    {bits : List Bool} {at n : ℕ} {left : Option Over}
-    (f : FedUpTo content old mid heard bits at n left) where
+module _ {R Over : Type 0} {kind : ReceiverKind R} {awaits : AwaitsFinish R Over}
+    {old mid heard : R} {bits : List Bool} {at n : ℕ} {left : Option Over}
+    (f : FedUpTo kind awaits old mid heard bits at n left) where
   -- nothing was printed before the last of them
-  pub fed_before : HandsOutNoneBefore content old bits (at + n)
+  pub fed_before : HandsOutNoneBeforeBy kind old bits (at + n)
   fed_before start history log s k lt =
       elim (cases_lt k at) [
         | inl early ↦ f.fed.before start history log s k early
         | inr late ↦
             let j = k - at in
             let sum : at + j ≡ k = omega arith in
-            subst (λ events. HasPrinted start events log)
+            subst (λ events. kind.printing.so_far start events log)
             (elements-more history bits at j ∙ ap (λ m. history ++ elements (take m bits)) sum)
             (f.none start (history ++ elements (take at bits)) log
             (f.fed.stands start history log s) j (omega arith))
       ]
 
   -- all of them were heard, and what is over awaits
-  pub fed_awaits : HearsUpTo content old heard (take (at + n) bits) left
+  pub fed_awaits : HearsUpToBy kind awaits old heard (take (at + n) bits) left
   fed_awaits start history log s =
-      subst (λ events. Awaits content start heard events log left)
+      subst (λ events. awaits start heard events log left)
       (elements-more history bits at n)
       (f.hears start (history ++ elements (take at bits)) log (f.fed.stands start history log s))
 
   pub fed_over : (is_over : Over) → left ≡ Some is_over
-      → HearsUpTo content old heard (take (at + n) bits) (Some is_over)
+      → HearsUpToBy kind awaits old heard (take (at + n) bits) (Some is_over)
   fed_over is_over is start history log s =
-      subst (λ o. Awaits content start heard (history ++ elements (take (at + n) bits)) log o) is
+      subst (λ o. awaits start heard (history ++ elements (take (at + n) bits)) log o) is
       (fed_awaits start history log s)
 
   -- nothing is over: they were fed
-  pub fed_quiet : left ≡ None → Fed content old heard bits (at + n)
-  fed_quiet is = record {
+  pub fed_quiet : NothingAwaited kind awaits → left ≡ None → Fed kind old heard bits (at + n)
+  fed_quiet nothing is = record {
     within = f.within;
     stands = λ start history log s.
-        nothing_awaited content start heard _ _ _ log left is (fed_awaits start history log s);
+        let events = history ++ elements (take (at + n) bits) in
+        nothing start heard events log
+        (subst (λ o. awaits start heard events log o) is (fed_awaits start history log s));
     before = fed_before;
   }
 
   -- what is over was finished, and brought no copy: they were fed
-  pub fed_finished : (new : Receiving M) (is_over : Over) (copies : List TaggedCopy)
+  pub fed_finished : (new : R) (is_over : Over) (copies : List TaggedCopy)
       → left ≡ Some is_over
       → ((start : Start) (history : List Event) (log : List TaggedCopy)
-      → Awaits content start heard history log (Some is_over)
-      → Stands content start new history (log ++ copies))
-      → copies ≡ [] → Fed content old new bits (at + n)
+      → awaits start heard history log (Some is_over)
+      → kind.stands start new history (log ++ copies))
+      → copies ≡ [] → Fed kind old new bits (at + n)
   fed_finished new is_over copies is finishes none = record {
     within = f.within;
     stands = λ start history log s.
-        subst (λ l. Stands content start new (history ++ elements (take (at + n) bits)) l)
+        subst (λ l. kind.stands start new (history ++ elements (take (at + n) bits)) l)
         (ap (λ l. log ++ l) none ∙ append-nil log)
         (finishes start (history ++ elements (take (at + n) bits)) log
         (fed_over is_over is start history log s));
@@ -333,13 +338,13 @@ module _ {M : Type 0} {content : M → List MemoryEntry} {old mid heard : Receiv
   }
 
 -- those that were fed brought no copy
-pub fed_no_copy : {M : Type 0} {content : M → List MemoryEntry} {old now : Receiving M}
-    {bits : List Bool} {at : ℕ} → Fed content old now bits at
+pub fed_no_copy : {R : Type 0} {kind : ReceiverKind R} {old now : R} {bits : List Bool} {at : ℕ}
+    → Fed kind old now bits at
     → (start : Start) (history : List Event) (log : List TaggedCopy)
-    → Stands content start old history log
-    → Stands content start now (history ++ elements (take at bits)) (log ++ [])
-fed_no_copy {content = content} {now = now} {bits = bits} {at = at} fed start history log s =
-    subst (Stands content start now (history ++ elements (take at bits))) (sym (append-nil log))
+    → kind.stands start old history log
+    → kind.stands start now (history ++ elements (take at bits)) (log ++ [])
+fed_no_copy {kind = kind} {now = now} {bits = bits} {at = at} fed start history log s =
+    subst (kind.stands start now (history ++ elements (take at bits))) (sym (append-nil log))
     (fed.stands start history log s)
 
 pub is_none : {A : Type 0} (entry : Option A) (test : Bool) → test ≡ is_some entry → test ≡ false

@@ -1,6 +1,8 @@
 use Rattle.std.proofs.Common.{◌+◌, ◌∷◌, ◌∙◌, ◌++◌, [], ap, subst, sym, take, true}
 use Rattle.nx_copies.specs.Events.{elements}
-use Rattle.nx_receiver.specs.Receiver.{Stands, headed_list, text_of}
+use Rattle.nx_receiver.specs.Receiver.{Stands, headed_list, plain_kind, text_of}
+use Rattle.nx_receiver.specs.private.Awaiting.{Awaits}
+use Rattle.nx_receiver.specs.private.PlainReceiver.{none-awaited}
 use Rattle.nx_copies.specs.copies.FoundCopies.{headed_copy}
 use Rattle.nx_receiver.proofs.lemmas.receiver.Feeds.{fed_before, fed_finished, fed_no_copy, fed_over}
 use Rattle.nx_receiver.proofs.lemmas.receiver.Feeds.{fed_bits, fed_quiet}
@@ -9,7 +11,8 @@ use Rattle.nx_receiver.proofs.receiver.Receiver.feed.Goals as goal
 -- an entry is handed out
 pub returns-in-Some-finish-clause-stands : goal.returns-in-Some-finish-clause-stands
 returns-in-Some-finish-clause-stands g c start history log stands =
-    let h = fed_bits g.M.Recall.content c.args.self.now c.loop-at.self c.hear_bits-count.new.self
+    let h = fed_bits (plain_kind g.M.Recall.content) (Awaits g.M.Recall.content)
+    c.args.self.now c.loop-at.self c.hear_bits-count.new.self
     c.args.bits.now c.loop-at.at c.hear_bits-count.result.0 c.hear_bits-count.result.1
     c.loop-at.invariant c.hear_bits-count.ensures.within
     (λ start history log s. c.hear_bits-count.ensures.stands start history log s)
@@ -27,7 +30,8 @@ returns-in-Some-finish-clause-stands g c start history log stands =
 
 pub returns-in-Some-finish-clause-first : goal.returns-in-Some-finish-clause-first
 returns-in-Some-finish-clause-first g c =
-    let h = fed_bits g.M.Recall.content c.args.self.now c.loop-at.self c.hear_bits-count.new.self
+    let h = fed_bits (plain_kind g.M.Recall.content) (Awaits g.M.Recall.content)
+    c.args.self.now c.loop-at.self c.hear_bits-count.new.self
     c.args.bits.now c.loop-at.at c.hear_bits-count.result.0 c.hear_bits-count.result.1
     c.loop-at.invariant c.hear_bits-count.ensures.within
     (λ start history log s. c.hear_bits-count.ensures.stands start history log s)
@@ -36,7 +40,8 @@ returns-in-Some-finish-clause-first g c =
 
 pub loop-at-preserved : goal.loop-at-preserved
 loop-at-preserved g c =
-    let h = fed_bits g.M.Recall.content c.args.self.now c.loop-at.self c.hear_bits-count.new.self
+    let h = fed_bits (plain_kind g.M.Recall.content) (Awaits g.M.Recall.content)
+    c.args.self.now c.loop-at.self c.hear_bits-count.new.self
     c.args.bits.now c.loop-at.at c.hear_bits-count.result.0 c.hear_bits-count.result.1
     c.loop-at.invariant c.hear_bits-count.ensures.within
     (λ start history log s. c.hear_bits-count.ensures.stands start history log s)
@@ -49,16 +54,18 @@ loop-at-preserved g c =
 -- nothing is over, and all was heard
 pub returns-in_default-clause-stands : goal.returns-in_default-clause-stands
 returns-in_default-clause-stands g c start history log stands =
-    let h = fed_bits g.M.Recall.content c.args.self.now c.loop-at.self c.hear_bits-count.new.self
+    let h = fed_bits (plain_kind g.M.Recall.content) (Awaits g.M.Recall.content)
+    c.args.self.now c.loop-at.self c.hear_bits-count.new.self
     c.args.bits.now c.loop-at.at c.hear_bits-count.result.0 c.hear_bits-count.result.1
     c.loop-at.invariant c.hear_bits-count.ensures.within
     (λ start history log s. c.hear_bits-count.ensures.stands start history log s)
     (λ start history log s k lt. c.hear_bits-count.ensures.first start history log s k lt) in
-    fed_no_copy (fed_quiet h c.in_default.is) start history log stands
+    fed_no_copy (fed_quiet h (none-awaited g.M.Recall.content) c.in_default.is) start history log stands
 
 pub returns-in_default-clause-first : goal.returns-in_default-clause-first
 returns-in_default-clause-first g c =
-    let h = fed_bits g.M.Recall.content c.args.self.now c.loop-at.self c.hear_bits-count.new.self
+    let h = fed_bits (plain_kind g.M.Recall.content) (Awaits g.M.Recall.content)
+    c.args.self.now c.loop-at.self c.hear_bits-count.new.self
     c.args.bits.now c.loop-at.at c.hear_bits-count.result.0 c.hear_bits-count.result.1
     c.loop-at.invariant c.hear_bits-count.ensures.within
     (λ start history log s. c.hear_bits-count.ensures.stands start history log s)
