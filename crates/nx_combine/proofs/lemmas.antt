@@ -1,13 +1,7 @@
 -- Lemmas that several proofs cite.
-pub mod AfterHeader
-pub mod BehindHeader
 pub mod Closing
 pub mod Combine
-pub mod CombinedLaws
-pub mod EndedPositions
-pub mod Ends
 pub mod Examples
-pub mod Heard
 pub mod Hearing
 pub mod Held
 pub mod Invented
@@ -16,10 +10,7 @@ pub mod Judged
 pub mod JudgedOn
 pub mod Noted
 pub mod Once
-pub mod PlacedGrow
-pub mod PositionsFor
 pub mod Printed
-pub mod ReadOn
 pub mod Sendings
 pub mod Sent
 pub mod Sure
@@ -27,6 +18,7 @@ pub mod TakerBits
 pub mod TakerPairs
 pub mod Taking
 pub mod Together
+pub mod TogetherEvents
 pub mod TogetherFinish
 pub mod TogetherHears
 pub mod Whole

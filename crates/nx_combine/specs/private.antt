@@ -1,4 +1,6 @@
 -- What only private contracts, models and proofs cite.
+pub mod CombiningLaws
 pub mod HeldFamilies
 pub mod Kept
 pub mod TakerSteps
+pub mod laws

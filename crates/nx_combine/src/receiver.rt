@@ -1,14 +1,20 @@
 //! The receiver that takes several sendings of a message together. It hears as the plain receiver
 //! does, and notes the positions of each copy; only what a copy comes to is another matter.
 
-ghost use Rattle.std.specs.Prelude.{◌≡◌, ◌+◌, ◌<◌, ◌≤◌, List, [], ◌∷◌, ◌++◌, length, take, drop, IfErr, IfOk, IfSome, None, Some};
+ghost use Rattle.std.specs.Prelude.{◌≡◌, ◌↔◌, ◌+◌, ◌<◌, ◌≤◌, List, [], ◌∷◌, ◌++◌, length, take, drop, IfErr, IfOk, IfSome, IsErr, IsTrue, None, OnErr, OnOk, Some};
+ghost use Rattle.nx_envelope.specs.Moment.{last_moment};
 ghost use Rattle.nx_code.specs.Lists.{last_of};
 ghost use Rattle.nx_memory.specs.Memory.{most_entries, newest_moment};
-ghost use Rattle.nx_copies.specs.Events.{Event, Start};
+ghost use Rattle.nx_copies.specs.Events as events;
+ghost use Rattle.nx_copies.specs.Events.{Event, Start, at_moment};
 ghost use Rattle.nx_copies.specs.copies.FoundCopies.{TaggedCopy};
 ghost use Rattle.nx_copies.specs.hearing.CopyHearer.{ready_copies};
-ghost use Rattle.nx_receiver.specs.ChannelReceiver.{HandsOutNoneBeforeBy, HearsUpToBy};
-ghost use Rattle.nx_receiver.specs.Receiver.{HeadsText, RefusesStart, headed_list};
+ghost use Rattle.nx_receiver.specs.ChannelReceiver.{HandsOutNoneBeforeBy, HearsUpToBy, TakesEventBy};
+ghost use Rattle.nx_receiver.specs.Commands.{refuses_vital, said};
+ghost use Rattle.nx_receiver.specs.declared.command.Command.TheVariants.{RefuseSubject};
+ghost use Rattle.nx_receiver.specs.Moments.{Refuses};
+ghost use Rattle.nx_receiver.specs.Receiver.{HeadsText, RefusesStart, entry_list, headed_list};
+ghost use Rattle.nx_combine.specs.CombinedPrinting.{PrintsCombinedToEnd};
 ghost use Rattle.nx_combine.specs.CombinedReceiver.{AwaitsAfterAll, JudgesNext, StandsAfterAll, combined_kind, hearer_in, text_in};
 ghost use Rattle.nx_combine.specs.CopyPositions.{HeardCopy};
 ghost use Rattle.nx_combine.specs.Judging.{Judged, StandsCombined};
@@ -16,11 +22,11 @@ ghost use Rattle.nx_combine.specs.Notes.{noted};
 
 use crate::combiner::Combiner;
 use crate::taker::CombinedTaker;
-use nx_copies::{CopyTag, EntryHead, Over, hear_elements};
+use nx_copies::{CopyTag, Entry, EntryHead, Over, hear_elements};
 use nx_envelope::{LAST_MOMENT, MAX_FOUND};
 use nx_fec::PackedElements;
-use nx_memory::{Renewing, Selection};
-use nx_receiver::ReceiverFault;
+use nx_memory::{Renewing, Selection, Vital};
+use nx_receiver::{Command, MomentFault, ReceiverFault, check_moment};
 use nx_sync::Synchroniser;
 use std::alloc::Global;
 use std::marker::Model;
@@ -85,6 +91,7 @@ impl<M: Renewing> CombinedReceiver<M> {
         ensures stands { (start : Start) → start.entries ≡ M.content memory → start.moment ≡ moment
             → start.refused ≡ selection
             → IfOk result (λ r. StandsAfterAll M.content start r [] []) }
+        ensures memory { IfOk result (λ r. r.memory ≡ memory) }
         ensures refused { IfErr result (RefusesStart (newest_moment (M.content memory)) moment) }
     {
         if moment > LAST_MOMENT || memory.newest().is_some_and(|newest| moment < newest) {
@@ -102,6 +109,42 @@ impl<M: Renewing> CombinedReceiver<M> {
             is_given: false,
             memory,
         })
+    }
+
+    /// Sets the moment, in whole seconds since 1970-01-01 00:00:00 UTC. `Range` where it is past
+    /// 2999-12-31 23:59:59, else `Back` where it is before the last one; the receiver then stays as
+    /// it was.
+    pub fn set_moment(&mut self, moment: u64) -> Result<(), MomentFault>
+        ensures stands { OnOk result
+            (TakesEventBy (combined_kind M.content) self.old self.new (at_moment moment)) }
+        ensures taken { OnOk result
+            ((self.old.taker.copies.moment ≤ moment) × (moment ≤ last_moment)) }
+        ensures refused { IfErr result (Refuses self.old.taker.copies.moment moment) }
+        ensures unchanged { OnErr result (self.new ≡ self.old) }
+    {
+        check_moment(self.taker.copies.moment, moment)?;
+        self.taker.copies.moment = moment;
+        Ok(())
+    }
+
+    /// Does what the command says, from here on. `Vital` where it is to refuse subject A, B, D or L
+    /// (ITU-R M.540); the receiver then stays as it was.
+    #[inline(always)]
+    pub fn command(&mut self, command: Command) -> Result<(), Vital>
+        ensures stands { OnOk result (TakesEventBy (combined_kind M.content) self.old self.new
+            (events.command (said command))) }
+        ensures vital { IsErr result ↔ IsTrue (refuses_vital (said command)) }
+        ensures fault { IfErr result (λ vital. command ≡ RefuseSubject vital.subject) }
+        ensures unchanged { OnErr result (self.new ≡ self.old) }
+    {
+        let selection = &mut self.taker.copies.selection;
+        match command {
+            Command::RefuseStation(station) => selection.refuse_station(station),
+            Command::AcceptStation(station) => selection.accept_station(station),
+            Command::RefuseSubject(subject) => return selection.refuse_subject(subject),
+            Command::AcceptSubject(subject) => selection.accept_subject(subject),
+        }
+        Ok(())
     }
 
     /// The text of the entry whose head was answered last, until more is heard.
@@ -159,6 +202,20 @@ impl<M: Renewing> CombinedReceiver<M> {
                 head
             }
         }
+    }
+
+    /// Ends the elements, and hands out the entry that their end prints: that of the open copy,
+    /// taken together with its family, where it is printed.
+    pub fn close(self) -> Option<Entry>
+        ensures stands { (start : Start) (history : List Event) (log : List TaggedCopy) →
+            StandsAfterAll M.content start self history log
+            → PrintsCombinedToEnd start history (log ++ entry_list result) }
+        ensures moment { IfSome result (λ entry. entry.moment ≤ last_moment) }
+    {
+        let mut receiver = self;
+        receiver.taker.close();
+        let head = receiver.judge_ready()?;
+        Some(Entry::of(&head, receiver.text()))
     }
 
     /// Judges the copy that the finder has, where it has one, with the positions that were noted.

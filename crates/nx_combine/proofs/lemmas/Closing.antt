@@ -35,11 +35,11 @@ use Rattle.nx_combine.specs.CopyPositions.{lock_bytes, lock_positions, past_plac
 use Rattle.nx_combine.specs.CopyPositions.{placed_to_end, positions_in_past, positions_of}
 use Rattle.nx_combine.specs.Notes.{noted}
 use Rattle.nx_combine.specs.declared.taker.CombinedTaker.{CombinedTaker}
-use Rattle.nx_combine.proofs.lemmas.EndedPositions.{open-whole, past-open}
-use Rattle.nx_combine.proofs.lemmas.Heard.{copies-heard, found-ended, found-past, found-placed, found_of}
-use Rattle.nx_combine.proofs.lemmas.Heard.{heard-append, same_last}
+use Rattle.nx_combine.specs.private.laws.EndedPositions.{open-whole, past-open}
+use Rattle.nx_combine.specs.private.laws.Heard.{copies-heard, found-ended, found-past, found-placed, found_of}
+use Rattle.nx_combine.specs.private.laws.Heard.{heard-append, same_last}
 use Rattle.nx_combine.proofs.lemmas.Hearing.{heard-nil, heard-one, heard_as}
-use Rattle.nx_combine.proofs.lemmas.PlacedGrow.{all_of, placed-hunted, placed-parts, placed_as}
+use Rattle.nx_combine.specs.private.laws.PlacedGrow.{all_of, placed-hunted, placed-parts, placed_as}
 
 -- the taker with another reader
 abbrev pub with_reader : CombinedTaker → LockReading → CombinedTaker

@@ -36,11 +36,11 @@ use Rattle.nx_combine.specs.CopyPositions.{positions_in_past, positions_of}
 use Rattle.nx_combine.specs.Notes.{Noting, noted}
 use Rattle.nx_combine.specs.PositionEnds.{up_to_end}
 use Rattle.nx_combine.specs.declared.taker.CombinedTaker.{CombinedTaker}
-use Rattle.nx_combine.proofs.lemmas.EndedPositions.{EndedIn, all_ended, behind-more, open-behind}
-use Rattle.nx_combine.proofs.lemmas.EndedPositions.{open_stands, past-ended, up_to-last}
-use Rattle.nx_combine.proofs.lemmas.Heard.{copies-heard, found-ended, found-past, found-placed, found_of}
-use Rattle.nx_combine.proofs.lemmas.Heard.{heard-append, heard_stays, longer_begins, none_left, same_last}
-use Rattle.nx_combine.proofs.lemmas.PlacedGrow.{all_of, placed-hunted, placed-parts, placed_as, placed_go_on}
+use Rattle.nx_combine.specs.private.laws.EndedPositions.{EndedIn, all_ended, behind-more, open-behind}
+use Rattle.nx_combine.specs.private.laws.EndedPositions.{open_stands, past-ended, up_to-last}
+use Rattle.nx_combine.specs.private.laws.Heard.{copies-heard, found-ended, found-past, found-placed, found_of}
+use Rattle.nx_combine.specs.private.laws.Heard.{heard-append, heard_stays, longer_begins, none_left, same_last}
+use Rattle.nx_combine.specs.private.laws.PlacedGrow.{all_of, placed-hunted, placed-parts, placed_as, placed_go_on}
 use Rattle.nx_combine.proofs.lemmas.Taking.{next_is}
 
 -- a copy that was found, with what is in force

@@ -28,7 +28,7 @@ use Rattle.nx_combine.specs.CombinedTaker.{CopyNoted, NotesLock, TakesLock}
 use Rattle.nx_combine.specs.Notes.{IsNoted, Noting, noted}
 use Rattle.nx_combine.specs.private.TakerSteps.{NotesWord, from_after}
 use Rattle.nx_combine.proofs.lemmas.Noted.{none_read}
-use Rattle.nx_combine.proofs.lemmas.PositionsFor.{positions_for-last, positions_for-more}
+use Rattle.nx_combine.specs.private.laws.PositionsFor.{positions_for-last, positions_for-more}
 use Rattle.nx_code.specs.Reading.{Reception}
 use Rattle.nx_sync.specs.declared.step.Role.{Role}
 use Rattle.nx_sync.specs.declared.step.Role.TheVariants.{Dx, Rx}

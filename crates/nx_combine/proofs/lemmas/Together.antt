@@ -20,7 +20,7 @@ use Rattle.nx_combine.specs.Laws.{joined_where}
 use Rattle.nx_combine.specs.PositionEnds.{end_of, ending_by, has_ended, up_to_end}
 use Rattle.nx_combine.proofs.lemmas.Invented.{split_where}
 use Rattle.nx_combine.proofs.lemmas.Joined.{slice_get-joined}
-use Rattle.nx_combine.proofs.lemmas.ReadOn.{ending-positions, text_of}
+use Rattle.nx_combine.specs.private.laws.ReadOn.{ending-positions, text_of}
 use Rattle.nx_combine.proofs.lemmas.Whole.{any_identity, ended}
 
 -- One of two that are heard of what was sent has it: so has the joined list.

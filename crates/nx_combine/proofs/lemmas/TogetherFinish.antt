@@ -2,6 +2,8 @@
 -- text of a lock that is over ends.
 use Rattle.std.proofs.Common.{◌≡◌, ℕ, Bool, true, false, List, [], ◌∷◌, ◌++◌, Option, None, Some, cond}
 use Rattle.std.proofs.Common.{refl, sym, ap, ◌∙◌, subst, append-nil}
+use Rattle.std.specs.List.{All}
+use Rattle.std.proofs.lemmas.List.Elements.{All-head}
 use Rattle.nx_code.specs.Lists.{last_of}
 use Rattle.nx_envelope.specs.Finder.{is_ready, is_ready_copy}
 use Rattle.nx_memory.specs.Memory.{most_entries}
@@ -19,8 +21,10 @@ use Rattle.nx_copies.specs.hearing.CopyHearing.{CopyHearing, in_force}
 use Rattle.nx_copies.specs.hearing.CopyTaker.{hearer_of}
 use Rattle.nx_copies.proofs.lemmas.copy_hearer.Takes.{none_ready}
 use Rattle.nx_receiver.specs.Receiver.{headed_list}
-use Rattle.nx_combine.specs.CombinedHearing.{CombinedOver, CombinedStands, LockHeard}
-use Rattle.nx_combine.specs.CombinedReceiver.{AwaitsAfterAll, CombiningReceiver}
+use Rattle.nx_combine.specs.CombinedHearing.{AllHeard, CombinedOver, CombinedStands, LockHeard}
+use Rattle.nx_combine.specs.CombinedHearing.{copies_of}
+use Rattle.nx_combine.specs.CombinedPrinting.{PrintsCombinedToEnd}
+use Rattle.nx_combine.specs.CombinedReceiver.{AwaitsAfterAll, CombiningReceiver, HasJudged}
 use Rattle.nx_combine.specs.CombinedReceiver.{JudgesNext, StandsAfterAll, hearer_in, judged_none}
 use Rattle.nx_combine.specs.CombinedReceiver.{text_in}
 use Rattle.nx_combine.specs.CopyPositions.{HeardCopy}
@@ -28,6 +32,7 @@ use Rattle.nx_combine.specs.Judging.{Judged, StandsCombined, judged_behind}
 use Rattle.nx_combine.specs.Notes.{noted}
 use Rattle.nx_combine.specs.declared.taker.CombinedTaker.{CombinedTaker}
 use Rattle.nx_combine.proofs.lemmas.JudgedOn.{has_judged_next}
+use Rattle.nx_combine.proofs.lemmas.TogetherHears.{printed_to_end}
 
 -- the copy that the finder had, if it had one, was judged, and brought this head
 pub record IsJudgedReady {M : Type 0} (content : M → List MemoryEntry)
@@ -54,6 +59,13 @@ some_ready held.Nothing text kept one is = absurd (cc)
 some_ready (held.Open identity fresh) text kept one is = absurd (cc)
 some_ready (held.Ready identity how) text kept one is = refl
 
+-- and it has no second one
+one_ready : (copy : HeldCopy) (text : List ℕ) (kept : CopyTag) (one other : TaggedCopy)
+    (more : List TaggedCopy) → ready_in copy text kept ≡ one ∷ other ∷ more → ⊥
+one_ready held.Nothing text kept one other more is = cc
+one_ready (held.Open identity fresh) text kept one other more is = cc
+one_ready (held.Ready identity how) text kept one other more is = cc
+
 module _ {M : Type 0} (content : M → List MemoryEntry) (start : Start) (history : List Event)
     (log : List TaggedCopy) where
   -- a copy that was over alone was judged
@@ -76,28 +88,37 @@ module _ {M : Type 0} (content : M → List MemoryEntry) (start : Start) (histor
       }
 
   -- where no copy was ready, nothing was judged
+  none_judged : (old new : CombiningReceiver M) (head : Option EntryHead)
+      (copies : List HeardCopy)
+      → IsJudgedReady content old new head → ready_copies (hearer_in old) ≡ []
+      → HasJudged content start old copies log
+      → HasJudged content start new copies (log ++ headed_list head (text_in new))
+  none_judged old new head copies is unready was =
+      let none = is.none unready in
+      let nothing : headed_list head (text_in new) ≡ [] =
+      ap (λ o. headed_list o (text_in new)) none.0 in
+      record {
+        printed = ap (λ l. log ++ l) nothing ∙ append-nil log ∙ was.printed;
+        memory = ap content none.1 ∙ was.memory;
+        combiner = subst (λ v. StandsCombined v
+            (judged_behind (judged_none start.entries) copies).families
+            (judged_behind (judged_none start.entries) copies).printed) (sym none.2)
+            was.combiner;
+      }
+
   none_done : (old new : CombiningReceiver M) (head : Option EntryHead)
       → IsJudgedReady content old new head → is_ready old.taker.copies.reader.finder ≡ false
       → StandsAfterAll content start old history log
       → StandsAfterAll content start new history (log ++ headed_list head (text_in new))
   none_done old new head is unready s =
       let finder = old.taker.copies.reader.finder in
-      let none = is.none (none_ready finder.copy finder.text old.taker.copies.tag unready) in
       let same : hearer_in new ≡ hearer_in old = rw (is.taker, is.synchroniser) refl in
-      let nothing : headed_list head (text_in new) ≡ [] =
-      ap (λ o. headed_list o (text_in new)) none.0 in
       record {
         copies = s.copies;
         stands = rw (is.taker, is.synchroniser) s.stands;
         force = ap in_force same ∙ s.force;
-        judged = record {
-          printed = ap (λ l. log ++ l) nothing ∙ append-nil log ∙ s.judged.printed;
-          memory = ap content none.1 ∙ s.judged.memory;
-          combiner = subst (λ v. StandsCombined v
-              (judged_behind (judged_none start.entries) s.copies).families
-              (judged_behind (judged_none start.entries) s.copies).printed) (sym none.2)
-              s.judged.combiner;
-        };
+        judged = none_judged old new head s.copies is
+            (none_ready finder.copy finder.text old.taker.copies.tag unready) s.judged;
       }
 
   -- the text of a lock that was over alone ended, and what stood open in it was judged
@@ -190,3 +211,44 @@ module _ {M : Type 0} (content : M → List MemoryEntry) (start : Start) (histor
           combiner = judged.combiner;
         };
       }
+
+  -- where all elements ended, what was ready then was judged behind the others
+  last_judged : (old new : CombiningReceiver M) (head : Option EntryHead)
+      (copies last : List HeardCopy)
+      → IsJudgedReady content old new head → ready_copies (hearer_in old) ≡ copies_of last
+      → All (λ one. old.taker.notes.positions ≡ noted one.positions) last
+      → HasJudged content start old copies log
+      → HasJudged content start new (copies ++ last) (log ++ headed_list head (text_in new))
+  last_judged old new head copies [] is ready positions was =
+      subst (λ all. HasJudged content start new all (log ++ headed_list head (text_in new)))
+      (sym (append-nil copies)) (none_judged old new head copies is ready was)
+  last_judged old new head copies (one ∷ []) is ready positions was =
+      has_judged_next content start old new copies log (headed_list head (text_in new)) one was
+      (is.judged (judged_behind (judged_none start.entries) copies) one ready
+      (All-head (λ heard. old.taker.notes.positions ≡ noted heard.positions) one [] positions)
+      was.memory was.combiner)
+  last_judged old new head copies (one ∷ other ∷ more) is ready positions was =
+      let finder = old.taker.copies.reader.finder in
+      absurd (one_ready finder.copy finder.text old.taker.copies.tag one.copy other.copy
+      (copies_of more) ready)
+
+  pub all_done : (old new : CombiningReceiver M) (closed : CombinedTaker)
+      (head : Option EntryHead) (given : List TaggedCopy)
+      → ((first : Setting) (bits : List Bool) (settings : List Setting) (copies : List HeardCopy)
+      → CombinedStands first old.synchroniser old.taker bits settings copies
+      → AllHeard first old.synchroniser closed bits settings copies)
+      → IsJudgedReady content (with_its old closed) new head
+      → given ≡ headed_list head (text_in new)
+      → StandsAfterAll content start old history log
+      → PrintsCombinedToEnd start history (log ++ given)
+  all_done old new closed head given ends is same s =
+      let first = first_setting start in
+      let all = ends first (elements_among history) (settings first history) s.copies s.stands in
+      let judged = last_judged (with_its old closed) new head s.copies all.last is all.ready
+      all.positions (record {
+        printed = s.judged.printed;
+        memory = s.judged.memory;
+        combiner = s.judged.combiner;
+      }) in
+      printed_to_end start history (s.copies ++ all.last) (log ++ given) all.all
+      (ap (λ l. log ++ l) same ∙ judged.printed)

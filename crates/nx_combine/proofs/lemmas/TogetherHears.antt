@@ -15,8 +15,8 @@ use Rattle.nx_copies.specs.hearing.CopyHearer.{all_in_force}
 use Rattle.nx_copies.proofs.lemmas.copy_hearer.Packed.{all_is}
 use Rattle.nx_receiver.specs.ChannelReceiver.{HandsOutNoneBeforeBy, HearsUpToBy}
 use Rattle.nx_receiver.proofs.lemmas.receiver.Events.{bits_of-more, force-more, settings-more}
-use Rattle.nx_combine.specs.CombinedHearing.{HaveBeenHeard, heard_by}
-use Rattle.nx_combine.specs.CombinedPrinting.{HasPrintedCombined, printed_combined}
+use Rattle.nx_combine.specs.CombinedHearing.{HaveAllBeenHeard, HaveBeenHeard, heard_by}
+use Rattle.nx_combine.specs.CombinedPrinting.{PrintsCombinedToEnd, printed_combined}
 use Rattle.nx_combine.specs.CombinedReceiver.{AwaitsAfterAll, AwaitsTogether, CombiningReceiver}
 use Rattle.nx_combine.specs.CombinedReceiver.{StandsAfterAll, combined_kind, hearer_in}
 use Rattle.nx_combine.specs.CombinedTaker.{Hears}
@@ -24,6 +24,7 @@ use Rattle.nx_combine.specs.CopyPositions.{HeardCopy, heard_copies}
 use Rattle.nx_combine.specs.Families.{combined_copies}
 use Rattle.nx_combine.specs.Judging.{all_copies}
 use Rattle.nx_combine.specs.declared.taker.CombinedTaker.{CombinedTaker}
+use Rattle.nx_combine.specs.private.CombiningLaws.{printed_of_heard}
 use Rattle.nx_combine.proofs.lemmas.Hearing.{hears_heard}
 
 -- the receiver with another synchroniser and taker
@@ -67,15 +68,15 @@ together_on content old held taker bits answer hears start events log s =
     subst (λ now. AwaitsTogether content start new (elements_among all) (settings first all) now log
     answer) (sym (force-more first events bits)) t
 
--- what is printed of copies that were heard
-pub printed_of_heard : (start : Start) (events : List Event) (copies : List HeardCopy)
+-- what is printed of copies that were heard, to the end
+pub printed_to_end : (start : Start) (events : List Event) (copies : List HeardCopy)
     (log : List TaggedCopy)
-    → HaveBeenHeard (first_setting start) (elements_among events)
+    → HaveAllBeenHeard (first_setting start) (elements_among events)
     (settings (first_setting start) events) copies
     → log ≡ all_copies (printed_combined start.entries [] (combined_copies [] copies))
-    → HasPrintedCombined start events log
+    → PrintsCombinedToEnd start events log
 unfolding heard_copies heard_by
-printed_of_heard start events copies log heard printed = record {
+printed_to_end start events copies log heard printed = record {
   locks = heard.locks;
   now = heard.now;
   stands = heard.stands;
@@ -84,7 +85,7 @@ printed_of_heard start events copies log heard printed = record {
       heard.heard;
 }
 
--- and nothing was printed before the last of them
+-- and nothing was printed before the last of the elements
 together_before : {M : Type 0} (content : M → List MemoryEntry) (old : CombiningReceiver M)
     (held : Held) (taker : CombinedTaker) (bits : List Bool) (n : ℕ) (answer : Option Over)
     → n ≤ length bits → Hears old.synchroniser old.taker (take n bits) held taker answer

@@ -26,7 +26,7 @@ use Rattle.nx_combine.specs.Joining.{joined}
 use Rattle.nx_combine.specs.Laws.{AreAllTakenAlike, AreTakenAlike, IsWhole, LosesNoIdle, joined_where}
 use Rattle.nx_combine.specs.PositionEnds.{closed, ending_by, has_ended, raw_text_of}
 use Rattle.nx_combine.proofs.lemmas.Joined.{length-joined, slice_get-joined}
-use Rattle.nx_combine.proofs.lemmas.ReadOn.{ending-more, ending-positions, text_of}
+use Rattle.nx_combine.specs.private.laws.ReadOn.{ending-more, ending-positions, text_of}
 use Rattle.nx_combine.proofs.lemmas.Worse.{combination_stays}
 
 -- An asterisk in a text that ends full is an error of it.

@@ -5,8 +5,8 @@ use Rattle.nx_code.specs.declared.shifts.Shift.{Shift}
 use Rattle.nx_envelope.specs.Finder.{is_over}
 use Rattle.nx_envelope.specs.declared.found.TextEvent.{TextEvent}
 use Rattle.nx_envelope.specs.declared.found.TextEvent.TheVariants as events
-use Rattle.nx_combine.proofs.lemmas.ReadOn.{IsRead, begins_reading, reads_all, reads_byte, reads_last}
-use Rattle.nx_combine.proofs.lemmas.ReadOn.{reads_silent}
+use Rattle.nx_combine.specs.private.laws.ReadOn.{IsRead, begins_reading, reads_all, reads_byte, reads_last}
+use Rattle.nx_combine.specs.private.laws.ReadOn.{reads_silent}
 use Rattle.nx_combine.proofs.reading.read_positions.Goals as goal
 use Rattle.nx_combine.proofs.reading.read_positions.Goals.{in-Some+else-is_over, in_default}
 

@@ -1,4 +1,4 @@
-use Rattle.nx_combine.proofs.lemmas.ReadOn.{HasReadOn}
+use Rattle.nx_combine.specs.private.laws.ReadOn.{HasReadOn}
 use Rattle.nx_combine.proofs.reading.read_positions.Given as goal
 
 abbrev pub invariant-loop-index : goal.invariant-loop-index

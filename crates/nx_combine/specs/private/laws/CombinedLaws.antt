@@ -36,8 +36,8 @@ use Rattle.nx_copies.specs.copies.Log.{IsUpTo}
 use Rattle.nx_copies.specs.copies.Printing.{is_better}
 use Rattle.nx_copies.proofs.lemmas.printing.Laws.{IsCopyUpTo, IsSetUpTo, at-up_to, settings-up_to}
 use Rattle.nx_combine.specs.CombinedPrinting.{is_printed_combined}
-use Rattle.nx_combine.proofs.lemmas.Heard.{found-ended, found_of}
-use Rattle.nx_combine.proofs.lemmas.PlacedGrow.{placed_go_on}
+use Rattle.nx_combine.specs.private.laws.Heard.{found-ended, found_of}
+use Rattle.nx_combine.specs.private.laws.PlacedGrow.{placed_go_on}
 
 -- combined copies of more copies come behind those of the first
 combined-on : (families : List Family) (xs ys : List HeardCopy)

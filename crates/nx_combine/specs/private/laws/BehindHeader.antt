@@ -22,8 +22,8 @@ use Rattle.nx_envelope.specs.Copies.{less_newline, raw_text}
 use Rattle.nx_envelope.specs.declared.identity.Identity.{Identity}
 use Rattle.nx_combine.specs.CopyPositions.{behind_header, positions_for}
 use Rattle.nx_combine.specs.PositionEnds.{raw_text_of}
-use Rattle.nx_combine.proofs.lemmas.AfterHeader.{long_enough}
-use Rattle.nx_combine.proofs.lemmas.PositionsFor.{is-first, prints_enough}
+use Rattle.nx_combine.specs.private.laws.AfterHeader.{long_enough}
+use Rattle.nx_combine.specs.private.laws.PositionsFor.{is-first, prints_enough}
 
 -- A digit is printed in figures, and leaves them.
 

@@ -26,9 +26,9 @@ use Rattle.nx_combine.specs.CombinedTaker.{open_positions}
 use Rattle.nx_combine.specs.CopyPositions.{LockPositions, behind_header, positions_for, positions_in_lost}
 use Rattle.nx_combine.specs.CopyPositions.{positions_in_past, positions_of}
 use Rattle.nx_combine.specs.PositionEnds.{end_of, has_ended, raw_text_of, up_to_end}
-use Rattle.nx_combine.proofs.lemmas.BehindHeader.{raw-behind_header, within}
-use Rattle.nx_combine.proofs.lemmas.PositionsFor.{first, first-is, is-first, positions_for-more}
-use Rattle.nx_combine.proofs.lemmas.ReadOn.{ending-more}
+use Rattle.nx_combine.specs.private.laws.BehindHeader.{raw-behind_header, within}
+use Rattle.nx_combine.specs.private.laws.PositionsFor.{first, first-is, is-first, positions_for-more}
+use Rattle.nx_combine.specs.private.laws.ReadOn.{ending-more}
 
 -- each header of a text stands in it
 headers_stand : (text : List ℕ) → All (StandsIn text) (headers text)

@@ -22,7 +22,7 @@ use Rattle.nx_combine.specs.CombinedHearing.{copies_of, heard_by}
 use Rattle.nx_combine.specs.CopyPositions.{LockPositions, PlacedCopy, ended_placed}
 use Rattle.nx_combine.specs.CopyPositions.{lock_bytes, past_placed, placed, positions_in_past, positions_of}
 use Rattle.nx_envelope.specs.Header.{Header}
-use Rattle.nx_combine.proofs.lemmas.PlacedGrow.{placed_as}
+use Rattle.nx_combine.specs.private.laws.PlacedGrow.{placed_as}
 
 -- the copies that were found, without their positions
 abbrev pub found_of : List PlacedCopy → List FoundCopy

@@ -24,10 +24,10 @@ use Rattle.nx_envelope.specs.declared.identity.Identity.{Identity}
 use Rattle.nx_envelope.proofs.lemmas.copies.RawTexts.{ended_stays}
 use Rattle.nx_station.specs.Broadcast.{header}
 use Rattle.nx_combine.specs.PositionEnds.{HasRead, closed, end_of, ending_by, has_ended, raw_text_of}
-use Rattle.nx_combine.proofs.lemmas.AfterHeader.{IsOpenBehind, ending-behind, first_header}
-use Rattle.nx_combine.proofs.lemmas.AfterHeader.{open_behind-keeps, open_behind-nil, raw-behind}
-use Rattle.nx_combine.proofs.lemmas.AfterHeader.{unended_behind}
-use Rattle.nx_combine.proofs.lemmas.Ends.{end_of-first, end_of-none}
+use Rattle.nx_combine.specs.private.laws.AfterHeader.{IsOpenBehind, ending-behind, first_header}
+use Rattle.nx_combine.specs.private.laws.AfterHeader.{open_behind-keeps, open_behind-nil, raw-behind}
+use Rattle.nx_combine.specs.private.laws.AfterHeader.{unended_behind}
+use Rattle.nx_combine.specs.private.laws.Ends.{end_of-first, end_of-none}
 
 -- the text of the first positions
 abbrev pub text_of : List Reception → ℕ → List ℕ

@@ -9,7 +9,7 @@ use Rattle.nx_code.specs.Reading.{Reception, shift_after_all, text}
 use Rattle.nx_code.specs.declared.shifts.Shift.TheVariants.{Letters}
 use Rattle.nx_code.proofs.lemmas.Reading.{text-append}
 use Rattle.nx_combine.specs.CopyPositions.{positions_for}
-use Rattle.nx_combine.proofs.lemmas.Ends.{find-none, find-some}
+use Rattle.nx_combine.specs.private.laws.Ends.{find-none, find-some}
 
 -- so many of the numbers, from the first on, don't pass, and the next one does, if there is one
 pub record IsFirst (p : ℕ → Bool) (n k : ℕ) : Type 0 where

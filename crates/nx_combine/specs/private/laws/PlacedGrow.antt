@@ -28,7 +28,7 @@ use Rattle.nx_combine.specs.CombinedTaker.{positions_after}
 use Rattle.nx_combine.specs.CopyPositions.{LockPositions, PlacedCopy, ended_placed, lock_bytes}
 use Rattle.nx_combine.specs.CopyPositions.{lock_positions, past_placed, placed, positions_in_past}
 use Rattle.nx_combine.specs.CopyPositions.{positions_of, standing_placed}
-use Rattle.nx_combine.proofs.lemmas.EndedPositions.{EndedIn, all_ended, past-ended, positions_of-more}
+use Rattle.nx_combine.specs.private.laws.EndedPositions.{EndedIn, all_ended, past-ended, positions_of-more}
 
 -- a copy of a lock with this text and these positions
 abbrev pub placed_as : (LockPositions → Header → List Reception) → List PlacedByte → LockPositions
