@@ -20,8 +20,11 @@ use Rattle.nx_log.specs.declared.log_fault.LogFault.{LogFault}
 use Rattle.nx_log.specs.declared.queries.query.Query.{Query}
 use Rattle.nx_log.specs.declared.writing.form.Form.{Form}
 use Rattle.nx_copies.specs.copies.Shares.{all_at_zero}
+use Rattle.nx_combine.specs.CombinedPrinting.{combined}
+use Rattle.nx_receiver.specs.air_file_runs.Listen.{ListensBy}
 use Rattle.nx_receiver.specs.air_file_runs.ListenOnce.{ListensOnce}
 use Rattle.nx_receiver.specs.air_file_runs.Resume.{ReadStateAlone, Resumes}
+use Rattle.nx_receiver.specs.declared.air_file_runs.listening.Report.{Report}
 use Rattle.nx_receiver.specs.declared.air_file_runs.listen_fault.ListenFault.{ListenFault}
 use Rattle.nx_receiver.specs.declared.air_file_runs.listen_fault.ListenFault.TheVariants as listen
 use Rattle.nx_receiver.specs.declared.air_file_runs.resume_fault.ResumeFault.{ResumeFault}
@@ -34,6 +37,8 @@ use Rattle.nx_fec.specs.declared.fault.RunFault.{RunFault}
 use Rattle.nx_fec.specs.declared.fault.RunFault.TheVariants as run
 use Rattle.nx_station.specs.Slots.{HasNoSlot, IsNextSlot}
 use Rattle.nx_program.specs.declared.arguments.Call.{Call}
+use Rattle.nx_program.specs.declared.arguments.Sendings.{Sendings}
+use Rattle.nx_program.specs.declared.arguments.Sendings.TheVariants.{Alone, Together}
 use Rattle.nx_program.specs.declared.arguments.Call.TheVariants.{Check, Code, Decode, Encode, Listen}
 use Rattle.nx_program.specs.declared.arguments.Call.TheVariants.{Log as LogCall, Show}
 use Rattle.nx_program.specs.declared.arguments.Call.TheVariants.{Damage, Locks, Resume, Save, Send}
@@ -121,6 +126,13 @@ ReadsStateBeforeWant d own =
     → (states : SavedStates) × ReadStateAlone d.remaining d.reader d.reader_after states
     × (d.writer_after ≡ d.writer)
 
+-- a run that listens, and takes the sendings of a message so: each copy by itself, with both halves
+-- of the headline; or all together
+abbrev pub ListensTaking : {R W : Type 0} → Sendings → Devices R W → Result Report ListenFault
+    → Type 0
+ListensTaking Alone d own = ListensOnce all_at_zero d own
+ListensTaking Together d own = ListensBy combined all_at_zero d own
+
 -- The call did on its input and its output what its outcome says. What stands on the output behind
 -- what stood there is what the call wrote, and nothing before it, nor behind it. A watch and a run
 -- over a log tell something on standard error too, and are none of these calls.
@@ -135,7 +147,7 @@ PerformsOnStreams Show d outcome = Tells (λ why. call.Run why) (Shows d) outcom
 PerformsOnStreams Check d outcome = Tells (λ why. call.Check why) (Checks d) outcome
 PerformsOnStreams (Listen sendings) d outcome =
     Tells (λ why. call.Listen why)
-    (λ own. ListensOnce all_at_zero d own × IsUntouchedByWant d own) outcome
+    (λ own. ListensTaking sendings d own × IsUntouchedByWant d own) outcome
 PerformsOnStreams Resume d outcome =
     Tells (λ why. call.Resume why) (λ own. Resumes Log d own × ReadsStateBeforeWant d own) outcome
 PerformsOnStreams Save d outcome =

@@ -1,7 +1,8 @@
 //! The program without its process.
 
-ghost use Rattle.std.specs.Prelude.{◌≡◌, ◌≢◌, ◌⊎◌, ◌∷◌, [], IfNone, IfOk, IfSome, List, MatchResult, None, Option, map, string_bytes, ℕ};
-ghost use Rattle.nx_program.specs.Program.{EndsLog, EndsRun, Exits, NamesTelling, Performs, PerformsOnStreams, RunsOverInput};
+ghost use Rattle.std.specs.Prelude.{◌≡◌, ◌≢◌, ◌⊎◌, ◌∷◌, [], Err, IfNone, IfOk, IfSome, List, MatchResult, None, Option, map, string_bytes, ℕ};
+ghost use Rattle.nx_program.specs.Program.{EndsLog, EndsRun, Exits, ListensTaking, NamesTelling, Performs, PerformsOnStreams, RunsOverInput};
+ghost use Rattle.nx_receiver.specs.declared.air_file_runs.listen_fault.ListenFault.TheVariants.{Memory as ListenMemory};
 ghost use Rattle.nx_program.specs.private.LogReading.{IsReadable};
 ghost use Rattle.nx_program.specs.Program.{Succeeds, WritesText, fresh_device, version_text};
 ghost use Rattle.nx_program.specs.Report.{Answers, IsFaultLine, IsWantOfArguments, LacksArguments, WritesOne};
@@ -16,7 +17,7 @@ ghost use Rattle.nx_fec.specs.Transfers.{CountedDevice, devices};
 ghost use Rattle.nx_fec.specs.texts.TableText.{table_text};
 ghost use Rattle.nx_program.specs.declared.arguments.Call.{Call};
 
-use crate::arguments::{ArgumentsFault, Call, call_of};
+use crate::arguments::{ArgumentsFault, Call, Sendings, call_of};
 use crate::commands::VERSION;
 use crate::fault::{CallFault, Fault};
 use crate::file_name::FileName;
@@ -24,12 +25,13 @@ use crate::log_arguments::ReadAs;
 use crate::slots::print_slot;
 use crate::watch_command::{LogFiles, NoFile, NoFiles, watch_log};
 use arrayvec::ArrayVec;
+use nx_combine::listen_combined;
 use nx_disk::Noted;
 use nx_fec::{Counting, RunFault, decode_run, encode_run, show_run, write_out, write_table};
 use nx_kept::DiskFile;
 use nx_locks::locks;
 use nx_log::{Form, LogFault, Query, kept_run, log_run};
-use nx_receiver::{Want, listen, resume};
+use nx_receiver::{ListenFault, Report, Want, listen, resume};
 use nx_station::{check_run, damage, send};
 use nx_watch::StampedReader;
 use std::alloc::{AllocError, Global};
@@ -48,6 +50,26 @@ fn print_code<W: Write>(writer: &mut Counting<W>) -> Result<(), RunFault>
 {
     write_table(writer)?;
     Ok(())
+}
+
+/// Listens to an air file, and takes the sendings of a message so.
+fn listen_taking<R: Read, W: Write>(
+    alloc: Global,
+    sendings: Sendings,
+    reader: &mut Counting<R>,
+    writer: &mut Counting<W>,
+) -> Result<Report, ListenFault>
+    requires reader { reader.old.failures ≡ 0 }
+    requires writer { writer.old.failures ≡ 0 }
+    ensures listens { ListensTaking sendings
+        (devices R.remaining W.contents reader.old reader.new writer.old writer.new) result }
+    ensures memory { (error : AllocError) → result ≡ Err (ListenMemory error)
+        → (reader.new ≡ reader.old) × (writer.new ≡ writer.old) }
+{
+    match sendings {
+        Sendings::Alone => listen(alloc, reader, writer),
+        Sendings::Together => listen_combined(alloc, reader, writer),
+    }
 }
 
 /// Does what the call says, from the reader to the writer. It is neither a watch nor a run over a
@@ -79,8 +101,8 @@ fn perform<R: Read, W: Write>(
         Call::Check => {
             check_run(alloc, reader, writer)?;
         }
-        Call::Listen { sendings: _ } => {
-            listen(alloc, reader, writer)?;
+        Call::Listen { sendings } => {
+            listen_taking(alloc, sendings, reader, writer)?;
         }
         Call::Watch { .. } => unreachable!(),
         Call::Resume => {

@@ -1,5 +1,6 @@
 //! `listen` on a whole file, on a part of one, on faulty ones and on devices that fail.
 
+mod combining;
 mod copies;
 mod locking;
 mod repeats;

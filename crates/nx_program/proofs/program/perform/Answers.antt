@@ -4,11 +4,9 @@ use Rattle.nx_fec.specs.Transfers.{devices}
 use Rattle.nx_station.specs.Damage.{Damages}
 use Rattle.nx_station.specs.FileSending.{Sends}
 use Rattle.nx_locks.specs.Run.{ShowsLocks}
-use Rattle.nx_receiver.specs.air_file_runs.ListenOnce.{ListensOnce}
 use Rattle.nx_receiver.specs.air_file_runs.Resume.{Resumes}
-use Rattle.nx_copies.specs.copies.Shares.{all_at_zero}
 use Rattle.nx_receiver.specs.declared.air_file_runs.resume_fault.Want.TheVariants.{Log, State}
-use Rattle.nx_program.specs.Program.{IsUntouchedByWant, PerformsOnStreams, ReadsStateBeforeWant}
+use Rattle.nx_program.specs.Program.{IsUntouchedByWant, ListensTaking, PerformsOnStreams, ReadsStateBeforeWant}
 use Rattle.nx_program.specs.declared.fault.CallFault.TheVariants as call
 use Rattle.nx_program.specs.declared.arguments.Call.{Call}
 use Rattle.nx_program.proofs.lemmas.outcomes.Program.{tells-err, tells-ok, untouched}
@@ -70,28 +68,28 @@ returns-in_ok-damage-in-Damage g c =
     }) d)
     c.in_ok-damage-in-Damage.field-0 c.in_ok-damage-in-Damage.ensures)
 
-pub returns-in_ok-listen-in-Listen : goal.returns-in_ok-listen-in-Listen
-returns-in_ok-listen-in-Listen g c =
-    let own = c.in_ok-listen-in-Listen in
-    let d = devices g.R.Read.remaining g.W.Write.contents c.args.reader.now c.listen.new.reader
-    c.args.writer.now c.listen.new.writer in
+pub returns-in_ok-listen_taking-in-Listen : goal.returns-in_ok-listen_taking-in-Listen
+returns-in_ok-listen_taking-in-Listen g c =
+    let own = c.in_ok-listen_taking-in-Listen in
+    let d = devices g.R.Read.remaining g.W.Write.contents c.args.reader.now c.listen_taking.new.reader
+    c.args.writer.now c.listen_taking.new.writer in
     let P : Call → Type 0 = λ call. PerformsOnStreams call d (Ok tt) in
     subst P (sym c.in-Listen.is)
-    (tells-ok (λ why. call.Listen why) (λ own. ListensOnce all_at_zero d own
+    (tells-ok (λ why. call.Listen why) (λ own. ListensTaking c.in-Listen.sendings d own
     × IsUntouchedByWant d own)
     own.field-0
     (own.ensures.listens, untouched d (Ok own.field-0) own.ensures.memory))
 
-pub returns-in_err-listen-in-Listen : goal.returns-in_err-listen-in-Listen
-returns-in_err-listen-in-Listen g c =
-    let own = c.in_err-listen-in-Listen in
-    let d = devices g.R.Read.remaining g.W.Write.contents c.args.reader.now c.listen.new.reader
-    c.args.writer.now c.listen.new.writer in
-    let outcome = c.from_residual-in_err-listen-in-Listen.result in
-    let p = err_from_is_err_and outcome c.from_residual-in_err-listen-in-Listen.ensures.1 in
+pub returns-in_err-listen_taking-in-Listen : goal.returns-in_err-listen_taking-in-Listen
+returns-in_err-listen_taking-in-Listen g c =
+    let own = c.in_err-listen_taking-in-Listen in
+    let d = devices g.R.Read.remaining g.W.Write.contents c.args.reader.now c.listen_taking.new.reader
+    c.args.writer.now c.listen_taking.new.writer in
+    let outcome = c.from_residual-in_err-listen_taking-in-Listen.result in
+    let p = err_from_is_err_and outcome c.from_residual-in_err-listen_taking-in-Listen.ensures.1 in
     let P : Call → Type 0 = λ call. PerformsOnStreams call d outcome in
     subst P (sym c.in-Listen.is)
-    (tells-err (λ why. call.Listen why) (λ own. ListensOnce all_at_zero d own
+    (tells-err (λ why. call.Listen why) (λ own. ListensTaking c.in-Listen.sendings d own
     × IsUntouchedByWant d own)
     outcome own.field-0.0 p.0
     (own.ensures.listens, untouched d (Err own.field-0.0) own.ensures.memory) p.1 p.2)
