@@ -1,6 +1,7 @@
 //! Several sendings of a message taken together, position by position.
 #![tactic(auto)]
 
+mod channel_receiver;
 mod combiner;
 mod combining;
 mod families;

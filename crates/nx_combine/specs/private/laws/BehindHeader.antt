@@ -5,8 +5,7 @@ use Rattle.std.proofs.Common.{refl, sym, ap, ◌∙◌, subst, arith, inl, inr, 
 use Rattle.std.proofs.Common.{length-append, replicate, ltb, get_or}
 use Rattle.std.specs.Option.{option_to_list}
 use Rattle.std.specs.Prelude.{◌==◌}
-use Rattle.std.proofs.lemmas.Bool.{agree_below_at, cases_lt, leb-true, le-leb}
-use Rattle.std.proofs.lemmas.Bool.Decides.{nat_tests}
+use Rattle.std.proofs.lemmas.Bool.{agree_below_at, cases_lt, leb-true, le-leb, ne_eqb}
 use Rattle.std.proofs.lemmas.List.{take-append-drop, take_all}
 use Rattle.std.proofs.lemmas.List.{length-take}
 use Rattle.std.proofs.lemmas.Option.{slice_get_past}
@@ -61,7 +60,7 @@ no_row zero h = absurd (omega (arith, h))
 no_row (suc n) h = slice_get_past (take 32 table) n (omega (arith, h))
 
 not_equal : (n m : ℕ) → m < n → (n == m) ≡ false
-not_equal n m h = grind (arith, nat_tests)
+not_equal n m h = ne_eqb n m (λ is. omega (arith, is, h))
 
 none_printed : (n : ℕ) (shift : Shift) → 36 ≤ n → character_of n shift ≡ None
 unfolding character_of
