@@ -144,7 +144,8 @@ CommandRow = Text × Maker
 abbrev pub command_rows : List CommandRow
 command_rows =
     (codes "listen", by_sendings Listen) ∷ (codes "watch", on_file Watch)
-    ∷ (codes "log", options Log) ∷ (codes "send", slot Send) ∷ (codes "resume", plain Resume) ∷ (codes "save", plain Save)
+    ∷ (codes "log", options Log) ∷ (codes "send", slot Send)
+    ∷ (codes "resume", plain Resume) ∷ (codes "save", plain Save)
     ∷ (codes "locks", plain Locks) ∷ (codes "slots", slot Slots)
     ∷ (codes "check", plain Check) ∷ (codes "damage", range Damage)
     ∷ (codes "decode", plain Decode) ∷ (codes "encode", plain Encode) ∷ (codes "show", plain Show)

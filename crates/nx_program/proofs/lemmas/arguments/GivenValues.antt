@@ -1,5 +1,5 @@
--- The row of a value that the command line gives once, as it is written, and that of a flag which it
--- doesn't give.
+-- The row of a value that the command line gives once, as it is written, and that of a flag which
+-- it doesn't give.
 use Rattle.std.proofs.Common.{[], ◌∷◌, Some, None, codes}
 use Rattle.clap.specs.Words.{Row, Text}
 use Rattle.clap.specs.declared.builder.value_parser.Reading.TheVariants.{AsWritten}

@@ -71,8 +71,8 @@ returns-in_ok-damage-in-Damage g c =
 pub returns-in_ok-listen_taking-in-Listen : goal.returns-in_ok-listen_taking-in-Listen
 returns-in_ok-listen_taking-in-Listen g c =
     let own = c.in_ok-listen_taking-in-Listen in
-    let d = devices g.R.Read.remaining g.W.Write.contents c.args.reader.now c.listen_taking.new.reader
-    c.args.writer.now c.listen_taking.new.writer in
+    let d = devices g.R.Read.remaining g.W.Write.contents c.args.reader.now
+    c.listen_taking.new.reader c.args.writer.now c.listen_taking.new.writer in
     let P : Call → Type 0 = λ call. PerformsOnStreams call d (Ok tt) in
     subst P (sym c.in-Listen.is)
     (tells-ok (λ why. call.Listen why) (λ own. ListensTaking c.in-Listen.sendings d own
@@ -83,8 +83,8 @@ returns-in_ok-listen_taking-in-Listen g c =
 pub returns-in_err-listen_taking-in-Listen : goal.returns-in_err-listen_taking-in-Listen
 returns-in_err-listen_taking-in-Listen g c =
     let own = c.in_err-listen_taking-in-Listen in
-    let d = devices g.R.Read.remaining g.W.Write.contents c.args.reader.now c.listen_taking.new.reader
-    c.args.writer.now c.listen_taking.new.writer in
+    let d = devices g.R.Read.remaining g.W.Write.contents c.args.reader.now
+    c.listen_taking.new.reader c.args.writer.now c.listen_taking.new.writer in
     let outcome = c.from_residual-in_err-listen_taking-in-Listen.result in
     let p = err_from_is_err_and outcome c.from_residual-in_err-listen_taking-in-Listen.ensures.1 in
     let P : Call → Type 0 = λ call. PerformsOnStreams call d outcome in
