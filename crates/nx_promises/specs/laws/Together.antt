@@ -1,0 +1,131 @@
+-- Sendings that are taken together: a channel that may lose both words of a position, and what is
+-- received of an emission through it (this profile).
+use Rattle.std.specs.Prelude.{◌≡◌, ℕ, ◌+◌, ◌-◌, ◌<◌, ◌≤◌, ◌⊎◌, Bool, List, ◌∷◌, ◌++◌, length}
+use Rattle.std.specs.Prelude.{Contains, drop, slice_get, take, Some}
+use Rattle.std.specs.List.{AllByRecursion, AllZip, flat_map}
+use Rattle.nx_code.specs.Reading.{Reception, lost}
+use Rattle.nx_code.specs.Word.{HasWrongWeight, wrong_in}
+use Rattle.nx_envelope.specs.Message.{AreLines, MessageView}
+use Rattle.nx_envelope.specs.declared.identity.Identity.{Identity}
+use Rattle.nx_fec.specs.emissions.Emission.{AreWords, SentPosition, dx_slot, position_at, reception}
+use Rattle.nx_fec.specs.emissions.Emission.{rx_slot, slots_of, traffic_position}
+use Rattle.nx_station.specs.Broadcast.{layout}
+use Rattle.nx_station.specs.reception.Path.{IsAsSent, first_slot, heard_in, message_slot, word_span}
+use Rattle.nx_station.specs.reception.Sendings.{IsSentAt, Part, ReceivedEmission, TellsMessage}
+use Rattle.nx_station.specs.reception.Sendings.{part_bits, positions_before, received, second_digit}
+use Rattle.nx_sync.specs.Locks.{IsNow, Lock, Now}
+use Rattle.nx_sync.specs.Words.{losing_count}
+use Rattle.nx_copies.specs.Events.{Setting}
+use Rattle.nx_copies.specs.copies.FoundCopies.{tag}
+use Rattle.nx_combine.specs.CopyPositions.{HeardCopy, PlacedCopy, placed_to_end}
+
+-- The emission of these positions is visible, and what is heard of it are these words, each by its
+-- number. They are the words of all slots from the first slot on to the last. In the slots before
+-- the first message each word is heard as it was sent. In each later slot it is heard as it was
+-- sent, or a word of the wrong weight is heard in its place. Of any 64 successive words, fewer are
+-- wrong than lose a lock. There those before the first message count as right, so this is said of
+-- up to 64 words from there on. Nothing is said of single positions: both words of one may be lost.
+pub record IsVisible (positions : List SentPosition) (heard : List ℕ) : Type 0 where
+  pub words : AreWords heard
+  pub whole : first_slot + length heard ≡ slots_of positions
+  pub phasing : (slot : ℕ) → first_slot ≤ slot → slot < message_slot
+      → IsAsSent positions heard slot
+  pub later : (slot : ℕ) → message_slot ≤ slot → slot < slots_of positions
+      → IsAsSent positions heard slot ⊎ HasWrongWeight (heard_in heard slot)
+  pub few : (slot n : ℕ) → message_slot ≤ slot → n ≤ word_span → slot + n ≤ slots_of positions
+      → wrong_in (heard_in heard) slot n < losing_count
+
+-- the messages have good lines, these combinations tell them, and their emission is visible as
+-- these words
+pub record IsSeen (emission : ReceivedEmission) : Type 0 where
+  pub sound : AllByRecursion (λ (message : MessageView). AreLines message.lines) emission.messages
+  pub told : AllZip TellsMessage emission.messages emission.spellings
+  pub visible : IsVisible (layout emission.spellings) emission.heard
+
+-- the bits are cut into gaps of any bits and visible emissions
+pub record IsSeenCut (bits : List Bool) (parts : List Part) : Type 0 where
+  pub whole : bits ≡ flat_map part_bits parts
+  pub each : (before : List Part) (emission : ReceivedEmission) (after : List Part)
+      → parts ≡ before ++ received emission ∷ after → IsSeen emission
+
+-- the message is sent in one of these parts in these combinations, and its header is at this place
+pub record IsSentIn (parts : List Part) (message : MessageView) (numbers : List ℕ) (at : ℕ)
+    : Type 0 where
+  pub sent : IsSentAt parts message at
+  pub spelled : slice_get sent.emission.spellings sent.index ≡ Some numbers
+
+-- how many combinations of a message stand up to the second digit of its header, it among them
+abbrev pub header_combinations : ℕ
+header_combinations = second_digit + 1
+
+-- how many follow the last N of its end: carriage return and two line feeds
+abbrev pub closing_combinations : ℕ
+closing_combinations = 3
+
+-- the combinations of a message behind the second digit of its header, up to the last N of its end
+abbrev pub behind_digit : List ℕ → List ℕ
+behind_digit numbers =
+    take (length numbers - (header_combinations + closing_combinations))
+    (drop header_combinations numbers)
+
+-- What is taken of the position of this index in an emission: what was sent in it, where one of its
+-- two words is heard as sent; and where both have the wrong weight, it is lost.
+pub data IsTakenOf (positions : List SentPosition) (heard : List ℕ) (i : ℕ) : Reception → Type 0
+  where
+    as_sent : IsAsSent positions heard (dx_slot i) ⊎ IsAsSent positions heard (rx_slot i)
+        → IsTakenOf positions heard i (reception (position_at positions i))
+    both_wrong : HasWrongWeight (heard_in heard (dx_slot i))
+        → HasWrongWeight (heard_in heard (rx_slot i)) → IsTakenOf positions heard i lost
+
+-- the index, among the positions of an emission, of the position with this index behind the second
+-- digit of one of its messages
+abbrev pub place_behind : List (List ℕ) → ℕ → ℕ → ℕ
+place_behind spellings index i =
+    positions_before (take index spellings) + header_combinations + i
+
+-- Of the positions behind the second digit of a message each one is taken of the position in which
+-- its combination was sent, as far as these go.
+pub record AreTakenOf (emission : ReceivedEmission) (index : ℕ) (numbers : List ℕ)
+    (positions : List Reception) : Type 0 where
+  pub sent : (i number : ℕ) → slice_get (behind_digit numbers) i ≡ Some number
+      → position_at (layout emission.spellings) (place_behind emission.spellings index i)
+      ≡ traffic_position number
+  pub taken : (i number : ℕ) (x : Reception) → slice_get (behind_digit numbers) i ≡ Some number
+      → slice_get positions i ≡ Some x
+      → IsTakenOf (layout emission.spellings) emission.heard
+      (place_behind emission.spellings index i) x
+
+-- The copy is found in these bits, and stands at the place of a sending of the message in these
+-- combinations.
+pub record IsCopyOf (bits : List Bool) (parts : List Part) (message : MessageView)
+    (numbers : List ℕ) (copy : PlacedCopy) : Type 0 where
+  pub cut : IsSeenCut bits parts
+  pub sending : IsSentIn parts message numbers copy.found.place
+  pub locks : List Lock
+  pub now : Now
+  pub stands : IsNow bits locks now
+  pub found : Contains (placed_to_end bits locks now) copy
+
+-- each position of the header of a message, from the letter shift before the first Z to the second
+-- digit, has one word that is heard as sent
+abbrev pub IsHeaderHeard : ReceivedEmission → ℕ → Type 0
+IsHeaderHeard emission index =
+    (i : ℕ) → i < header_combinations
+    → IsAsSent (layout emission.spellings) emission.heard
+    (dx_slot (positions_before (take index emission.spellings) + i))
+    ⊎ IsAsSent (layout emission.spellings) emission.heard
+    (rx_slot (positions_before (take index emission.spellings) + i))
+
+-- among these copies is one of this identity whose second digit stands at this place
+pub record IsFoundAt (identity : Identity) (place : ℕ) (copies : List PlacedCopy) : Type 0 where
+  pub copy : PlacedCopy
+  pub there : Contains copies copy
+  pub named : copy.found.identity ≡ identity
+  pub at : copy.found.place ≡ place
+
+-- a copy with what is in force at its second digit
+abbrev pub heard_with : Setting → PlacedCopy → HeardCopy
+heard_with setting copy = record {
+  copy = tag setting copy.found;
+  positions = copy.positions;
+}

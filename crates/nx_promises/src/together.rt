@@ -1,0 +1,54 @@
+//! Laws of several sendings that are taken together, from the words of their emissions to what is
+//! printed of them. Each function does nothing; its contract is the law.
+
+ghost use Rattle.std.specs.Prelude.{ℕ, Bool, List};
+ghost use Rattle.nx_envelope.specs.Message.{MessageView};
+ghost use Rattle.nx_station.specs.reception.Sendings.{IsReceived, Part, ReceivedEmission};
+ghost use Rattle.nx_copies.specs.laws.Emissions.{HoldsThrough};
+ghost use Rattle.nx_combine.specs.CopyPositions.{PlacedCopy};
+ghost use Rattle.nx_copies.specs.Events.{Setting};
+ghost use Rattle.nx_combine.specs.CopyPositions.{placed_to_end};
+ghost use Rattle.nx_combine.specs.Laws.{Arrives, IsHeardOf, IsNeverIdle};
+ghost use Rattle.nx_sync.specs.Locks.{IsNow, Lock, Now};
+ghost use Rattle.nx_promises.specs.laws.Together.{IsFoundAt, IsHeaderHeard, IsSeenCut, IsSentIn, heard_with};
+ghost use Rattle.nx_promises.specs.laws.Together.{AreTakenOf, IsCopyOf, IsSeen, behind_digit};
+
+/// Through a visible channel a lock holds, whatever bits came before, though both words of a
+/// position may be lost. It is the lock that the last 48 phasing words before the first message
+/// leave, and it stands to the last bit. What passes the channel is visible too.
+pub fn a_visible_emission_keeps_its_lock()
+    ensures holds { (earlier : List Bool) (emission : ReceivedEmission) → IsSeen emission
+        → HoldsThrough earlier emission.heard }
+    ensures channel { (emission : ReceivedEmission) → IsReceived emission → IsSeen emission }
+{}
+
+/// Of a copy at the place of a sending that is visible, each position behind the header is as it was
+/// sent where one of its two words is heard so, and else lost, whatever bits come before and behind,
+/// and in whichever way its lock ended. So what the copy took is what was sent, and it has nothing
+/// idle where something was sent.
+pub fn a_visible_sending_is_as_sent_or_lost()
+    ensures taken { (bits : List Bool) (parts : List Part) (message : MessageView)
+        (numbers : List ℕ) (copy : PlacedCopy) (is : IsCopyOf bits parts message numbers copy)
+        → AreTakenOf is.sending.sent.emission is.sending.sent.index numbers copy.positions }
+    ensures as_sent { (bits : List Bool) (parts : List Part) (message : MessageView)
+        (numbers : List ℕ) (copy : PlacedCopy) → IsCopyOf bits parts message numbers copy
+        → IsHeardOf (behind_digit numbers) copy.positions }
+    ensures never_idle { (bits : List Bool) (parts : List Part) (message : MessageView)
+        (numbers : List ℕ) (copy : PlacedCopy) → IsCopyOf bits parts message numbers copy
+        → IsNeverIdle (behind_digit numbers) copy.positions }
+{}
+
+/// A visible sending is found, whatever bits come before it and behind it, where each position of its
+/// header has one word that is heard as sent. There is a copy then with its identity, at its place.
+/// And a copy at the place of a visible sending arrives: where it is full, or its positions give a
+/// full text, it is what they give.
+pub fn a_visible_sending_arrives()
+    ensures found { (bits : List Bool) (parts : List Part) (message : MessageView)
+        (numbers : List ℕ) (place : ℕ) (locks : List Lock) (now : Now) → IsSeenCut bits parts
+        → (sending : IsSentIn parts message numbers place)
+        → IsHeaderHeard sending.sent.emission sending.sent.index → IsNow bits locks now
+        → IsFoundAt message.identity place (placed_to_end bits locks now) }
+    ensures arrives { (bits : List Bool) (parts : List Part) (message : MessageView)
+        (numbers : List ℕ) (copy : PlacedCopy) → IsCopyOf bits parts message numbers copy
+        → (setting : Setting) → Arrives (behind_digit numbers) (heard_with setting copy) }
+{}
