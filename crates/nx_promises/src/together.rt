@@ -1,12 +1,15 @@
 //! Laws of several sendings that are taken together, from the words of their emissions to what is
 //! printed of them. Each function does nothing; its contract is the law.
 
-ghost use Rattle.std.specs.Prelude.{ℕ, Bool, List};
+ghost use Rattle.std.specs.Prelude.{ℕ, Bool, List, [], ◌∷◌, ◌++◌};
 ghost use Rattle.nx_envelope.specs.Message.{MessageView};
 ghost use Rattle.nx_station.specs.reception.Sendings.{IsReceived, Part, ReceivedEmission};
 ghost use Rattle.nx_copies.specs.laws.Emissions.{HoldsThrough};
 ghost use Rattle.nx_combine.specs.CopyPositions.{PlacedCopy};
-ghost use Rattle.nx_copies.specs.Events.{Setting};
+ghost use Rattle.nx_copies.specs.Events.{Event, Setting, Start};
+ghost use Rattle.nx_copies.specs.copies.FoundCopies.{TaggedCopy};
+ghost use Rattle.nx_combine.specs.CombinedPrinting.{PrintsCombinedToEnd};
+ghost use Rattle.nx_promises.specs.laws.Together.{IsHeardTogether, IsPrintedWholeOnce, IsThroughWith};
 ghost use Rattle.nx_combine.specs.CopyPositions.{placed_to_end};
 ghost use Rattle.nx_combine.specs.Laws.{Arrives, IsHeardOf, IsNeverIdle};
 ghost use Rattle.nx_sync.specs.Locks.{IsNow, Lock, Now};
@@ -51,4 +54,17 @@ pub fn a_visible_sending_arrives()
     ensures arrives { (bits : List Bool) (parts : List Part) (message : MessageView)
         (numbers : List ℕ) (copy : PlacedCopy) → IsCopyOf bits parts message numbers copy
         → (setting : Setting) → Arrives (behind_digit numbers) (heard_with setting copy) }
+{}
+
+/// A message is printed whole once, letter for letter, from the bits of its sendings on, though each
+/// of them may have lost other letters; and nothing of it is printed afterwards. It is so where the
+/// sendings are visible and heard together. It is printed with the copy with which the last of its
+/// combinations came through, at the latest.
+pub fn a_message_heard_together_is_printed_whole_once()
+    ensures { (start : Start) (events : List Event) (parts : List Part) (message : MessageView)
+        (numbers : List ℕ) (heard : IsHeardTogether start events parts message numbers)
+        (came : IsThroughWith (behind_digit numbers) message.identity (heard.first ∷ heard.later))
+        (log : List TaggedCopy) → PrintsCombinedToEnd start events log
+        → IsPrintedWholeOnce message start (heard.before ++ (came.up_to ++ came.one ∷ []))
+        came.rest log }
 {}
