@@ -1,6 +1,9 @@
 //! Laws of several sendings that are taken together, from the words of their emissions to what is
 //! printed of them. Each function does nothing; its contract is the law.
 
+ghost use Rattle.nx_promises.specs.examples.Emission.{at_its_slot, heard_elements};
+ghost use Rattle.nx_promises.specs.examples.Together.{twice_heard, twice_parts};
+ghost use Rattle.nx_station.specs.reception.PathExample.{example_message, example_numbers};
 ghost use Rattle.std.specs.Prelude.{ℕ, Bool, List, [], ◌∷◌, ◌++◌};
 ghost use Rattle.nx_envelope.specs.Message.{MessageView};
 ghost use Rattle.nx_station.specs.reception.Sendings.{IsReceived, Part, ReceivedEmission};
@@ -67,4 +70,14 @@ pub fn a_message_heard_together_is_printed_whole_once()
         (log : List TaggedCopy) → PrintsCombinedToEnd start events log
         → IsPrintedWholeOnce message start (heard.before ++ (came.up_to ++ came.one ∷ []))
         came.rest log }
+{}
+
+/// What has to be met, so that a message is printed whole once, can be met where no copy is whole.
+/// EA01 with the line TEST is sent twice in one emission. In the first sending both words of its
+/// first T are lost, and in the second those of its E.
+pub fn there_is_a_message_heard_together()
+    ensures { (heard : IsHeardTogether at_its_slot (heard_elements twice_heard) twice_parts
+        example_message example_numbers)
+        × IsThroughWith (behind_digit example_numbers) example_message.identity
+        (heard.first ∷ heard.later) }
 {}
