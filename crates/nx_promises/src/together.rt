@@ -17,7 +17,7 @@ ghost use Rattle.nx_combine.specs.CopyPositions.{placed_to_end};
 ghost use Rattle.nx_combine.specs.Laws.{Arrives, IsHeardOf, IsNeverIdle};
 ghost use Rattle.nx_sync.specs.Locks.{IsNow, Lock, Now};
 ghost use Rattle.nx_promises.specs.laws.Together.{IsFoundAt, IsHeaderHeard, IsSeenCut, IsSentIn, heard_with};
-ghost use Rattle.nx_promises.specs.laws.Together.{AreTakenOf, IsCopyOf, IsSeen, behind_digit};
+ghost use Rattle.nx_promises.specs.laws.Together.{AreTakenOf, IsCopyOf, IsSeen, Reaches, behind_digit};
 
 /// Through a visible channel a lock holds, whatever bits came before, though both words of a
 /// position may be lost. It is the lock that the last 48 phasing words before the first message
@@ -31,7 +31,8 @@ pub fn a_visible_emission_keeps_its_lock()
 /// Of a copy at the place of a sending that is visible, each position behind the header is as it was
 /// sent where one of its two words is heard so, and else lost, whatever bits come before and behind,
 /// and in whichever way its lock ended. So what the copy took is what was sent, and it has nothing
-/// idle where something was sent.
+/// idle where something was sent. What one word says is taken as far as the positions reach: to the
+/// last N, but for what is left out behind a lost lock or behind an end of the text.
 pub fn a_visible_sending_is_as_sent_or_lost()
     ensures taken { (bits : List Bool) (parts : List Part) (message : MessageView)
         (numbers : List ℕ) (copy : PlacedCopy) (is : IsCopyOf bits parts message numbers copy)
@@ -42,6 +43,9 @@ pub fn a_visible_sending_is_as_sent_or_lost()
     ensures never_idle { (bits : List Bool) (parts : List Part) (message : MessageView)
         (numbers : List ℕ) (copy : PlacedCopy) → IsCopyOf bits parts message numbers copy
         → IsNeverIdle (behind_digit numbers) copy.positions }
+    ensures reaches { (bits : List Bool) (parts : List Part) (message : MessageView)
+        (numbers : List ℕ) (copy : PlacedCopy) (is : IsCopyOf bits parts message numbers copy)
+        → Reaches numbers is.locks copy }
 {}
 
 /// A visible sending is found, whatever bits come before it and behind it, where each position of its

@@ -3,7 +3,7 @@
 use Rattle.std.specs.Prelude.{◌≡◌, ℕ, ◌+◌, ◌-◌, ◌<◌, ◌≤◌, ◌⊎◌, Bool, true, false, List, [], ◌∷◌}
 use Rattle.std.specs.Prelude.{◌++◌, length, Contains, drop, slice_get, take, Some}
 use Rattle.std.specs.List.{AllByRecursion, AllZip, flat_map}
-use Rattle.nx_code.specs.Reading.{Reception, lost}
+use Rattle.nx_code.specs.Reading.{Reception, combination, lost}
 use Rattle.nx_code.specs.Word.{HasWrongWeight, wrong_in}
 use Rattle.nx_envelope.specs.Message.{AreLines, MessageView, text_of}
 use Rattle.nx_envelope.specs.declared.identity.Identity.{Identity}
@@ -15,13 +15,15 @@ use Rattle.nx_station.specs.reception.Path.{IsAsSent, first_slot, heard_in, mess
 use Rattle.nx_station.specs.reception.Sendings.{IsSentAt, Part, ReceivedEmission, TellsMessage}
 use Rattle.nx_station.specs.reception.Sendings.{part_bits, positions_before, received, second_digit}
 use Rattle.nx_sync.specs.Locks.{IsNow, Lock, Now}
-use Rattle.nx_sync.specs.Words.{losing_count}
+use Rattle.nx_sync.specs.Words.{losing_count, word_begin}
+use Rattle.nx_sync.specs.declared.step.Change.TheVariants.{LostLock}
 use Rattle.nx_copies.specs.Events.{Event, Setting, Start, elements_among, first_setting, setting_at}
 use Rattle.nx_copies.specs.copies.FoundCopies.{TaggedCopy, tag}
 use Rattle.nx_copies.specs.copies.Printing.{is_remembered}
 use Rattle.nx_combine.specs.CopyPositions.{HeardCopy, PlacedCopy, heard_copies, placed_to_end}
 use Rattle.nx_combine.specs.Families.{families_after, most_positions, seconds_joined}
 use Rattle.nx_combine.specs.Judging.{Judged, all_copies, all_printed, judged_after, judged_behind}
+use Rattle.nx_combine.specs.PositionEnds.{has_ended}
 use Rattle.nx_combine.specs.Laws.{CameThrough, FewBegun, FewMade, IsWholeOnce, RunsOnAs, bears}
 use Rattle.nx_combine.specs.Laws.{positions_heard}
 
@@ -90,7 +92,8 @@ place_behind spellings index i =
     positions_before (take index spellings) + header_combinations + i
 
 -- Of the positions behind the second digit of a message each one is taken of the position in which
--- its combination was sent, as far as these go.
+-- its combination was sent, as far as these go. So where one of the two words is heard as sent, it
+-- is that combination.
 pub record AreTakenOf (emission : ReceivedEmission) (index : ℕ) (numbers : List ℕ)
     (positions : List Reception) : Type 0 where
   pub sent : (i number : ℕ) → slice_get (behind_digit numbers) i ≡ Some number
@@ -100,6 +103,27 @@ pub record AreTakenOf (emission : ReceivedEmission) (index : ℕ) (numbers : Lis
       → slice_get positions i ≡ Some x
       → IsTakenOf (layout emission.spellings) emission.heard
       (place_behind emission.spellings index i) x
+  pub heard : (i number : ℕ) (x : Reception) → slice_get (behind_digit numbers) i ≡ Some number
+      → slice_get positions i ≡ Some x
+      → IsAsSent (layout emission.spellings) emission.heard
+      (dx_slot (place_behind emission.spellings index i))
+      ⊎ IsAsSent (layout emission.spellings) emission.heard
+      (rx_slot (place_behind emission.spellings index i)) → x ≡ combination number
+
+-- the copy begins in one of these locks that was lost
+pub record IsOfLostLock (locks : List Lock) (copy : PlacedCopy) : Type 0 where
+  pub lock : Lock
+  pub among : Contains locks lock
+  pub lost : lock.how ≡ LostLock
+  pub from : lock.at ≤ copy.found.place
+  pub to : copy.found.place < word_begin lock.at (lock.last + 1)
+
+-- The positions of the copy reach to the last N of what was sent, unless its text ended before that,
+-- by a marker that damage made or with the 4,100th byte, or its lock was lost.
+abbrev pub Reaches : List ℕ → List Lock → PlacedCopy → Type 0
+Reaches numbers locks copy =
+    (length (behind_digit numbers) ≤ length copy.positions)
+    ⊎ ((has_ended copy.positions ≡ true) ⊎ IsOfLostLock locks copy)
 
 -- The copy is found in these bits, and stands at the place of a sending of the message in these
 -- combinations.

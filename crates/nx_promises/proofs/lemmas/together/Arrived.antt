@@ -65,7 +65,7 @@ full_ended positions None is full =
     absurd (Cut≢Full (sym (ap (λ o. (unwrap_or o (closed (raw_text_of positions))).how) is) ∙ full))
 
 -- what has ended, has so up to its end
-ended_up_to : (positions : List Reception) → has_ended positions ≡ true
+pub ended_up_to : (positions : List Reception) → has_ended positions ≡ true
     → has_ended (up_to_end positions) ≡ true
 unfolding end_of
 ended_up_to positions is =

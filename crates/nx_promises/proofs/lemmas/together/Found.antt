@@ -12,7 +12,7 @@ use Rattle.nx_sync.specs.Laws.{Extends, same, newer, GoesOn, stands_still, is_pa
 use Rattle.nx_sync.specs.Locks.{IsLocked, IsNow, IsPast, Lock, Now, Past, hunting, locked}
 use Rattle.nx_sync.specs.Words.{first_role, whole_words, word_of_lock}
 use Rattle.nx_sync.specs.declared.step.Change.{Change}
-use Rattle.nx_sync.specs.declared.step.Change.TheVariants.{Ended}
+use Rattle.nx_sync.specs.declared.step.Change.TheVariants.{Ended, LostLock}
 use Rattle.nx_sync.proofs.lemmas.states.KeptPast.{IsReleased-less}
 use Rattle.nx_sync.proofs.lemmas.states.StateChanges.{goes-on}
 use Rattle.nx_copies.specs.copies.FoundCopies.{all_in, found_copy}
@@ -22,10 +22,12 @@ use Rattle.nx_copies.proofs.lemmas.locks.Told.{whole_heard}
 use Rattle.nx_copies.proofs.lemmas.once.Rising.{contains_map}
 use Rattle.nx_combine.specs.CopyPositions.{PlacedCopy, lock_bytes, lock_positions, past_placed, placed}
 use Rattle.nx_combine.specs.CopyPositions.{placed_to_end, positions_in_past}
+use Rattle.nx_promises.specs.laws.Together.{IsOfLostLock}
 
 -- The copy is one of the lock at t, which has so many words at least, with its positions in whatever
 -- way the lock ended.
-pub record IsOfLock (bits : List Bool) (t words : ℕ) (copy : PlacedCopy) : Type 0 where
+pub record IsOfLock (bits : List Bool) (locks : List Lock) (t words : ℕ) (copy : PlacedCopy)
+    : Type 0 where
   pub n : ℕ
   pub long : words ≤ n
   pub how : Change
@@ -33,6 +35,15 @@ pub record IsOfLock (bits : List Bool) (t words : ℕ) (copy : PlacedCopy) : Typ
   pub there : Contains (copies (lock_bytes bits t n)) one
   pub found : copy.found ≡ found_copy (lock_text bits t n) one
   pub positions : copy.positions ≡ positions_in_past how (lock_positions bits t n) one.header
+  pub lost : how ≡ LostLock → IsOfLostLock locks copy
+
+-- the lock at t, of so many words, is one of these that was lost
+record IsLost (locks : List Lock) (t n : ℕ) : Type 0 where
+  lock : Lock
+  among : Contains locks lock
+  how : lock.how ≡ LostLock
+  at : lock.at ≡ t
+  last : n ≡ lock.last + 1
 
 -- a copy in the text of a lock stands at a bit of it
 copy_placed : (bits : List Bool) (t n : ℕ) (one : Copy) → Contains (copies (lock_bytes bits t n)) one
@@ -43,10 +54,11 @@ copy_placed bits t n one there =
     (all_in_placed t (t + 7 * n) text (text_placed (first_role bits t) (word_of_lock bits t) t n))
     (contains_map (found_copy text) (copies (lock_bytes bits t n)) one there)
 
-module _ (bits : List Bool) (t m : ℕ) where
+module _ (bits : List Bool) (all_locks : List Lock) (t m : ℕ) where
   -- if its place is one of the first m words of the lock, it is of the lock
   abbrev pub Belongs : PlacedCopy → Type 0
-  Belongs copy = t ≤ copy.found.place → copy.found.place < t + 7 * m → IsOfLock bits t m copy
+  Belongs copy = t ≤ copy.found.place → copy.found.place < t + 7 * m
+      → IsOfLock bits all_locks t m copy
 
   abbrev pub made : Change → ℕ → ℕ → Copy → PlacedCopy
   made how s n copy = record {
@@ -67,9 +79,9 @@ module _ (bits : List Bool) (t m : ℕ) where
       ]) (copies (lock_bytes bits s n)) (All-contains_itself (copies (lock_bytes bits s n))))
 
   -- the lock itself
-  itself : (how : Change) (n : ℕ) → m ≤ n
+  itself : (how : Change) (n : ℕ) → m ≤ n → (how ≡ LostLock → IsLost all_locks t n)
       → All Belongs (placed (positions_in_past how) bits t n (copies (lock_bytes bits t n)))
-  itself how n long =
+  itself how n long lost_so =
       All-map Belongs (made how t n) (copies (lock_bytes bits t n))
       (All-weaker (Contains (copies (lock_bytes bits t n))) (λ one. Belongs (made how t n one))
       (λ one there low high. record {
@@ -80,6 +92,14 @@ module _ (bits : List Bool) (t m : ℕ) where
         there = there;
         found = refl;
         positions = refl;
+        lost = λ is. let lost = lost_so is in
+            record {
+              lock = lost.lock;
+              among = lost.among;
+              lost = lost.how;
+              from = omega (arith, lost.at, low);
+              to = omega (arith, lost.at, lost.last, high, long);
+            };
       }) (copies (lock_bytes bits t n)) (All-contains_itself (copies (lock_bytes bits t n))))
 
   older-apart : (locks : List Lock) (p : ℕ) → Past bits locks p → p ≤ t
@@ -145,45 +165,59 @@ past_now : (bits : List Bool) (locks : List Lock) (now : Now) → IsNow bits loc
 past_now bits locks (hunting p) is = (p, is.past)
 past_now bits locks (locked p t) is = (p, is.past)
 
+Ended≢LostLock : Ended ≡ LostLock → ⊥
+Ended≢LostLock e = cc
+
+among : (locks ls : List Lock) (lock : Lock) → Extends locks (lock ∷ ls) → Contains locks lock
+among locks ls lock same = (0, omega arith, refl)
+among (other ∷ locks) ls lock (newer e) =
+    Contains-append_right (other ∷ []) locks lock (among locks ls lock e)
+
 -- the lock that stood is past
 over : (bits more : List Bool) (ls locks : List Lock) (p : ℕ) (lock : Lock) (now : Now)
     → IsLocked bits ls p lock.at → IsNow (bits ++ more) locks now → Extends locks (lock ∷ ls)
-    → All (Belongs (bits ++ more) lock.at (whole_words bits lock.at))
+    → All (Belongs (bits ++ more) locks lock.at (whole_words bits lock.at))
     (placed_to_end (bits ++ more) locks now)
 unfolding Past past_placed
 over bits more ls locks p lock now is stands x =
     let all = bits ++ more in
     let m = whole_words bits lock.at in
-    standing-apart all lock.at m locks now stands (λ r past.
+    standing-apart all locks lock.at m locks now stands (λ r past.
     let this = past_of all locks (lock ∷ ls) r x past in
     let long = not_over_yet bits more ls p lock this.0 is this.1.0 in
-    newer-apart all lock.at m locks (lock ∷ ls) r x past
+    newer-apart all locks lock.at m locks (lock ∷ ls) r x past
     (λ q behind. omega (arith, behind.0.next, long))
-    (All-append (Belongs all lock.at m) (past_placed all ls) _
-    (older-apart all lock.at m ls lock.from this.1.1 (omega (arith, this.1.0.found.after)))
-    (itself all lock.at m lock.how (lock.last + 1) long)))
+    (All-append (Belongs all locks lock.at m) (past_placed all ls) _
+    (older-apart all locks lock.at m ls lock.from this.1.1 (omega (arith, this.1.0.found.after)))
+    (itself all locks lock.at m lock.how (lock.last + 1) long (λ is. record {
+      lock = lock;
+      among = among locks ls lock x;
+      how = is;
+      at = refl;
+      last = refl;
+    }))))
 
 belong_by : (bits more : List Bool) (ls locks : List Lock) (p t : ℕ) (now : Now)
     → IsLocked bits ls p t → IsNow (bits ++ more) locks now → GoesOn ls (locked p t) locks now
-    → All (Belongs (bits ++ more) t (whole_words bits t)) (placed_to_end (bits ++ more) locks now)
+    → All (Belongs (bits ++ more) locks t (whole_words bits t)) (placed_to_end (bits ++ more) locks now)
 unfolding placed_to_end
 belong_by bits more ls locks p t now is stands stands_still =
     let longer = length-append bits more in
-    All-append (Belongs (bits ++ more) t (whole_words bits t)) (past_placed (bits ++ more) ls) _
-    (older-apart (bits ++ more) t (whole_words bits t) ls p stands.past
+    All-append (Belongs (bits ++ more) ls t (whole_words bits t)) (past_placed (bits ++ more) ls) _
+    (older-apart (bits ++ more) ls t (whole_words bits t) ls p stands.past
     (omega (arith, stands.found.after)))
-    (itself (bits ++ more) t (whole_words bits t) Ended (whole_words (bits ++ more) t)
-    (omega (arith, longer)))
+    (itself (bits ++ more) ls t (whole_words bits t) Ended (whole_words (bits ++ more) t)
+    (omega (arith, longer)) (λ is. absurd (Ended≢LostLock is)))
 belong_by bits more ls locks p t now is stands (is_past lock e a x) =
     subst (λ (u : ℕ). IsLocked bits ls p u
-    → All (Belongs (bits ++ more) u (whole_words bits u)) (placed_to_end (bits ++ more) locks now)) a
+    → All (Belongs (bits ++ more) locks u (whole_words bits u)) (placed_to_end (bits ++ more) locks now)) a
     (λ is. over bits more ls locks p lock now is stands x) is
 
 -- Each copy that is found, whatever bits follow, belongs to the lock that stood, if its place is
 -- among the words that were heard of that.
 pub copies_belong : (bits more : List Bool) (ls locks : List Lock) (p t : ℕ) (now : Now)
     → IsLocked bits ls p t → IsNow (bits ++ more) locks now
-    → All (Belongs (bits ++ more) t (whole_words bits t)) (placed_to_end (bits ++ more) locks now)
+    → All (Belongs (bits ++ more) locks t (whole_words bits t)) (placed_to_end (bits ++ more) locks now)
 copies_belong bits more ls locks p t now is stands =
     belong_by bits more ls locks p t now is stands
     (goes-on bits more ls locks (locked p t) now is stands)
@@ -194,7 +228,7 @@ pub record IsAmong (bits : List Bool) (locks : List Lock) (now : Now) (t words :
   pub long : words ≤ n
   pub how : Change
   pub each : (one : Copy) → Contains (copies (lock_bytes bits t n)) one
-      → Contains (placed_to_end bits locks now) (made bits t words how t n one)
+      → Contains (placed_to_end bits locks now) (made bits locks t words how t n one)
 
 past_among : (bits : List Bool) (locks ls : List Lock) (lock : Lock) (copy : PlacedCopy)
     → Extends locks (lock ∷ ls)
@@ -223,7 +257,7 @@ among_over bits more ls locks p lock now is stands x =
           let m = whole_words bits lock.at in
           Contains-append_left (past_placed all locks) _ _
           (past_among all locks ls lock _ x
-          (contains_map (made all lock.at m lock.how lock.at (lock.last + 1))
+          (contains_map (made all locks lock.at m lock.how lock.at (lock.last + 1))
           (copies (lock_bytes all lock.at (lock.last + 1))) one there));
     }
 
@@ -240,7 +274,7 @@ among_by bits more ls locks p t now is stands stands_still =
       how = Ended;
       each = λ one there.
           Contains-append_right (past_placed all ls) _ _
-          (contains_map (made all t (whole_words bits t) Ended t (whole_words all t))
+          (contains_map (made all ls t (whole_words bits t) Ended t (whole_words all t))
           (copies (lock_bytes all t (whole_words all t))) one there);
     }
 among_by bits more ls locks p t now is stands (is_past lock e a x) =

@@ -40,7 +40,16 @@ use Rattle.nx_combine.specs.Laws.{IsHeardOf, IsNeverIdle}
 use Rattle.nx_promises.specs.laws.Together.{IsSeen, IsTakenOf, IsVisible, as_sent}
 use Rattle.nx_promises.specs.laws.Together.{AreTakenOf, IsCopyOf, behind_digit, both_wrong}
 use Rattle.nx_promises.specs.laws.Together.{place_behind}
-use Rattle.nx_promises.proofs.lemmas.together.Digit.{digit_position, position_at_word}
+use Rattle.nx_promises.specs.laws.Together.{Reaches}
+use Rattle.nx_promises.proofs.lemmas.together.Arrived.{ended_up_to}
+use Rattle.nx_promises.proofs.lemmas.together.Digit.{count_at, digit_position, more, position_at_word}
+use Rattle.nx_combine.proofs.lemmas.EndedPositions.{up_to-last}
+use Rattle.nx_combine.specs.CopyPositions.{behind_header, positions_in_past}
+use Rattle.nx_combine.specs.PositionEnds.{has_ended, up_to_end}
+use Rattle.nx_sync.specs.declared.step.Change.{Change}
+use Rattle.nx_sync.specs.declared.step.Change.TheVariants.{Ended, Locked, LostLock}
+use Rattle.std.proofs.Common.{append-nil, true, false}
+use Rattle.std.proofs.lemmas.List.{length-drop}
 use Rattle.nx_promises.proofs.lemmas.together.Found.{Belongs, IsOfLock, copies_belong}
 use Rattle.nx_promises.proofs.lemmas.together.Parts.{get-drop, get-take, positions_behind, split_at}
 use Rattle.nx_promises.proofs.lemmas.together.Visible.{air_at, counted, dx-counts, long_heard, long_sent}
@@ -247,9 +256,10 @@ module _ (before after : List Bool) (messages : List MessageView) (zeroth : List
         omega (arith, at, l.limit, before_is, count_is, long_air, enough),
       )
 
-  module _ (copy : PlacedCopy) (of : IsOfLock all l.t (whole_words own l.t) copy)
+  module _ (locks : List Lock) (copy : PlacedCopy)
+      (of : IsOfLock all locks l.t (whole_words own l.t) copy)
       (at : copy.found.place ≡ length before + 7 * (digit_slot (zeroth ∷ spellings) index - 96) + 6)
-      (i number : ℕ) (there : slice_get (behind_digit numbers) i ≡ Some number) where
+      (head_sent : 11 ≤ length numbers) where
     abbrev taken_all : List Reception
     taken_all = positions (first_role all l.t) (word_of_lock all l.t) of.n
 
@@ -267,8 +277,9 @@ module _ (before after : List Bool) (messages : List MessageView) (zeroth : List
     unfolding found_copy
     place_there = sym (ap (λ f. f.place) of.found) ∙ place_is
 
-    enough : l.whole + 5 + 2 * (length front + 11 + i) < of.n
-    enough = omega (arith, of.long, count_is, long_air, behind_within numbers i number there)
+    -- all words of the message are words of the lock
+    enough : l.whole + 5 + 2 * (length front + length numbers) ≤ of.n
+    enough = omega (arith, of.long, count_is, long_air)
 
     in_text : behind ≤ length (text taken_all Letters)
     in_text =
@@ -281,52 +292,129 @@ module _ (before after : List Bool) (messages : List MessageView) (zeroth : List
     count_behind =
         let within = copies_within (lock_bytes all l.t of.n) of.one of.there in
         digit_position (first_role all l.t) (word_of_lock all l.t) l.t l.whole (length front + 10)
-        of.n behind dx_all (omega (arith, enough)) within.0 in_text place_there
+        of.n behind dx_all (omega (arith, enough, head_sent)) within.0 in_text place_there
 
-    taken_there : (x : Reception) → slice_get copy.positions i ≡ Some x
-        → x ≡ pairing (counts_as (word_of_lock all l.t (l.whole + 2 * (length front + 11 + i))))
-        (counts_as (word_of_lock all l.t (l.whole + 2 * (length front + 11 + i) + 5)))
-    taken_there x e =
-        let index_is : positions_for taken_all behind + i
-        ≡ first_taken + (length front + 11 + i) = omega (arith, count_behind) in
-        let here : slice_get taken_all (first_taken + (length front + 11 + i)) ≡ Some x =
-        ap (slice_get taken_all) (sym index_is)
-        ∙ sym (get-drop (positions_for taken_all behind) taken_all i)
-        ∙ positions_behind of.how (lock_positions all l.t of.n) of.one.header i x
-        (ap (λ p. slice_get p i) (sym of.positions) ∙ e) in
-        let word = position_at_word (first_role all l.t) (word_of_lock all l.t) l.whole
-        (length front + 11 + i) of.n dx_all enough in
-        let both = sym here ∙ word in
-        cc
+    -- behind the header there are as many positions as combinations were sent
+    long_behind : length (behind_digit numbers)
+        ≤ length (behind_header taken_all of.one.header)
+    long_behind =
+        let first = first_role all l.t in
+        let words = word_of_lock all l.t in
+        let last : ℕ = l.whole + 5 + 2 * (length front + length numbers) in
+        let on = more first words (l.whole + 5 + 2 * (length front + length numbers)) of.n enough in
+        let total = ap length on.whole
+        ∙ length-append (positions first words
+        (l.whole + 5 + 2 * (length front + length numbers))) on.rest in
+        let sent_count = count_at first words l.whole (length front + length numbers) dx_all in
+        let dropped = length-drop (positions_for taken_all behind) taken_all in
+        let cut = length-take (length numbers - 14) (drop 11 numbers) in
+        omega (arith, total, sent_count, dropped, cut, count_behind, length-drop 11 numbers)
 
-    pub taken_sent : (x : Reception) → slice_get copy.positions i ≡ Some x
-        → IsTakenOf sent_of heard (72 + (length front + 11 + i)) x
-    taken_sent x e =
-        let j : ℕ = length front + 11 + i in
-        let short = behind_within numbers i number there in
-        let long = long_sent zeroth spellings heard has_inner visible in
-        let first_slot_is : 144 + 2 * (length front + 11 + i)
-        ≡ 2 * (72 + (length front + 11 + i)) = omega arith in
-        let second_slot_is : 144 + (2 * (length front + 11 + i) + 5)
-        ≡ 2 * (72 + (length front + 11 + i)) + 5 = omega arith in
-        let one : l.whole + 2 * (length front + 11 + i) + 5
-        ≡ l.whole + (2 * (length front + 11 + i) + 5) = omega arith in
-        let dx = word_is (2 * (length front + 11 + i)) (omega (arith, long_air, short))
-        ∙ ap (heard_in heard) first_slot_is in
-        let rx = ap (word_of_lock all l.t) one
-        ∙ word_is (2 * (length front + 11 + i) + 5) (omega (arith, long_air, short))
-        ∙ ap (heard_in heard) second_slot_is in
-        subst (IsTakenOf sent_of heard (72 + (length front + 11 + i)))
-        (sym (taken_there x e ∙ ap₂ (λ a b. pairing (counts_as a) (counts_as b)) dx rx))
-        (taken_of sent_of heard has_inner visible (72 + (length front + 11 + i)) (omega arith)
-        (omega (arith, long, long_air, short)))
+    abbrev behind_all : List Reception
+    behind_all = behind_header taken_all of.one.header
+
+    up_to_reaches : (is : Bool) → has_ended behind_all ≡ is
+        → (length (behind_digit numbers) ≤ length (up_to_end behind_all))
+        ⊎ (has_ended (up_to_end behind_all) ≡ true)
+    up_to_reaches true is = inr (ended_up_to behind_all is)
+    up_to_reaches false is =
+        let whole : up_to_end behind_all ≡ behind_all =
+        ap up_to_end (sym (append-nil behind_all))
+        ∙ up_to-last of.one.header.identity behind_all [] is (omega arith)
+        ∙ append-nil behind_all in
+        let long = long_behind in
+        inl (omega (arith, ap length whole, long))
+
+    not_lost : copy.positions ≡ up_to_end behind_all → Reaches numbers locks copy
+    not_lost e = elim (up_to_reaches (has_ended behind_all) refl) [
+      | inl long ↦ inl (omega (arith, ap length e, long))
+      | inr ended ↦ inr (inl (ap has_ended e ∙ ended))
+    ]
+
+    positions_by : (how : Change) → of.how ≡ how → copy.positions
+        ≡ positions_in_past how (lock_positions all l.t of.n) of.one.header
+    positions_by how is = of.positions
+        ∙ ap (λ h. positions_in_past h (lock_positions all l.t of.n) of.one.header) is
+
+    reaches_by : (how : Change) → of.how ≡ how → Reaches numbers locks copy
+    reaches_by LostLock is = inr (inr (of.lost is))
+    reaches_by Ended is = not_lost (positions_by Ended is)
+    reaches_by Locked is = not_lost (positions_by Locked is)
+
+    pub reaches : Reaches numbers locks copy
+    reaches = reaches_by of.how refl
+
+    module _ (i number : ℕ) (there : slice_get (behind_digit numbers) i ≡ Some number) where
+      abbrev place : ℕ
+      place = 72 + (length front + 11 + i)
+
+      taken_there : (x : Reception) → slice_get copy.positions i ≡ Some x
+          → x ≡ pairing (counts_as (word_of_lock all l.t (l.whole + 2 * (length front + 11 + i))))
+          (counts_as (word_of_lock all l.t (l.whole + 2 * (length front + 11 + i) + 5)))
+      taken_there x e =
+          let index_is : positions_for taken_all behind + i
+          ≡ first_taken + (length front + 11 + i) = omega (arith, count_behind) in
+          let here : slice_get taken_all (first_taken + (length front + 11 + i)) ≡ Some x =
+          ap (slice_get taken_all) (sym index_is)
+          ∙ sym (get-drop (positions_for taken_all behind) taken_all i)
+          ∙ positions_behind of.how (lock_positions all l.t of.n) of.one.header i x
+          (ap (λ p. slice_get p i) (sym of.positions) ∙ e) in
+          let word = position_at_word (first_role all l.t) (word_of_lock all l.t) l.whole
+          (length front + 11 + i) of.n dx_all
+          (omega (arith, enough, behind_within numbers i number there)) in
+          let both = sym here ∙ word in
+          cc
+
+      -- it is what is taken of the two words that are heard
+      taken_pair : (x : Reception) → slice_get copy.positions i ≡ Some x
+          → x ≡ pairing (counts_as (heard_in heard (2 * place)))
+          (counts_as (heard_in heard (2 * place + 5)))
+      taken_pair x e =
+          let short = behind_within numbers i number there in
+          let first_slot_is : 144 + 2 * (length front + 11 + i)
+          ≡ 2 * (72 + (length front + 11 + i)) = omega arith in
+          let second_slot_is : 144 + (2 * (length front + 11 + i) + 5)
+          ≡ 2 * (72 + (length front + 11 + i)) + 5 = omega arith in
+          let one : l.whole + 2 * (length front + 11 + i) + 5
+          ≡ l.whole + (2 * (length front + 11 + i) + 5) = omega arith in
+          let dx = word_is (2 * (length front + 11 + i)) (omega (arith, long_air, short))
+          ∙ ap (heard_in heard) first_slot_is in
+          let rx = ap (word_of_lock all l.t) one
+          ∙ word_is (2 * (length front + 11 + i) + 5) (omega (arith, long_air, short))
+          ∙ ap (heard_in heard) second_slot_is in
+          taken_there x e ∙ ap₂ (λ a b. pairing (counts_as a) (counts_as b)) dx rx
+
+      inside : place + 3 < length sent_of
+      inside = omega (
+        arith,
+        long_sent zeroth spellings heard has_inner visible,
+        long_air,
+        behind_within numbers i number there,
+      )
+
+      pub taken_sent : (x : Reception) → slice_get copy.positions i ≡ Some x
+          → IsTakenOf sent_of heard place x
+      taken_sent x e =
+          subst (IsTakenOf sent_of heard place) (sym (taken_pair x e))
+          (taken_of sent_of heard has_inner visible place (omega arith) inside)
+
+      pub taken_heard : (x : Reception) → slice_get copy.positions i ≡ Some x
+          → IsAsSent sent_of heard (2 * place) ⊎ IsAsSent sent_of heard (2 * place + 5)
+          → x ≡ combination number
+      taken_heard x e one =
+          let index_is : 72 + (length front + (11 + i)) ≡ 72 + (length front + 11 + i) = omega arith
+          in
+          taken_pair x e
+          ∙ one_taken sent_of heard has_inner visible place (omega arith) inside one
+          ∙ ap (λ j. reception (position_at sent_of j)) (sym index_is)
+          ∙ ap reception (sent_at (11 + i) number (behind_at numbers i number there))
 
 -- The copy is of a lock of these bits.
-pub record IsOfSome (copy : PlacedCopy) : Type 0 where
+pub record IsOfSome (locks : List Lock) (copy : PlacedCopy) : Type 0 where
   pub bits : List Bool
   pub t : ℕ
   pub words : ℕ
-  pub is : IsOfLock bits t words copy
+  pub is : IsOfLock bits locks t words copy
 
 -- it is of the lock that goes through the emission
 of_emission : (before after : List Bool) (messages : List MessageView) (zeroth : List ℕ)
@@ -339,15 +427,15 @@ of_emission : (before after : List Bool) (messages : List MessageView) (zeroth :
     → Contains (placed_to_end ((before ++ bits_of heard) ++ after) locks now) copy
     → copy.found.place ≡ length before + 7 * (digit_slot (zeroth ∷ spellings) index - 96) + 6
     → 11 ≤ length numbers
-    → IsOfLock ((before ++ bits_of heard) ++ after) l.t (whole_words (before ++ bits_of heard) l.t)
-    copy
+    → IsOfLock ((before ++ bits_of heard) ++ after) locks l.t
+    (whole_words (before ++ bits_of heard) l.t) copy
 of_emission before after messages zeroth spellings heard seen l index numbers spelled locks now
     stands copy there at enough =
     let all = (before ++ bits_of heard) ++ after in
     let m = whole_words (before ++ bits_of heard) l.t in
     let inside = placed_within before after messages zeroth spellings heard seen.told
     seen.visible l index numbers spelled copy at enough in
-    All-contains (Belongs all l.t m) (placed_to_end all locks now) copy
+    All-contains (Belongs all locks l.t m) (placed_to_end all locks now) copy
     (copies_belong (before ++ bits_of heard) after l.locks locks l.p l.t now l.stands stands)
     there inside.0 inside.1
 
@@ -356,36 +444,46 @@ copy_taken : (before after : List Bool) (messages : List MessageView) (spellings
     (heard : List ℕ)
     → IsSeen (record { messages = messages; spellings = spellings; heard = heard })
     → LockedThrough before heard
-    → (index : ℕ) (numbers : List ℕ) → slice_get spellings index ≡ Some numbers
+    → (index : ℕ) (message : MessageView) (numbers : List ℕ)
+    → slice_get messages index ≡ Some message → slice_get spellings index ≡ Some numbers
     → (locks : List Lock) (now : Now) → IsNow ((before ++ bits_of heard) ++ after) locks now
     → (copy : PlacedCopy)
     → Contains (placed_to_end ((before ++ bits_of heard) ++ after) locks now) copy
     → copy.found.place ≡ length before + 7 * (digit_slot spellings index - 96) + 6
     → AreTakenOf (record { messages = messages; spellings = spellings; heard = heard }) index
-    numbers copy.positions
-copy_taken before after messages [] heard seen l index numbers spelled locks now stands copy there at =
-    absurd (seen-some [] heard seen.visible refl)
-copy_taken before after messages (zeroth ∷ spellings) heard seen l index numbers spelled locks now
-    stands copy there at =
+    numbers copy.positions × Reaches numbers locks copy
+copy_taken before after messages [] heard seen l index message numbers named spelled locks now stands
+    copy there at = absurd (seen-some [] heard seen.visible refl)
+copy_taken before after messages (zeroth ∷ spellings) heard seen l index message numbers named
+    spelled locks now stands copy there at =
+    let head_sent = header_long message numbers
+    (told_one messages (zeroth ∷ spellings) index message numbers seen.told named spelled) in
+    let of = of_emission before after messages zeroth spellings heard seen l index numbers spelled
+    locks now stands copy there at head_sent in
     let before_is = positions-before (take index (zeroth ∷ spellings)) in
     let front = length (on_air_before 36 (take index (zeroth ∷ spellings))) in
     let at_is : (i : ℕ) → 72 + (front + (11 + i)) ≡ place_behind (zeroth ∷ spellings) index i =
     λ i. omega (arith, before_is) in
     let taken_is : (i : ℕ) → 72 + (front + 11 + i) ≡ place_behind (zeroth ∷ spellings) index i =
-    λ i. omega (arith, before_is) in
-    record {
-      sent = λ i number some.
-          ap (position_at (layout (zeroth ∷ spellings))) (sym (at_is i))
-          ∙ sent_at before after messages zeroth spellings heard seen.told seen.visible l index
-          numbers spelled (11 + i) number (behind_at numbers i number some);
-      taken = λ i number x some is.
-          let short = behind_within numbers i number some in
-          let of = of_emission before after messages zeroth spellings heard seen l index numbers
-          spelled locks now stands copy there at (omega (arith, short)) in
-          subst (λ (j : ℕ). IsTakenOf (layout (zeroth ∷ spellings)) heard j x) (taken_is i)
-          (taken_sent before after messages zeroth spellings heard seen.told seen.visible l index
-          numbers spelled copy of at i number some x is);
-    }
+    λ i. omega (arith, before_is) in (
+      record {
+        sent = λ i number some.
+            ap (position_at (layout (zeroth ∷ spellings))) (sym (at_is i))
+            ∙ sent_at before after messages zeroth spellings heard seen.told seen.visible l index
+            numbers spelled (11 + i) number (behind_at numbers i number some);
+        taken = λ i number x some is.
+            subst (λ (j : ℕ). IsTakenOf (layout (zeroth ∷ spellings)) heard j x) (taken_is i)
+            (taken_sent before after messages zeroth spellings heard seen.told seen.visible l index
+            numbers spelled locks copy of at head_sent i number some x is);
+        heard = λ i number x some is one.
+            taken_heard before after messages zeroth spellings heard seen.told seen.visible l index
+            numbers spelled locks copy of at head_sent i number some x is
+            (subst (λ (j : ℕ). IsAsSent (layout (zeroth ∷ spellings)) heard (2 * j)
+            ⊎ IsAsSent (layout (zeroth ∷ spellings)) heard (2 * j + 5)) (sym (taken_is i)) one);
+      },
+      reaches before after messages zeroth spellings heard seen.told seen.visible l index numbers
+          spelled locks copy of at head_sent,
+    )
 
 -- the bits up to an emission, of it, and behind it
 pub cut_around : (bits : List Bool) (parts before : List Part) (emission : ReceivedEmission)
@@ -407,7 +505,7 @@ of_some : (before after : List Bool) (messages : List MessageView) (spellings : 
     → (locks : List Lock) (now : Now) → IsNow ((before ++ bits_of heard) ++ after) locks now
     → (copy : PlacedCopy)
     → Contains (placed_to_end ((before ++ bits_of heard) ++ after) locks now) copy
-    → copy.found.place ≡ length before + 7 * (digit_slot spellings index - 96) + 6 → IsOfSome copy
+    → copy.found.place ≡ length before + 7 * (digit_slot spellings index - 96) + 6 → IsOfSome locks copy
 of_some before after messages [] heard seen l index message numbers told spelled locks now stands
     copy there at = absurd (seen-some [] heard seen.visible refl)
 of_some before after messages (zeroth ∷ spellings) heard seen l index message numbers named spelled
@@ -425,7 +523,7 @@ of_some before after messages (zeroth ∷ spellings) heard seen l index message 
 
 -- a copy of a sending is one of a lock
 pub of_lock : (bits : List Bool) (parts : List Part) (message : MessageView) (numbers : List ℕ)
-    (copy : PlacedCopy) → IsCopyOf bits parts message numbers copy → IsOfSome copy
+    (copy : PlacedCopy) (is : IsCopyOf bits parts message numbers copy) → IsOfSome is.locks copy
 of_lock bits parts message numbers copy is =
     let s = is.sending.sent in
     let e = s.emission in
@@ -438,20 +536,33 @@ of_lock bits parts message numbers copy is =
     (subst (λ (b : List Bool). Contains (placed_to_end b is.locks is.now) copy) whole is.found)
     s.place
 
-pub are_taken : (bits : List Bool) (parts : List Part) (message : MessageView) (numbers : List ℕ)
-    (copy : PlacedCopy) (is : IsCopyOf bits parts message numbers copy)
+taken_and_reaches : (bits : List Bool) (parts : List Part) (message : MessageView)
+    (numbers : List ℕ) (copy : PlacedCopy) (is : IsCopyOf bits parts message numbers copy)
     → AreTakenOf is.sending.sent.emission is.sending.sent.index numbers copy.positions
-are_taken bits parts message numbers copy is =
+    × Reaches numbers is.locks copy
+taken_and_reaches bits parts message numbers copy is =
     let s = is.sending.sent in
     let e = s.emission in
     let seen = is.cut.each s.before e s.after s.among in
     let before = flat_map part_bits s.before in
     let whole = cut_around bits parts s.before e s.after is.cut.whole s.among in
     copy_taken before (flat_map part_bits s.after) e.messages e.spellings e.heard seen
-    (seen-locked before e seen) s.index numbers is.sending.spelled is.locks is.now
-    (subst (λ (b : List Bool). IsNow b is.locks is.now) whole is.stands) copy
+    (seen-locked before e seen) s.index message numbers s.message is.sending.spelled is.locks
+    is.now (subst (λ (b : List Bool). IsNow b is.locks is.now) whole is.stands) copy
     (subst (λ (b : List Bool). Contains (placed_to_end b is.locks is.now) copy) whole is.found)
     s.place
+
+pub are_taken : (bits : List Bool) (parts : List Part) (message : MessageView) (numbers : List ℕ)
+    (copy : PlacedCopy) (is : IsCopyOf bits parts message numbers copy)
+    → AreTakenOf is.sending.sent.emission is.sending.sent.index numbers copy.positions
+are_taken bits parts message numbers copy is =
+    (taken_and_reaches bits parts message numbers copy is).0
+
+pub copy_reaches : (bits : List Bool) (parts : List Part) (message : MessageView)
+    (numbers : List ℕ) (copy : PlacedCopy) (is : IsCopyOf bits parts message numbers copy)
+    → Reaches numbers is.locks copy
+copy_reaches bits parts message numbers copy is =
+    (taken_and_reaches bits parts message numbers copy is).1
 
 -- so what a copy took was sent, and nothing is idle there
 as_sent_by : {sent : List SentPosition} {heard : List ℕ} {j number taken : ℕ}

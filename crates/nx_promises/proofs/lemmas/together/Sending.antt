@@ -60,36 +60,38 @@ arrives_as setting found positions has =
     }) has.same_how has.same_text
 
 -- what its positions give is what the copy is, if the one of them is full
-of_lock_gives : (bits : List Bool) (t words : ℕ) (copy : PlacedCopy)
-    → (of : IsOfLock bits t words copy)
+of_lock_gives : (bits : List Bool) (locks : List Lock) (t words : ℕ) (copy : PlacedCopy)
+    → (of : IsOfLock bits locks t words copy)
     → (IsCopyAt (text (lock_positions bits t of.n).taken Letters) of.one)
-of_lock_gives bits t words copy of =
+of_lock_gives bits locks t words copy of =
     subst (λ bytes. IsCopyAt bytes of.one)
     (bytes_are_reading (first_role bits t) (word_of_lock bits t) t of.n)
     (copy_is (lock_bytes bits t of.n) of.one of.there)
 
-full_ending : (bits : List Bool) (t words : ℕ) (copy : PlacedCopy) → IsOfLock bits t words copy
+full_ending : (bits : List Bool) (locks : List Lock) (t words : ℕ) (copy : PlacedCopy)
+    → IsOfLock bits locks t words copy
     → copy.found.how ≡ Full → HasEnding copy.found.how copy.found.text copy.positions
 unfolding found_copy
-full_ending bits t words copy of full =
+full_ending bits locks t words copy of full =
     let how = ap (λ (f : FoundCopy). f.how) of.found in
     let found = ap (λ (f : FoundCopy). f.text) of.found in
     let has = full_gives of.how (lock_positions bits t of.n) of.one
-    (of_lock_gives bits t words copy of) (sym how ∙ full) in
+    (of_lock_gives bits locks t words copy of) (sym how ∙ full) in
     record {
       same_how = how ∙ has.same_how ∙ ap (λ p. (ending_by p).how) (sym of.positions);
       same_text = found ∙ has.same_text ∙ ap (λ p. (ending_by p).text) (sym of.positions);
     }
 
-read_ending : (bits : List Bool) (t words : ℕ) (copy : PlacedCopy) → IsOfLock bits t words copy
+read_ending : (bits : List Bool) (locks : List Lock) (t words : ℕ) (copy : PlacedCopy)
+    → IsOfLock bits locks t words copy
     → (ending_by copy.positions).how ≡ Full
     → HasEnding copy.found.how copy.found.text copy.positions
 unfolding found_copy
-read_ending bits t words copy of full =
+read_ending bits locks t words copy of full =
     let how = ap (λ (f : FoundCopy). f.how) of.found in
     let found = ap (λ (f : FoundCopy). f.text) of.found in
     let has = read_gives of.how (lock_positions bits t of.n) of.one
-    (of_lock_gives bits t words copy of)
+    (of_lock_gives bits locks t words copy of)
     (ap (λ p. (ending_by p).how) (sym of.positions) ∙ full) in
     record {
       same_how = how ∙ has.same_how ∙ ap (λ p. (ending_by p).how) (sym of.positions);
@@ -105,9 +107,9 @@ copy_arrives bits parts message numbers copy is setting =
     record {
       never_idle = are_not_idle bits parts message numbers copy is;
       full = λ full. arrives_as setting copy.found copy.positions
-          (full_ending of.bits of.t of.words copy of.is full);
+          (full_ending of.bits is.locks of.t of.words copy of.is full);
       read = λ full. arrives_as setting copy.found copy.positions
-          (read_ending of.bits of.t of.words copy of.is full);
+          (read_ending of.bits is.locks of.t of.words copy of.is full);
     }
 
 -- ---- a sending is found
