@@ -7,3 +7,4 @@ pub mod from_send
 pub mod listening
 pub mod locks
 pub mod state
+pub mod together

@@ -5,3 +5,4 @@ pub mod Chain
 pub mod Channels
 pub mod Emission
 pub mod Repeats
+pub mod Together

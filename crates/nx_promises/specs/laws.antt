@@ -1,3 +1,4 @@
 -- What the laws say of messages that are sent: what has to be met, and what is printed.
 pub mod ChainOnce
 pub mod FromSend
+pub mod Together

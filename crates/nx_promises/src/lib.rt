@@ -31,6 +31,7 @@ pub mod listening;
 pub mod once;
 pub mod resuming;
 pub mod sending;
+pub mod together;
 
 use nx_memory::Recall;
 

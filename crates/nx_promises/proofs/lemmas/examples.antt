@@ -5,5 +5,6 @@ pub mod Chain
 pub mod Channels
 pub mod Emission
 pub mod Repeats
+pub mod Together
 pub mod Worked
 pub mod WorkedLog

@@ -29,7 +29,7 @@ use Rattle.nx_promises.specs.examples.Repeats.{first_copy}
 use Rattle.nx_copies.specs.copies.Shares.{marked}
 use Rattle.nx_promises.specs.examples.Emission.{at_its_slot, heard_elements, worked_log}
 use Rattle.nx_copies.proofs.lemmas.printing.Log.{entry_with}
-use Rattle.nx_promises.proofs.lemmas.examples.Worked.{Computed, stands, text_is}
+use Rattle.nx_promises.proofs.lemmas.examples.Worked.{Computed, stands, text_is, worked_text}
 
 -- the elements are those of the events
 pub bits_among-elements : (bits : List Bool) → elements_among (map element bits) ≡ bits
@@ -97,7 +97,7 @@ unfolding printed_copies if_printed is_printed
 printed_is = refl
 
 -- the log of the words that were heard
-pub printed_to_end : (sent : List ℕ) → Computed sent
+pub printed_to_end : (sent : List ℕ) → Computed sent 199 worked_text
     → PrintsToEnd at_its_slot (heard_elements sent) (first_copy ∷ [])
 unfolding tagged_copies found_to_end past_copies
 printed_to_end sent is =
@@ -121,7 +121,7 @@ printed_to_end sent is =
           ∙ printed_is);
     }
   where
-    all_found : (sent : List ℕ) → Computed sent
+    all_found : (sent : List ℕ) → Computed sent 199 worked_text
         → found_to_end (bits_of sent) [] (locked 0 28)
         ≡ found_copy (lock_text (bits_of sent) 28 (whole_words (bits_of sent) 28)) found ∷ []
     all_found sent is = ap (map

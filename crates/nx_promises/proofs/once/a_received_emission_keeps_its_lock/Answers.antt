@@ -1,5 +1,5 @@
-use Rattle.nx_copies.proofs.lemmas.emissions.Found.{lock_holds}
+use Rattle.nx_promises.proofs.lemmas.together.Visible.{received-seen, seen-holds}
 use Rattle.nx_promises.proofs.once.a_received_emission_keeps_its_lock.Goals as goal
 
 pub returns : goal.returns
-returns c = lock_holds
+returns c earlier emission is = seen-holds earlier emission (received-seen emission is)

@@ -1,0 +1,171 @@
+-- What a message sends behind the second digit of its header gives its text, full and without an
+-- error.
+use Rattle.std.proofs.Common.{◌≡◌, ℕ, ◌+◌, ◌-◌, false, true, cond, eqb, List, [], ◌∷◌, ◌++◌, length, map}
+use Rattle.std.proofs.Common.{drop, take, Some, is_some, unwrap_or, refl, sym, ap, ap₂, ◌∙◌, arith}
+use Rattle.std.proofs.Common.{append_assoc, append-nil}
+use Rattle.std.specs.List.{All}
+use Rattle.std.proofs.lemmas.Bool.{ne_eqb, true≢false}
+use Rattle.std.proofs.lemmas.List.{length-append, map-append, take_at}
+use Rattle.std.proofs.lemmas.List.Elements.{All-head, All-tail}
+use Rattle.std.proofs.lemmas.List.Sums.{sum_by-append, sum_by-cons}
+use Rattle.nx_code.specs.Reading.{character_of, characters, combination, is_in_code, shift_after_all, text}
+use Rattle.nx_code.specs.Table.{row_of, table}
+use Rattle.nx_code.specs.declared.shifts.Shift.{Shift}
+use Rattle.nx_code.specs.declared.shifts.Shift.TheVariants.{Figures, Letters}
+use Rattle.nx_envelope.specs.Copies.{Ending, ending_of, errors_of, less_newline}
+use Rattle.nx_envelope.specs.Header.{end_marker}
+use Rattle.nx_envelope.specs.Message.{AreLines, IsLineByte, IsMessageLine, MessageView, text_of}
+use Rattle.nx_station.specs.Broadcast.{ending, head}
+use Rattle.nx_station.specs.reception.Sendings.{TellsMessage}
+use Rattle.nx_station.proofs.lemmas.strict_reading.ReadingBack.{Prints, Prints-append, Prints-character}
+use Rattle.nx_station.proofs.lemmas.strict_reading.ReadingBack.{Prints-nil, Prints-return, Prints-shift}
+use Rattle.nx_copies.proofs.lemmas.emissions.Markers.{full_ending, full_text}
+use Rattle.nx_combine.specs.Laws.{IsWhole, text_sent}
+use Rattle.nx_combine.specs.PositionEnds.{closed, ending_by, has_ended, raw_text_of}
+use Rattle.nx_promises.specs.laws.Together.{behind_digit}
+
+-- ---- the letters of the lines are no asterisks
+
+star_is_none : is_in_code 42 ≡ false
+unfolding is_in_code characters
+star_is_none = refl
+
+abbrev star_count : ℕ → ℕ
+star_count b = cond (eqb b 42) 1 0
+
+errors-append : (xs ys : List ℕ) → errors_of (xs ++ ys) ≡ errors_of xs + errors_of ys
+errors-append xs ys = sum_by-append star_count xs ys
+
+no_star : (b : ℕ) → IsLineByte b → star_count b ≡ 0
+no_star b h =
+    ap (λ t. cond {A = ℕ} t 1 0)
+    (ne_eqb b 42 (λ e. let star : is_in_code b ≡ false = ap is_in_code e ∙ star_is_none in
+    absurd (true≢false (sym h.0 ∙ star))))
+
+line_errors : (line : List ℕ) → All IsLineByte line → errors_of line ≡ 0
+line_errors [] h = refl
+line_errors (b ∷ line) h =
+    sum_by-cons star_count b line
+    ∙ ap₂ ◌+◌ (no_star b (All-head IsLineByte b line h))
+    (line_errors line (All-tail IsLineByte b line h))
+
+text_errors : (lines : List (List ℕ)) → All IsMessageLine lines → errors_of (text_of lines) ≡ 0
+text_errors [] h = refl
+text_errors (line ∷ lines) h =
+    errors-append (line ++ 10 ∷ []) (text_of lines)
+    ∙ ap₂ ◌+◌ (errors-append line (10 ∷ [])
+    ∙ ap (λ n. n + errors_of (10 ∷ []))
+    (line_errors line (All-head IsMessageLine line lines h).in_code))
+    (text_errors lines (All-tail IsMessageLine line lines h))
+
+-- ---- what stands behind the second digit
+
+-- the end of a message up to its last N
+abbrev pub closing : Shift → List ℕ
+closing Letters = 14 ∷ 14 ∷ 14 ∷ 14 ∷ []
+closing Figures = 29 ∷ 14 ∷ 14 ∷ 14 ∷ 14 ∷ []
+
+ending-parts : (shift : Shift) → ending shift ≡ closing shift ++ (27 ∷ 28 ∷ 28 ∷ [])
+unfolding ending
+ending-parts Letters = refl
+ending-parts Figures = refl
+
+module _ (message : MessageView) (numbers : List ℕ) (told : TellsMessage message numbers) where
+  abbrev last_shift : Shift
+  last_shift = shift_after_all (map combination told.body) Figures
+
+  abbrev sent : List ℕ
+  sent = 27 ∷ 28 ∷ (told.body ++ closing last_shift)
+
+  behind_head : drop 11 numbers ≡ sent ++ (27 ∷ 28 ∷ 28 ∷ [])
+  unfolding head
+  behind_head =
+      ap (drop 11) told.whole
+      ∙ ap (λ l. 27 ∷ 28 ∷ (told.body ++ l)) (ending-parts last_shift)
+      ∙ ap (λ l. 27 ∷ 28 ∷ l)
+      (sym (append_assoc told.body (closing last_shift) (27 ∷ 28 ∷ 28 ∷ [])))
+
+  long : length numbers ≡ length sent + 14
+  unfolding head
+  long =
+      ap length told.whole
+      ∙ length-append (head message.identity) (told.body ++ ending last_shift)
+      ∙ omega (
+        arith,
+        length-append told.body (ending last_shift),
+        length-append told.body (closing last_shift),
+        ap length (ending-parts last_shift),
+        length-append (closing last_shift) (27 ∷ 28 ∷ 28 ∷ []),
+      )
+
+  pub sent_is : behind_digit numbers ≡ sent
+  sent_is =
+      ap (take (length numbers - 14)) behind_head
+      ∙ take_at sent (27 ∷ 28 ∷ 28 ∷ []) (length numbers - 14) (omega (arith, long))
+
+  feed-prints : character_of 28 Figures ≡ Some 10
+  unfolding character_of
+  feed-prints = refl
+
+  n-prints : character_of 14 Letters ≡ Some 78
+  unfolding character_of row_of table
+  n-prints = refl
+
+  marker-prints : Prints Letters (map combination (14 ∷ 14 ∷ 14 ∷ 14 ∷ [])) end_marker Letters
+  marker-prints =
+      Prints-character 14 78 Letters _ _ Letters (omega arith) n-prints
+      (Prints-character 14 78 Letters _ _ Letters (omega arith) n-prints
+      (Prints-character 14 78 Letters _ _ Letters (omega arith) n-prints
+      (Prints-character 14 78 Letters _ _ Letters (omega arith) n-prints (Prints-nil Letters))))
+
+  closing-prints : (shift : Shift) → Prints shift (map combination (closing shift)) end_marker
+      Letters
+  closing-prints Letters = marker-prints
+  closing-prints Figures = Prints-shift Letters Figures _ _ Letters marker-prints
+
+  body-prints : Prints Figures (map combination told.body) (text_of message.lines) last_shift
+  body-prints = record { reads = told.reads; after = refl }
+
+  sent-prints : text (map combination sent) Figures
+      ≡ 10 ∷ (text_of message.lines ++ end_marker)
+  sent-prints =
+      let rest = Prints-append Figures last_shift Letters (map combination told.body)
+      (map combination (closing last_shift)) (text_of message.lines) end_marker body-prints
+      (closing-prints last_shift) in
+      ap (λ l. text (combination 27 ∷ combination 28 ∷ l) Figures)
+      (map-append combination told.body (closing last_shift))
+      ∙ (Prints-return Figures _ _ Letters
+      (Prints-character 28 10 Figures _ _ Letters (omega arith) feed-prints rest)).reads
+
+  sent-ends : AreLines message.lines → ending_of (raw_text_of (map combination sent))
+      ≡ Some (full_text message.lines)
+  unfolding raw_text_of
+  sent-ends good =
+      ap (λ t. ending_of (less_newline t)) sent-prints
+      ∙ ap (λ l. ending_of (text_of message.lines ++ l)) (sym (append-nil end_marker))
+      ∙ full_ending message.lines good []
+
+  pub sent-ending : AreLines message.lines → ending_by (map combination (behind_digit numbers))
+      ≡ full_text message.lines
+  unfolding ending_by
+  sent-ending good =
+      ap (λ s. ending_by (map combination s)) sent_is
+      ∙ ap (λ o. unwrap_or o (closed (raw_text_of (map combination sent)))) (sent-ends good)
+
+  pub sent-ended : AreLines message.lines → has_ended (map combination (behind_digit numbers))
+      ≡ true
+  sent-ended good =
+      ap (λ s. has_ended (map combination s)) sent_is ∙ ap is_some (sent-ends good)
+
+  pub sent-whole : AreLines message.lines → IsWhole (map combination (behind_digit numbers))
+  sent-whole good =
+      let same = sent-ending good in
+      record {
+        full = ap (λ (e : Ending). e.how) same;
+        no_error = ap (λ (e : Ending). errors_of e.text) same
+            ∙ text_errors message.lines good.each;
+      }
+
+  pub sent-text : AreLines message.lines → text_sent (behind_digit numbers)
+      ≡ text_of message.lines
+  sent-text good = ap (λ (e : Ending). e.text) (sent-ending good)
