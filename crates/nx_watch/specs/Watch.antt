@@ -1,8 +1,9 @@
 -- A receiver that is left on, and the kept log that is its memory too (this profile).
 use Rattle.std.specs.Prelude.{◌≡◌, ◌≢◌, ◌⊎◌, ◌↔◌, ℕ, ◌+◌, ◌<◌, ◌≤◌, Bool, true, false, List, [], ◌∷◌, ◌++◌}
-use Rattle.std.specs.Prelude.{suc, length, take, drop, Option, Some, Result, Ok, Err, ⊤}
+use Rattle.std.specs.Prelude.{suc, length, take, drop, Option, Some, Result, Ok, Err, ⊤, IsTrue}
 use Rattle.std.specs.List.{All, AllZip}
 use Rattle.std.specs.Io.KnownBytes.{Appends, Consumes}
+use Rattle.nx_envelope.specs.Copies.{most_found}
 use Rattle.nx_fec.specs.air_files.AirFile.{Line, moment}
 use Rattle.nx_fec.specs.Transfers.{CountedDevice, Devices, IsReadOut, count_of}
 use Rattle.nx_fec.specs.declared.air_files.channel.Channel.{Channel}
@@ -12,12 +13,13 @@ use Rattle.nx_kept.specs.Kept.{IsBehindOpenGates, IsDamaged, StandsFor, closed_g
 use Rattle.nx_kept.specs.Taker.{cut_of}
 use Rattle.nx_kept.specs.declared.disk.DiskFile.{Ghosts as TellsOfDisk}
 use Rattle.nx_log.specs.Entries.{IsWholeEntry}
-use Rattle.nx_log.specs.Logged.{IsLoggedAs, remembered_on}
+use Rattle.nx_log.specs.Logged.{IsLoggedAs, is_text_byte, remembered_on}
 use Rattle.nx_memory.specs.Saved.{SavedState, SavedStates}
-use Rattle.nx_copies.specs.Events.{none_refused}
-use Rattle.nx_copies.specs.copies.InTurn.{PrintAllToEnd, PrintsInTurn}
+use Rattle.nx_copies.specs.Events.{Event, Start, none_refused}
+use Rattle.nx_copies.specs.copies.FoundCopies.{TaggedCopy}
+use Rattle.nx_copies.specs.copies.InTurn.{PrintAllToEndBy, PrintsInTurnBy}
 use Rattle.nx_receiver.specs.air_file_runs.Listen.{given_by}
-use Rattle.nx_copies.specs.copies.Log.{IsLog}
+use Rattle.nx_copies.specs.copies.Log.{IsLog, Printing, plain}
 use Rattle.nx_copies.specs.copies.Shares.{Given, MarkedCopy, Starts, starts_from}
 use Rattle.nx_watch.specs.Acting.{acting_lines, count_without, ends_watch, first_without, goes_on}
 use Rattle.nx_watch.specs.Acting.{in_force, moments_behind, most_bytes}
@@ -114,13 +116,30 @@ HasRead AtEnd first unwritten bytes lines =
     (before : List (Option Line)) × (line : Line) × (lines ≡ before ++ Some line ∷ [])
     × StopsBehind first bytes before line
 
+-- a copy can stand in a log, but for its moment: it was selected, and its text has at most 4,100
+-- bytes, each a byte of a text
+pub record IsLoggable (copy : TaggedCopy) : Type 0 where
+  pub short : length copy.text ≤ most_found
+  pub text : All (λ byte. IsTrue (is_text_byte byte)) copy.text
+  pub selected : copy.selected ≡ true
+
+-- what is printed so, of whatever a receiver is given, can stand in a log
+abbrev pub PrintsLoggable : Printing → Type 0
+PrintsLoggable printing =
+    (start : Start) (events : List Event) (log : List TaggedCopy)
+    → printing.to_end start events log → All IsLoggable log
+
 -- The copies that are printed of what was given until the watch stopped so. The end of the input
 -- closes the copies that stand open, and so does the line that ends the watch.
+abbrev pub PrintsUntilBy : Printing → Stop → Starts → List Given → List MarkedCopy → Type 0
+PrintsUntilBy printing at_end = PrintAllToEndBy printing
+PrintsUntilBy printing (back line last given) = PrintAllToEndBy printing
+PrintsUntilBy printing unread = PrintsInTurnBy printing
+PrintsUntilBy printing unwritten = PrintsInTurnBy printing
+
+-- the same where each copy is judged alone
 abbrev pub PrintsUntil : Stop → Starts → List Given → List MarkedCopy → Type 0
-PrintsUntil at_end = PrintAllToEnd
-PrintsUntil (back line last given) = PrintAllToEnd
-PrintsUntil unread = PrintsInTurn
-PrintsUntil unwritten = PrintsInTurn
+PrintsUntil = PrintsUntilBy plain
 
 -- what a watch answers that stopped so, where the disk didn't fail: it read these lines, and put
 -- these copies
@@ -222,9 +241,9 @@ module _ {D R W E : Type 0} (d : WatchDevices D R W E) where
   -- taken, and none ended the watch. What they print had been kept, or written from a failed put
   -- on. What the start cut had been told, the first of the lines without effect, and a put that had
   -- failed, or a write of that had failed.
-  pub record StoodOver (file : List ℕ) (now : ℕ) (starts : Starts) (entries : List MarkedCopy)
-      (bytes : List ℕ)
-      (copies : List MarkedCopy) (at : Stamp D (CountedDevice W) (CountedDevice E))
+  pub record StoodOverBy (printing : Printing) (file : List ℕ) (now : ℕ) (starts : Starts)
+      (entries : List MarkedCopy) (bytes : List ℕ) (copies : List MarkedCopy)
+      (at : Stamp D (CountedDevice W) (CountedDevice E))
       : Type 0 where
     pub within : at.read ≤ length bytes
     pub lines : List (Option Line)
@@ -232,16 +251,26 @@ module _ {D R W E : Type 0} (d : WatchDevices D R W E) where
     pub whole : AreLines (take at.read bytes) lines rest
     pub on : goes_on (moments_at now starts) lines ≡ true
     pub printed : List MarkedCopy
-    pub prints : PrintsInTurn starts (given_by (acting_lines (moments_at now starts) lines)) printed
+    pub prints : PrintsInTurnBy printing starts
+        (given_by (acting_lines (moments_at now starts) lines)) printed
     pub kept : HadKept entries printed copies at ⊎ HadWritten printed at
     pub told : HasToldOf file at.disk at.notices
         (IsToldByRead (moments_at now starts) (take at.read bytes) lines)
 
   -- the same over the file as it stood before the watch
+  abbrev pub StoodAtBy : Printing → ℕ → Starts → List MarkedCopy → List ℕ → List MarkedCopy
+      → Stamp D (CountedDevice W) (CountedDevice E) → Type 0
+  StoodAtBy printing now starts entries bytes copies at =
+      StoodOverBy printing (d.tells.seen d.start d.disk) now starts entries bytes copies at
+
+  -- the same where each copy is judged alone
+  abbrev pub StoodOver : List ℕ → ℕ → Starts → List MarkedCopy → List ℕ → List MarkedCopy
+      → Stamp D (CountedDevice W) (CountedDevice E) → Type 0
+  StoodOver = StoodOverBy plain
+
   abbrev pub StoodAt : ℕ → Starts → List MarkedCopy → List ℕ → List MarkedCopy
       → Stamp D (CountedDevice W) (CountedDevice E) → Type 0
-  StoodAt now starts entries bytes copies at =
-      StoodOver (d.tells.seen d.start d.disk) now starts entries bytes copies at
+  StoodAt = StoodAtBy plain
 
   -- All copies are kept behind the entries, on the disk, and nothing was written. The file is at
   -- rest.
@@ -269,7 +298,7 @@ module _ {D R W E : Type 0} (d : WatchDevices D R W E) where
   -- copies. What the start cut was told, and what is told of the lines. At each read of the input
   -- all of that stood already, of the lines that were whole by then. A read failed exactly where it
   -- stopped at a failed read; a write failed only where it stopped at that, or closed.
-  pub record HasWatchedOver (file : List ℕ) (now : ℕ) (starts : Starts)
+  pub record HasWatchedOverBy (printing : Printing) (file : List ℕ) (now : ℕ) (starts : Starts)
       (entries : List MarkedCopy) (stop : Stop)
       (lines : List (Option Line)) (copies : List MarkedCopy)
       : Type 0 where
@@ -279,9 +308,10 @@ module _ {D R W E : Type 0} (d : WatchDevices D R W E) where
     pub within : length bytes ≤ most_bytes
     pub read : HasRead (IsReadOut d.streams ⊎ (length bytes ≡ most_bytes)) (moments_at now starts)
         stop bytes lines
-    pub printed : PrintsUntil stop starts
+    pub printed : PrintsUntilBy printing stop starts
         (given_by (acting_lines (moments_at now starts) lines)) copies
-    pub before_each_read : All (StoodOver file now starts entries bytes copies) d.stamps
+    pub before_each_read :
+        All (StoodOverBy printing file now starts entries bytes copies) d.stamps
     pub any_moment : LeavesAtAnyMoment (λ file. (count : ℕ) × (count ≤ length copies)
         × StandsForEntries (entries ++ take count copies) file)
     pub failed_read : (stop ≡ unread) ↔ (d.streams.reader_after.failures ≡ 1)
@@ -290,10 +320,19 @@ module _ {D R W E : Type 0} (d : WatchDevices D R W E) where
         (IsToldAtEnd (moments_at now starts) bytes lines)
 
   -- the same over the file as it stood before the watch
+  abbrev pub HasWatchedBy : Printing → ℕ → Starts → List MarkedCopy → Stop → List (Option Line)
+      → List MarkedCopy → Type 0
+  HasWatchedBy printing now starts entries stop lines copies =
+      HasWatchedOverBy printing (d.tells.seen d.start d.disk) now starts entries stop lines copies
+
+  -- the same where each copy is judged alone
+  abbrev pub HasWatchedOver : List ℕ → ℕ → Starts → List MarkedCopy → Stop → List (Option Line)
+      → List MarkedCopy → Type 0
+  HasWatchedOver = HasWatchedOverBy plain
+
   abbrev pub HasWatched : ℕ → Starts → List MarkedCopy → Stop → List (Option Line)
       → List MarkedCopy → Type 0
-  HasWatched now starts entries stop lines copies =
-      HasWatchedOver (d.tells.seen d.start d.disk) now starts entries stop lines copies
+  HasWatched = HasWatchedBy plain
 
   -- Only the file was touched, and at each moment a crash leaves what it could leave before, or a
   -- file that stands for the entries. What is to be cut of it was told; or nothing was told, and
@@ -311,31 +350,46 @@ module _ {D R W E : Type 0} (d : WatchDevices D R W E) where
   -- What a watch answers that opened this file, which stands for these entries, and started so at
   -- this moment. All copies are kept, and how it stopped is answered. Or the disk failed as a copy
   -- was put, which is answered, whatever else ended the watch then.
-  abbrev pub AnswersOver : List ℕ → ℕ → Starts → List MarkedCopy → Result WatchReport WatchFault
-      → Type 0
-  AnswersOver file now starts entries outcome =
+  abbrev pub AnswersOverBy : Printing → List ℕ → ℕ → Starts → List MarkedCopy
+      → Result WatchReport WatchFault → Type 0
+  AnswersOverBy printing file now starts entries outcome =
       (stop : Stop) × (lines : List (Option Line)) × (copies : List MarkedCopy)
-      × HasWatchedOver file now starts entries stop lines copies
+      × HasWatchedOverBy printing file now starts entries stop lines copies
       × ((KeepsAll entries copies
       × AnswersStop (moments_at now starts) stop lines copies outcome)
       ⊎ (KeepsSome entries copies × (outcome ≡ Err Disk)))
 
   -- the same over the file as it stood before the watch
-  abbrev pub AnswersStarted : ℕ → Starts → List MarkedCopy → Result WatchReport WatchFault
-      → Type 0
-  AnswersStarted now starts entries outcome =
-      AnswersOver (d.tells.seen d.start d.disk) now starts entries outcome
+  abbrev pub AnswersStartedBy : Printing → ℕ → Starts → List MarkedCopy
+      → Result WatchReport WatchFault → Type 0
+  AnswersStartedBy printing now starts entries outcome =
+      AnswersOverBy printing (d.tells.seen d.start d.disk) now starts entries outcome
 
   -- What a watch answers that started at this moment over a file that stands for these entries.
   -- Such a file is never damaged. Where it couldn't be opened, or memory ran out, only the file was
   -- touched.
+  abbrev pub AnswersWatchBy : Printing → ℕ → List MarkedCopy → Result WatchReport WatchFault
+      → Type 0
+  AnswersWatchBy printing now entries (Err Open) = HasOpened entries
+  AnswersWatchBy printing now entries (Err Memory) = HasOpened entries
+  AnswersWatchBy printing now entries (Err (Damaged line)) = ⊥
+  AnswersWatchBy printing now entries (Err Disk) =
+      HasOpened entries
+      ⊎ AnswersStartedBy printing now (starts_at now entries) entries (Err Disk)
+  AnswersWatchBy printing now entries outcome =
+      AnswersStartedBy printing now (starts_at now entries) entries outcome
+
+  -- the same where each copy is judged alone
+  abbrev pub AnswersOver : List ℕ → ℕ → Starts → List MarkedCopy → Result WatchReport WatchFault
+      → Type 0
+  AnswersOver = AnswersOverBy plain
+
+  abbrev pub AnswersStarted : ℕ → Starts → List MarkedCopy → Result WatchReport WatchFault
+      → Type 0
+  AnswersStarted = AnswersStartedBy plain
+
   abbrev pub AnswersWatch : ℕ → List MarkedCopy → Result WatchReport WatchFault → Type 0
-  AnswersWatch now entries (Err Open) = HasOpened entries
-  AnswersWatch now entries (Err Memory) = HasOpened entries
-  AnswersWatch now entries (Err (Damaged line)) = ⊥
-  AnswersWatch now entries (Err Disk) =
-      HasOpened entries ⊎ AnswersStarted now (starts_at now entries) entries (Err Disk)
-  AnswersWatch now entries outcome = AnswersStarted now (starts_at now entries) entries outcome
+  AnswersWatch = AnswersWatchBy plain
 
 -- Why a watch answers so: a call of the disk failed, and it was the last one; or none failed.
 abbrev pub HasCause : {D : Type 0} → TellsOfDisk D → Result WatchReport WatchFault → D → D → Type 0

@@ -6,7 +6,7 @@ ghost use Rattle.nx_kept.specs.Disk.{OnlyReads};
 ghost use Rattle.nx_kept.specs.Kept.{IsDamaged, IsKeptLog};
 ghost use Rattle.nx_log.specs.Entries.{IsWholeEntry};
 ghost use Rattle.nx_copies.specs.copies.Shares.{MarkedCopy};
-ghost use Rattle.nx_watch.specs.Watch.{AnswersWatch, FailsWithin, HasCause, RefusesLog, StandsForEntries, longest_entry};
+ghost use Rattle.nx_watch.specs.Watch.{AnswersWatch, AnswersWatchBy, FailsWithin, HasCause, PrintsLoggable, RefusesLog, StandsForEntries, longest_entry};
 ghost use Rattle.nx_watch.specs.LineRun.{TellsOfLines};
 ghost use Rattle.nx_watch.specs.Stamps.{IsFresh, counted_of, stamps_of};
 ghost use Rattle.nx_watch.specs.private.Answering.{fault_answered};
@@ -24,7 +24,8 @@ use crate::watch_run::run_watch;
 use arrayvec::ArrayVec;
 use nx_fec::Counting;
 use nx_kept::{DiskFile, OpenFault};
-use nx_receiver::Listener;
+use nx_memory::RingRecall;
+use nx_receiver::{ChannelReceiver, Listener, Receiver};
 use std::alloc::Global;
 use std::io::{Read, Write};
 
@@ -102,6 +103,66 @@ pub fn watch<D: DiskFile + Drop, R: Read, W: Write, F: Write>(
     ensures told { TellsOfLines (F.contents notices.old.inner) (F.contents notices.new.inner)
         notices.new.failures }
 {
+    watch_with::<Receiver<RingRecall>, D, R, W, F>(alloc, moment, device, reader, writer, notices)
+}
+
+/// Watches with receivers of this kind, as `watch` does with those that judge each copy alone. What
+/// they print of the lines that act is put into the kept log. All else is as `watch` says.
+pub fn watch_with<C: ChannelReceiver, D: DiskFile + Drop, R: Read, W: Write, F: Write>(
+    alloc: Global,
+    moment: u64,
+    device: D,
+    reader: &mut StampedReader<R, D, Counting<W>, Counting<F>>,
+    writer: &mut Counting<W>,
+    notices: &mut Counting<F>,
+) -> (Result<WatchReport, WatchFault>, D)
+    requires reader { IsFresh reader.old }
+    requires writer { writer.old.failures ≡ 0 }
+    requires notices { notices.old.failures ≡ 0 }
+
+    // What such receivers print can stand in a log.
+    requires loggable { PrintsLoggable C.kind.printing }
+
+    ensures watched { (start : List ℕ) (entries : List MarkedCopy) → D.explains start result.1
+        → StandsForEntries entries (D.seen start device)
+        → AnswersWatchBy (record {
+          tells = D.DiskFile;
+          start = start;
+          disk = device;
+          disk_after = result.1;
+          streams = devices R.remaining W.contents (counted_of reader.old) (counted_of reader.new)
+              writer.old writer.new;
+          told = F.contents;
+          notices = notices.old;
+          notices_after = notices.new;
+          stamps = stamps_of reader.new;
+        }) C.kind.printing moment entries result.0 }
+
+    // A file that is no kept log is refused: at the line of the damage, or since the disk failed or
+    // memory ran out. It is only read, and nothing is read of the input.
+    ensures damaged { (start : List ℕ) (line : ℕ) → D.explains start result.1
+        → result.0 ≡ Err (DamagedAt line)
+        → IsDamaged IsWholeEntry longest_entry line (D.seen start device) }
+    ensures refused { (start : List ℕ) → D.explains start result.1
+        → (IsKeptLog IsWholeEntry longest_entry (D.seen start device) → ⊥)
+        → RefusesLog (D.seen start device) result.0 }
+    ensures foreign { (start : List ℕ) → D.explains start result.1
+        → (IsKeptLog IsWholeEntry longest_entry (D.seen start device) → ⊥)
+        → OnlyReads (D.seen start) (D.may_leave start) D.moment (D.left_since start) device result.1
+        × (reader.new ≡ reader.old) × (writer.new ≡ writer.old) × (notices.new ≡ notices.old) }
+
+    // The disk is blamed only where it failed, and called no more after that.
+    ensures cause { HasCause D.DiskFile result.0 device result.1 }
+
+    // The call that failed was at a place within the file or at its end, whatever the file is.
+    ensures within { (start : List ℕ) → D.explains start result.1
+        → FailsWithin D.DiskFile start device result.1 }
+    ensures explained { (start : List ℕ) → D.explains start result.1 → D.explains start device }
+
+    // Whatever the file is, it was told on `notices` what is cut, and of some lines; nothing else.
+    ensures told { TellsOfLines (F.contents notices.old.inner) (F.contents notices.new.inner)
+        notices.new.failures }
+{
     let mut memory = LogMemory::new();
     let log = match open_log(alloc, device, &mut memory, notices) {
         Ok(log) => log,
@@ -113,7 +174,7 @@ pub fn watch<D: DiskFile + Drop, R: Read, W: Write, F: Write>(
         has_failed: false,
     };
     let saved = memory.saved_at(moment);
-    let Ok(listener) = Listener::starting(alloc, &saved) else {
+    let Ok(listener) = Listener::<C>::starting(alloc, &saved) else {
         return keeper.answer(Err(WatchFault::Memory));
     };
     let first = StartMoments {

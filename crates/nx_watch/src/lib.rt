@@ -14,7 +14,7 @@ mod watch_run;
 
 pub use kept_log::log_grammar::LogGrammar;
 pub use kept_log::start::remembered;
-pub use left_on::watch;
+pub use left_on::{watch, watch_with};
 pub use lines::line_effects::StartMoments;
 pub use lines::telling::{tell, write_more};
 pub use stamped::StampedReader;

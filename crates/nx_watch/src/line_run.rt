@@ -11,14 +11,13 @@ ghost use Rattle.nx_watch.specs.LineRun.{AnswersRun, AreCounted, HasTaken, HasTo
 ghost use Rattle.nx_watch.specs.LinesTold.{IsReason};
 ghost use Rattle.nx_watch.specs.private.Effects.{acting_and_set, is_acting, IsEffect, IsKept, KeepsMoments, SameCounts, set_by};
 ghost use Rattle.nx_watch.specs.private.Running.{EndsInput, EndsRun, HasToldLines, HasToldSo, IsBeside, IsRunning, IsToldByEnd, TellsFirst, ToldBefore, ToldBeside, beside};
-ghost use Rattle.nx_receiver.specs.Listener.{starts_of};
+ghost use Rattle.nx_receiver.specs.Listener.{starts_by};
 ghost use Rattle.nx_watch.specs.Stamps.{IsFresh, counted_of, stamps_of};
-ghost use Rattle.nx_watch.specs.private.LoggingListener.{KeepsLines, LoggingTo, TakesLines, logging_to};
+ghost use Rattle.nx_watch.specs.private.LoggingListener.{KeepsLines, LoggingOver, LoggingTo, TakesLines, logging_to};
 ghost use Rattle.nx_watch.specs.private.AnyReading.{GoesOn, HasGiven, SaysLine, latest_of, reach, waiting};
 ghost use Rattle.nx_watch.specs.declared.lines.any_lines.AnyLine.TheVariants.{Known};
 ghost use Rattle.nx_watch.specs.private.Stamping.{RunsStamped, StandsStamped, telling};
 ghost use Rattle.nx_watch.specs.declared.lines.line_effects.StartMoments.{StartMoments as TheStart};
-ghost use Rattle.nx_watch.specs.declared.logging_listener.LoggingListener.{LoggingListener as TheLoggingListener};
 ghost use Rattle.nx_watch.specs.declared.line_run.WatchEnd.TheVariants.{Read as ReadFailed, Write as WriteEnd};
 
 use crate::lines::any_lines::{AnyLine, AnyLines, More};
@@ -29,6 +28,7 @@ use crate::logging_listener::LoggingListener;
 use crate::stamped::StampedReader;
 use nx_fec::{Counting, LineKind};
 use nx_kept::DiskFile;
+use nx_receiver::{ChannelReceiver, Listener};
 use std::io::{Read, Write};
 
 /// Why a run over lines ended before its input.
@@ -50,21 +50,21 @@ pub enum WatchEnd {
 ///
 /// `Back` behind the line that ends the watch: its moment goes back by 66 hours or more, as the
 /// moment in range before it did. `Read` after a failed read. Every list of bytes has an answer.
-pub(crate) fn watch_lines<R: Read, D: DiskFile + Drop, W: Write, F: Write>(
+pub(crate) fn watch_lines<R: Read, D: DiskFile + Drop, C: ChannelReceiver, W: Write, F: Write>(
     reader: &mut StampedReader<R, D, Counting<W>, Counting<F>>,
     writer: &mut Counting<W>,
     notices: &mut Counting<F>,
-    logging: &mut LoggingListener<D>,
+    logging: &mut LoggingListener<D, Listener<C>>,
     first: StartMoments,
     limit: u64,
 ) -> Result<LinesWatched, WatchEnd>
     requires reader { IsFresh reader.old }
     requires writer { writer.old.failures ≡ 0 }
     requires limit { limit ≤ most_bytes }
-    ensures watched { (start : TheLoggingListener D) (old : ToldBefore)
-        → (starts_of start.listener).moment ≡ first.newest
+    ensures watched { (start : LoggingOver D C) (old : ToldBefore)
+        → (starts_by C.kind start.listener).moment ≡ first.newest
         → logging.old.keeper.has_failed ≡ false
-        → KeepsLines D.DiskFile start logging.old [] []
+        → KeepsLines C.kind D.DiskFile start logging.old [] []
         → HasTold old.old (F.contents notices.old.inner) notices.old.failures old.text
         → (bytes : List ℕ)
         × Consumes (R.remaining (counted_of reader.old).inner)
@@ -72,7 +72,7 @@ pub(crate) fn watch_lines<R: Read, D: DiskFile + Drop, W: Write, F: Write>(
         × (length bytes ≤ limit)
         × AnswersRun (record {
           stands = StandsStamped
-              (telling D.DiskFile W.contents F.contents old) first bytes
+              (telling C.kind D.DiskFile W.contents F.contents old) first bytes
               (stamps_of reader.new);
           start = logging_to start writer.old;
           now = logging_to logging.new writer.new;
@@ -111,12 +111,12 @@ struct LineRun {
 impl LineRun {
     /// Takes all lines of the input up to its end or its limit, or until the run is over. Lets more
     /// be read only where all lines so far are taken, and what there is to tell is told.
-    fn read_lines<R: Read, D: DiskFile + Drop, W: Write, F: Write>(
+    fn read_lines<R: Read, D: DiskFile + Drop, C: ChannelReceiver, W: Write, F: Write>(
         &mut self,
         reader: &mut StampedReader<R, D, Counting<W>, Counting<F>>,
         writer: &mut Counting<W>,
         notices: &mut Counting<F>,
-        logging: &mut LoggingListener<D>,
+        logging: &mut LoggingListener<D, Listener<C>>,
     ) -> Result<(), WatchEnd>
         requires reader { IsFresh reader.old }
         requires writer { writer.old.failures ≡ 0 }
@@ -125,10 +125,10 @@ impl LineRun {
         requires room { reach self.old.lines ≡ most_bytes }
         requires lines { self.old.effects.lines ≡ 0 }
         requires fewer { self.old.effects.without_effect ≡ 0 }
-        ensures read { (start : LoggingTo D W) (first : TheStart) (old : ToldBefore)
-            → (starts_of start.logging.listener).moment ≡ first.newest
+        ensures read { (start : LoggingTo D C W) (first : TheStart) (old : ToldBefore)
+            → (starts_by C.kind start.logging.listener).moment ≡ first.newest
             → logging.old.keeper.has_failed ≡ false
-            → IsRunning (TakesLines D.DiskFile W.contents) start
+            → IsRunning (TakesLines C.kind D.DiskFile W.contents) start
             (logging_to logging.old writer.old) first self.old (beside old)
             (F.contents notices.old.inner) notices.old.failures []
             → (bytes : List ℕ)
@@ -139,14 +139,14 @@ impl LineRun {
             × MatchResult result
             (λ _. (IsAtEnd (R.remaining (counted_of reader.new).inner)
             ⊎ (length bytes ≡ self.old.lines.room))
-            × RunsStamped (telling D.DiskFile W.contents F.contents old) first bytes
+            × RunsStamped (telling C.kind D.DiskFile W.contents F.contents old) first bytes
             self.new.effects.lines start
-            (λ since. IsRunning (TakesLines D.DiskFile W.contents) since
+            (λ since. IsRunning (TakesLines C.kind D.DiskFile W.contents) since
             (logging_to logging.new writer.new) first self.new told
             (F.contents notices.new.inner) notices.new.failures bytes) (stamps_of reader.new))
-            (λ end. RunsStamped (telling D.DiskFile W.contents F.contents old) first bytes
+            (λ end. RunsStamped (telling C.kind D.DiskFile W.contents F.contents old) first bytes
             self.new.effects.lines start
-            (λ since. EndsRun (TakesLines D.DiskFile W.contents) since
+            (λ since. EndsRun (TakesLines C.kind D.DiskFile W.contents) since
             (logging_to logging.new writer.new) first self.new.effects told
             (F.contents notices.new.inner) notices.new.failures end bytes)
             (stamps_of reader.new)) }
@@ -182,11 +182,11 @@ impl LineRun {
 
     /// Takes the next line. Answers false where all lines are taken of the bytes that were read.
     #[inline(always)]
-    fn take_next<D: DiskFile + Drop, W: Write, F: Write>(
+    fn take_next<D: DiskFile + Drop, C: ChannelReceiver, W: Write, F: Write>(
         &mut self,
         writer: &mut Counting<W>,
         notices: &mut Counting<F>,
-        logging: &mut LoggingListener<D>,
+        logging: &mut LoggingListener<D, Listener<C>>,
     ) -> Result<bool, WatchEnd>
         requires writer { writer.old.failures ≡ 0 }
         requires room { length (waiting self.old.lines) ≤ reach self.old.lines }
@@ -195,16 +195,16 @@ impl LineRun {
         requires fewer { self.old.effects.without_effect ≤ self.old.effects.lines }
         ensures taken { (count : ℕ) × (count ≤ length (waiting self.old.lines))
             × (waiting self.new.lines ≡ drop count (waiting self.old.lines))
-            × ((start : LoggingTo D W) (first : TheStart) (old : ToldBeside) (bytes : List ℕ)
-            → (starts_of start.logging.listener).moment ≡ first.newest
-            → IsRunning (TakesLines D.DiskFile W.contents) start (logging_to logging.old writer.old)
+            × ((start : LoggingTo D C W) (first : TheStart) (old : ToldBeside) (bytes : List ℕ)
+            → (starts_by C.kind start.logging.listener).moment ≡ first.newest
+            → IsRunning (TakesLines C.kind D.DiskFile W.contents) start (logging_to logging.old writer.old)
             first self.old old (F.contents notices.old.inner) notices.old.failures bytes
             → MatchResult result
-            (λ _. IsRunning (TakesLines D.DiskFile W.contents) start
+            (λ _. IsRunning (TakesLines C.kind D.DiskFile W.contents) start
             (logging_to logging.new writer.new) first self.new old
             (F.contents notices.new.inner) notices.new.failures
             (bytes ++ take count (waiting self.old.lines)))
-            (λ end. (more : List ℕ) → EndsRun (TakesLines D.DiskFile W.contents) start
+            (λ end. (more : List ℕ) → EndsRun (TakesLines C.kind D.DiskFile W.contents) start
             (logging_to logging.new writer.new) first self.new.effects old
             (F.contents notices.new.inner) notices.new.failures end
             ((bytes ++ waiting self.old.lines) ++ more))) }
@@ -301,25 +301,25 @@ impl LineRun {
     /// Gives the receivers the line that was given last, which says this, and answers what it did,
     /// by what they answer.
     #[inline(always)]
-    fn give_line<D: DiskFile + Drop, W: Write>(
+    fn give_line<D: DiskFile + Drop, C: ChannelReceiver, W: Write>(
         &mut self,
         kind: LineKind,
         writer: &mut Counting<W>,
-        logging: &mut LoggingListener<D>,
+        logging: &mut LoggingListener<D, Listener<C>>,
     ) -> Effect
         requires line { SaysLine (latest_of self.old.lines) (Known kind) }
         requires writer { writer.old.failures ≡ 0 }
         requires few { self.old.effects.lines < 2 ^ 63 }
         requires fewer { self.old.effects.without_effect ≤ self.old.effects.lines }
-        ensures taken { (start : LoggingTo D W) (first : TheStart) (lines : List (Option Line))
-            (line : Line) → (starts_of start.logging.listener).moment ≡ first.newest
+        ensures taken { (start : LoggingTo D C W) (first : TheStart) (lines : List (Option Line))
+            (line : Line) → (starts_by C.kind start.logging.listener).moment ≡ first.newest
             → latest_of self.old.lines ≡ Some line
             → IsKept first lines self.old.effects
-            → TakesLines D.DiskFile W.contents start (logging_to logging.old writer.old)
+            → TakesLines C.kind D.DiskFile W.contents start (logging_to logging.old writer.old)
             (acting_lines first lines)
             → IsKept first (lines ++ Some line ∷ []) self.new.effects
             × IsEffect first (moments_behind first lines) (Some line) result
-            × TakesLines D.DiskFile W.contents start (logging_to logging.new writer.new)
+            × TakesLines C.kind D.DiskFile W.contents start (logging_to logging.new writer.new)
             (acting_lines first (lines ++ Some line ∷ [])) }
         ensures reader { self.new.lines ≡ self.old.lines }
         ensures lines { self.new.effects.lines ≡ self.old.effects.lines + 1 }
@@ -343,33 +343,33 @@ impl LineRun {
     /// Takes the line that was given last, which says this. Gives it to the receivers, and tells
     /// why it did nothing where it is the first without effect.
     #[inline(always)]
-    fn take_known<D: DiskFile + Drop, W: Write, F: Write>(
+    fn take_known<D: DiskFile + Drop, C: ChannelReceiver, W: Write, F: Write>(
         &mut self,
         kind: LineKind,
         writer: &mut Counting<W>,
         notices: &mut Counting<F>,
-        logging: &mut LoggingListener<D>,
+        logging: &mut LoggingListener<D, Listener<C>>,
     ) -> Result<(), WatchEnd>
         requires line { SaysLine (latest_of self.old.lines) (Known kind) }
         requires writer { writer.old.failures ≡ 0 }
         requires few { self.old.effects.lines < 2 ^ 63 }
         requires fewer { self.old.effects.without_effect ≤ self.old.effects.lines }
-        ensures taken { (start : LoggingTo D W) (first : TheStart) (old : ToldBeside)
+        ensures taken { (start : LoggingTo D C W) (first : TheStart) (old : ToldBeside)
             (bytes : List ℕ) (lines : List (Option Line)) (line : Line)
-            → (starts_of start.logging.listener).moment ≡ first.newest
+            → (starts_by C.kind start.logging.listener).moment ≡ first.newest
             → latest_of self.old.lines ≡ Some line
-            → HasTaken (TakesLines D.DiskFile W.contents) start (logging_to logging.old writer.old)
+            → HasTaken (TakesLines C.kind D.DiskFile W.contents) start (logging_to logging.old writer.old)
             first lines
             → TellsFirst first self.old.effects old (F.contents notices.old.inner)
             notices.old.failures bytes lines
             → MatchResult result
-            (λ _. HasTaken (TakesLines D.DiskFile W.contents) start
+            (λ _. HasTaken (TakesLines C.kind D.DiskFile W.contents) start
             (logging_to logging.new writer.new) first (lines ++ Some line ∷ [])
             × TellsFirst first self.new.effects old (F.contents notices.new.inner)
             notices.new.failures bytes (lines ++ Some line ∷ []))
             (λ end. (front : List ℕ) → AreLines front (lines ++ Some line ∷ []) []
             → (more : List ℕ) → bytes ≡ front ++ more
-            → EndsRun (TakesLines D.DiskFile W.contents) start (logging_to logging.new writer.new)
+            → EndsRun (TakesLines C.kind D.DiskFile W.contents) start (logging_to logging.new writer.new)
             first self.new.effects old (F.contents notices.new.inner) notices.new.failures end
             bytes) }
         ensures reader { self.new.lines ≡ self.old.lines }
@@ -405,19 +405,19 @@ impl LineRun {
 /// Sets the moment of the start, where a line of this kind is of elements and no moment in range
 /// came before it. One past the year 2999 isn't set.
 #[inline(always)]
-fn set_start<D: DiskFile + Drop>(
+fn set_start<D: DiskFile + Drop, C: ChannelReceiver>(
     effects: &mut LineEffects,
     kind: LineKind,
-    logging: &mut LoggingListener<D>,
+    logging: &mut LoggingListener<D, Listener<C>>,
 )
-    ensures set { (start : TheLoggingListener D) (first : TheStart) (lines : List (Option Line))
+    ensures set { (start : LoggingOver D C) (first : TheStart) (lines : List (Option Line))
         (line : Line) (given : List ℕ) → kind_of line ≡ kind
-        → (starts_of start.listener).moment ≡ first.newest
+        → (starts_by C.kind start.listener).moment ≡ first.newest
         → KeepsMoments first (moments_behind first lines) effects.old
-        → KeepsLines D.DiskFile start logging.old (acting_lines first lines) given
+        → KeepsLines C.kind D.DiskFile start logging.old (acting_lines first lines) given
         → KeepsMoments first
         (moments_behind first lines ++ set_by first (moments_behind first lines) line) effects.new
-        × KeepsLines D.DiskFile start logging.new (acting_and_set first lines line) given }
+        × KeepsLines C.kind D.DiskFile start logging.new (acting_and_set first lines line) given }
     ensures counts { SameCounts effects.old effects.new }
     ensures keeper { logging.new.keeper ≡ logging.old.keeper }
 {

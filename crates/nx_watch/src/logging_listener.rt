@@ -6,19 +6,17 @@ ghost use Rattle.nx_envelope.specs.Moment.{last_moment};
 ghost use Rattle.nx_fec.specs.air_files.AirFile.{IsLine, Line, elements, moment};
 ghost use Rattle.nx_fec.specs.Transfers.{CountedDevice};
 ghost use Rattle.nx_fec.specs.air_files.Scanner.{line_with};
-ghost use Rattle.nx_log.specs.Logged.{IsLoggedAs};
+ghost use Rattle.nx_log.specs.Logged.{IsLogged, IsLoggedAs};
 ghost use Rattle.nx_receiver.specs.Moments.{Refuses};
-ghost use Rattle.nx_copies.specs.copies.InTurn.{PrintAllToEnd};
 ghost use Rattle.nx_receiver.specs.air_file_runs.Listen.{given_by};
-ghost use Rattle.nx_receiver.specs.Listener.{last_copies, starts_of, then_elements};
-ghost use Rattle.nx_copies.specs.copies.Shares.{MarkedCopy, Starts};
+ghost use Rattle.nx_receiver.specs.Listener.{last_copies, starts_by, then_elements};
 ghost use Rattle.nx_watch.specs.declared.kept_log.keeper.Keeper.{Keeper as TheKeeper};
-ghost use Rattle.nx_watch.specs.declared.logging_listener.LoggingListener.{LoggingListener as TheLoggingListener};
 ghost use Rattle.nx_watch.specs.LineRun.{HasTold, MayAct, force_behind};
 ghost use Rattle.nx_watch.specs.LinesTold.{put_told};
+ghost use Rattle.nx_watch.specs.Watch.{PrintsLoggable};
 ghost use Rattle.nx_watch.specs.private.Effects.{IsAnswer, lines_taken};
 ghost use Rattle.nx_watch.specs.private.Keeping.{KeepsWith};
-ghost use Rattle.nx_watch.specs.private.LoggingListener.{HasClosed, IsCopyInRange, IsLineInRange, KeepsHeard, KeepsLines, LoggingTo, TakesLines, logging_to};
+ghost use Rattle.nx_watch.specs.private.LoggingListener.{HasClosed, IsCopyInRange, IsLineInRange, KeepsHeard, KeepsLines, LoggingOver, LoggingTo, TakesLines, logging_to};
 
 use crate::kept_log::keeper::Keeper;
 use crate::lines::refusal::Refusal;
@@ -27,30 +25,31 @@ use arrayvec::ArrayVec;
 use nx_copies::{MAX_ENTRY, entry_bytes};
 use nx_fec::{Channel, Counting, LineKind, PackedElements};
 use nx_kept::DiskFile;
-use nx_receiver::{Command, LastEntries, Listener, MomentFault};
+use nx_memory::RingRecall;
+use nx_receiver::{ChannelReceiver, Command, LastEntries, Listener, MomentFault, Receiver};
 use std::io::Write;
 
-/// The receivers of a watch, and who keeps the entries that they print.
+/// The receivers of a watch, of whatever kind, and who keeps the entries that they print.
 #[derive(Drop)]
-pub(crate) struct LoggingListener<D> {
-    pub(crate) listener: Listener,
+pub(crate) struct LoggingListener<D, L = Listener<Receiver<RingRecall>>> {
+    pub(crate) listener: L,
     pub(crate) keeper: Keeper<D>,
     /// The bytes of the latest entry.
     pub(crate) entry: ArrayVec<u8, MAX_ENTRY>,
 }
 
-impl<D: DiskFile + Drop> LoggingListener<D> {
+impl<D: DiskFile + Drop, C: ChannelReceiver> LoggingListener<D, Listener<C>> {
     /// Sets the moment of all channels, as a line does that says it. A watch sets one by itself
     /// before the first elements, where no line said one. `Range` where it is past 2999-12-31
     /// 23:59:59, else `Back` where it is before the one in force; the receivers then stay as they
     /// were.
     pub(crate) fn set_moment(&mut self, given: u64) -> Result<(), MomentFault>
-        ensures set { (start : TheLoggingListener D) (lines : List Line) (bytes : List ℕ)
-            → KeepsLines D.DiskFile start self.old lines bytes
+        ensures set { (start : LoggingOver D C) (lines : List Line) (bytes : List ℕ)
+            → KeepsLines C.kind D.DiskFile start self.old lines bytes
             → MatchResult result
-            (λ _. MayAct (starts_of start.listener).moment lines (moment given)
-            × KeepsLines D.DiskFile start self.new (lines ++ moment given ∷ []) bytes)
-            (λ fault. Refuses (force_behind (starts_of start.listener).moment lines) given fault
+            (λ _. MayAct (starts_by C.kind start.listener).moment lines (moment given)
+            × KeepsLines C.kind D.DiskFile start self.new (lines ++ moment given ∷ []) bytes)
+            (λ fault. Refuses (force_behind (starts_by C.kind start.listener).moment lines) given fault
             × (self.new ≡ self.old)) }
         ensures keeper { self.new.keeper ≡ self.old.keeper }
     {
@@ -68,11 +67,11 @@ impl<D: DiskFile + Drop> LoggingListener<D> {
     ) -> Result<(), Refusal>
         requires line { IsLine (line_with kind elements.now) }
         requires none { writer.old.failures ≡ 0 }
-        ensures taken { (start : LoggingTo D W) (lines : List Line) (line : Line)
+        ensures taken { (start : LoggingTo D C W) (lines : List Line) (line : Line)
             → line ≡ line_with kind elements.now
-            → TakesLines D.DiskFile W.contents start (logging_to self.old writer.old) lines
-            → IsAnswer (force_behind (starts_of start.logging.listener).moment lines) line result
-            × TakesLines D.DiskFile W.contents start (logging_to self.new writer.new)
+            → TakesLines C.kind D.DiskFile W.contents start (logging_to self.old writer.old) lines
+            → IsAnswer (force_behind (starts_by C.kind start.logging.listener).moment lines) line result
+            × TakesLines C.kind D.DiskFile W.contents start (logging_to self.new writer.new)
             (lines ++ lines_taken line result) }
         ensures refused { OnErr result (writer.new ≡ writer.old) }
         ensures once { writer.new.failures ≤ 1 }
@@ -101,12 +100,13 @@ impl<D: DiskFile + Drop> LoggingListener<D> {
     ) -> usize
         requires some { from < length packed.now }
         requires once { writer.old.failures ≤ 1 }
-        ensures heard { (start : TheLoggingListener D) (first : CountedDevice W) (lines : List Line)
-            (part : List Bool) → (starts_of start.listener).moment ≤ last_moment
+        ensures heard { (start : LoggingOver D C) (first : CountedDevice W) (lines : List Line)
+            (part : List Bool) → PrintsLoggable C.kind.printing
+            → (starts_by C.kind start.listener).moment ≤ last_moment
             → All IsLineInRange lines
-            → KeepsHeard D.DiskFile W.contents start self.old first writer.old
+            → KeepsHeard C.kind D.DiskFile W.contents start self.old first writer.old
             (then_elements (given_by lines) channel part)
-            → KeepsHeard D.DiskFile W.contents start self.new first writer.new
+            → KeepsHeard C.kind D.DiskFile W.contents start self.new first writer.new
             (then_elements (given_by lines) channel (part ++ take result (drop from packed.now))) }
         ensures some { 0 < result }
         ensures within { from + result ≤ length packed.now }
@@ -131,9 +131,9 @@ impl<D: DiskFile + Drop> LoggingListener<D> {
         writer: &mut Counting<W>,
     )
         requires { writer.old.failures ≡ 0 }
-        ensures taken { (start : LoggingTo D W) (lines : List Line)
-            → TakesLines D.DiskFile W.contents start (logging_to self.old writer.old) lines
-            → TakesLines D.DiskFile W.contents start (logging_to self.new writer.new)
+        ensures taken { (start : LoggingTo D C W) (lines : List Line)
+            → TakesLines C.kind D.DiskFile W.contents start (logging_to self.old writer.old) lines
+            → TakesLines C.kind D.DiskFile W.contents start (logging_to self.new writer.new)
             (lines ++ elements mark packed.now ∷ []) }
         ensures once { writer.new.failures ≤ 1 }
         ensures failed { self.old.keeper.has_failed ≡ true → self.new.keeper.has_failed ≡ true }
@@ -148,10 +148,11 @@ impl<D: DiskFile + Drop> LoggingListener<D> {
     /// Closes the channels 0, 1 and 2, and keeps the entries of the copies that stood open.
     pub(crate) fn close<W: Write>(self, writer: &mut Counting<W>) -> Keeper<D>
         requires { writer.old.failures ≤ 1 }
-        ensures closed { (start : LoggingTo D W) (lines : List Line)
-            → TakesLines D.DiskFile W.contents start (logging_to self writer.old) lines
-            → HasClosed D.DiskFile W.contents (starts_of start.logging.listener)
-            start.logging.keeper result start.writer writer.new lines }
+        ensures closed { (start : LoggingTo D C W) (lines : List Line)
+            → TakesLines C.kind D.DiskFile W.contents start (logging_to self writer.old) lines
+            → HasClosed C.kind.printing D.DiskFile W.contents
+            (starts_by C.kind start.logging.listener) start.logging.keeper result start.writer
+            writer.new lines }
         ensures once { writer.new.failures ≤ 1 }
         ensures failed { self.keeper.has_failed ≡ true → result.has_failed ≡ true }
     {
@@ -170,10 +171,11 @@ impl<D: DiskFile + Drop> LoggingListener<D> {
         notices: &mut Counting<F>,
     ) -> Keeper<D>
         requires { writer.old.failures ≤ 1 }
-        ensures closed { (start : LoggingTo D W) (lines : List Line)
-            → TakesLines D.DiskFile W.contents start (logging_to self writer.old) lines
-            → HasClosed D.DiskFile W.contents (starts_of start.logging.listener)
-            start.logging.keeper result start.writer writer.new lines }
+        ensures closed { (start : LoggingTo D C W) (lines : List Line)
+            → TakesLines C.kind D.DiskFile W.contents start (logging_to self writer.old) lines
+            → HasClosed C.kind.printing D.DiskFile W.contents
+            (starts_by C.kind start.logging.listener) start.logging.keeper result start.writer
+            writer.new lines }
         ensures once { writer.new.failures ≤ 1 }
         ensures failed { self.keeper.has_failed ≡ true → result.has_failed ≡ true }
         ensures told { (old : Option (List ℕ)) (text : List ℕ)
@@ -208,13 +210,11 @@ fn keep_last<D: DiskFile + Drop, W: Write>(
 ) -> Keeper<D>
     requires once { writer.old.failures ≤ 1 }
     requires range { All IsCopyInRange (last_copies last) }
-    ensures closed { (starts : Starts) (start : TheKeeper D) (first : CountedDevice W)
-        (lines : List Line) (copies : List MarkedCopy) (texts : List (List ℕ))
-        → starts.moment ≤ last_moment → All IsLineInRange lines
-        → PrintAllToEnd starts (given_by lines) (copies ++ last_copies last)
-        → AllZip IsLoggedAs copies texts
+    ensures kept { (start : TheKeeper D) (first : CountedDevice W) (texts : List (List ℕ))
+        → All IsLogged (last_copies last)
         → KeepsWith D.DiskFile W.contents start keeper first writer.old texts
-        → HasClosed D.DiskFile W.contents starts start result first writer.new lines }
+        → (more : List (List ℕ)) × AllZip IsLoggedAs (last_copies last) more
+        × KeepsWith D.DiskFile W.contents start result first writer.new (texts ++ more) }
     ensures once { writer.new.failures ≤ 1 }
     ensures failed { keeper.has_failed ≡ true → result.has_failed ≡ true }
 {

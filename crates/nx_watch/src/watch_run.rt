@@ -3,10 +3,11 @@
 ghost use Rattle.std.specs.Prelude.{◌≡◌, ◌≤◌, ℕ, List, [], Option};
 ghost use Rattle.nx_envelope.specs.Moment.{last_moment};
 ghost use Rattle.nx_fec.specs.Transfers.{CountedDevice, devices};
-ghost use Rattle.nx_receiver.specs.Listener.{HearsGiven, starts_of};
+ghost use Rattle.nx_receiver.specs.Listener.{HearsBy, starts_by};
 ghost use Rattle.nx_watch.specs.CutTold.{TellsOfSomeCut};
 ghost use Rattle.nx_watch.specs.LineRun.{HasTold, TellsOfLines};
 ghost use Rattle.nx_watch.specs.Stamps.{IsFresh, counted_of, stamps_of};
+ghost use Rattle.nx_watch.specs.Watch.{PrintsLoggable};
 ghost use Rattle.nx_watch.specs.private.Keeping.{HasKept};
 ghost use Rattle.nx_watch.specs.private.LoggingListener.{HasRun};
 
@@ -22,13 +23,13 @@ use arrayvec::ArrayVec;
 use nx_copies::MAX_ENTRY;
 use nx_fec::Counting;
 use nx_kept::DiskFile;
-use nx_receiver::Listener;
+use nx_receiver::{ChannelReceiver, Listener};
 use std::io::{Read, Write};
 
 /// Watches the lines of an input with these receivers, and answers how that ended; and the file.
 /// `first` is the moments with which it starts.
-pub(crate) fn run_watch<R: Read, D: DiskFile + Drop, W: Write, F: Write>(
-    mut logging: LoggingListener<D>,
+pub(crate) fn run_watch<R: Read, D: DiskFile + Drop, C: ChannelReceiver, W: Write, F: Write>(
+    mut logging: LoggingListener<D, Listener<C>>,
     first: StartMoments,
     reader: &mut StampedReader<R, D, Counting<W>, Counting<F>>,
     writer: &mut Counting<W>,
@@ -39,11 +40,12 @@ pub(crate) fn run_watch<R: Read, D: DiskFile + Drop, W: Write, F: Write>(
     ensures runs { (before : CountedDevice F) (cut : List ℕ)
         → HasTold (F.contents before.inner) (F.contents notices.old.inner) notices.old.failures
         cut
-        → first.newest ≡ (starts_of logging.listener).moment → logging.keeper.put ≡ 0
-        → (starts_of logging.listener).moment ≤ last_moment
-        → HearsGiven (starts_of logging.listener) logging.listener [] []
+        → PrintsLoggable C.kind.printing
+        → first.newest ≡ (starts_by C.kind logging.listener).moment → logging.keeper.put ≡ 0
+        → (starts_by C.kind logging.listener).moment ≤ last_moment
+        → HearsBy C.kind (starts_by C.kind logging.listener) logging.listener [] []
         → HasKept D.DiskFile logging.keeper logging.keeper [] []
-        → HasRun D.DiskFile first.started cut logging (λ content. record {
+        → HasRun C.kind D.DiskFile first.started cut logging (λ content. record {
           tells = D.DiskFile;
           start = content;
           disk = logging.keeper.log.device;
@@ -57,9 +59,10 @@ pub(crate) fn run_watch<R: Read, D: DiskFile + Drop, W: Write, F: Write>(
         }) result.0 result.1 }
     ensures told { (old : Option (List ℕ)) (cut : List ℕ) → TellsOfSomeCut cut
         → HasTold old (F.contents notices.old.inner) notices.old.failures cut
-        → first.newest ≡ (starts_of logging.listener).moment
-        → (starts_of logging.listener).moment ≤ last_moment
-        → HearsGiven (starts_of logging.listener) logging.listener [] []
+        → PrintsLoggable C.kind.printing
+        → first.newest ≡ (starts_by C.kind logging.listener).moment
+        → (starts_by C.kind logging.listener).moment ≤ last_moment
+        → HearsBy C.kind (starts_by C.kind logging.listener) logging.listener [] []
         → HasKept D.DiskFile logging.keeper logging.keeper [] []
         → TellsOfLines old (F.contents notices.new.inner) notices.new.failures }
 {

@@ -15,7 +15,8 @@ use Rattle.nx_fec.specs.air_files.AirFile.{refuse_subject, accept_subject}
 use Rattle.nx_fec.specs.declared.air_files.channel.Channel.{Channel}
 use Rattle.nx_memory.specs.Memory.{seconds_known}
 use Rattle.nx_receiver.specs.Moments.{Refuses}
-use Rattle.nx_receiver.specs.Listener.{starts_of}
+use Rattle.nx_receiver.specs.ChannelReceiver.{ReceiverKind}
+use Rattle.nx_receiver.specs.Listener.{starts_by}
 use Rattle.nx_receiver.specs.declared.fault.MomentFault.{MomentFault}
 use Rattle.nx_receiver.specs.declared.fault.MomentFault.TheVariants as MomentFaults
 use Rattle.nx_receiver.specs.declared.fault.MomentFault.TheVariants.{Range}
@@ -29,7 +30,6 @@ use Rattle.nx_watch.specs.LineRun.{AnswersRun, AreCounted, HasTaken, HasTold, Ma
 use Rattle.nx_watch.specs.LineRun.{Standing, force_behind}
 use Rattle.nx_fec.specs.Transfers.{CountedDevice}
 use Rattle.nx_kept.specs.declared.disk.DiskFile.{Ghosts as TellsOfDisk}
-use Rattle.nx_watch.specs.declared.logging_listener.LoggingListener.{LoggingListener}
 use Rattle.nx_watch.specs.LinesTold.{IsFirstTold, IsReason}
 use Rattle.nx_watch.specs.declared.lines.no_effect.NoEffect.TheVariants.{GoesBack}
 use Rattle.nx_watch.specs.declared.lines.refusal.Refusal.{Refusal}
@@ -42,7 +42,7 @@ use Rattle.nx_watch.specs.declared.lines.line_effects.LineEffects.{LineEffects}
 use Rattle.nx_watch.specs.declared.line_run.LineRun.{LineRun}
 use Rattle.nx_watch.specs.private.Running.{EndsInput, HasToldLines, IsRunning, TellsFirst, ToldBefore, ToldBeside, beside}
 use Rattle.nx_watch.specs.private.Scanning.{IsScanning}
-use Rattle.nx_watch.specs.private.LoggingListener.{KeepsLines, TakesLines, logging_to}
+use Rattle.nx_watch.specs.private.LoggingListener.{KeepsLines, LoggingOver, TakesLines, logging_to}
 use Rattle.nx_watch.proofs.lemmas.lines.Acting.{both, idle-unset, not_second}
 use Rattle.nx_watch.proofs.lemmas.lines.Starting.{is-setting, set-before, set_line, unset-behind}
 
@@ -345,23 +345,24 @@ answer-behind first lines line answer =
 
 -- elements come first, and the receivers answer to the moment of the start, by which it is kept or
 -- not whether it was set
-pub start-answered : {D : Type 0} (disk : TellsOfDisk D) (start old new : LoggingListener D)
+pub start-answered : {D C : Type 0} (kind : ReceiverKind C) (disk : TellsOfDisk D)
+    (start old new : LoggingOver D C)
     (first : StartMoments) (lines : List (Option Line)) (line : Line) (mark : Option Channel)
     (bits : List Bool) (bytes : List ℕ) (n : ℕ) (now : LineEffects)
     (answer : Result (Unit {0}) MomentFault)
     → n ≡ given first → moments_behind first lines ≡ [] → line ≡ elements mark bits
-    → (starts_of start.listener).moment ≡ first.newest
+    → (starts_by kind start.listener).moment ≡ first.newest
     → MatchResult answer (λ _. KeepsMoments first (n ∷ []) now) (λ _. KeepsMoments first [] now)
     → MatchResult answer
-    (λ _. MayAct (starts_of start.listener).moment (acting_lines first lines) (moment n)
-    × KeepsLines disk start new (acting_lines first lines ++ moment n ∷ []) bytes)
-    (λ fault. Refuses (force_behind (starts_of start.listener).moment (acting_lines first lines)) n
+    (λ _. MayAct (starts_by kind start.listener).moment (acting_lines first lines) (moment n)
+    × KeepsLines kind disk start new (acting_lines first lines ++ moment n ∷ []) bytes)
+    (λ fault. Refuses (force_behind (starts_by kind start.listener).moment (acting_lines first lines)) n
     fault × (new ≡ old))
-    → KeepsLines disk start old (acting_lines first lines) bytes
+    → KeepsLines kind disk start old (acting_lines first lines) bytes
     → KeepsMoments first
     (moments_behind first lines ++ set_by first (moments_behind first lines) line) now
-    × KeepsLines disk start new (acting_and_set first lines line) bytes
-start-answered disk start old new first lines line mark bits bytes n now answer is none same force =
+    × KeepsLines kind disk start new (acting_and_set first lines line) bytes
+start-answered kind disk start old new first lines line mark bits bytes n now answer is none same force =
     so answer
   where
     behind : List ℕ
@@ -375,13 +376,13 @@ start-answered disk start old new first lines line mark bits bytes n now answer 
     by b e = ap (λ b. cond b (given first ∷ []) []) (setting ∙ e)
 
     not-set : set_by first behind line ≡ [] → KeepsMoments first [] now → new ≡ old
-        → KeepsLines disk start old (acting_lines first lines) bytes
+        → KeepsLines kind disk start old (acting_lines first lines) bytes
         → KeepsMoments first (behind ++ set_by first behind line) now
-        × KeepsLines disk start new (acting_and_set first lines line) bytes
+        × KeepsLines kind disk start new (acting_and_set first lines line) bytes
     not-set e k unchanged s = (
       subst (λ l. KeepsMoments first l now) (sym (ap₂ (λ a b. a ++ b) none e)) k,
-      subst (λ l. KeepsLines disk start l (acting_and_set first lines line) bytes) (sym unchanged)
-          (subst (λ l. KeepsLines disk start old l bytes)
+      subst (λ l. KeepsLines kind disk start l (acting_and_set first lines line) bytes) (sym unchanged)
+          (subst (λ l. KeepsLines kind disk start old l bytes)
           (sym (ap (λ m. acting_lines first lines ++ map moment m) e
           ∙ append-nil (acting_lines first lines))) s),
     )
@@ -389,19 +390,19 @@ start-answered disk start old new first lines line mark bits bytes n now answer 
     so : (answer : Result (Unit {0}) MomentFault)
         → MatchResult answer (λ _. KeepsMoments first (n ∷ []) now) (λ _. KeepsMoments first [] now)
         → MatchResult answer
-        (λ _. MayAct (starts_of start.listener).moment (acting_lines first lines) (moment n)
-        × KeepsLines disk start new (acting_lines first lines ++ moment n ∷ []) bytes)
-        (λ fault. Refuses (force_behind (starts_of start.listener).moment
+        (λ _. MayAct (starts_by kind start.listener).moment (acting_lines first lines) (moment n)
+        × KeepsLines kind disk start new (acting_lines first lines ++ moment n ∷ []) bytes)
+        (λ fault. Refuses (force_behind (starts_by kind start.listener).moment
         (acting_lines first lines)) n fault × (new ≡ old))
-        → KeepsLines disk start old (acting_lines first lines) bytes
+        → KeepsLines kind disk start old (acting_lines first lines) bytes
         → KeepsMoments first (behind ++ set_by first behind line) now
-        × KeepsLines disk start new (acting_and_set first lines line) bytes
+        × KeepsLines kind disk start new (acting_and_set first lines line) bytes
     so (Ok set) k a s =
         let in_range : given first ≤ last_moment = omega (arith, is, a.0.1) in
         let e : set_by first behind line ≡ n ∷ [] =
         by true (le-leb (given first) last_moment in_range) ∙ ap (λ m. m ∷ []) (sym is) in (
           subst (λ l. KeepsMoments first l now) (sym (ap₂ (λ a b. a ++ b) none e)) k,
-          subst (λ m. KeepsLines disk start new (acting_lines first lines ++ map moment m) bytes)
+          subst (λ m. KeepsLines kind disk start new (acting_lines first lines ++ map moment m) bytes)
               (sym e) a.1,
         )
     so (Err (Range at)) k a s =
@@ -409,7 +410,7 @@ start-answered disk start old new first lines line mark bits bytes n now answer 
         let out : nat_le (given first) last_moment ≡ false = grind (arith, nat_tests) in
         not-set (by false out) k a.1 s
     so (Err (MomentFaults.Back from at)) k a s =
-        let now : force_behind (starts_of start.listener).moment (acting_lines first lines)
+        let now : force_behind (starts_by kind start.listener).moment (acting_lines first lines)
         ≡ first.newest =
         ap (λ m. force_behind m (acting_lines first lines)) force ∙ force-acting first lines
         ∙ ap (in_force first.newest) none in
@@ -496,11 +497,11 @@ nothing None = tt
 nothing (Some bytes) = sym (append-nil bytes)
 
 -- the receivers and a writer before the first line
-pub none-taken : {D W : Type 0} (disk : TellsOfDisk D) (contents : W → Option (List ℕ))
-    (start now : LoggingListener D) (writer : CountedDevice W)
-    → KeepsLines disk start now [] [] → writer.failures ≡ 0
-    → TakesLines disk contents (logging_to start writer) (logging_to now writer) []
-none-taken disk contents start now writer stood none = (
+pub none-taken : {D C W : Type 0} (kind : ReceiverKind C) (disk : TellsOfDisk D)
+    (contents : W → Option (List ℕ)) (start now : LoggingOver D C) (writer : CountedDevice W)
+    → KeepsLines kind disk start now [] [] → writer.failures ≡ 0
+    → TakesLines kind disk contents (logging_to start writer) (logging_to now writer) []
+none-taken kind disk contents start now writer stood none = (
   [],
   stood,
   record {

@@ -17,16 +17,17 @@ use Rattle.nx_kept.proofs.lemmas.Stages.{weaker}
 use Rattle.nx_log.specs.Logged.{IsLoggedAs}
 use Rattle.nx_fec.specs.declared.air_files.channel.Channel.TheVariants.{Zero, One, Two}
 use Rattle.nx_receiver.specs.air_file_runs.Listen.{given_by, given_of}
-use Rattle.nx_copies.specs.copies.InTurn.{PrintAllToEnd, PrintsInTurn}
-use Rattle.nx_copies.proofs.lemmas.channels.One.{one-in_turn, one-to_end}
-use Rattle.nx_copies.proofs.lemmas.channels.Some.{later-some}
-use Rattle.nx_receiver.specs.Listener.{HearsGiven, starts_of}
-use Rattle.nx_copies.specs.copies.Log.{IsLog}
+use Rattle.nx_copies.specs.copies.InTurn.{PrintAllToEndBy, PrintsInTurnBy}
+use Rattle.nx_copies.proofs.lemmas.channels.One.{one-in_turn_by, one-to_end_by}
+use Rattle.nx_copies.proofs.lemmas.channels.Some.{later-some_by}
+use Rattle.nx_receiver.specs.ChannelReceiver.{IsReceiver, ReceiverKind}
+use Rattle.nx_receiver.specs.Listener.{HearsBy, starts_by}
+use Rattle.nx_copies.specs.copies.Log.{IsLog, IsPrinting, Printing}
 use Rattle.nx_copies.specs.copies.Shares.{MarkedCopy, Starts, marked}
 use Rattle.nx_watch.specs.Acting.{acting_lines, goes_on, most_bytes}
 use Rattle.nx_watch.specs.declared.lines.line_effects.StartMoments.{StartMoments}
-use Rattle.nx_watch.specs.Watch.{AnswersOver, AnswersStop, FailsWithin, FailsWrites, HadFailed, HadKept, HadWritten, HasCause, HasRead, HasWatchedOver, KeepsAll, KeepsSome, LeavesAtAnyMoment, StoodOver, TellsOfCut}
-use Rattle.nx_watch.specs.Watch.{PrintsUntil, StandsForEntries, Stop, WatchDevices, at_end, back, moments_at, unread, unwritten}
+use Rattle.nx_watch.specs.Watch.{AnswersOverBy, AnswersStop, FailsWithin, FailsWrites, HadFailed, HadKept, HadWritten, HasCause, HasRead, HasWatchedOverBy, KeepsAll, KeepsSome, LeavesAtAnyMoment, PrintsLoggable, StoodOverBy, TellsOfCut}
+use Rattle.nx_watch.specs.Watch.{PrintsUntilBy, StandsForEntries, Stop, WatchDevices, at_end, back, moments_at, unread, unwritten}
 use Rattle.nx_watch.specs.LineRun.{HasTold, WereGiven}
 use Rattle.nx_watch.specs.Stamp.{Stamp}
 use Rattle.nx_watch.specs.declared.kept_log.keeper.Keeper.{Keeper}
@@ -37,10 +38,9 @@ use Rattle.nx_watch.specs.private.Keeping.{AllKept, HasKept, HasKeptSo, KeepsTex
 use Rattle.nx_watch.specs.LinesTold.{IsToldAtEnd, IsToldByRead}
 use Rattle.nx_watch.specs.private.Running.{HasToldSo, ToldBefore}
 use Rattle.nx_watch.specs.private.Stamping.{StandsStamped, WasRunning, telling}
-use Rattle.nx_watch.specs.private.LoggingListener.{HasClosed, HasRun, IsLineInRange, KeepsLines, LoggingTo, TakesLines, logging_to}
-use Rattle.nx_watch.specs.declared.logging_listener.LoggingListener.{LoggingListener}
+use Rattle.nx_watch.specs.private.LoggingListener.{HasClosed, HasRun, IsLineInRange, KeepsLines, LoggingOver, LoggingTo, TakesLines, logging_to}
 use Rattle.nx_watch.proofs.lemmas.log.Keeping.{all-new, keeps-stands}
-use Rattle.nx_watch.proofs.lemmas.log.LoggingListener.{log-of}
+use Rattle.nx_watch.proofs.lemmas.log.LoggingListener.{log-of, zip-append}
 use Rattle.nx_watch.proofs.lemmas.log.Stamping.{says-too}
 
 -- ---- entries and their bytes, side by side
@@ -51,15 +51,6 @@ zip-length [] [] h = refl
 zip-length [] (text ∷ texts) h = absurd h
 zip-length (one ∷ copies) [] h = absurd h
 zip-length (one ∷ copies) (text ∷ texts) h = ap suc (zip-length copies texts h.1)
-
-zip-append : (copies more : List MarkedCopy) (texts others : List (List ℕ))
-    → AllZip IsLoggedAs copies texts → AllZip IsLoggedAs more others
-    → AllZip IsLoggedAs (copies ++ more) (texts ++ others)
-zip-append [] more [] others h k = k
-zip-append [] more (text ∷ texts) others h k = absurd h
-zip-append (one ∷ copies) more [] others h k = absurd h
-zip-append (one ∷ copies) more (text ∷ texts) others h k =
-    (h.0, zip-append copies more texts others h.1 k)
 
 zip-take : (n : ℕ) (copies : List MarkedCopy) (texts : List (List ℕ))
     → AllZip IsLoggedAs copies texts → AllZip IsLoggedAs (take n copies) (take n texts)
@@ -199,7 +190,7 @@ module _ {D R W E : Type 0} (disk : TellsOfDisk D) (content : List ℕ) (start :
           first-entries entries copies texts more s.0 file each zip s.2,
         ))
 
-    pub answers-started : (file : List ℕ) (started : ℕ) (starts : Starts)
+    pub answers-started : (printing : Printing) (file : List ℕ) (started : ℕ) (starts : Starts)
         (entries copies : List MarkedCopy) (texts more : List (List ℕ)) (now : Keeper D)
         (given : List ℕ) (stop : Stop)
         (lines : List (Option Line)) (outcome : Result WatchReport WatchFault)
@@ -207,12 +198,13 @@ module _ {D R W E : Type 0} (disk : TellsOfDisk D) (content : List ℕ) (start :
         → KeepsTexts disk content texts start
         → HasKeptSo disk now.has_failed start now more given
         → WereGiven contents writer writer_after given
-        → HasWatchedOver (at-hand now.log.device) file started starts entries stop lines copies
+        → HasWatchedOverBy (at-hand now.log.device) printing file started starts entries stop lines
+        copies
         → (now.has_failed ≡ true → outcome ≡ Err fault.Disk)
         → (now.has_failed ≡ false → AllKept disk start now more given
         → AnswersStop (moments_at started starts) stop lines copies outcome)
-        → AnswersOver (at-hand now.log.device) file started starts entries outcome
-    answers-started file started starts entries copies texts more now given stop lines outcome each
+        → AnswersOverBy (at-hand now.log.device) printing file started starts entries outcome
+    answers-started printing file started starts entries copies texts more now given stop lines outcome each
         zip keeps kept wrote watched failed well =
         (stop, lines, copies, watched, so now.has_failed refl kept)
       where
@@ -283,12 +275,14 @@ none-failed zero few other = refl
 none-failed (suc n) few other = absurd (other (omega (arith, few)))
 
 -- before the first line
-pub stands-first : {D : Type 0} (disk : TellsOfDisk D) (logging : LoggingListener D)
-    → (starts_of logging.listener).moment ≤ last_moment
-    → HearsGiven (starts_of logging.listener) logging.listener [] []
+pub stands-first : {D C : Type 0} (kind : ReceiverKind C) (disk : TellsOfDisk D)
+    (logging : LoggingOver D C) → PrintsLoggable kind.printing
+    → (starts_by kind logging.listener).moment ≤ last_moment
+    → HearsBy kind (starts_by kind logging.listener) logging.listener [] []
     → HasKept disk logging.keeper logging.keeper [] []
-    → KeepsLines disk logging logging [] []
-stands-first disk logging range heard kept = record {
+    → KeepsLines kind disk logging logging [] []
+stands-first kind disk logging loggable range heard kept = record {
+  loggable = loggable;
   first = range;
   in_range = All-nil IsLineInRange;
   force = refl;
@@ -329,8 +323,8 @@ stop-cause disk old new first unwritten lines copies (Err fault.Disk) h well =
     absurd h
 
 -- From this start on the keeper was given the texts of these copies.
-pub record KeepsOn {D W : Type 0} (disk : TellsOfDisk D) (now : Keeper D) (copies : List MarkedCopy)
-    (since : LoggingTo D W)
+pub record KeepsOn {D C W : Type 0} (disk : TellsOfDisk D) (now : Keeper D)
+    (copies : List MarkedCopy) (since : LoggingTo D C W)
     : Type 0 where
   pub texts : List (List ℕ)
   pub each : AllZip IsLoggedAs copies texts
@@ -338,56 +332,62 @@ pub record KeepsOn {D W : Type 0} (disk : TellsOfDisk D) (now : Keeper D) (copie
   pub kept : HasKept disk since.logging.keeper now texts given
 
 -- where the end closed what stood open, from there on too
-pub closed-on : {D W : Type 0} (disk : TellsOfDisk D) (contents : W → Option (List ℕ))
-    (starts : Starts) (since : LoggingTo D W) (now : Keeper D) (writer : CountedDevice W)
+pub closed-on : {D C W : Type 0} {kind : ReceiverKind C} (laws : IsReceiver kind)
+    (disk : TellsOfDisk D) (contents : W → Option (List ℕ))
+    (starts : Starts) (since : LoggingTo D C W) (now : Keeper D) (writer : CountedDevice W)
     (lines : List Line) (copies : List MarkedCopy)
-    → starts_of since.logging.listener ≡ starts → PrintAllToEnd starts (given_by lines) copies
-    → HasClosed disk contents (starts_of since.logging.listener) since.logging.keeper now
-    since.writer writer lines
+    → starts_by kind since.logging.listener ≡ starts
+    → PrintAllToEndBy kind.printing starts (given_by lines) copies
+    → HasClosed kind.printing disk contents (starts_by kind since.logging.listener)
+    since.logging.keeper now since.writer writer lines
     → KeepsOn disk now copies since
-closed-on disk contents starts since now writer lines copies is printed h = record {
+closed-on {kind} laws disk contents starts since now writer lines copies is printed h = record {
   texts = h.texts;
   each = subst (λ l. AllZip IsLoggedAs l h.texts)
-      (one-to_end starts (given_by lines) h.copies copies
-      (subst (λ s. PrintAllToEnd s (given_by lines) h.copies) is h.printed) printed) h.each;
+      (one-to_end_by kind.printing laws.printing starts (given_by lines) h.copies copies
+      (subst (λ s. PrintAllToEndBy kind.printing s (given_by lines) h.copies) is h.printed)
+      printed) h.each;
   given = h.kept.0;
   kept = h.kept.1;
 }
 
 -- and where it didn't
-pub heard-on : {D W : Type 0} (disk : TellsOfDisk D) (contents : W → Option (List ℕ))
-    (starts : Starts) (since now : LoggingTo D W) (keeper : Keeper D) (lines : List Line)
+pub heard-on : {D C W : Type 0} {kind : ReceiverKind C} (laws : IsReceiver kind)
+    (disk : TellsOfDisk D) (contents : W → Option (List ℕ))
+    (starts : Starts) (since now : LoggingTo D C W) (keeper : Keeper D) (lines : List Line)
     (copies : List MarkedCopy)
-    → starts_of since.logging.listener ≡ starts → PrintsInTurn starts (given_by lines) copies
-    → keeper ≡ now.logging.keeper → TakesLines disk contents since now lines
+    → starts_by kind since.logging.listener ≡ starts
+    → PrintsInTurnBy kind.printing starts (given_by lines) copies
+    → keeper ≡ now.logging.keeper → TakesLines kind disk contents since now lines
     → KeepsOn disk keeper copies since
-heard-on disk contents starts since now keeper lines copies is printed same h = record {
+heard-on {kind} laws disk contents starts since now keeper lines copies is printed same h = record {
   texts = h.1.texts;
   each = subst (λ l. AllZip IsLoggedAs l h.1.texts)
-      (one-in_turn starts (given_by lines) h.1.copies copies
-      (subst (λ s. PrintsInTurn s (given_by lines) h.1.copies) is h.1.heard.in_turn) printed)
+      (one-in_turn_by kind.printing laws.printing starts (given_by lines) h.1.copies copies
+      (subst (λ s. PrintsInTurnBy kind.printing s (given_by lines) h.1.copies) is
+      h.1.heard.in_turn) printed)
       h.1.each;
   given = h.0;
   kept = subst (λ k. HasKept disk since.logging.keeper k h.1.texts h.0) (sym same) h.1.kept;
 }
 
 -- what stood at the reads of a run that stands so now, and of which the copies were kept so
-pub stamps-keep : {D W N : Type 0} (disk : TellsOfDisk D) (contents : W → Option (List ℕ))
-    (told : N → Option (List ℕ)) (old : ToldBefore) (first : StartMoments)
-    (start now : LoggingTo D W) (bytes : List ℕ) (keeper : Keeper D)
+pub stamps-keep : {D C W N : Type 0} (kind : ReceiverKind C) (disk : TellsOfDisk D)
+    (contents : W → Option (List ℕ)) (told : N → Option (List ℕ)) (old : ToldBefore) (first : StartMoments)
+    (start now : LoggingTo D C W) (bytes : List ℕ) (keeper : Keeper D)
     (acting all : List Line) (copies : List MarkedCopy)
     (stamps : List (Stamp D (CountedDevice W) (CountedDevice N))) → all ≡ acting
-    → ((since : LoggingTo D W) → since.logging.listener ≡ start.logging.listener
-    → TakesLines disk contents since now acting → KeepsOn disk keeper copies since)
-    → StandsStamped (telling disk contents told old) first bytes stamps start now acting
-    → All (WasRunning (telling disk contents told old) start first bytes
+    → ((since : LoggingTo D C W) → since.logging.listener ≡ start.logging.listener
+    → TakesLines kind disk contents since now acting → KeepsOn disk keeper copies since)
+    → StandsStamped (telling kind disk contents told old) first bytes stamps start now acting
+    → All (WasRunning (telling kind disk contents told old) start first bytes
     (λ whole. (later : List Line) × (all ≡ acting_lines first whole ++ later))
     (KeepsOn disk keeper copies)) stamps
-stamps-keep disk contents told old first start now bytes keeper acting all copies stamps is step h =
-    says-too disk contents told old first start bytes
+stamps-keep kind disk contents told old first start now bytes keeper acting all copies stamps is step h =
+    says-too kind disk contents told old first start bytes
     (λ whole. (later : List Line) × (acting ≡ acting_lines first whole ++ later))
     (λ whole. (later : List Line) × (all ≡ acting_lines first whole ++ later))
-    (λ since. TakesLines disk contents since now acting)
+    (λ since. TakesLines kind disk contents since now acting)
     (KeepsOn disk keeper copies) (λ at w. (w.behind.0, is ∙ w.behind.1)) step stamps h.at_reads
 
 moments-since : {D : Type 0} (disk : TellsOfDisk D) (content : List ℕ) (start now : Keeper D)
@@ -414,39 +414,42 @@ had-failed {D = D} d start now at texts given was is true k =
     ap d.tells.faults is ∙ k.failed.once ∙ ap (λ (x : D). suc (d.tells.faults x)) (sym was)
 
 -- what is printed of a beginning of some lines begins what is printed of all
-pub printed-first : (starts : Starts) (stop : Stop) (all whole later : List Line)
+pub printed-first : {printing : Printing} (laws : IsPrinting printing) (starts : Starts)
+    (stop : Stop) (all whole later : List Line)
     (printed copies : List MarkedCopy) → all ≡ whole ++ later
-    → PrintsInTurn starts (given_by whole) printed → PrintsUntil stop starts (given_by all) copies
+    → PrintsInTurnBy printing starts (given_by whole) printed
+    → PrintsUntilBy printing stop starts (given_by all) copies
     → (more : List MarkedCopy) × (copies ≡ printed ++ more)
-printed-first starts stop all whole later printed copies is h k =
-    let goes = later-some starts (given_by whole) (given_by later) printed h in
-    let turn = subst (λ g. PrintsInTurn starts g (printed ++ goes.more))
+printed-first {printing} laws starts stop all whole later printed copies is h k =
+    let goes = later-some_by printing laws starts (given_by whole) (given_by later) printed h in
+    let turn = subst (λ g. PrintsInTurnBy printing starts g (printed ++ goes.more))
     (sym (ap given_by is ∙ map-append given_of whole later)) goes.in_turn in
     so stop k goes.more turn
   where
-    to-end : (more : List MarkedCopy) → PrintsInTurn starts (given_by all) (printed ++ more)
-        → (p : PrintAllToEnd starts (given_by all) copies)
+    to-end : (more : List MarkedCopy) → PrintsInTurnBy printing starts (given_by all) (printed ++ more)
+        → (p : PrintAllToEndBy printing starts (given_by all) copies)
         → (more : List MarkedCopy) × (copies ≡ printed ++ more)
     to-end more turn p = (
       more ++ flat_map (λ channel. map (marked channel) (p.closed channel)) (Zero ∷ One ∷ Two ∷ []),
       p.whole
           ∙ ap (λ l. l ++ flat_map (λ channel. map (marked channel) (p.closed channel))
-          (Zero ∷ One ∷ Two ∷ [])) (one-in_turn starts (given_by all) p.ended (printed ++ more)
+          (Zero ∷ One ∷ Two ∷ [])) (one-in_turn_by printing laws starts (given_by all) p.ended (printed ++ more)
           p.in_turn turn)
           ∙ append_assoc printed more _,
     )
 
-    so : (stop : Stop) → PrintsUntil stop starts (given_by all) copies
-        → (more : List MarkedCopy) → PrintsInTurn starts (given_by all) (printed ++ more)
+    so : (stop : Stop) → PrintsUntilBy printing stop starts (given_by all) copies
+        → (more : List MarkedCopy) → PrintsInTurnBy printing starts (given_by all) (printed ++ more)
         → (more : List MarkedCopy) × (copies ≡ printed ++ more)
     so at_end p more turn = to-end more turn p
     so (back line last given) p more turn = to-end more turn p
     so unread p more turn =
-        (more, one-in_turn starts (given_by all) copies (printed ++ more) p turn)
+        (more, one-in_turn_by printing laws starts (given_by all) copies (printed ++ more) p turn)
     so unwritten p more turn =
-        (more, one-in_turn starts (given_by all) copies (printed ++ more) p turn)
+        (more, one-in_turn_by printing laws starts (given_by all) copies (printed ++ more) p turn)
 
-module _ {D R W E : Type 0} (disk : TellsOfDisk D) (logging : LoggingListener D)
+module _ {D C R W E : Type 0} {kind : ReceiverKind C} (laws : IsReceiver kind)
+    (disk : TellsOfDisk D) (logging : LoggingOver D C)
     (first : StartMoments)
     (remaining : R → Option (List ℕ)) (reader reader_after : CountedDevice R)
     (contents : W → Option (List ℕ)) (writer writer_after : CountedDevice W)
@@ -472,11 +475,11 @@ module _ {D R W E : Type 0} (disk : TellsOfDisk D) (logging : LoggingListener D)
       pub within : length bytes ≤ most_bytes
       pub read : HasRead (IsAtEnd (remaining reader_after.inner) ⊎ (length bytes ≡ most_bytes))
           first stop bytes lines
-      pub printed : PrintsUntil stop (starts_of logging.listener)
+      pub printed : PrintsUntilBy kind.printing stop (starts_by kind logging.listener)
           (given_by (acting_lines first lines)) copies
       pub failed_read : (stop ≡ unread) ↔ (reader_after.failures ≡ 1)
       pub failed_write : FailsWrites stop writer_after.failures
-      pub stamped : All (WasRunning (telling disk contents told before)
+      pub stamped : All (WasRunning (telling kind disk contents told before)
           (logging_to logging writer) first bytes
           (λ whole. (later : List Line)
           × (acting_lines first lines ≡ acting_lines first whole ++ later))
@@ -500,18 +503,18 @@ module _ {D R W E : Type 0} (disk : TellsOfDisk D) (logging : LoggingListener D)
 
     -- what stood at a read
     stood-at : (stop : Stop) (now : Keeper D) (h : HasStopped stop now)
-        → first ≡ moments_at first.started (starts_of logging.listener) → logging.keeper.put ≡ 0
+        → first ≡ moments_at first.started (starts_by kind logging.listener) → logging.keeper.put ≡ 0
         → (content file : List ℕ) (entries : List MarkedCopy) (texts : List (List ℕ))
         → TellsOfCut file cut
         → AllZip IsLoggedAs entries texts → KeepsTexts disk content texts logging.keeper
         → (at : Stamp D (CountedDevice W) (CountedDevice E))
-        → WasRunning (telling disk contents told before)
+        → WasRunning (telling kind disk contents told before)
         (logging_to logging writer) first h.bytes
         (λ whole. (later : List Line)
         × (acting_lines first h.lines ≡ acting_lines first whole ++ later))
         (KeepsOn disk now h.copies) at
-        → StoodOver (at-hand-with now.log.device content) file first.started
-        (starts_of logging.listener) entries h.bytes h.copies at
+        → StoodOverBy (at-hand-with now.log.device content) kind.printing file first.started
+        (starts_by kind logging.listener) entries h.bytes h.copies at
     stood-at stop now h is none content file entries texts is_cut each keeps at w = record {
       within = w.within;
       lines = w.lines;
@@ -519,7 +522,7 @@ module _ {D R W E : Type 0} (disk : TellsOfDisk D) (logging : LoggingListener D)
       whole = w.whole;
       on = subst (λ f. goes_on f w.lines ≡ true) is w.on;
       printed = printed;
-      prints = subst (λ f. PrintsInTurn (starts_of logging.listener)
+      prints = subst (λ f. PrintsInTurnBy kind.printing (starts_by kind logging.listener)
           (given_by (acting_lines f w.lines)) printed) is w.stood.1.heard.in_turn;
       kept = kept-at w.past.keeper.has_failed refl
           (all-new disk logging.keeper w.past.keeper w.stood.1.texts w.stood.0 none w.stood.1.kept);
@@ -543,7 +546,7 @@ module _ {D R W E : Type 0} (disk : TellsOfDisk D) (logging : LoggingListener D)
         size = zip-length printed w.stood.1.texts w.stood.1.each
 
         goes : (more : List MarkedCopy) × (h.copies ≡ printed ++ more)
-        goes = printed-first (starts_of logging.listener) stop (acting_lines first h.lines)
+        goes = printed-first laws.printing (starts_by kind logging.listener) stop (acting_lines first h.lines)
             (acting_lines first w.lines) w.behind.0 printed h.copies w.behind.1
             w.stood.1.heard.in_turn h.printed
 
@@ -614,7 +617,7 @@ module _ {D R W E : Type 0} (disk : TellsOfDisk D) (logging : LoggingListener D)
 
     answers-stopped : (stop : Stop) (now : Keeper D) (h : HasStopped stop now)
         (outcome : Result WatchReport WatchFault)
-        → first ≡ moments_at first.started (starts_of logging.listener)
+        → first ≡ moments_at first.started (starts_by kind logging.listener)
         → logging.keeper.put ≡ 0
         → (now.has_failed ≡ true → outcome ≡ Err fault.Disk)
         → (now.has_failed ≡ false → AllKept disk logging.keeper now h.texts h.given
@@ -622,21 +625,21 @@ module _ {D R W E : Type 0} (disk : TellsOfDisk D) (logging : LoggingListener D)
         → (content file : List ℕ) (entries : List MarkedCopy) (texts : List (List ℕ))
         → TellsOfCut file cut
         → AllZip IsLoggedAs entries texts → KeepsTexts disk content texts logging.keeper
-        → AnswersOver (at-hand-with now.log.device content) file first.started
-        (starts_of logging.listener) entries outcome
+        → AnswersOverBy (at-hand-with now.log.device content) kind.printing file first.started
+        (starts_by kind logging.listener) entries outcome
     answers-stopped stop now h outcome is none failed well content file entries texts is_cut each
         keeps =
         let so = all-new disk logging.keeper now h.texts h.given none h.kept in
         answers-started disk content logging.keeper remaining reader reader_after contents writer
-        writer_after told notices notices_after stamps file first.started
-        (starts_of logging.listener) entries h.copies
+        writer_after told notices notices_after stamps kind.printing file first.started
+        (starts_by kind logging.listener) entries h.copies
         texts h.texts now h.given stop h.lines outcome each h.each keeps so h.wrote (record {
           bytes = h.bytes;
           consumed = h.consumed;
           within = h.within;
           read = subst (λ f. HasRead (IsAtEnd (remaining reader_after.inner)
               ⊎ (length h.bytes ≡ most_bytes)) f stop h.bytes h.lines) is h.read;
-          printed = subst (λ f. PrintsUntil stop (starts_of logging.listener)
+          printed = subst (λ f. PrintsUntilBy kind.printing stop (starts_by kind logging.listener)
               (given_by (acting_lines f h.lines)) h.copies) is h.printed;
           any_moment = moments-of disk content logging.keeper remaining reader reader_after contents
               writer writer_after told notices notices_after stamps entries h.copies texts h.texts
@@ -656,22 +659,22 @@ module _ {D R W E : Type 0} (disk : TellsOfDisk D) (logging : LoggingListener D)
         }) failed
         (λ w all. subst (λ f. AnswersStop f stop h.lines h.copies outcome) is (well w all))
 
-    start-is : first.newest ≡ (starts_of logging.listener).moment
-        → first ≡ moments_at first.started (starts_of logging.listener)
+    start-is : first.newest ≡ (starts_by kind logging.listener).moment
+        → first ≡ moments_at first.started (starts_by kind logging.listener)
     start-is is = ap (λ (n : ℕ). record { newest = n; started = first.started }) is
 
     -- what such a run answers, whose device is that of its keeper
     pub has-run : (stop : Stop) (now : Keeper D) (h : HasStopped stop now)
         (outcome : Result WatchReport WatchFault) (device : D)
-        → first.newest ≡ (starts_of logging.listener).moment → logging.keeper.put ≡ 0
+        → first.newest ≡ (starts_by kind logging.listener).moment → logging.keeper.put ≡ 0
         → device ≡ now.log.device
         → (now.has_failed ≡ true → outcome ≡ Err fault.Disk)
         → (now.has_failed ≡ false → AllKept disk logging.keeper now h.texts h.given
         → AnswersStop first stop h.lines h.copies outcome)
-        → HasRun disk first.started cut logging (at-hand-with device) outcome device
+        → HasRun kind disk first.started cut logging (at-hand-with device) outcome device
     has-run stop now h outcome device is none same failed well =
         let so = all-new disk logging.keeper now h.texts h.given none h.kept in
-        subst (λ (d : D). HasRun disk first.started cut logging (at-hand-with d) outcome d)
+        subst (λ (d : D). HasRun kind disk first.started cut logging (at-hand-with d) outcome d)
         (sym same)
         (record {
           answers = answers-stopped stop now h outcome (start-is is) none failed well;

@@ -16,38 +16,41 @@ use Rattle.nx_fec.specs.declared.air_files.channel.Channel.{Channel}
 use Rattle.nx_kept.specs.declared.disk.DiskFile.{Ghosts as TellsOfDisk}
 use Rattle.nx_log.specs.Entries.{IsWholeEntry}
 use Rattle.nx_log.specs.Logged.{IsLogged, IsLoggedAs}
-use Rattle.nx_log.proofs.lemmas.printed.Moments.{AreInRange, IsInRange, end_logged, given_logged}
 use Rattle.nx_receiver.specs.Commands.{refuses_vital}
 use Rattle.nx_copies.specs.Events as fed
 use Rattle.nx_copies.specs.Events.{Command, Event, at_moment, command}
 use Rattle.nx_receiver.specs.Moments.{Refuses}
 use Rattle.nx_copies.specs.copies.FoundCopies.{TaggedCopy, copy_of}
-use Rattle.nx_copies.specs.copies.InTurn.{PrintAllToEnd}
 use Rattle.nx_receiver.specs.air_file_runs.Listen.{given_by, given_of}
 use Rattle.nx_receiver.specs.Receiver.{entry_list}
 use Rattle.nx_copies.specs.declared.entry.Entry.{Entry}
 use Rattle.nx_receiver.specs.declared.listener.LastEntries.{LastEntries}
 use Rattle.nx_fec.specs.declared.air_files.channel.Channel.TheVariants.{Zero as OnZero, One, Two}
-use Rattle.nx_receiver.specs.Listener.{HearsGiven, IsSpelled, Listening, last_copies, moment_in_force, starts_of, then_command, then_elements, then_moment}
-use Rattle.nx_copies.specs.copies.Log.{IsEntry, IsLog}
+use Rattle.nx_receiver.specs.ChannelReceiver.{IsReceiver, ReceiverKind}
+use Rattle.nx_receiver.specs.Listener.{HearsBy, IsSpelled, ListeningOver, last_copies, moment_in_force, starts_by, then_command, then_elements, then_moment}
+use Rattle.nx_copies.specs.copies.Log.{IsEntry, IsLog, IsUpTo}
 use Rattle.nx_copies.specs.copies.Shares.{Given, MarkedCopy, Starts, events_for, marked, share, to_one}
 use Rattle.nx_receiver.specs.declared.fault.MomentFault.{MomentFault}
-use Rattle.nx_receiver.proofs.lemmas.listening.Listener.{given_by-one, in_force-append as given-append}
+use Rattle.nx_receiver.proofs.lemmas.listening.Listener.{given_by-one, in_force-append as given-append, none-given}
 use Rattle.nx_watch.proofs.lemmas.lines.Acting.{said-in}
 use Rattle.nx_watch.proofs.lemmas.lines.Run.{in_force-append}
 use Rattle.nx_watch.proofs.lemmas.lines.Starting.{moments_said-more}
-use Rattle.nx_watch.proofs.lemmas.log.Heard.{none-heard}
+use Rattle.nx_watch.proofs.lemmas.log.Loggable.{AreInRange, given-logged}
 use Rattle.nx_watch.specs.Acting.{in_force, moment_said, moments_said}
 use Rattle.nx_watch.specs.LineRun.{MayAct, force_behind}
+use Rattle.nx_watch.specs.Watch.{PrintsLoggable}
 use Rattle.nx_watch.specs.private.Keeping.{HasKept, KeepsWith}
-use Rattle.nx_watch.specs.private.LoggingListener.{IsCopyInRange, IsLineInRange, KeepsHeard, KeepsLines, LoggingTo, TakesLines, logging_to}
-use Rattle.nx_watch.specs.declared.logging_listener.LoggingListener.{LoggingListener}
+use Rattle.nx_watch.specs.private.LoggingListener.{IsCopyInRange, IsLineInRange, KeepsHeard, KeepsLines, LoggingOver, LoggingTo, TakesLines, logging_to}
 
 -- the same, with another listener inside
-abbrev pub with_listener : {D : Type 0} → LoggingListener D → Listening → LoggingListener D
+abbrev pub with_listener : {D C : Type 0} → LoggingOver D C → ListeningOver C
+    → LoggingOver D C
 with_listener logging listener = record logging { listener = listener }
 
 -- ---- moments in range
+
+abbrev IsInRange : Event → Type 0
+IsInRange = IsUpTo last_moment
 
 elements_are : (bits : List Bool) → All IsInRange (fed.elements bits)
 elements_are [] = All-nil IsInRange
@@ -144,14 +147,15 @@ may-range first lines (accept_subject mark letter) may = tt
 -- ---- entries of copies
 
 -- what is printed of what was given is logged, each with its bytes
-spelled-as : (starts : Starts) (listener : Listening) (given : List Given)
-    (copies : List MarkedCopy)
-    (one : MarkedCopy) (bytes : List ℕ) → starts.moment ≤ last_moment → AreInRange given
-    → HearsGiven starts listener given (copies ++ one ∷ []) → IsEntry one bytes
+spelled-as : {C : Type 0} {kind : ReceiverKind C} (laws : IsReceiver kind) (starts : Starts)
+    (listener : ListeningOver C) (given : List Given) (copies : List MarkedCopy)
+    (one : MarkedCopy) (bytes : List ℕ) → PrintsLoggable kind.printing
+    → starts.moment ≤ last_moment → AreInRange given
+    → HearsBy kind starts listener given (copies ++ one ∷ []) → IsEntry one bytes
     → IsLoggedAs one bytes
-spelled-as starts listener given copies one bytes first within heard entry = record {
-  logged = last-is copies
-      (given_logged starts given (copies ++ one ∷ []) first within heard.in_turn.each);
+spelled-as laws starts listener given copies one bytes loggable first within heard entry = record {
+  logged = last-is copies (given-logged laws.printing loggable starts given (copies ++ one ∷ [])
+      first within heard.in_turn.each);
   entry = entry;
 }
   where
@@ -167,6 +171,15 @@ zip-push [] (other ∷ texts) one text h is = absurd h
 zip-push (other ∷ copies) [] one text h is = absurd h
 zip-push (other ∷ copies) (x ∷ texts) one text h is = (h.0, zip-push copies texts one text h.1 is)
 
+pub zip-append : (copies more : List MarkedCopy) (texts others : List (List ℕ))
+    → AllZip IsLoggedAs copies texts → AllZip IsLoggedAs more others
+    → AllZip IsLoggedAs (copies ++ more) (texts ++ others)
+zip-append [] more [] others h k = k
+zip-append [] more (text ∷ texts) others h k = absurd h
+zip-append (one ∷ copies) more [] others h k = absurd h
+zip-append (one ∷ copies) more (text ∷ texts) others h k =
+    (h.0, zip-append copies more texts others h.1 k)
+
 each-entry : (copies : List MarkedCopy) (texts : List (List ℕ)) → AllZip IsLoggedAs copies texts
     → AllZip IsEntry copies texts
 each-entry [] [] h = tt
@@ -179,22 +192,23 @@ pub log-of : (copies : List MarkedCopy) (texts : List (List ℕ)) → AllZip IsL
 log-of copies texts h = record { entries = texts; each = each-entry copies texts h; joined = refl }
 
 -- one line more, which brings no copies
-pub line-kept : {D : Type 0} (disk : TellsOfDisk D) (start old new : LoggingListener D)
+pub line-kept : {D C : Type 0} (kind : ReceiverKind C) (disk : TellsOfDisk D) (start old new : LoggingOver D C)
     (lines : List Line) (given : List ℕ) (line : Line)
-    → new.keeper ≡ old.keeper → MayAct (starts_of start.listener).moment lines line
+    → new.keeper ≡ old.keeper → MayAct (starts_by kind start.listener).moment lines line
     → ((copies : List MarkedCopy)
-    → HearsGiven (starts_of start.listener) old.listener (given_by lines) copies
-    → HearsGiven (starts_of start.listener) new.listener (given_by lines ++ given_of line ∷ [])
+    → HearsBy kind (starts_by kind start.listener) old.listener (given_by lines) copies
+    → HearsBy kind (starts_by kind start.listener) new.listener (given_by lines ++ given_of line ∷ [])
     copies)
-    → KeepsLines disk start old lines given → KeepsLines disk start new (lines ++ line ∷ []) given
-line-kept disk start old new lines given line same may step s = record {
+    → KeepsLines kind disk start old lines given → KeepsLines kind disk start new (lines ++ line ∷ []) given
+line-kept kind disk start old new lines given line same may step s = record {
+  loggable = s.loggable;
   first = s.first;
   in_range = All-append IsLineInRange lines (line ∷ []) s.in_range
       (All-cons IsLineInRange line []
-      (may-range (starts_of start.listener).moment lines line may) (All-nil IsLineInRange));
-  force = force-one (starts_of start.listener).moment lines line may s.force;
+      (may-range (starts_by kind start.listener).moment lines line may) (All-nil IsLineInRange));
+  force = force-one (starts_by kind start.listener).moment lines line may s.force;
   copies = s.copies;
-  heard = subst (λ g. HearsGiven (starts_of start.listener) new.listener g s.copies)
+  heard = subst (λ g. HearsBy kind (starts_by kind start.listener) new.listener g s.copies)
       (sym (given_by-one lines line)) (step s.copies s.heard);
   texts = s.texts;
   each = s.each;
@@ -214,106 +228,108 @@ command-acts (refuse_subject mark letter) channel given e spared force before =
 command-acts (accept_subject mark letter) channel given e spared force before = tt
 
 -- a moment that was set, or refused
-pub moment-answered : {D : Type 0} (disk : TellsOfDisk D) (start old : LoggingListener D)
-    (now : Listening) (lines : List Line) (given : List ℕ) (n : ℕ)
+pub moment-answered : {D C : Type 0} (kind : ReceiverKind C) (disk : TellsOfDisk D)
+    (start old : LoggingOver D C) (now : ListeningOver C) (lines : List Line) (given : List ℕ) (n : ℕ)
     (answer : Result (Unit {0}) MomentFault)
     → ((copies : List MarkedCopy)
-    → HearsGiven (starts_of start.listener) old.listener (given_by lines) copies
+    → HearsBy kind (starts_by kind start.listener) old.listener (given_by lines) copies
     → MatchResult answer
-    (λ _. (moment_in_force (starts_of start.listener).moment (given_by lines) ≤ n)
+    (λ _. (moment_in_force (starts_by kind start.listener).moment (given_by lines) ≤ n)
     × (n ≤ last_moment)
-    × HearsGiven (starts_of start.listener) now (then_moment (given_by lines) n) copies)
-    (λ fault. Refuses (moment_in_force (starts_of start.listener).moment (given_by lines)) n fault
+    × HearsBy kind (starts_by kind start.listener) now (then_moment (given_by lines) n) copies)
+    (λ fault. Refuses (moment_in_force (starts_by kind start.listener).moment (given_by lines)) n fault
     × (now ≡ old.listener)))
-    → KeepsLines disk start old lines given
-    → MatchResult answer (λ _. MayAct (starts_of start.listener).moment lines (moment n)
-    × KeepsLines disk start (with_listener old now) (lines ++ moment n ∷ []) given)
-    (λ fault. Refuses (force_behind (starts_of start.listener).moment lines) n fault
+    → KeepsLines kind disk start old lines given
+    → MatchResult answer (λ _. MayAct (starts_by kind start.listener).moment lines (moment n)
+    × KeepsLines kind disk start (with_listener old now) (lines ++ moment n ∷ []) given)
+    (λ fault. Refuses (force_behind (starts_by kind start.listener).moment lines) n fault
     × (with_listener old now ≡ old))
-moment-answered disk start old now lines given n (Ok set) step s =
+moment-answered kind disk start old now lines given n (Ok set) step s =
     let set = step s.copies s.heard in
-    let may : MayAct (starts_of start.listener).moment lines (moment n) =
+    let may : MayAct (starts_by kind start.listener).moment lines (moment n) =
     (subst (λ force. force ≤ n) s.force set.0, set.1) in (
       may,
-      line-kept disk start old (with_listener old now) lines given (moment n) refl may
+      line-kept kind disk start old (with_listener old now) lines given (moment n) refl may
           (λ copies heard. (step copies heard).2) s,
     )
-moment-answered disk start old now lines given n (Err fault) step s =
+moment-answered kind disk start old now lines given n (Err fault) step s =
     let refused = step s.copies s.heard in (
       subst (λ force. Refuses force n fault) s.force refused.0,
       ap (with_listener old) refused.1,
     )
 
-module _ {D W : Type 0} (disk : TellsOfDisk D) (contents : W → Option (List ℕ)) where
+module _ {D C W : Type 0} (kind : ReceiverKind C) (disk : TellsOfDisk D)
+    (contents : W → Option (List ℕ)) where
   -- the same beside a writer
-  pub next-line : (start : LoggingTo D W) (old new : LoggingListener D)
+  pub next-line : (start : LoggingTo D C W) (old new : LoggingOver D C)
       (writer : CountedDevice W) (lines : List Line) (line : Line)
-      → new.keeper ≡ old.keeper → MayAct (starts_of start.logging.listener).moment lines line
+      → new.keeper ≡ old.keeper → MayAct (starts_by kind start.logging.listener).moment lines line
       → ((copies : List MarkedCopy)
-      → HearsGiven (starts_of start.logging.listener) old.listener (given_by lines) copies
-      → HearsGiven (starts_of start.logging.listener) new.listener
+      → HearsBy kind (starts_by kind start.logging.listener) old.listener (given_by lines) copies
+      → HearsBy kind (starts_by kind start.logging.listener) new.listener
       (given_by lines ++ given_of line ∷ []) copies)
-      → TakesLines disk contents start (logging_to old writer) lines
-      → TakesLines disk contents start (logging_to new writer) (lines ++ line ∷ [])
+      → TakesLines kind disk contents start (logging_to old writer) lines
+      → TakesLines kind disk contents start (logging_to new writer) (lines ++ line ∷ [])
   next-line start old new writer lines line same may step h =
-      (h.0, line-kept disk start.logging old new lines h.0 line same may step h.1, h.2)
+      (h.0, line-kept kind disk start.logging old new lines h.0 line same may step h.1, h.2)
 
   -- the same of a line that gives a command, which was taken
-  pub next-command : (start : LoggingTo D W) (old new : LoggingListener D)
+  pub next-command : (start : LoggingTo D C W) (old new : LoggingOver D C)
       (writer : CountedDevice W) (lines : List Line) (line : Line) (channel : Channel)
       (given : Command) → given_of line ≡ to_one channel (command given ∷ [])
       → refuses_vital given ≡ false → new.keeper ≡ old.keeper
       → ((copies : List MarkedCopy)
-      → HearsGiven (starts_of start.logging.listener) old.listener (given_by lines) copies
-      → HearsGiven (starts_of start.logging.listener) new.listener
+      → HearsBy kind (starts_by kind start.logging.listener) old.listener (given_by lines) copies
+      → HearsBy kind (starts_by kind start.logging.listener) new.listener
       (then_command (given_by lines) channel given) copies)
-      → TakesLines disk contents start (logging_to old writer) lines
-      → MayAct (force_behind (starts_of start.logging.listener).moment lines) [] line
-      × TakesLines disk contents start (logging_to new writer) (lines ++ line ∷ [])
+      → TakesLines kind disk contents start (logging_to old writer) lines
+      → MayAct (force_behind (starts_by kind start.logging.listener).moment lines) [] line
+      × TakesLines kind disk contents start (logging_to new writer) (lines ++ line ∷ [])
   next-command start old new writer lines line channel given gives spared kept step h = (
     command-acts line channel given gives spared _ [],
     next-line start old new writer lines line kept
         (command-acts line channel given gives spared _ lines)
-        (λ copies heard. subst (λ one. HearsGiven (starts_of start.logging.listener) new.listener
+        (λ copies heard. subst (λ one. HearsBy kind (starts_by kind start.logging.listener) new.listener
         (given_by lines ++ one ∷ []) copies) (sym gives) (step copies heard)) h,
   )
 
   -- a line of elements, of which nothing was heard yet
-  pub none-yet : (start : LoggingTo D W) (now : LoggingListener D)
+  pub none-yet : IsReceiver kind → (start : LoggingTo D C W) (now : LoggingOver D C)
       (writer : CountedDevice W) (lines : List Line) (channel : Channel)
-      → TakesLines disk contents start (logging_to now writer) lines
-      → KeepsHeard disk contents start.logging now start.writer writer
+      → TakesLines kind disk contents start (logging_to now writer) lines
+      → KeepsHeard kind disk contents start.logging now start.writer writer
       (then_elements (given_by lines) channel [])
-  none-yet start now writer lines channel h =
+  none-yet laws start now writer lines channel h =
       let s = h.1 in record {
         copies = s.copies;
-        heard = none-heard (starts_of start.logging.listener) now.listener (given_by lines) channel
-            s.copies s.heard;
+        heard = none-given laws (starts_by kind start.logging.listener) now.listener
+            (given_by lines) channel s.copies s.heard;
         texts = s.texts;
         each = s.each;
         kept = (h.0, s.kept, h.2);
       }
 
   -- all of it was heard
-  pub line-heard : (start : LoggingTo D W) (old now : LoggingListener D)
+  pub line-heard : (start : LoggingTo D C W) (old now : LoggingOver D C)
       (before writer : CountedDevice W) (lines : List Line) (mark : Option Channel)
       (channel : Channel) (bits : List Bool) → channel ≡ channel_of mark
-      → TakesLines disk contents start (logging_to old before) lines
-      → KeepsHeard disk contents start.logging now start.writer writer
+      → TakesLines kind disk contents start (logging_to old before) lines
+      → KeepsHeard kind disk contents start.logging now start.writer writer
       (then_elements (given_by lines) channel bits)
-      → TakesLines disk contents start (logging_to now writer)
+      → TakesLines kind disk contents start (logging_to now writer)
       (lines ++ elements mark bits ∷ [])
   line-heard start old now before writer lines mark channel bits is h k =
       let s = h.1 in
       let line = elements mark bits in (
         k.kept.0,
         record {
+          loggable = s.loggable;
           first = s.first;
           in_range = All-append IsLineInRange lines (line ∷ []) s.in_range
               (All-cons IsLineInRange line [] tt (All-nil IsLineInRange));
-          force = force-one (starts_of start.logging.listener).moment lines line tt s.force;
+          force = force-one (starts_by kind start.logging.listener).moment lines line tt s.force;
           copies = k.copies;
-          heard = subst (λ g. HearsGiven (starts_of start.logging.listener) now.listener g k.copies)
+          heard = subst (λ g. HearsBy kind (starts_by kind start.logging.listener) now.listener g k.copies)
               (ap (λ (c : Channel). then_elements (given_by lines) c bits) is
               ∙ sym (given_by-one lines line)) k.heard;
           texts = k.texts;
@@ -324,19 +340,19 @@ module _ {D W : Type 0} (disk : TellsOfDisk D) (contents : W → Option (List �
       )
 
   -- more of it was heard, which brought no copy
-  pub none-more : (start : LoggingListener D) (old new : LoggingListener D)
+  pub none-more : (start : LoggingOver D C) (old new : LoggingOver D C)
       (first writer : CountedDevice W)
       (given : List Given) (channel : Channel) (part more : List Bool) (next : List TaggedCopy)
       → new.keeper ≡ old.keeper → next ≡ []
       → ((copies : List MarkedCopy)
-      → HearsGiven (starts_of start.listener) old.listener (then_elements given channel part) copies
-      → HearsGiven (starts_of start.listener) new.listener
+      → HearsBy kind (starts_by kind start.listener) old.listener (then_elements given channel part) copies
+      → HearsBy kind (starts_by kind start.listener) new.listener
       (then_elements given channel (part ++ more)) (copies ++ map (marked channel) next))
-      → KeepsHeard disk contents start old first writer (then_elements given channel part)
-      → KeepsHeard disk contents start new first writer (then_elements given channel (part ++ more))
+      → KeepsHeard kind disk contents start old first writer (then_elements given channel part)
+      → KeepsHeard kind disk contents start new first writer (then_elements given channel (part ++ more))
   none-more start old new first writer given channel part more next same none step h = record {
     copies = h.copies;
-    heard = subst (HearsGiven (starts_of start.listener) new.listener
+    heard = subst (HearsBy kind (starts_by kind start.listener) new.listener
         (then_elements given channel (part ++ more)))
         (ap (λ (l : List TaggedCopy). h.copies ++ map (marked channel) l) none
         ∙ append-nil h.copies) (step h.copies h.heard);
@@ -347,28 +363,29 @@ module _ {D W : Type 0} (disk : TellsOfDisk D) (contents : W → Option (List �
   }
 
   -- or brought one, whose entry was kept
-  pub one-more : (start : LoggingListener D) (old new : LoggingListener D)
+  pub one-more : IsReceiver kind → (start : LoggingOver D C) (old new : LoggingOver D C)
       (first before writer : CountedDevice W)
       (given : List Given) (channel : Channel) (part more : List Bool) (next : List TaggedCopy)
-      (entry : List ℕ) → (starts_of start.listener).moment ≤ last_moment → AreInRange given
+      (entry : List ℕ) → PrintsLoggable kind.printing
+      → (starts_by kind start.listener).moment ≤ last_moment → AreInRange given
       → IsSpelled channel true next entry
       → ((copies : List MarkedCopy)
-      → HearsGiven (starts_of start.listener) old.listener (then_elements given channel part) copies
-      → HearsGiven (starts_of start.listener) new.listener
+      → HearsBy kind (starts_by kind start.listener) old.listener (then_elements given channel part) copies
+      → HearsBy kind (starts_by kind start.listener) new.listener
       (then_elements given channel (part ++ more)) (copies ++ map (marked channel) next))
       → ((texts : List (List ℕ)) → IsWholeEntry entry
       → KeepsWith disk contents start.keeper old.keeper first before texts
       → KeepsWith disk contents start.keeper new.keeper first writer (texts ++ entry ∷ []))
-      → KeepsHeard disk contents start old first before (then_elements given channel part)
-      → KeepsHeard disk contents start new first writer (then_elements given channel (part ++ more))
-  one-more start old new first before writer given channel part more next entry range within
-      spelled step keep h =
+      → KeepsHeard kind disk contents start old first before (then_elements given channel part)
+      → KeepsHeard kind disk contents start new first writer (then_elements given channel (part ++ more))
+  one-more laws start old new first before writer given channel part more next entry loggable range
+      within spelled step keep h =
       let one = marked channel spelled.0 in
-      let heard = subst (λ (l : List TaggedCopy). HearsGiven (starts_of start.listener) new.listener
+      let heard = subst (λ (l : List TaggedCopy). HearsBy kind (starts_by kind start.listener) new.listener
       (then_elements given channel (part ++ more)) (h.copies ++ map (marked channel) l)) spelled.1
       (step h.copies h.heard) in
-      let is = spelled-as (starts_of start.listener) new.listener
-      (then_elements given channel (part ++ more)) h.copies one entry range
+      let is = spelled-as laws (starts_by kind start.listener) new.listener
+      (then_elements given channel (part ++ more)) h.copies one entry loggable range
       (part_are given channel (part ++ more) within) heard spelled.2 in record {
         copies = h.copies ++ one ∷ [];
         heard = heard;
@@ -398,21 +415,9 @@ last-in-range last h k l =
     (All-append IsCopyInRange on_0 on_1 (one-in-range OnZero last.on_0 h)
     (one-in-range One last.on_1 k)) (one-in-range Two last.on_2 l)
 
--- of what the end prints, the next entry
-pub end-spelled : (starts : Starts) (lines : List Line) (copies rest : List MarkedCopy)
-    (one : MarkedCopy) (bytes : List ℕ) → starts.moment ≤ last_moment → All IsLineInRange lines
-    → PrintAllToEnd starts (given_by lines) (copies ++ one ∷ rest) → IsEntry one bytes
-    → IsLoggedAs one bytes
-end-spelled starts lines copies rest one bytes first within printed entry = record {
-  logged = behind copies
-      (end_logged starts (given_by lines) (copies ++ one ∷ rest) first (lines_are lines within)
-      printed);
-  entry = entry;
-}
-  where
-    behind : (copies : List MarkedCopy) → All IsLogged (copies ++ one ∷ rest) → IsLogged one
-    behind [] h = All-head IsLogged one rest h
-    behind (x ∷ copies) h = behind copies (All-tail IsLogged x (copies ++ one ∷ rest) h)
+pub back-logged : (front back : List MarkedCopy) → All IsLogged (front ++ back) → All IsLogged back
+back-logged [] back h = h
+back-logged (one ∷ front) back h = back-logged front back (All-tail IsLogged one (front ++ back) h)
 
 -- ---- what a call answers
 

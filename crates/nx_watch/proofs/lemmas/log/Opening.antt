@@ -16,12 +16,13 @@ use Rattle.nx_kept.proofs.lemmas.KeptLaws.{one_list}
 use Rattle.nx_kept.proofs.lemmas.Stages.{joined, weaker}
 use Rattle.nx_log.specs.Entries.{IsWholeEntry}
 use Rattle.nx_log.specs.Logged.{IsLoggedAs}
+use Rattle.nx_copies.specs.copies.Log.{Printing}
 use Rattle.nx_copies.specs.copies.Shares.{MarkedCopy, Starts}
 use Rattle.nx_watch.specs.LineRun.{HasTold}
 use Rattle.nx_watch.specs.LinesTold.{IsToldAtEnd, IsToldByRead}
 use Rattle.nx_watch.specs.Stamp.{Stamp}
 use Rattle.nx_watch.specs.declared.lines.line_effects.StartMoments.{StartMoments}
-use Rattle.nx_watch.specs.Watch.{AnswersOver, AnswersStarted, AnswersStop, AnswersWatch, HadFailed, HasCause, HasOpened, HasToldOf, RefusesLog, StandsForEntries, StoodOver, Stop, TellsOfCut}
+use Rattle.nx_watch.specs.Watch.{AnswersOverBy, AnswersStartedBy, AnswersStop, AnswersWatchBy, HadFailed, HasCause, HasOpened, HasToldOf, RefusesLog, StandsForEntries, StoodOverBy, Stop, TellsOfCut}
 use Rattle.nx_watch.specs.Watch.{WatchDevices, at_end, back, longest_entry, moments_at, starts_at, unread, unwritten}
 use Rattle.nx_watch.specs.declared.watch_report.WatchReport.{WatchReport}
 use Rattle.nx_watch.specs.declared.watch_fault.WatchFault.{WatchFault}
@@ -88,14 +89,14 @@ module _ {D R W E : Type 0} (disk : TellsOfDisk D) (content : List ℕ) (old new
       told = f;
     }
 
-pub answers-opening : {D R W E : Type 0} (d : WatchDevices D R W E) (now : ℕ)
+pub answers-opening : {D R W E : Type 0} (d : WatchDevices D R W E) (printing : Printing) (now : ℕ)
     (entries : List MarkedCopy) (fault : OpenFault) → HasOpened d entries
     → ((line : ℕ) → fault ≡ why.Damaged line → ⊥)
-    → AnswersWatch d now entries (Err (fault_answered fault))
-answers-opening d now entries why.Read h whole = h
-answers-opening d now entries why.Disk h whole = inl h
-answers-opening d now entries (why.Damaged line) h whole = whole line refl
-answers-opening d now entries why.Memory h whole = h
+    → AnswersWatchBy d printing now entries (Err (fault_answered fault))
+answers-opening d printing now entries why.Read h whole = h
+answers-opening d printing now entries why.Disk h whole = inl h
+answers-opening d printing now entries (why.Damaged line) h whole = whole line refl
+answers-opening d printing now entries why.Memory h whole = h
 
 pub cause-opening : {D : Type 0} (disk : TellsOfDisk D) (fault : OpenFault) (old new : D)
     → opening.HasCause disk.faults disk.has_failed_to_read disk.has_failed_to_write fault old new
@@ -164,9 +165,10 @@ never-damaged first (back number last given) lines copies line h = h
 never-damaged first unread lines copies line h = h
 never-damaged first unwritten lines copies line h = h
 
-module _ {D R W E : Type 0} (d : WatchDevices D R W E) (entries : List MarkedCopy) where
+module _ {D R W E : Type 0} (d : WatchDevices D R W E) (printing : Printing)
+    (entries : List MarkedCopy) where
   pub not-damaged : (file : List ℕ) (now : ℕ) (starts : Starts) (line : ℕ)
-      → AnswersOver d file now starts entries (Err (Damaged line)) → ⊥
+      → AnswersOverBy d printing file now starts entries (Err (Damaged line)) → ⊥
   not-damaged file now starts line h = ⊎_elim
       (λ k. never-damaged (moments_at now starts) h.0 h.1 h.2 line k.1) (λ k. other k.1) h.4
     where
@@ -174,8 +176,8 @@ module _ {D R W E : Type 0} (d : WatchDevices D R W E) (entries : List MarkedCop
       other e = cc
 
   pub answers-watch : (now : ℕ) (outcome : Result WatchReport WatchFault)
-      → AnswersStarted d now (starts_at now entries) entries outcome
-      → AnswersWatch d now entries outcome
+      → AnswersStartedBy d printing now (starts_at now entries) entries outcome
+      → AnswersWatchBy d printing now entries outcome
   answers-watch now (Ok report) h = h
   answers-watch now (Err Read) h = h
   answers-watch now (Err (Back line last given)) h = h
@@ -195,12 +197,13 @@ module _ {D R W E : Type 0} (d : WatchDevices D R W E) (entries : List MarkedCop
       other e = cc
 
 -- a watch that started so started as this says
-pub started-so : {D R W E : Type 0} (d : WatchDevices D R W E) (file : List ℕ)
+pub started-so : {D R W E : Type 0} (d : WatchDevices D R W E) (printing : Printing) (file : List ℕ)
     (entries : List MarkedCopy)
     (outcome : Result WatchReport WatchFault) {now : ℕ} {starts same : Starts} → starts ≡ same
-    → AnswersOver d file now starts entries outcome → AnswersOver d file now same entries outcome
-started-so d file entries outcome {now} is answer =
-    subst (λ s. AnswersOver d file now s entries outcome) is answer
+    → AnswersOverBy d printing file now starts entries outcome
+    → AnswersOverBy d printing file now same entries outcome
+started-so d printing file entries outcome {now} is answer =
+    subst (λ s. AnswersOverBy d printing file now s entries outcome) is answer
 
 -- what was answered of the open log is answered of the file before it was opened
 module _ {D R W E : Type 0} (disk : TellsOfDisk D) (content : List ℕ) (old mid new : D)
@@ -236,13 +239,13 @@ module _ {D R W E : Type 0} (disk : TellsOfDisk D) (content : List ℕ) (old mid
         (h.0, failed-before same h.0 at h.1, h.2, h.3, h.4)
 
     -- what stood at a read
-    stood-before : (file : List ℕ) (now : ℕ) (starts : Starts) (entries copies : List MarkedCopy)
+    stood-before : (printing : Printing) (file : List ℕ) (now : ℕ) (starts : Starts) (entries copies : List MarkedCopy)
         (bytes : List ℕ)
         → disk.faults mid ≡ disk.faults old
         → (at : Stamp D (CountedDevice W) (CountedDevice E))
-        → StoodOver (devices-from mid) file now starts entries bytes copies at
-        → StoodOver (devices-from old) file now starts entries bytes copies at
-    stood-before file now starts entries copies bytes same at h = record {
+        → StoodOverBy (devices-from mid) printing file now starts entries bytes copies at
+        → StoodOverBy (devices-from old) printing file now starts entries bytes copies at
+    stood-before printing file now starts entries copies bytes same at h = record {
       within = h.within;
       lines = h.lines;
       rest = h.rest;
@@ -268,16 +271,16 @@ module _ {D R W E : Type 0} (disk : TellsOfDisk D) (content : List ℕ) (old mid
           (IsToldByRead (moments_at now starts) (take at.read bytes) h.lines) h.told;
     }
 
-    pub started-before : {now : ℕ} (file : List ℕ) (starts : Starts) (entries : List MarkedCopy)
+    pub started-before : {now : ℕ} (printing : Printing) (file : List ℕ) (starts : Starts) (entries : List MarkedCopy)
         (texts : List (List ℕ)) (outcome : Result WatchReport WatchFault)
         → AllZip IsLoggedAs entries texts
         → disk.faults mid ≡ disk.faults old
         → LeavesOnly disk.moment (disk.left_since content) old mid
         (λ c. disk.may_leave content old c ⊎ StandsForTexts texts c)
         → ((c : List ℕ) → disk.may_leave content mid c → StandsForTexts texts c)
-        → AnswersOver (devices-from mid) file now starts entries outcome
-        → AnswersOver (devices-from old) file now starts entries outcome
-    started-before {now} file starts entries texts outcome each same opened rests h =
+        → AnswersOverBy (devices-from mid) printing file now starts entries outcome
+        → AnswersOverBy (devices-from old) printing file now starts entries outcome
+    started-before {now} printing file starts entries texts outcome each same opened rests h =
         let w = h.3 in (
           h.0,
           h.1,
@@ -289,7 +292,7 @@ module _ {D R W E : Type 0} (disk : TellsOfDisk D) (content : List ℕ) (old mid
             read = w.read;
             printed = w.printed;
             before_each_read =
-                All-weaker _ _ (stood-before file now starts entries h.2 w.bytes same) stamps
+                All-weaker _ _ (stood-before printing file now starts entries h.2 w.bytes same) stamps
                 w.before_each_read;
             any_moment =
                 joined disk.moment (disk.left_since content) (disk.may_leave content) _ _ old mid

@@ -11,6 +11,7 @@ use Rattle.nx_fec.specs.air_files.AirFile.{refuse_subject, accept_subject}
 use Rattle.nx_fec.specs.Transfers.{CountedDevice}
 use Rattle.nx_fec.proofs.lemmas.lines.LineLaws.{first_feed}
 use Rattle.nx_kept.specs.declared.disk.DiskFile.{Ghosts as TellsOfDisk}
+use Rattle.nx_receiver.specs.ChannelReceiver.{ReceiverKind}
 use Rattle.nx_watch.specs.Acting.{acting_behind, acting_lines, acts, moment_said, moments_behind}
 use Rattle.nx_watch.specs.Acting.{with_start}
 use Rattle.nx_watch.specs.AnyLines.{AreLines, Says, ended}
@@ -21,8 +22,7 @@ use Rattle.nx_watch.specs.declared.lines.line_effects.StartMoments.{StartMoments
 use Rattle.nx_watch.specs.declared.line_run.LineRun.{LineRun}
 use Rattle.nx_watch.specs.declared.line_run.WatchEnd.{WatchEnd}
 use Rattle.nx_watch.specs.declared.line_run.WatchEnd.TheVariants.{Read, Back, Write}
-use Rattle.nx_watch.specs.declared.logging_listener.LoggingListener.{LoggingListener}
-use Rattle.nx_watch.specs.private.LoggingListener.{LoggingTo, TakesLines, logging_to}
+use Rattle.nx_watch.specs.private.LoggingListener.{LoggingOver, LoggingTo, TakesLines, logging_to}
 use Rattle.nx_watch.specs.LinesTold.{IsToldByRead}
 use Rattle.nx_watch.specs.private.Running.{EndsRun, HasToldSo, IsBeside, IsRunning, ToldBefore}
 use Rattle.nx_watch.specs.private.Running.{ToldBeside}
@@ -137,20 +137,20 @@ cut-last a b x e =
 
 -- ---- what stood at the reads
 
-module _ {D W N : Type 0} (disk : TellsOfDisk D) (contents : W → Option (List ℕ))
-    (told : N → Option (List ℕ)) (old : ToldBefore) (first : StartMoments)
-    (start : LoggingTo D W)
+module _ {D C W N : Type 0} (kind : ReceiverKind C) (disk : TellsOfDisk D)
+    (contents : W → Option (List ℕ)) (told : N → Option (List ℕ)) (old : ToldBefore)
+    (first : StartMoments) (start : LoggingTo D C W)
   where
     abbrev AStamp : Type 0
     AStamp = Stamp D (CountedDevice W) (CountedDevice N)
 
-    abbrev Stands : LoggingTo D W → LoggingTo D W
+    abbrev Stands : LoggingTo D C W → LoggingTo D C W
         → List Line → Type 0
-    Stands = TakesLines disk contents
+    Stands = TakesLines kind disk contents
 
     abbrev pub Was : List ℕ → (List (Option Line) → Type 0)
-        → (LoggingTo D W → Type 0) → AStamp → Type 0
-    Was = WasRunning (telling disk contents told old) start first
+        → (LoggingTo D C W → Type 0) → AStamp → Type 0
+    Was = WasRunning (telling kind disk contents told old) start first
 
     -- at most so many lines
     abbrev pub AtMost : ℕ → List (Option Line) → Type 0
@@ -161,11 +161,11 @@ module _ {D W N : Type 0} (disk : TellsOfDisk D) (contents : W → Option (List 
     Begin all lines = (later : List Line) × (all ≡ acting_lines first lines ++ later)
 
     -- the start of a run is that of one that began at a read
-    abbrev pub IsSince : LoggingTo D W → Type 0
+    abbrev pub IsSince : LoggingTo D C W → Type 0
     IsSince since = since.logging.listener ≡ start.logging.listener
 
     -- what it had taken by then is behind it
-    stands-since : (now : LoggingListener D) (writer : CountedDevice W) (lines : List Line)
+    stands-since : (now : LoggingOver D C) (writer : CountedDevice W) (lines : List Line)
         → now.keeper.has_failed ≡ false → writer.failures ≡ 0
         → ((content file : List ℕ)
         → disk.left_since content now.keeper.log.device (disk.moment now.keeper.log.device) file
@@ -176,6 +176,7 @@ module _ {D W N : Type 0} (disk : TellsOfDisk D) (contents : W → Option (List 
     stands-since now writer lines well none only_now s = (
       [],
       record {
+        loggable = s.1.loggable;
         first = s.1.first;
         in_range = s.1.in_range;
         force = s.1.force;
@@ -192,7 +193,7 @@ module _ {D W N : Type 0} (disk : TellsOfDisk D) (contents : W → Option (List 
     )
 
     -- the run, as it stands where it asks for more
-    pub stamp-now : (now : LoggingListener D) (writer : CountedDevice W)
+    pub stamp-now : (now : LoggingOver D C) (writer : CountedDevice W)
         (notices : CountedDevice N) (run : LineRun) (beside : ToldBeside) (bytes : List ℕ)
         (read : ℕ)
         → IsBeside old now.keeper.has_failed beside → read ≡ length bytes → writer.failures ≡ 0
@@ -237,9 +238,9 @@ module _ {D W N : Type 0} (disk : TellsOfDisk D) (contents : W → Option (List 
 
     -- with more bytes the run went on from there
     pub later-bytes : (bytes piece : List ℕ) (Behind Later : List (Option Line) → Type 0)
-        (Then Now : LoggingTo D W → Type 0)
+        (Then Now : LoggingTo D C W → Type 0)
         → ((lines : List (Option Line)) → Behind lines → Later lines)
-        → ((since : LoggingTo D W) → IsSince since → Then since → Now since)
+        → ((since : LoggingTo D C W) → IsSince since → Then since → Now since)
         → (stamps : List AStamp) → All (Was bytes Behind Then) stamps
         → All (Was (bytes ++ piece) Later Now) stamps
     later-bytes bytes piece Behind Later Then Now behind step stamps all =
@@ -266,9 +267,9 @@ module _ {D W N : Type 0} (disk : TellsOfDisk D) (contents : W → Option (List 
 
     -- of the same bytes it says this too
     pub says-too : (bytes : List ℕ) (Behind Later : List (Option Line) → Type 0)
-        (Then Now : LoggingTo D W → Type 0)
+        (Then Now : LoggingTo D C W → Type 0)
         → ((at : AStamp) → (h : Was bytes Behind Then at) → Later h.lines)
-        → ((since : LoggingTo D W) → IsSince since → Then since → Now since)
+        → ((since : LoggingTo D C W) → IsSince since → Then since → Now since)
         → (stamps : List AStamp) → All (Was bytes Behind Then) stamps
         → All (Was bytes Later Now) stamps
     says-too bytes Behind Later Then Now later step stamps all =
@@ -292,7 +293,7 @@ module _ {D W N : Type 0} (disk : TellsOfDisk D) (contents : W → Option (List 
 
     -- at one read more this stood too
     pub stamped-now : (bytes : List ℕ) (Behind : List (Option Line) → Type 0)
-        (Then : LoggingTo D W → Type 0) (at : AStamp)
+        (Then : LoggingTo D C W → Type 0) (at : AStamp)
         (stamps made : List AStamp) → made ≡ at ∷ stamps → Was bytes Behind Then at
         → All (Was bytes Behind Then) stamps → All (Was bytes Behind Then) made
     stamped-now bytes Behind Then at stamps made is now all =
@@ -301,14 +302,14 @@ module _ {D W N : Type 0} (disk : TellsOfDisk D) (contents : W → Option (List 
 
     -- before the first read
     pub none-stamped : (bytes : List ℕ) (Behind : List (Option Line) → Type 0)
-        (Then : LoggingTo D W → Type 0) (made : List AStamp) → made ≡ []
+        (Then : LoggingTo D C W → Type 0) (made : List AStamp) → made ≡ []
         → All (Was bytes Behind Then) made
     none-stamped bytes Behind Then made is =
         subst (All (Was bytes Behind Then)) (sym is) (All-nil (Was bytes Behind Then))
 
     -- the lines at a read begin those of a run that went on to these
     begins : (bytes front more : List ℕ) (all : List (Option Line)) (rest : List ℕ) (most : ℕ)
-        (Then : LoggingTo D W → Type 0) → AreLines front all rest
+        (Then : LoggingTo D C W → Type 0) → AreLines front all rest
         → bytes ≡ front ++ more → most ≡ length all
         → (at : AStamp) → (h : Was bytes (AtMost most) Then at)
         → Begin (acting_lines first all) h.lines
@@ -319,12 +320,12 @@ module _ {D W N : Type 0} (disk : TellsOfDisk D) (contents : W → Option (List 
         acting-first first h.lines longer.0 all longer.1
 
     -- the input ended, or the limit was reached
-    pub running-stamped : (now : LoggingTo D W) (run : LineRun)
+    pub running-stamped : (now : LoggingTo D C W) (run : LineRun)
         (beside : ToldBeside) (new : Option (List ℕ)) (failures : ℕ) (bytes : List ℕ)
         (stamps : List AStamp)
-        → (h : RunsStamped (telling disk contents told old) first bytes run.effects.lines start
+        → (h : RunsStamped (telling kind disk contents told old) first bytes run.effects.lines start
         (λ since. IsRunning Stands since now first run beside new failures bytes) stamps)
-        → HasTaken (StandsStamped (telling disk contents told old) first bytes stamps) start now
+        → HasTaken (StandsStamped (telling kind disk contents told old) first bytes stamps) start now
         first h.from_start.lines
     running-stamped now run beside new failures bytes stamps h =
         let s = h.from_start in
@@ -349,19 +350,19 @@ module _ {D W N : Type 0} (disk : TellsOfDisk D) (contents : W → Option (List 
           };
         }
       where
-        lines-of : (s : LoggingTo D W)
+        lines-of : (s : LoggingTo D C W)
             → (k : IsRunning Stands s now first run beside new failures bytes)
             → AreLines bytes k.lines (run.lines.scanner.scanner.part ++ k.scans.passed)
         lines-of s k = Parts-lines run.lines.scanner bytes k.lines k.scans.passed
             (parts run.lines.scanner bytes k.lines k.scans)
 
     -- the run was over before
-    pub ends-stamped : (now : LoggingTo D W) (kept : LineEffects)
+    pub ends-stamped : (now : LoggingTo D C W) (kept : LineEffects)
         (beside : ToldBeside) (new : Option (List ℕ)) (failures : ℕ) (end : WatchEnd)
         (bytes : List ℕ) (stamps : List AStamp)
-        → RunsStamped (telling disk contents told old) first bytes kept.lines start
+        → RunsStamped (telling kind disk contents told old) first bytes kept.lines start
         (λ since. EndsRun Stands since now first kept beside new failures end bytes) stamps
-        → EndsRun (StandsStamped (telling disk contents told old) first bytes stamps) start now
+        → EndsRun (StandsStamped (telling kind disk contents told old) first bytes stamps) start now
         first kept beside new failures end bytes
     ends-stamped now kept beside new failures Read bytes stamps all =
         let h = all.from_start in (

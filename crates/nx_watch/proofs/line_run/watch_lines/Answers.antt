@@ -19,16 +19,17 @@ at-limit End bytes room limit (inr all) is = inr (all ∙ is)
 pub returns-in-Ok-clause-watched : goal.returns-in-Ok-clause-watched
 returns-in-Ok-clause-watched g c = λ start old force well stood told.
     let disk = g.D.DiskFile in
-    let stands = TakesLines disk g.W.Write.contents in
+    let kind = g.C.ChannelReceiver.kind in
+    let stands = TakesLines kind disk g.W.Write.contents in
     let before = logging_to start c.args.writer.now in
     let r = c.in-Ok.ensures.read before c.args.first old force well
     (run-starts stands before (logging_to c.args.logging.now c.args.writer.now) c.args.first _ old
     (g.F.Write.contents c.args.notices.now.inner) c.args.notices.now.failures
     c.new.ensures.stands c.new-2.ensures
-    (none-taken disk g.W.Write.contents start c.args.logging.now
+    (none-taken kind disk g.W.Write.contents start c.args.logging.now
     c.args.writer.now stood c.requires.writer) told) in
     let run = r.5.1.from_start in
-    let taken = running-stamped disk g.W.Write.contents g.F.Write.contents old c.args.first before
+    let taken = running-stamped kind disk g.W.Write.contents g.F.Write.contents old c.args.first before
     (logging_to c.read_lines.new.logging c.read_lines.new.writer) c.read_lines.new.self r.3
     (g.F.Write.contents c.read_lines.new.notices.inner) c.read_lines.new.notices.failures r.0
     (stamps_of c.read_lines.new.reader) r.5.1 in
@@ -55,7 +56,8 @@ returns-in-Ok-clause-watched g c = λ start old force well stood told.
 pub returns-in-Err-clause-watched : goal.returns-in-Err-clause-watched
 returns-in-Err-clause-watched g c = λ start old force well stood told.
     let disk = g.D.DiskFile in
-    let stands = TakesLines disk g.W.Write.contents in
+    let kind = g.C.ChannelReceiver.kind in
+    let stands = TakesLines kind disk g.W.Write.contents in
     let before = logging_to start c.args.writer.now in
     let stamps = stamps_of c.read_lines.new.reader in
     let now = logging_to c.read_lines.new.logging c.read_lines.new.writer in
@@ -65,13 +67,13 @@ returns-in-Err-clause-watched g c = λ start old force well stood told.
     (run-starts stands before (logging_to c.args.logging.now c.args.writer.now) c.args.first _ old
     (g.F.Write.contents c.args.notices.now.inner) c.args.notices.now.failures
     c.new.ensures.stands c.new-2.ensures
-    (none-taken disk g.W.Write.contents start c.args.logging.now
+    (none-taken kind disk g.W.Write.contents start c.args.logging.now
     c.args.writer.now stood c.requires.writer) told) in (
       r.0,
       r.1,
       omega (arith, r.2, c.new.ensures.room),
       answers-told (record {
-        stands = StandsStamped (telling disk g.W.Write.contents g.F.Write.contents old)
+        stands = StandsStamped (telling kind disk g.W.Write.contents g.F.Write.contents old)
             c.args.first r.0 stamps;
         start = before;
         now = now;
@@ -86,6 +88,6 @@ returns-in-Err-clause-watched g c = λ start old force well stood told.
           (λ lines tells. by-end c.args.first old r.3 c.read_lines.new.logging.keeper.has_failed
           (g.F.Write.contents c.count.new.notices.inner) c.count.new.notices.failures r.0 lines r.4
           (c.count.ensures.told c.args.first r.3 r.0 lines tells))
-          (ends-stamped disk g.W.Write.contents g.F.Write.contents old c.args.first before now
+          (ends-stamped kind disk g.W.Write.contents g.F.Write.contents old c.args.first before now
           c.read_lines.new.self.effects r.3 now_told failures c.in-Err.end r.0 stamps r.5),
     )

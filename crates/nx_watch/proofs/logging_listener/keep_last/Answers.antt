@@ -1,14 +1,14 @@
-use Rattle.std.proofs.Common.{◌++◌, ◌∷◌, [], ap, append-nil, append_assoc, arith, length, subst, sym}
-use Rattle.std.specs.List.{All}
+use Rattle.std.proofs.Common.{◌++◌, ◌∷◌, ◌∙◌, [], ap, append-nil, append_assoc, arith, length, refl, subst, sym}
+use Rattle.std.specs.List.{All, AllZip}
 use Rattle.std.proofs.lemmas.List.Elements.{All-head, All-tail}
 use Rattle.nx_copies.specs.copies.FoundCopies.{copy_of}
-use Rattle.nx_copies.specs.copies.InTurn.{PrintAllToEnd}
-use Rattle.nx_receiver.specs.air_file_runs.Listen.{given_by}
+use Rattle.nx_log.specs.Logged.{IsLogged, IsLoggedAs}
 use Rattle.nx_receiver.specs.Listener.{last_copies}
 use Rattle.nx_copies.specs.copies.Log.{IsEntry}
 use Rattle.nx_copies.specs.copies.Shares.{marked}
+use Rattle.nx_watch.specs.private.Keeping.{KeepsWith}
 use Rattle.nx_watch.specs.private.LoggingListener.{IsCopyInRange}
-use Rattle.nx_watch.proofs.lemmas.log.LoggingListener.{end-spelled, zip-push}
+use Rattle.nx_watch.proofs.lemmas.log.LoggingListener.{back-logged, zip-push}
 use Rattle.nx_watch.proofs.logging_listener.keep_last.Goals as goal
 
 pub entries-init : goal.entries-init
@@ -16,8 +16,14 @@ entries-init g c = record {
   once = c.requires.once;
   range = c.requires.range;
   failed = λ h. h;
-  kept = λ starts start first lines copies texts range within printed each kept.
-      (copies, texts, printed, each, kept);
+  kept = λ start first texts logged kept. (
+    [],
+    [],
+    refl,
+    tt,
+    subst (KeepsWith g.D.DiskFile g.W.Write.contents start c.args.keeper first c.args.writer.now)
+        (sym (append-nil texts)) kept,
+  );
 }
 
 pub entry_bytes-requires : goal.entry_bytes-requires
@@ -31,40 +37,38 @@ entries-preserved g c =
     let one = marked c.in-Some.channel (copy_of c.in-Some.entry) in
     let rest = last_copies c.take_next.new.self in
     let next = c.in-Some.ensures.next in
+    let text = c.deref.result.now in
     record {
       once = c.keep.ensures.once;
       failed = λ h. c.keep.ensures.failed (c.entries.invariant.failed h);
       range = All-tail IsCopyInRange one rest
           (subst (All IsCopyInRange) next c.entries.invariant.range);
-      kept = λ starts start first lines copies texts range within printed each kept.
-          let r = c.entries.invariant.kept starts start first lines copies texts range within
-          printed
-          each kept in
-          let all = subst (λ l. PrintAllToEnd starts (given_by lines) (r.0 ++ l)) next r.2 in
-          let is = end-spelled starts lines r.0 rest one c.deref.result.now range within all
-          (subst (IsEntry one) (sym c.deref.ensures.0) c.entry_bytes.ensures) in (
+      kept = λ start first texts logged kept.
+          let r = c.entries.invariant.kept start first texts logged kept in
+          let whole = r.2 ∙ ap (λ l. r.0 ++ l) next in
+          let is : IsLoggedAs one text = record {
+            logged = All-head IsLogged one rest
+                (back-logged r.0 (one ∷ rest) (subst (All IsLogged) whole logged));
+            entry = subst (IsEntry one) (sym c.deref.ensures.0) c.entry_bytes.ensures;
+          } in (
             r.0 ++ one ∷ [],
-            r.1 ++ c.deref.result.now ∷ [],
-            subst (PrintAllToEnd starts (given_by lines)) (sym (append_assoc r.0 (one ∷ []) rest))
-                all,
-            zip-push r.0 r.1 one c.deref.result.now r.3 is,
-            c.keep.ensures.kept start first r.1 (one, is) r.4,
+            r.1 ++ text ∷ [],
+            whole ∙ sym (append_assoc r.0 (one ∷ []) rest),
+            zip-push r.0 r.1 one text r.3 is,
+            subst (KeepsWith g.D.DiskFile g.W.Write.contents start c.keep.new.self first
+                c.keep.new.writer) (append_assoc texts r.1 (text ∷ []))
+                (c.keep.ensures.kept start first (texts ++ r.1) (one, is) r.4),
           );
     }
 
 pub entries-smaller : goal.entries-smaller
 entries-smaller g c = omega (arith, ap length c.in-Some.ensures.next)
 
-pub returns-in_default-clause-closed : goal.returns-in_default-clause-closed
-returns-in_default-clause-closed g c = λ starts start first lines copies texts range within printed
-    each kept.
-    let r = c.entries.invariant.kept starts start first lines copies texts range within printed each
-    kept in record {
-      copies = r.0;
-      printed = subst (PrintAllToEnd starts (given_by lines)) (append-nil r.0)
-          (subst (λ l. PrintAllToEnd starts (given_by lines) (r.0 ++ l)) c.in_default.ensures.next
-          r.2);
-      texts = r.1;
-      each = r.3;
-      kept = r.4;
-    }
+pub returns-in_default-clause-kept : goal.returns-in_default-clause-kept
+returns-in_default-clause-kept g c = λ start first texts logged kept.
+    let r = c.entries.invariant.kept start first texts logged kept in (
+      r.1,
+      subst (λ l. AllZip IsLoggedAs l r.1)
+          (sym (r.2 ∙ ap (λ l. r.0 ++ l) c.in_default.ensures.next ∙ append-nil r.0)) r.3,
+      r.4,
+    )

@@ -3,12 +3,12 @@ use Rattle.std.specs.Io.KnownBytes.{IsAtEnd}
 use Rattle.nx_fec.specs.Transfers.{CountedDevice, count_of}
 use Rattle.nx_envelope.specs.Moment.{last_moment}
 use Rattle.nx_fec.specs.air_files.AirFile.{Line, moment}
-use Rattle.nx_copies.specs.copies.InTurn.{PrintAllToEnd}
+use Rattle.nx_copies.specs.copies.InTurn.{PrintAllToEndBy}
 use Rattle.nx_receiver.specs.air_file_runs.Listen.{given_by}
-use Rattle.nx_receiver.specs.Listener.{HearsGiven, Listening, starts_of}
+use Rattle.nx_receiver.specs.Listener.{HearsBy, ListeningOver, starts_by}
 use Rattle.nx_watch.specs.Acting.{acting_lines, moments_behind, most_bytes}
 use Rattle.nx_watch.specs.AnyLines.{cut_line}
-use Rattle.nx_watch.specs.Watch.{AnswersStop, at_end, back, unread, unwritten}
+use Rattle.nx_watch.specs.Watch.{AnswersStop, PrintsLoggable, at_end, back, unread, unwritten}
 use Rattle.nx_watch.specs.LineRun.{AnswersRun, HasTold, RunOverLines, TellsOfLines}
 use Rattle.nx_watch.specs.Stamps.{counted_of, stamps_of}
 use Rattle.nx_watch.specs.CutTold.{TellsOfSomeCut}
@@ -51,17 +51,19 @@ apart-Written : err Read ≡ err Write → ⊥
 apart-Written e = cc
 
 pub returns-in-Ok-clause-runs : goal.returns-in-Ok-clause-runs
-returns-in-Ok-clause-runs g c = λ notices cut told is none range heard kept.
+returns-in-Ok-clause-runs g c = λ notices cut told loggable is none range heard kept.
     let disk = g.D.DiskFile in
+    let kind = g.C.ChannelReceiver.kind in
+    let laws = g.met.C.ChannelReceiver.laws in
     let logging = c.args.logging in
     let start = logging_to logging c.args.writer.now in
     let before = behind g.F.Write.contents notices cut in
     let w = c.in-Ok.ensures.watched logging before (sym is)
     (none-yet-failed disk logging.keeper kept)
-    (stands-first disk logging range heard kept) told in
+    (stands-first kind disk logging loggable range heard kept) told in
     let acting = acting_lines c.args.first w.3.1 in
     let closed = c.finish.ensures.closed start acting w.3.4.stood.stands in
-    has-run disk logging c.args.first g.R.Read.remaining (counted_of c.args.reader.now)
+    has-run laws disk logging c.args.first g.R.Read.remaining (counted_of c.args.reader.now)
     (counted_of c.watch_lines.new.reader)
     g.W.Write.contents c.args.writer.now c.finish.new.writer g.F.Write.contents notices
     c.finish.new.notices cut (stamps_of c.watch_lines.new.reader) at_end c.finish.result
@@ -77,20 +79,20 @@ returns-in-Ok-clause-runs g c = λ notices cut told is none range heard kept.
       consumed = w.1;
       within = w.2;
       read = (w.3.0, w.3.1, w.3.2, w.3.3, refl, w.3.4.on);
-      printed = subst (λ l. PrintAllToEnd (starts_of logging.listener) (given_by l) closed.copies)
+      printed = subst (λ l. PrintAllToEndBy kind.printing (starts_by kind logging.listener) (given_by l) closed.copies)
           (sym (acting-cut c.args.first w.3.1 w.3.2)) closed.printed;
       failed_read = (
         λ e. absurd (end-apart e),
         λ f. absurd (apart-Ok c.in-Ok.counts (sym c.in-Ok.is ∙ c.watch_lines.ensures.unread.1 f)),
       );
       failed_write = c.finish.ensures.once;
-      stamped = stamps-keep disk g.W.Write.contents g.F.Write.contents before c.args.first start
+      stamped = stamps-keep kind disk g.W.Write.contents g.F.Write.contents before c.args.first start
           (logging_to c.watch_lines.new.logging c.watch_lines.new.writer) w.0 c.finish.result
           acting (acting_lines c.args.first (w.3.1 ++ cut_line w.3.2)) closed.copies
           (stamps_of c.watch_lines.new.reader) (acting-cut c.args.first w.3.1 w.3.2)
-          (λ since same k. closed-on disk g.W.Write.contents (starts_of logging.listener) since
+          (λ since same k. closed-on laws disk g.W.Write.contents (starts_by kind logging.listener) since
           c.finish.result c.finish.new.writer acting closed.copies
-          (ap (λ (l : Listening). starts_of l) same) closed.printed
+          (ap (λ (l : ListeningOver _). starts_by kind l) same) closed.printed
           (c.finish.ensures.closed since acting k)) w.3.4.stood;
       said = at-finish g.F.Write.contents c.watch_lines.new.notices c.finish.new.notices
           c.args.first before c.watch_lines.new.logging.keeper.has_failed
@@ -110,17 +112,19 @@ returns-in-Ok-clause-runs g c = λ notices cut told is none range heard kept.
     ))
 
 pub returns-in-Back-clause-runs : goal.returns-in-Back-clause-runs
-returns-in-Back-clause-runs g c = λ notices cut told is none range heard kept.
+returns-in-Back-clause-runs g c = λ notices cut told loggable is none range heard kept.
     let disk = g.D.DiskFile in
+    let kind = g.C.ChannelReceiver.kind in
+    let laws = g.met.C.ChannelReceiver.laws in
     let logging = c.args.logging in
     let start = logging_to logging c.args.writer.now in
     let before = behind g.F.Write.contents notices cut in
     let lines-read = c.watch_lines.new in
     let w = c.in-Err.ensures.watched logging before (sym is)
     (none-yet-failed disk logging.keeper kept)
-    (stands-first disk logging range heard kept) told in
+    (stands-first kind disk logging loggable range heard kept) told in
     let r : RunOverLines _ = record {
-      stands = StandsStamped (telling disk g.W.Write.contents g.F.Write.contents before)
+      stands = StandsStamped (telling kind disk g.W.Write.contents g.F.Write.contents before)
           c.args.first w.0 (stamps_of lines-read.reader);
       start = start;
       now = logging_to lines-read.logging lines-read.writer;
@@ -136,7 +140,7 @@ returns-in-Back-clause-runs g c = λ notices cut told is none range heard kept.
     let closed = c.finish-in-Back.ensures.closed start acting ended.5.stands in
     let stop = back c.in-Back.line c.in-Back.last c.in-Back.given in
     let lines = ended.0 ++ Some (moment c.in-Back.given) ∷ [] in
-    has-run disk logging c.args.first g.R.Read.remaining (counted_of c.args.reader.now)
+    has-run laws disk logging c.args.first g.R.Read.remaining (counted_of c.args.reader.now)
     (counted_of lines-read.reader)
     g.W.Write.contents c.args.writer.now c.finish-in-Back.new.writer g.F.Write.contents
     notices c.finish-in-Back.new.notices cut (stamps_of lines-read.reader) stop
@@ -160,7 +164,7 @@ returns-in-Back-clause-runs g c = λ notices cut told is none range heard kept.
         ended.3 ∙ sym (length-append ended.0 (Some (moment c.in-Back.given) ∷ [])),
         ended.4,
       );
-      printed = subst (λ l. PrintAllToEnd (starts_of logging.listener) (given_by l) closed.copies)
+      printed = subst (λ l. PrintAllToEndBy kind.printing (starts_by kind logging.listener) (given_by l) closed.copies)
           (sym (acting-idle c.args.first ended.0 (moment c.in-Back.given)
           (ends-idle c.args.first.newest (moments_behind c.args.first ended.0) c.in-Back.given
           ended.2))) closed.printed;
@@ -170,15 +174,15 @@ returns-in-Back-clause-runs g c = λ notices cut told is none range heard kept.
             ∙ c.watch_lines.ensures.unread.1 f)),
       );
       failed_write = c.finish-in-Back.ensures.once;
-      stamped = stamps-keep disk g.W.Write.contents g.F.Write.contents before c.args.first start
+      stamped = stamps-keep kind disk g.W.Write.contents g.F.Write.contents before c.args.first start
           (logging_to lines-read.logging lines-read.writer) w.0 c.finish-in-Back.result acting
           (acting_lines c.args.first lines) closed.copies
           (stamps_of lines-read.reader) (acting-idle c.args.first ended.0 (moment c.in-Back.given)
           (ends-idle c.args.first.newest (moments_behind c.args.first ended.0) c.in-Back.given
           ended.2))
-          (λ since same k. closed-on disk g.W.Write.contents (starts_of logging.listener) since
+          (λ since same k. closed-on laws disk g.W.Write.contents (starts_by kind logging.listener) since
           c.finish-in-Back.result c.finish-in-Back.new.writer acting closed.copies
-          (ap (λ (l : Listening). starts_of l) same) closed.printed
+          (ap (λ (l : ListeningOver _). starts_by kind l) same) closed.printed
           (c.finish-in-Back.ensures.closed since acting k)) ended.5;
       said = at-finish g.F.Write.contents lines-read.notices c.finish-in-Back.new.notices
           c.args.first before lines-read.logging.keeper.has_failed
@@ -190,17 +194,19 @@ returns-in-Back-clause-runs g c = λ notices cut told is none range heard kept.
     (sym (c.answer-in-Back.ensures.well well)) (refl, refl, refl))
 
 pub returns-in-Read-clause-runs : goal.returns-in-Read-clause-runs
-returns-in-Read-clause-runs g c = λ notices cut told is none range heard kept.
+returns-in-Read-clause-runs g c = λ notices cut told loggable is none range heard kept.
     let disk = g.D.DiskFile in
+    let kind = g.C.ChannelReceiver.kind in
+    let laws = g.met.C.ChannelReceiver.laws in
     let logging = c.args.logging in
     let start = logging_to logging c.args.writer.now in
     let before = behind g.F.Write.contents notices cut in
     let lines-read = c.watch_lines.new in
     let w = c.in-Err.ensures.watched logging before (sym is)
     (none-yet-failed disk logging.keeper kept)
-    (stands-first disk logging range heard kept) told in
+    (stands-first kind disk logging loggable range heard kept) told in
     let r : RunOverLines _ = record {
-      stands = StandsStamped (telling disk g.W.Write.contents g.F.Write.contents before)
+      stands = StandsStamped (telling kind disk g.W.Write.contents g.F.Write.contents before)
           c.args.first w.0 (stamps_of lines-read.reader);
       start = start;
       now = logging_to lines-read.logging lines-read.writer;
@@ -213,7 +219,7 @@ returns-in-Read-clause-runs g c = λ notices cut told is none range heard kept.
     } in
     let ended = subst (λ e. AnswersRun r (Err e) w.0) c.in-Read.is w.3 in
     let stood = ended.3.stood.stands in
-    has-run disk logging c.args.first g.R.Read.remaining (counted_of c.args.reader.now)
+    has-run laws disk logging c.args.first g.R.Read.remaining (counted_of c.args.reader.now)
     (counted_of lines-read.reader)
     g.W.Write.contents c.args.writer.now lines-read.writer g.F.Write.contents notices
     lines-read.notices cut (stamps_of lines-read.reader) unread c.into_keeper.result (record {
@@ -235,14 +241,14 @@ returns-in-Read-clause-runs g c = λ notices cut told is none range heard kept.
       failed_write = none-failed _ c.watch_lines.ensures.written_once
           (λ f. absurd (apart-Written (sym (c.in-Err.is ∙ ap Err c.in-Read.is)
           ∙ c.watch_lines.ensures.unwritten.1 f)));
-      stamped = stamps-keep disk g.W.Write.contents g.F.Write.contents before c.args.first start
+      stamped = stamps-keep kind disk g.W.Write.contents g.F.Write.contents before c.args.first start
           (logging_to lines-read.logging lines-read.writer) w.0 c.into_keeper.result
           (acting_lines c.args.first ended.0) (acting_lines c.args.first ended.0) stood.1.copies
           (stamps_of lines-read.reader) refl
-          (λ since same k. heard-on disk g.W.Write.contents (starts_of logging.listener) since
+          (λ since same k. heard-on laws disk g.W.Write.contents (starts_by kind logging.listener) since
           (logging_to lines-read.logging lines-read.writer) c.into_keeper.result
           (acting_lines c.args.first ended.0) stood.1.copies
-          (ap (λ (l : Listening). starts_of l) same) stood.1.heard.in_turn c.into_keeper.ensures k)
+          (ap (λ (l : ListeningOver _). starts_by kind l) same) stood.1.heard.in_turn c.into_keeper.ensures k)
           ended.3.stood;
       said = subst (λ k. HasToldSo before (g.F.Write.contents lines-read.notices.inner)
           lines-read.notices.failures (IsToldAtEnd c.args.first w.0 ended.0 k.has_failed))
@@ -255,17 +261,19 @@ returns-in-Read-clause-runs g c = λ notices cut told is none range heard kept.
     (sym (c.answer-in-Read.ensures.well well)) tt)
 
 pub returns-in-Write-clause-runs : goal.returns-in-Write-clause-runs
-returns-in-Write-clause-runs g c = λ notices cut told is none range heard kept.
+returns-in-Write-clause-runs g c = λ notices cut told loggable is none range heard kept.
     let disk = g.D.DiskFile in
+    let kind = g.C.ChannelReceiver.kind in
+    let laws = g.met.C.ChannelReceiver.laws in
     let logging = c.args.logging in
     let start = logging_to logging c.args.writer.now in
     let before = behind g.F.Write.contents notices cut in
     let lines-read = c.watch_lines.new in
     let w = c.in-Err.ensures.watched logging before (sym is)
     (none-yet-failed disk logging.keeper kept)
-    (stands-first disk logging range heard kept) told in
+    (stands-first kind disk logging loggable range heard kept) told in
     let r : RunOverLines _ = record {
-      stands = StandsStamped (telling disk g.W.Write.contents g.F.Write.contents before)
+      stands = StandsStamped (telling kind disk g.W.Write.contents g.F.Write.contents before)
           c.args.first w.0 (stamps_of lines-read.reader);
       start = start;
       now = logging_to lines-read.logging lines-read.writer;
@@ -280,7 +288,7 @@ returns-in-Write-clause-runs g c = λ notices cut told is none range heard kept.
     let stood = ended.3.stood.stands in
     let keeper = c.into_keeper-in-Write.result in
     let unwritten_one = c.watch_lines.ensures.unwritten.0 (c.in-Err.is ∙ ap Err c.in-Write.is) in
-    has-run disk logging c.args.first g.R.Read.remaining (counted_of c.args.reader.now)
+    has-run laws disk logging c.args.first g.R.Read.remaining (counted_of c.args.reader.now)
     (counted_of lines-read.reader)
     g.W.Write.contents c.args.writer.now lines-read.writer g.F.Write.contents notices
     lines-read.notices cut (stamps_of lines-read.reader) unwritten keeper (record {
@@ -303,15 +311,15 @@ returns-in-Write-clause-runs g c = λ notices cut told is none range heard kept.
             ∙ c.watch_lines.ensures.unread.1 f)),
       );
       failed_write = unwritten_one;
-      stamped = stamps-keep disk g.W.Write.contents g.F.Write.contents before c.args.first start
+      stamped = stamps-keep kind disk g.W.Write.contents g.F.Write.contents before c.args.first start
           (logging_to lines-read.logging lines-read.writer) w.0 keeper
           (acting_lines c.args.first (ended.0 ++ Some ended.1 ∷ []))
           (acting_lines c.args.first (ended.0 ++ Some ended.1 ∷ [])) stood.1.copies
           (stamps_of lines-read.reader) refl
-          (λ since same k. heard-on disk g.W.Write.contents (starts_of logging.listener) since
+          (λ since same k. heard-on laws disk g.W.Write.contents (starts_by kind logging.listener) since
           (logging_to lines-read.logging lines-read.writer) keeper
           (acting_lines c.args.first (ended.0 ++ Some ended.1 ∷ [])) stood.1.copies
-          (ap (λ (l : Listening). starts_of l) same) stood.1.heard.in_turn
+          (ap (λ (l : ListeningOver _). starts_by kind l) same) stood.1.heard.in_turn
           c.into_keeper-in-Write.ensures k) ended.3.stood;
       said = subst (λ k. HasToldSo before (g.F.Write.contents lines-read.notices.inner)
           lines-read.notices.failures
@@ -329,22 +337,24 @@ returns-in-Write-clause-runs g c = λ notices cut told is none range heard kept.
 told-lines : (g : _) → (c : After-watch_lines g) → (before : ToldBefore)
     → HasTold before.old (g.F.Write.contents c.args.notices.now.inner) c.args.notices.now.failures
     before.text
-    → c.args.first.newest ≡ (starts_of c.args.logging.listener).moment
-    → (starts_of c.args.logging.listener).moment ≤ last_moment
-    → HearsGiven (starts_of c.args.logging.listener) c.args.logging.listener [] []
+    → PrintsLoggable g.C.ChannelReceiver.kind.printing
+    → c.args.first.newest ≡ (starts_by g.C.ChannelReceiver.kind c.args.logging.listener).moment
+    → (starts_by g.C.ChannelReceiver.kind c.args.logging.listener).moment ≤ last_moment
+    → HearsBy g.C.ChannelReceiver.kind (starts_by g.C.ChannelReceiver.kind c.args.logging.listener) c.args.logging.listener [] []
     → HasKept g.D.DiskFile c.args.logging.keeper c.args.logging.keeper [] []
     → (bytes : List ℕ) × (lines : List (Option Line))
     × HasToldSo before (g.F.Write.contents c.watch_lines.new.notices.inner)
     c.watch_lines.new.notices.failures
     (IsToldByEnd c.args.first bytes lines c.watch_lines.new.logging.keeper.has_failed)
-told-lines g c before said is range heard kept =
+told-lines g c before said loggable is range heard kept =
     let disk = g.D.DiskFile in
+    let kind = g.C.ChannelReceiver.kind in
     let lines-read = c.watch_lines.new in
     let w = c.watch_lines.ensures.watched c.args.logging before (sym is)
     (none-yet-failed disk c.args.logging.keeper kept)
-    (stands-first disk c.args.logging range heard kept) said in
+    (stands-first kind disk c.args.logging loggable range heard kept) said in
     let r : RunOverLines _ = record {
-      stands = StandsStamped (telling disk g.W.Write.contents g.F.Write.contents before)
+      stands = StandsStamped (telling kind disk g.W.Write.contents g.F.Write.contents before)
           c.args.first w.0 (stamps_of lines-read.reader);
       start = logging_to c.args.logging c.args.writer.now;
       now = logging_to lines-read.logging lines-read.writer;
@@ -368,12 +378,12 @@ told-behind first old new failures cut bytes lines failed some h =
     (cut, some, first, bytes, lines, failed, h.0, h.1, h.2)
 
 pub returns-in-Ok-clause-told : goal.returns-in-Ok-clause-told
-returns-in-Ok-clause-told g c = λ old cut some said is range heard kept.
+returns-in-Ok-clause-told g c = λ old cut some said loggable is range heard kept.
     let before : ToldBefore = record { old = old; text = cut } in
     let mid = c.watch_lines.new in
     let after = c.finish.new.notices in
-    let t = told-lines g (goal.at.returns-in-Ok-clause-told g c).After-watch_lines before said is
-    range heard kept in
+    let t = told-lines g (goal.at.returns-in-Ok-clause-told g c).After-watch_lines before said loggable
+    is range heard kept in
     told-behind c.args.first old (g.F.Write.contents after.inner) after.failures cut t.0 t.1
     c.finish.result.has_failed some
     (at-finish g.F.Write.contents mid.notices after c.args.first before
@@ -381,12 +391,12 @@ returns-in-Ok-clause-told g c = λ old cut some said is range heard kept.
     c.finish.ensures.told t.2)
 
 pub returns-in-Back-clause-told : goal.returns-in-Back-clause-told
-returns-in-Back-clause-told g c = λ old cut some said is range heard kept.
+returns-in-Back-clause-told g c = λ old cut some said loggable is range heard kept.
     let before : ToldBefore = record { old = old; text = cut } in
     let mid = c.watch_lines.new in
     let after = c.finish-in-Back.new.notices in
-    let t = told-lines g (goal.at.returns-in-Back-clause-told g c).After-watch_lines before said is
-    range heard kept in
+    let t = told-lines g (goal.at.returns-in-Back-clause-told g c).After-watch_lines before said loggable
+    is range heard kept in
     told-behind c.args.first old (g.F.Write.contents after.inner) after.failures cut t.0 t.1
     c.finish-in-Back.result.has_failed some
     (at-finish g.F.Write.contents mid.notices after c.args.first before
@@ -397,19 +407,20 @@ returns-in-Back-clause-told g c = λ old cut some said is range heard kept.
 told-open : (g : _) → (c : After-watch_lines g) → (old : Option (List ℕ)) (cut : List ℕ)
     → TellsOfSomeCut cut
     → HasTold old (g.F.Write.contents c.args.notices.now.inner) c.args.notices.now.failures cut
-    → c.args.first.newest ≡ (starts_of c.args.logging.listener).moment
-    → (starts_of c.args.logging.listener).moment ≤ last_moment
-    → HearsGiven (starts_of c.args.logging.listener) c.args.logging.listener [] []
+    → PrintsLoggable g.C.ChannelReceiver.kind.printing
+    → c.args.first.newest ≡ (starts_by g.C.ChannelReceiver.kind c.args.logging.listener).moment
+    → (starts_by g.C.ChannelReceiver.kind c.args.logging.listener).moment ≤ last_moment
+    → HearsBy g.C.ChannelReceiver.kind (starts_by g.C.ChannelReceiver.kind c.args.logging.listener) c.args.logging.listener [] []
     → HasKept g.D.DiskFile c.args.logging.keeper c.args.logging.keeper [] []
     → TellsOfLines old (g.F.Write.contents c.watch_lines.new.notices.inner)
     c.watch_lines.new.notices.failures
-told-open g c old cut some said is range heard kept =
+told-open g c old cut some said loggable is range heard kept =
     let before : ToldBefore = record { old = old; text = cut } in
     let mid = c.watch_lines.new in
     let new = g.F.Write.contents mid.notices.inner in
     let failures = mid.notices.failures in
     let failed = mid.logging.keeper.has_failed in
-    let t = told-lines g c before said is range heard kept in
+    let t = told-lines g c before said loggable is range heard kept in
     told-behind c.args.first old new failures cut t.0 t.1 failed some
     (at-end c.args.first before failed new failures t.0 t.1 t.2)
 

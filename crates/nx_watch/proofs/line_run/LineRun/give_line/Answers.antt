@@ -30,7 +30,7 @@ returns-clause-taken g c = λ start first lines line force is kept stood.
     c.set_start.ensures.counts set.0 in (
       did.0,
       did.1,
-      subst (TakesLines g.D.DiskFile g.W.Write.contents start
+      subst (TakesLines g.C.ChannelReceiver.kind g.D.DiskFile g.W.Write.contents start
           (logging_to c.take-answer.new.self c.take-answer.new.writer))
           (sym (acting-one first lines line
           ∙ ap (λ l. acting_and_set first lines line ++ l)

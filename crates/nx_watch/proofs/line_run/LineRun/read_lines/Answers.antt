@@ -3,7 +3,7 @@ use Rattle.std.proofs.Common.{length-append, ap, sym, take, subst, arith, append
 use Rattle.std.specs.List.{All}
 use Rattle.std.proofs.KnownBytes.{Consumes-kept, Consumes-trans}
 use Rattle.std.specs.Io.KnownBytes.{Consumes}
-use Rattle.nx_receiver.specs.Listener.{Listening, starts_of}
+use Rattle.nx_receiver.specs.Listener.{ListeningOver, starts_by}
 use Rattle.nx_watch.specs.Stamp.{stamp}
 use Rattle.nx_watch.specs.Stamps.{bytes_given, counted_of, stamps_of}
 use Rattle.nx_watch.specs.private.AnyReading.{GoesOn}
@@ -24,10 +24,10 @@ use Rattle.nx_watch.proofs.line_run.LineRun.read_lines.Goals.{After-read}
 
 -- the lines of the piece were taken, and what there was to tell was told
 settled : (g : _) → (c : After-read g)
-    → (start : LoggingTo g.row.D.Denot g.row.W.Denot) (first : StartMoments) (old : ToldBefore)
-    → (starts_of start.logging.listener).moment ≡ first.newest
+    → (start : LoggingTo g.row.D.Denot g.row.C.Denot g.row.W.Denot) (first : StartMoments) (old : ToldBefore)
+    → (starts_by g.C.ChannelReceiver.kind start.logging.listener).moment ≡ first.newest
     → c.args.logging.now.keeper.has_failed ≡ false
-    → IsRunning (TakesLines g.D.DiskFile g.W.Write.contents) start
+    → IsRunning (TakesLines g.C.ChannelReceiver.kind g.D.DiskFile g.W.Write.contents) start
     (logging_to c.args.logging.now c.args.writer.now) first c.args.self.now (beside old)
     (g.F.Write.contents c.args.notices.now.inner) c.args.notices.now.failures []
     → (bytes : List ℕ)
@@ -35,17 +35,18 @@ settled : (g : _) → (c : After-read g)
     (g.R.Read.remaining (counted_of c.loop-has_failed.reader).inner) bytes
     × (length bytes + c.take_next.new.self.lines.room ≡ c.args.self.now.lines.room)
     × (told : ToldBeside) × IsBeside old c.take_next.new.logging.keeper.has_failed told
-    × RunsStamped (telling g.D.DiskFile g.W.Write.contents g.F.Write.contents old) first bytes
+    × RunsStamped (telling g.C.ChannelReceiver.kind g.D.DiskFile g.W.Write.contents g.F.Write.contents old) first bytes
     c.take_next.new.self.effects.lines start
-    (λ since. IsRunning (TakesLines g.D.DiskFile g.W.Write.contents) since
+    (λ since. IsRunning (TakesLines g.C.ChannelReceiver.kind g.D.DiskFile g.W.Write.contents) since
     (logging_to c.take_next.new.logging c.take_next.new.writer) first c.take_next.new.self told
     (g.F.Write.contents c.tell_failed_put.new.notices.inner)
     c.tell_failed_put.new.notices.failures bytes) (stamps_of c.loop-has_failed.reader)
 settled g c start first old force well h =
     let disk = g.D.DiskFile in
+    let kind = g.C.ChannelReceiver.kind in
     let contents = g.W.Write.contents in
     let told = g.F.Write.contents in
-    let stands = TakesLines disk contents in
+    let stands = TakesLines kind disk contents in
     let inv = c.loop-has_failed.invariant in
     let r = inv.read start first old force well h in
     let t = c.in-Ok-false.ensures.taken in
@@ -62,8 +63,8 @@ settled g c start first old force well h =
     c.take_next.new.logging.keeper.has_failed r.4
     (λ k. c.take_next.ensures.failed (inv.failed k)) c.tell_failed_put.ensures in
     let bytes = r.0 ++ take t.0 piece in
-    let step = λ (since : LoggingTo g.row.D.Denot g.row.W.Denot)
-    (same : (starts_of since.logging.listener).moment ≡ first.newest)
+    let step = λ (since : LoggingTo g.row.D.Denot g.row.C.Denot g.row.W.Denot)
+    (same : (starts_by g.C.ChannelReceiver.kind since.logging.listener).moment ≡ first.newest)
     (k : IsRunning stands since before first c.loop-has_failed.self r.3
     (told c.loop-has_failed.notices.inner) c.loop-has_failed.notices.failures r.0).
     running-told stands since now first run r.3 b.0 (told mid.inner) mid.failures
@@ -83,7 +84,7 @@ settled g c start first old force well h =
       b.1,
       record {
         from_start = step start force r.5.from_start;
-        from_reads = later-bytes disk contents told old first start r.0 (take t.0 piece)
+        from_reads = later-bytes kind disk contents told old first start r.0 (take t.0 piece)
             (λ lines. length lines ≤ c.loop-has_failed.self.effects.lines)
             (λ lines. length lines ≤ run.effects.lines)
             (λ since. IsRunning stands since before first c.loop-has_failed.self r.3
@@ -92,26 +93,26 @@ settled g c start first old force well h =
             bytes)
             (λ lines few. omega (arith, few, c.take_next.ensures.grows))
             (λ since is k. step since
-            (ap (λ (l : Listening). (starts_of l).moment) is ∙ force) k)
+            (ap (λ (l : ListeningOver _). (starts_by g.C.ChannelReceiver.kind l).moment) is ∙ force) k)
             (stamps_of c.loop-has_failed.reader) r.5.from_reads;
       },
     )
 
 -- all that stood at the reads, and at the one that is made now
 stamped : (g : _) → (c : After-read g)
-    → (start : LoggingTo g.row.D.Denot g.row.W.Denot) (first : StartMoments) (old : ToldBefore)
-    → (force : (starts_of start.logging.listener).moment ≡ first.newest)
+    → (start : LoggingTo g.row.D.Denot g.row.C.Denot g.row.W.Denot) (first : StartMoments) (old : ToldBefore)
+    → (force : (starts_by g.C.ChannelReceiver.kind start.logging.listener).moment ≡ first.newest)
     → (well : c.args.logging.now.keeper.has_failed ≡ false)
-    → (h : IsRunning (TakesLines g.D.DiskFile g.W.Write.contents) start
+    → (h : IsRunning (TakesLines g.C.ChannelReceiver.kind g.D.DiskFile g.W.Write.contents) start
     (logging_to c.args.logging.now c.args.writer.now) first c.args.self.now (beside old)
     (g.F.Write.contents c.args.notices.now.inner) c.args.notices.now.failures [])
     → stamps_of c.read.new.reader ≡ stamp (bytes_given c.loop-has_failed.reader)
     c.take_next.new.logging.keeper.log.device c.take_next.new.writer c.tell_failed_put.new.notices
     ∷ stamps_of c.loop-has_failed.reader
-    → All (WasRunning (telling g.D.DiskFile g.W.Write.contents g.F.Write.contents old) start first
+    → All (WasRunning (telling g.C.ChannelReceiver.kind g.D.DiskFile g.W.Write.contents g.F.Write.contents old) start first
     (settled g c start first old force well h).0
     (λ lines. length lines ≤ c.take_next.new.self.effects.lines)
-    (λ since. IsRunning (TakesLines g.D.DiskFile g.W.Write.contents) since
+    (λ since. IsRunning (TakesLines g.C.ChannelReceiver.kind g.D.DiskFile g.W.Write.contents) since
     (logging_to c.take_next.new.logging c.take_next.new.writer) first c.take_next.new.self
     (settled g c start first old force well h).3
     (g.F.Write.contents c.tell_failed_put.new.notices.inner)
@@ -119,6 +120,7 @@ stamped : (g : _) → (c : After-read g)
     (stamps_of c.read.new.reader)
 stamped g c start first old force well h made =
     let disk = g.D.DiskFile in
+    let kind = g.C.ChannelReceiver.kind in
     let contents = g.W.Write.contents in
     let told = g.F.Write.contents in
     let inv = c.loop-has_failed.invariant in
@@ -126,14 +128,14 @@ stamped g c start first old force well h made =
     let run = c.take_next.new.self in
     let after = c.tell_failed_put.new.notices in
     let at = bytes_given c.loop-has_failed.reader in
-    stamped-now disk contents told old first start s.0
+    stamped-now kind disk contents told old first start s.0
     (λ lines. length lines ≤ run.effects.lines)
-    (λ since. IsRunning (TakesLines disk contents) since
+    (λ since. IsRunning (TakesLines kind disk contents) since
     (logging_to c.take_next.new.logging c.take_next.new.writer) first run s.3 (told after.inner)
     after.failures s.0)
     (stamp at c.take_next.new.logging.keeper.log.device c.take_next.new.writer after)
     (stamps_of c.loop-has_failed.reader) (stamps_of c.read.new.reader) made
-    (stamp-now disk contents told old first start c.take_next.new.logging c.take_next.new.writer
+    (stamp-now kind disk contents told old first start c.take_next.new.logging c.take_next.new.writer
     after run s.3 s.0 at s.4 (omega (arith, inv.given, s.2, c.take_next.ensures.unread))
     c.in-Ok-false.ensures.open (λ content file left. g.met.D.DiskFile.only_now content _ file left)
     s.5.from_start) s.5.from_reads
@@ -141,9 +143,10 @@ stamped g c start first old force well h made =
 pub loop-has_failed-preserved-in-Ok-true : goal.loop-has_failed-preserved-in-Ok-true
 loop-has_failed-preserved-in-Ok-true g c =
     let disk = g.D.DiskFile in
+    let kind = g.C.ChannelReceiver.kind in
     let contents = g.W.Write.contents in
     let told = g.F.Write.contents in
-    let stands = TakesLines disk contents in
+    let stands = TakesLines kind disk contents in
     let inv = c.loop-has_failed.invariant in
     let was = c.loop-has_failed in
     let before = logging_to was.logging was.writer in
@@ -174,7 +177,7 @@ loop-has_failed-preserved-in-Ok-true g c =
             r.4,
             record {
               from_start = t.3 start first r.3 r.0 force r.5.from_start;
-              from_reads = later-bytes disk contents told old first start r.0 (take t.0 piece)
+              from_reads = later-bytes kind disk contents told old first start r.0 (take t.0 piece)
                   (λ lines. length lines ≤ was.self.effects.lines)
                   (λ lines. length lines ≤ run.effects.lines)
                   (λ since. IsRunning stands since before first was.self r.3
@@ -185,7 +188,7 @@ loop-has_failed-preserved-in-Ok-true g c =
                   (r.0 ++ take t.0 piece))
                   (λ lines few. omega (arith, few, c.take_next.ensures.grows))
                   (λ since is k. t.3 since first r.3 r.0
-                  (ap (λ (l : Listening). (starts_of l).moment) is ∙ force) k)
+                  (ap (λ (l : ListeningOver _). (starts_by g.C.ChannelReceiver.kind l).moment) is ∙ force) k)
                   (stamps_of was.reader) r.5.from_reads;
             },
           );
@@ -194,9 +197,10 @@ loop-has_failed-preserved-in-Ok-true g c =
 pub loop-has_failed-preserved : goal.loop-has_failed-preserved
 loop-has_failed-preserved g c =
     let disk = g.D.DiskFile in
+    let kind = g.C.ChannelReceiver.kind in
     let contents = g.W.Write.contents in
     let told = g.F.Write.contents in
-    let stands = TakesLines disk contents in
+    let stands = TakesLines kind disk contents in
     let inv = c.loop-has_failed.invariant in
     let run = c.take_next.new.self in
     let new : LineRun = record { lines = c.read.new.self; effects = run.effects } in
@@ -226,7 +230,7 @@ loop-has_failed-preserved g c =
             record {
               from_start = running-read stands start now first run new s.3 (told after.inner)
                   after.failures s.0 same refl s.5.from_start;
-              from_reads = says-too disk contents told old first start s.0
+              from_reads = says-too kind disk contents told old first start s.0
                   (λ lines. length lines ≤ run.effects.lines)
                   (λ lines. length lines ≤ run.effects.lines)
                   (λ since. IsRunning stands since now first run s.3 (told after.inner)
@@ -243,9 +247,10 @@ loop-has_failed-preserved g c =
 pub returns-in-End-clause-read : goal.returns-in-End-clause-read
 returns-in-End-clause-read g c = λ start first old force well h.
     let disk = g.D.DiskFile in
+    let kind = g.C.ChannelReceiver.kind in
     let contents = g.W.Write.contents in
     let told = g.F.Write.contents in
-    let stands = TakesLines disk contents in
+    let stands = TakesLines kind disk contents in
     let run = c.take_next.new.self in
     let new : LineRun = record { lines = c.read.new.self; effects = run.effects } in
     let now = logging_to c.take_next.new.logging c.take_next.new.writer in
@@ -253,7 +258,7 @@ returns-in-End-clause-read g c = λ start first old force well h.
     let same = c.read.ensures.scanner in
     let at = (goal.at.returns-in-End-clause-read g c).After-read in
     let s = settled g at start first old force well h in
-    let on = λ (since : LoggingTo g.row.D.Denot g.row.W.Denot)
+    let on = λ (since : LoggingTo g.row.D.Denot g.row.C.Denot g.row.W.Denot)
     (k : IsRunning stands since now first run s.3 (told after.inner) after.failures s.0).
     running-read stands since now first run new s.3 (told after.inner) after.failures s.0 same refl
     k in
@@ -270,7 +275,7 @@ returns-in-End-clause-read g c = λ start first old force well h.
           inr (omega (arith, s.2, e.0)),
           record {
             from_start = on start s.5.from_start;
-            from_reads = says-too disk contents told old first start s.0
+            from_reads = says-too kind disk contents told old first start s.0
                 (λ lines. length lines ≤ run.effects.lines)
                 (λ lines. length lines ≤ run.effects.lines)
                 (λ since. IsRunning stands since now first run s.3 (told after.inner)
@@ -279,7 +284,7 @@ returns-in-End-clause-read g c = λ start first old force well h.
                 after.failures s.0) (λ stamp was. was.behind) (λ since is k. on since k)
                 (stamps_of c.read.new.reader)
                 (subst (λ (r : StampedReader _ _ _ _). All
-                (WasRunning (telling disk contents told old) start first s.0
+                (WasRunning (telling kind disk contents told old) start first s.0
                 (λ lines. length lines ≤ run.effects.lines)
                 (λ since. IsRunning stands since now first run s.3 (told after.inner)
                 after.failures s.0)) (stamps_of r)) (sym e.1) s.5.from_reads);
@@ -296,7 +301,7 @@ returns-in-End-clause-read g c = λ start first old force well h.
           inl e.1.at_end,
           record {
             from_start = on start s.5.from_start;
-            from_reads = says-too disk contents told old first start s.0
+            from_reads = says-too kind disk contents told old first start s.0
                 (λ lines. length lines ≤ run.effects.lines)
                 (λ lines. length lines ≤ run.effects.lines)
                 (λ since. IsRunning stands since now first run s.3 (told after.inner)
@@ -313,9 +318,10 @@ returns-in-End-clause-read g c = λ start first old force well h.
 pub returns-in-Failed-clause-read : goal.returns-in-Failed-clause-read
 returns-in-Failed-clause-read g c = λ start first old force well h.
     let disk = g.D.DiskFile in
+    let kind = g.C.ChannelReceiver.kind in
     let contents = g.W.Write.contents in
     let told = g.F.Write.contents in
-    let stands = TakesLines disk contents in
+    let stands = TakesLines kind disk contents in
     let run = c.take_next.new.self in
     let now = logging_to c.take_next.new.logging c.take_next.new.writer in
     let after = c.tell_failed_put.new.notices in
@@ -330,7 +336,7 @@ returns-in-Failed-clause-read g c = λ start first old force well h.
       record {
         from_start = running-fails stands start now first run s.3 (told after.inner) after.failures
             s.0 s.5.from_start;
-        from_reads = says-too disk contents told old first start s.0
+        from_reads = says-too kind disk contents told old first start s.0
             (λ lines. length lines ≤ run.effects.lines)
             (λ lines. length lines ≤ run.effects.lines)
             (λ since. IsRunning stands since now first run s.3 (told after.inner) after.failures
@@ -346,9 +352,10 @@ returns-in-Failed-clause-read g c = λ start first old force well h.
 pub returns-in-Err-clause-read : goal.returns-in-Err-clause-read
 returns-in-Err-clause-read g c = λ start first old force well h.
     let disk = g.D.DiskFile in
+    let kind = g.C.ChannelReceiver.kind in
     let contents = g.W.Write.contents in
     let told = g.F.Write.contents in
-    let stands = TakesLines disk contents in
+    let stands = TakesLines kind disk contents in
     let inv = c.loop-has_failed.invariant in
     let was = c.loop-has_failed in
     let r = inv.read start first old force well h in
@@ -363,8 +370,8 @@ returns-in-Err-clause-read g c = λ start first old force well h.
     let b = told-beside told mid after run.effects old r.3 was.had_failed
     c.take_next.new.logging.keeper.has_failed r.4
     (λ k. c.take_next.ensures.failed (inv.failed k)) c.tell_failed_put-in-Err.ensures in
-    let step = λ (since : LoggingTo g.row.D.Denot g.row.W.Denot)
-    (same : (starts_of since.logging.listener).moment ≡ first.newest)
+    let step = λ (since : LoggingTo g.row.D.Denot g.row.C.Denot g.row.W.Denot)
+    (same : (starts_by g.C.ChannelReceiver.kind since.logging.listener).moment ≡ first.newest)
     (k : IsRunning stands since before first was.self r.3 (told was.notices.inner)
     was.notices.failures r.0).
     subst (λ l. EndsRun stands since now first run.effects b.0 (told after.inner) after.failures
@@ -386,7 +393,7 @@ returns-in-Err-clause-read g c = λ start first old force well h.
       b.1,
       record {
         from_start = step start force r.5.from_start;
-        from_reads = later-bytes disk contents told old first start r.0 piece
+        from_reads = later-bytes kind disk contents told old first start r.0 piece
             (λ lines. length lines ≤ was.self.effects.lines)
             (λ lines. length lines ≤ run.effects.lines)
             (λ since. IsRunning stands since before first was.self r.3 (told was.notices.inner)
@@ -395,7 +402,7 @@ returns-in-Err-clause-read g c = λ start first old force well h.
             after.failures c.in-Err.end bytes)
             (λ lines few. omega (arith, few, c.take_next.ensures.grows))
             (λ since is k. step since
-            (ap (λ (l : Listening). (starts_of l).moment) is ∙ force) k)
+            (ap (λ (l : ListeningOver _). (starts_by g.C.ChannelReceiver.kind l).moment) is ∙ force) k)
             (stamps_of was.reader) r.5.from_reads;
       },
     )

@@ -1,6 +1,6 @@
 use Rattle.std.proofs.Common.{◌≡◌, true, false, ◌+◌, ◌*◌, ◌≤◌, ◌++◌, ℕ, List, [], length}
 use Rattle.std.specs.Io.KnownBytes.{Consumes}
-use Rattle.nx_receiver.specs.Listener.{starts_of}
+use Rattle.nx_receiver.specs.Listener.{starts_by}
 use Rattle.nx_watch.specs.Acting.{most_bytes}
 use Rattle.nx_watch.specs.Stamps.{bytes_given, counted_of, stamps_of}
 use Rattle.nx_watch.specs.private.LoggingListener.{LoggingTo, TakesLines, logging_to}
@@ -21,11 +21,11 @@ invariant-loop-has_failed g l = record {
       ≤ l.fn.self.lines.room;
   fewer : l.self.effects.without_effect ≤ l.self.effects.lines;
   failed : l.had_failed ≡ true → l.logging.keeper.has_failed ≡ true;
-  read : (start : LoggingTo g.row.D.Denot g.row.W.Denot) (first : StartMoments)
+  read : (start : LoggingTo g.row.D.Denot g.row.C.Denot g.row.W.Denot) (first : StartMoments)
       (old : ToldBefore)
-      → (starts_of start.logging.listener).moment ≡ first.newest
+      → (starts_by g.C.ChannelReceiver.kind start.logging.listener).moment ≡ first.newest
       → l.fn.logging.keeper.has_failed ≡ false
-      → IsRunning (TakesLines g.D.DiskFile g.W.Write.contents) start
+      → IsRunning (TakesLines g.C.ChannelReceiver.kind g.D.DiskFile g.W.Write.contents) start
       (logging_to l.fn.logging l.fn.writer) first l.fn.self (beside old)
       (g.F.Write.contents l.fn.notices.inner) l.fn.notices.failures []
       → (bytes : List ℕ)
@@ -33,9 +33,9 @@ invariant-loop-has_failed g l = record {
       (g.R.Read.remaining (counted_of l.reader).inner) (bytes ++ l.self.lines.piece)
       × (length bytes + (length l.self.lines.piece + l.self.lines.room) ≡ l.fn.self.lines.room)
       × (told : ToldBeside) × IsBeside old l.had_failed told
-      × RunsStamped (telling g.D.DiskFile g.W.Write.contents g.F.Write.contents old) first bytes
+      × RunsStamped (telling g.C.ChannelReceiver.kind g.D.DiskFile g.W.Write.contents g.F.Write.contents old) first bytes
       l.self.effects.lines start
-      (λ since. IsRunning (TakesLines g.D.DiskFile g.W.Write.contents) since
+      (λ since. IsRunning (TakesLines g.C.ChannelReceiver.kind g.D.DiskFile g.W.Write.contents) since
       (logging_to l.logging l.writer) first l.self told
       (g.F.Write.contents l.notices.inner) l.notices.failures bytes) (stamps_of l.reader);
 }

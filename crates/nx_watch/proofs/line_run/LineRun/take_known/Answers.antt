@@ -61,7 +61,7 @@ returns-in-Ends-clause-taken g c = λ start first old bytes lines line force is 
       subst (λ l. ends_watch first.newest (moments_behind first lines) l ≡ true) said e.1.1,
       c.lines-in-Ends-2.ensures ∙ e.0.counted ∙ length-append lines (Some line ∷ []),
       e.1.2,
-      subst (TakesLines g.D.DiskFile g.W.Write.contents start
+      subst (TakesLines g.C.ChannelReceiver.kind g.D.DiskFile g.W.Write.contents start
           (logging_to c.give_line.new.logging c.give_line.new.writer))
           (acting-idle first lines line e.1.0) e.2,
       subst (λ (l : Option Line). TellsFirst first c.give_line.new.self.effects old

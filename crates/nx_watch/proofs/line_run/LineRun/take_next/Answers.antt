@@ -31,7 +31,7 @@ pub returns-in-Unknown-clause-taken : goal.returns-in-Unknown-clause-taken
 returns-in-Unknown-clause-taken g c =
     let k = c.in-Unknown.ensures.looks in
     let piece = c.args.self.now.lines.piece in
-    let stands = TakesLines g.D.DiskFile g.W.Write.contents in (
+    let stands = TakesLines g.C.ChannelReceiver.kind g.D.DiskFile g.W.Write.contents in (
       k.count,
       k.within,
       ap (λ (l : AnyLines). l.piece) c.pass_line.ensures.reader ∙ k.rest,
