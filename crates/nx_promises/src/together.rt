@@ -11,8 +11,12 @@ ghost use Rattle.nx_copies.specs.laws.Emissions.{HoldsThrough};
 ghost use Rattle.nx_combine.specs.CopyPositions.{PlacedCopy};
 ghost use Rattle.nx_copies.specs.Events.{Event, Setting, Start};
 ghost use Rattle.nx_copies.specs.copies.FoundCopies.{TaggedCopy};
-ghost use Rattle.nx_combine.specs.CombinedPrinting.{PrintsCombinedToEnd};
-ghost use Rattle.nx_promises.specs.laws.Together.{IsHeardTogether, IsPrintedWholeOnce, IsThroughWith};
+ghost use Rattle.nx_combine.specs.CombinedPrinting.{PrintsCombinedToEnd, combined};
+ghost use Rattle.nx_copies.specs.copies.Shares.{MarkedCopy, Starts, copies_on, start_on};
+ghost use Rattle.nx_fec.specs.air_files.AirFile.{Line};
+ghost use Rattle.nx_fec.specs.declared.air_files.channel.Channel.{Channel};
+ghost use Rattle.nx_receiver.specs.air_file_runs.Listen.{IsLogOfFileBy};
+ghost use Rattle.nx_promises.specs.laws.Together.{IsHeardTogether, IsHeardTogetherOn, IsPrintedWholeOnce, IsThroughWith};
 ghost use Rattle.nx_combine.specs.CopyPositions.{placed_to_end};
 ghost use Rattle.nx_combine.specs.Laws.{Arrives, IsHeardOf, IsNeverIdle};
 ghost use Rattle.nx_sync.specs.Locks.{IsNow, Lock, Now};
@@ -74,6 +78,18 @@ pub fn a_message_heard_together_is_printed_whole_once()
         (log : List TaggedCopy) → PrintsCombinedToEnd start events log
         → IsPrintedWholeOnce message start (heard.before ++ (came.up_to ++ came.one ∷ []))
         came.rest log }
+{}
+
+/// The same of an air file: of each channel of a file that `listen --combine` reads to its end, a
+/// message that is heard together there is printed whole once among the entries of the channel.
+pub fn a_log_has_a_message_heard_together_whole_once()
+    ensures { (channel : Channel) (starts : Starts) (file log : List ℕ) (lines : List Line)
+        (copies : List MarkedCopy) (message : MessageView) (numbers : List ℕ)
+        (on : IsHeardTogetherOn channel starts lines message numbers)
+        → IsLogOfFileBy combined starts file lines copies log
+        → IsPrintedWholeOnce message (start_on starts channel)
+        (on.heard.before ++ (on.came.up_to ++ on.came.one ∷ [])) on.came.rest
+        (copies_on channel copies) }
 {}
 
 /// What has to be met, so that a message is printed whole once, can be met where no copy is whole.

@@ -19,6 +19,10 @@ use Rattle.nx_sync.specs.Words.{losing_count, word_begin}
 use Rattle.nx_sync.specs.declared.step.Change.TheVariants.{LostLock}
 use Rattle.nx_copies.specs.Events.{Event, Setting, Start, elements_among, first_setting, setting_at}
 use Rattle.nx_copies.specs.copies.FoundCopies.{TaggedCopy, tag}
+use Rattle.nx_copies.specs.copies.Shares.{Starts, start_on}
+use Rattle.nx_fec.specs.air_files.AirFile.{Line}
+use Rattle.nx_fec.specs.declared.air_files.channel.Channel.{Channel}
+use Rattle.nx_receiver.specs.air_file_runs.Listen.{events_on}
 use Rattle.nx_copies.specs.copies.Printing.{is_remembered}
 use Rattle.nx_combine.specs.CopyPositions.{HeardCopy, PlacedCopy, heard_copies, placed_to_end}
 use Rattle.nx_combine.specs.Families.{families_after, most_positions, seconds_joined}
@@ -253,3 +257,13 @@ pub record IsPrintedWholeOnce (message : MessageView) (start : Start)
   pub once : IsWholeOnce message.identity (text_of message.lines)
       (all_printed (none_judged start) copies)
       (all_printed (judged_behind (none_judged start) copies) later)
+
+-- What has to be met on a channel of an air file with these lines, so that a message is printed whole
+-- once: in what they give to the receiver of the channel, which begins with this start, it is heard
+-- together, and comes through.
+pub record IsHeardTogetherOn (channel : Channel) (starts : Starts) (lines : List Line)
+    (message : MessageView) (numbers : List ℕ) : Type 0 where
+  pub parts : List Part
+  pub heard : IsHeardTogether (start_on starts channel) (events_on channel lines) parts message
+      numbers
+  pub came : IsThroughWith (behind_digit numbers) message.identity (heard.first ∷ heard.later)

@@ -23,10 +23,10 @@ use Rattle.nx_copies.proofs.lemmas.emissions.Copies.{copy_at, header_of}
 use Rattle.nx_combine.specs.CopyPositions.{LockPositions, behind_header, positions_for, positions_in_lost}
 use Rattle.nx_combine.specs.CopyPositions.{positions_in_past, positions_of, sure_count}
 use Rattle.nx_combine.specs.PositionEnds.{closed, end_of, ending_by, has_ended, raw_text_of, up_to_end}
-use Rattle.nx_combine.proofs.lemmas.BehindHeader.{raw-behind_header}
-use Rattle.nx_combine.proofs.lemmas.EndedPositions.{EndedIn, past-ended}
-use Rattle.nx_combine.proofs.lemmas.PositionsFor.{first, is-first}
-use Rattle.nx_combine.proofs.lemmas.ReadOn.{ending-more}
+use Rattle.nx_combine.specs.private.laws.BehindHeader.{raw-behind_header}
+use Rattle.nx_combine.specs.private.laws.EndedPositions.{EndedIn, past-ended}
+use Rattle.nx_combine.specs.private.laws.PositionsFor.{first, is-first}
+use Rattle.nx_combine.specs.private.laws.ReadOn.{ending-more}
 
 -- The copy has the ending that the positions give.
 pub record HasEnding (how : How) (found : List ℕ) (positions : List Reception) : Type 0 where

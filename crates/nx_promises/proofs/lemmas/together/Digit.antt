@@ -22,7 +22,7 @@ use Rattle.nx_copies.specs.copies.LockText.{PlacedByte, positions, printed_by, t
 use Rattle.nx_copies.proofs.lemmas.locks.Found.{length-bytes_of, place_in-get_or, text_placed}
 use Rattle.nx_copies.proofs.lemmas.locks.Texts.{bytes_are_reading}
 use Rattle.nx_combine.specs.CopyPositions.{positions_for}
-use Rattle.nx_combine.proofs.lemmas.PositionsFor.{first-is, first_prints, prints_enough}
+use Rattle.nx_combine.specs.private.laws.PositionsFor.{first-is, first_prints, prints_enough}
 
 -- bytes at a place stand at no earlier one
 all_from : (low place : ℕ) → low ≤ place → (bs : List ℕ)

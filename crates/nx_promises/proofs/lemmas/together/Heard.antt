@@ -43,7 +43,7 @@ use Rattle.nx_promises.specs.laws.Together.{place_behind}
 use Rattle.nx_promises.specs.laws.Together.{Reaches}
 use Rattle.nx_promises.proofs.lemmas.together.Arrived.{ended_up_to}
 use Rattle.nx_promises.proofs.lemmas.together.Digit.{count_at, digit_position, more, position_at_word}
-use Rattle.nx_combine.proofs.lemmas.EndedPositions.{up_to-last}
+use Rattle.nx_combine.specs.private.laws.EndedPositions.{up_to-last}
 use Rattle.nx_combine.specs.CopyPositions.{behind_header, positions_in_past}
 use Rattle.nx_combine.specs.PositionEnds.{has_ended, up_to_end}
 use Rattle.nx_sync.specs.declared.step.Change.{Change}
