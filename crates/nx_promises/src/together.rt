@@ -32,11 +32,11 @@ pub fn a_visible_emission_keeps_its_lock()
     ensures channel { (emission : ReceivedEmission) → IsReceived emission → IsSeen emission }
 {}
 
-/// Of a copy at the place of a sending that is visible, each position behind the header is as it was
-/// sent where one of its two words is heard so, and else lost, whatever bits come before and behind,
-/// and in whichever way its lock ended. So what the copy took is what was sent, and it has nothing
-/// idle where something was sent. What one word says is taken as far as the positions reach: to the
-/// last N, but for what is left out behind a lost lock or behind an end of the text.
+/// Of a copy at the place of a sending that is visible, each position behind the header is as it
+/// was sent where one of its two words is heard so, and else lost, whatever bits come before and
+/// behind, and in whichever way its lock ended. So what the copy took is what was sent, and it has
+/// nothing idle where something was sent. What one word says is taken as far as the positions
+/// reach: to the last N, but for what is left out behind a lost lock or behind an end of the text.
 pub fn a_visible_sending_is_as_sent_or_lost()
     ensures taken { (bits : List Bool) (parts : List Part) (message : MessageView)
         (numbers : List ℕ) (copy : PlacedCopy) (is : IsCopyOf bits parts message numbers copy)
@@ -52,10 +52,10 @@ pub fn a_visible_sending_is_as_sent_or_lost()
         → Reaches numbers is.locks copy }
 {}
 
-/// A visible sending is found, whatever bits come before it and behind it, where each position of its
-/// header has one word that is heard as sent. There is a copy then with its identity, at its place.
-/// And a copy at the place of a visible sending arrives: where it is full, or its positions give a
-/// full text, it is what they give.
+/// A visible sending is found, whatever bits come before it and behind it, where each position of
+/// its header has one word that is heard as sent. There is a copy then with its identity, at its
+/// place. And a copy at the place of a visible sending arrives: where it is full, or its positions
+/// give a full text, it is what they give.
 pub fn a_visible_sending_arrives()
     ensures found { (bits : List Bool) (parts : List Part) (message : MessageView)
         (numbers : List ℕ) (place : ℕ) (locks : List Lock) (now : Now) → IsSeenCut bits parts
@@ -67,10 +67,10 @@ pub fn a_visible_sending_arrives()
         → (setting : Setting) → Arrives (behind_digit numbers) (heard_with setting copy) }
 {}
 
-/// A message is printed whole once, letter for letter, from the bits of its sendings on, though each
-/// of them may have lost other letters; and nothing of it is printed afterwards. It is so where the
-/// sendings are visible and heard together. It is printed with the copy with which the last of its
-/// combinations came through, at the latest.
+/// A message is printed whole once, letter for letter, from the bits of its sendings on, though
+/// each of them may have lost other letters; and nothing of it is printed afterwards. It is so
+/// where the sendings are visible and heard together. It is printed with the copy with which the
+/// last of its combinations came through, at the latest.
 pub fn a_message_heard_together_is_printed_whole_once()
     ensures { (start : Start) (events : List Event) (parts : List Part) (message : MessageView)
         (numbers : List ℕ) (heard : IsHeardTogether start events parts message numbers)

@@ -197,7 +197,8 @@ impl LineRun {
             × (waiting self.new.lines ≡ drop count (waiting self.old.lines))
             × ((start : LoggingTo D C W) (first : TheStart) (old : ToldBeside) (bytes : List ℕ)
             → (starts_by C.kind start.logging.listener).moment ≡ first.newest
-            → IsRunning (TakesLines C.kind D.DiskFile W.contents) start (logging_to logging.old writer.old)
+            → IsRunning (TakesLines C.kind D.DiskFile W.contents) start
+            (logging_to logging.old writer.old)
             first self.old old (F.contents notices.old.inner) notices.old.failures bytes
             → MatchResult result
             (λ _. IsRunning (TakesLines C.kind D.DiskFile W.contents) start
@@ -358,7 +359,8 @@ impl LineRun {
             (bytes : List ℕ) (lines : List (Option Line)) (line : Line)
             → (starts_by C.kind start.logging.listener).moment ≡ first.newest
             → latest_of self.old.lines ≡ Some line
-            → HasTaken (TakesLines C.kind D.DiskFile W.contents) start (logging_to logging.old writer.old)
+            → HasTaken (TakesLines C.kind D.DiskFile W.contents) start
+            (logging_to logging.old writer.old)
             first lines
             → TellsFirst first self.old.effects old (F.contents notices.old.inner)
             notices.old.failures bytes lines
@@ -369,7 +371,8 @@ impl LineRun {
             notices.new.failures bytes (lines ++ Some line ∷ []))
             (λ end. (front : List ℕ) → AreLines front (lines ++ Some line ∷ []) []
             → (more : List ℕ) → bytes ≡ front ++ more
-            → EndsRun (TakesLines C.kind D.DiskFile W.contents) start (logging_to logging.new writer.new)
+            → EndsRun (TakesLines C.kind D.DiskFile W.contents) start
+            (logging_to logging.new writer.new)
             first self.new.effects old (F.contents notices.new.inner) notices.new.failures end
             bytes) }
         ensures reader { self.new.lines ≡ self.old.lines }

@@ -49,7 +49,8 @@ impl<D: DiskFile + Drop, C: ChannelReceiver> LoggingListener<D, Listener<C>> {
             → MatchResult result
             (λ _. MayAct (starts_by C.kind start.listener).moment lines (moment given)
             × KeepsLines C.kind D.DiskFile start self.new (lines ++ moment given ∷ []) bytes)
-            (λ fault. Refuses (force_behind (starts_by C.kind start.listener).moment lines) given fault
+            (λ fault. Refuses (force_behind (starts_by C.kind start.listener).moment lines) given
+            fault
             × (self.new ≡ self.old)) }
         ensures keeper { self.new.keeper ≡ self.old.keeper }
     {
@@ -70,7 +71,8 @@ impl<D: DiskFile + Drop, C: ChannelReceiver> LoggingListener<D, Listener<C>> {
         ensures taken { (start : LoggingTo D C W) (lines : List Line) (line : Line)
             → line ≡ line_with kind elements.now
             → TakesLines C.kind D.DiskFile W.contents start (logging_to self.old writer.old) lines
-            → IsAnswer (force_behind (starts_by C.kind start.logging.listener).moment lines) line result
+            → IsAnswer (force_behind (starts_by C.kind start.logging.listener).moment lines) line
+            result
             × TakesLines C.kind D.DiskFile W.contents start (logging_to self.new writer.new)
             (lines ++ lines_taken line result) }
         ensures refused { OnErr result (writer.new ≡ writer.old) }

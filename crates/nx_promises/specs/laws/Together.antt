@@ -122,8 +122,8 @@ pub record IsOfLostLock (locks : List Lock) (copy : PlacedCopy) : Type 0 where
   pub from : lock.at ≤ copy.found.place
   pub to : copy.found.place < word_begin lock.at (lock.last + 1)
 
--- The positions of the copy reach to the last N of what was sent, unless its text ended before that,
--- by a marker that damage made or with the 4,100th byte, or its lock was lost.
+-- The positions of the copy reach to the last N of what was sent, unless its text ended before
+-- that, by a marker that damage made or with the 4,100th byte, or its lock was lost.
 abbrev pub Reaches : List ℕ → List Lock → PlacedCopy → Type 0
 Reaches numbers locks copy =
     (length (behind_digit numbers) ≤ length copy.positions)
@@ -235,9 +235,9 @@ pub record IsHeardTogether (start : Start) (events : List Event) (parts : List P
       (length (judged_after (judged_behind (none_judged start) before) first).entries)
       (judged_after (judged_behind (none_judged start) before) first) later
 
--- With one of these copies, of those that bear the identity, the last of what was sent came through.
--- They are heard up to it, then it, and then the rest; and at each index at which a combination was
--- sent, it or one before it took that.
+-- With one of these copies, of those that bear the identity, the last of what was sent came
+-- through. They are heard up to it, then it, and then the rest; and at each index at which a
+-- combination was sent, it or one before it took that.
 pub record IsThroughWith (sent : List ℕ) (identity : Identity) (copies : List HeardCopy) : Type 0
   where
     pub up_to : List HeardCopy
@@ -258,9 +258,9 @@ pub record IsPrintedWholeOnce (message : MessageView) (start : Start)
       (all_printed (none_judged start) copies)
       (all_printed (judged_behind (none_judged start) copies) later)
 
--- What has to be met on a channel of an air file with these lines, so that a message is printed whole
--- once: in what they give to the receiver of the channel, which begins with this start, it is heard
--- together, and comes through.
+-- What has to be met on a channel of an air file with these lines, so that a message is printed
+-- whole once: in what they give to the receiver of the channel, which begins with this start, it is
+-- heard together, and comes through.
 pub record IsHeardTogetherOn (channel : Channel) (starts : Starts) (lines : List Line)
     (message : MessageView) (numbers : List ℕ) : Type 0 where
   pub parts : List Part

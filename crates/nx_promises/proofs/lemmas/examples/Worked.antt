@@ -32,8 +32,8 @@ use Rattle.nx_copies.proofs.lemmas.locks.Texts.{positions-same, bytes_are_readin
 abbrev pub lock_word : List ℕ → ℕ → ℕ
 lock_word sent k = get_or sent (k + 4) 0
 
--- what is computed of words, word by word: so many are words of a lock at bit 28, behind the four of
--- its pattern, and print these bytes
+-- what is computed of words, word by word: so many are words of a lock at bit 28, behind the four
+-- of its pattern, and print these bytes
 pub record Computed (sent : List ℕ) (n : ℕ) (bytes : List ℕ) : Type 0 where
   pub long : length sent ≡ n + 4
   pub are_words : agree_below (λ k. ltb (get_or sent k 0) 128) (λ _. true) (n + 4) ≡ true

@@ -29,7 +29,8 @@ others-set : (identity : Identity) (families : List Family) (index : ℕ) (famil
 others-set identity [] index family new there same all = tt
 others-set identity (x ∷ families) zero family new there same all =
     let first : x ≡ family = (let inside : Some x ≡ Some family = there in cc) in (
-      ap (λ i. same_identity i identity) (same ∙ ap (λ (f : Family). f.identity) (sym first)) ∙ all.0,
+      ap (λ i. same_identity i identity) (same ∙ ap (λ (f : Family). f.identity) (sym first)) ∙
+          all.0,
       all.1,
     )
 others-set identity (x ∷ families) (suc index) family new there same all =

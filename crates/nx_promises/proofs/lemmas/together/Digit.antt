@@ -88,7 +88,8 @@ module _ (first : Role) (words : ℕ → ℕ) where
       ap (λ k. length (positions first words k)) e ∙ omega arith
   count_at w (suc j) dx =
       let e : w + 5 + 2 * suc j ≡ suc (suc (w + 5 + 2 * j)) = omega arith in
-      let x : Reception = pairing (counts_as (words (w + 2 * j))) (counts_as (words (w + 2 * j + 5)))
+      let x : Reception = pairing (counts_as (words (w + 2 * j)))
+      (counts_as (words (w + 2 * j + 5)))
       in
       let long = length-append (positions first words (w + 5 + 2 * j)) (x ∷ []) in
       let before = count_at w j dx in
@@ -125,7 +126,8 @@ module _ (first : Role) (words : ℕ → ℕ) where
       → slice_get (positions first words n) (length (positions first words (w + 5)) + j)
       ≡ Some (pairing (counts_as (words (w + 2 * j))) (counts_as (words (w + 2 * j + 5))))
   position_at_word w j n dx lt =
-      let x : Reception = pairing (counts_as (words (w + 2 * j))) (counts_as (words (w + 2 * j + 5)))
+      let x : Reception = pairing (counts_as (words (w + 2 * j)))
+      (counts_as (words (w + 2 * j + 5)))
       in
       let front : List Reception = positions first words (w + 5 + 2 * j) in
       let on = more (suc (w + 5 + 2 * j)) n (omega (arith, lt)) in
@@ -171,7 +173,8 @@ module _ (first : Role) (words : ℕ → ℕ) where
       }
 
   later : (t n m : ℕ) → n ≤ m → Later t n m
-  later t n m le = let e : n + (m - n) ≡ m = omega arith in subst (Later t n) e (later_by t n (m - n))
+  later t n m le = let e : n + (m - n) ≡ m = omega arith in subst (Later t n) e
+      (later_by t n (m - n))
 
   pub long_text : (t n : ℕ) → length (text_by first words t n)
       ≡ length (text (positions first words n) Letters)
@@ -236,7 +239,8 @@ module _ (first : Role) (words : ℕ → ℕ) where
       ∙ ap (λ b. b.place) (get_or-append_right front own.rest (length front) i d refl low) in
       let above = All-get_or (λ (b : PlacedByte). t + 7 * K + 6 ≤ b.place) own.rest
       (i - length front) d (omega (arith, long_here, low, high)) own.each in
-      let below = All-get_or (λ (b : PlacedByte). (t ≤ b.place) × (b.place < t + 7 * suc K)) here i d
+      let below = All-get_or (λ (b : PlacedByte). (t ≤ b.place) × (b.place < t + 7 * suc K)) here i
+      d
       high (text_placed first words t (suc K)) in
       omega (arith, in_here, in_own, above, below.1)
 
@@ -250,7 +254,8 @@ module _ (first : Role) (words : ℕ → ℕ) where
   unfolding positions_for
   digit_position t w j n behind dx lt some within at =
       let K : ℕ = w + 5 + 2 * j in
-      let x : Reception = pairing (counts_as (words (w + 2 * j))) (counts_as (words (w + 2 * j + 5)))
+      let x : Reception = pairing (counts_as (words (w + 2 * j)))
+      (counts_as (words (w + 2 * j + 5)))
       in
       let all : List Reception = positions first words n in
       let front : List Reception = positions first words (w + 5 + 2 * j) in

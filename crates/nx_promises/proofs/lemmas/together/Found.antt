@@ -24,8 +24,8 @@ use Rattle.nx_combine.specs.CopyPositions.{PlacedCopy, lock_bytes, lock_position
 use Rattle.nx_combine.specs.CopyPositions.{placed_to_end, positions_in_past}
 use Rattle.nx_promises.specs.laws.Together.{IsOfLostLock}
 
--- The copy is one of the lock at t, which has so many words at least, with its positions in whatever
--- way the lock ended.
+-- The copy is one of the lock at t, which has so many words at least, with its positions in
+-- whatever way the lock ended.
 pub record IsOfLock (bits : List Bool) (locks : List Lock) (t words : ℕ) (copy : PlacedCopy)
     : Type 0 where
   pub n : ℕ
@@ -46,7 +46,8 @@ record IsLost (locks : List Lock) (t n : ℕ) : Type 0 where
   last : n ≡ lock.last + 1
 
 -- a copy in the text of a lock stands at a bit of it
-copy_placed : (bits : List Bool) (t n : ℕ) (one : Copy) → Contains (copies (lock_bytes bits t n)) one
+copy_placed : (bits : List Bool) (t n : ℕ) (one : Copy) → Contains (copies (lock_bytes bits t n))
+    one
     → IsCopyIn t (t + 7 * n) (found_copy (lock_text bits t n) one)
 copy_placed bits t n one there =
     let text = lock_text bits t n in
@@ -199,7 +200,8 @@ over bits more ls locks p lock now is stands x =
 
 belong_by : (bits more : List Bool) (ls locks : List Lock) (p t : ℕ) (now : Now)
     → IsLocked bits ls p t → IsNow (bits ++ more) locks now → GoesOn ls (locked p t) locks now
-    → All (Belongs (bits ++ more) locks t (whole_words bits t)) (placed_to_end (bits ++ more) locks now)
+    → All (Belongs (bits ++ more) locks t (whole_words bits t))
+    (placed_to_end (bits ++ more) locks now)
 unfolding placed_to_end
 belong_by bits more ls locks p t now is stands stands_still =
     let longer = length-append bits more in
@@ -210,14 +212,16 @@ belong_by bits more ls locks p t now is stands stands_still =
     (omega (arith, longer)) (λ is. absurd (Ended≢LostLock is)))
 belong_by bits more ls locks p t now is stands (is_past lock e a x) =
     subst (λ (u : ℕ). IsLocked bits ls p u
-    → All (Belongs (bits ++ more) locks u (whole_words bits u)) (placed_to_end (bits ++ more) locks now)) a
+    → All (Belongs (bits ++ more) locks u (whole_words bits u))
+    (placed_to_end (bits ++ more) locks now)) a
     (λ is. over bits more ls locks p lock now is stands x) is
 
 -- Each copy that is found, whatever bits follow, belongs to the lock that stood, if its place is
 -- among the words that were heard of that.
 pub copies_belong : (bits more : List Bool) (ls locks : List Lock) (p t : ℕ) (now : Now)
     → IsLocked bits ls p t → IsNow (bits ++ more) locks now
-    → All (Belongs (bits ++ more) locks t (whole_words bits t)) (placed_to_end (bits ++ more) locks now)
+    → All (Belongs (bits ++ more) locks t (whole_words bits t))
+    (placed_to_end (bits ++ more) locks now)
 copies_belong bits more ls locks p t now is stands =
     belong_by bits more ls locks p t now is stands
     (goes-on bits more ls locks (locked p t) now is stands)
@@ -239,7 +243,8 @@ unfolding past_placed
 past_among bits locks ls lock copy same there =
     Contains-append_right (past_placed bits ls) _ copy there
 past_among bits (other ∷ locks) ls lock copy (newer e) there =
-    Contains-append_left (past_placed bits locks) _ copy (past_among bits locks ls lock copy e there)
+    Contains-append_left (past_placed bits locks) _ copy
+    (past_among bits locks ls lock copy e there)
 
 among_over : (bits more : List Bool) (ls locks : List Lock) (p : ℕ) (lock : Lock) (now : Now)
     → IsLocked bits ls p lock.at → IsNow (bits ++ more) locks now → Extends locks (lock ∷ ls)

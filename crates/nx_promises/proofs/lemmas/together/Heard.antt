@@ -145,7 +145,8 @@ told_one (m ∷ messages) [] index message numbers h e f = absurd h
 told_one (m ∷ messages) (s ∷ spellings) zero message numbers h e f =
     let same : m ≡ message = cc in
     let this : s ≡ numbers = cc in
-    subst (λ n. TellsMessage message n) this (subst (λ (m : MessageView). TellsMessage m s) same h.0)
+    subst (λ n. TellsMessage message n) this (subst (λ (m : MessageView). TellsMessage m s) same
+    h.0)
 told_one (m ∷ messages) (s ∷ spellings) (suc index) message numbers h e f =
     told_one messages spellings index message numbers h.1 e f
 
@@ -452,7 +453,8 @@ copy_taken : (before after : List Bool) (messages : List MessageView) (spellings
     → copy.found.place ≡ length before + 7 * (digit_slot spellings index - 96) + 6
     → AreTakenOf (record { messages = messages; spellings = spellings; heard = heard }) index
     numbers copy.positions × Reaches numbers locks copy
-copy_taken before after messages [] heard seen l index message numbers named spelled locks now stands
+copy_taken before after messages [] heard seen l index message numbers named spelled locks now
+    stands
     copy there at = absurd (seen-some [] heard seen.visible refl)
 copy_taken before after messages (zeroth ∷ spellings) heard seen l index message numbers named
     spelled locks now stands copy there at =
@@ -505,7 +507,8 @@ of_some : (before after : List Bool) (messages : List MessageView) (spellings : 
     → (locks : List Lock) (now : Now) → IsNow ((before ++ bits_of heard) ++ after) locks now
     → (copy : PlacedCopy)
     → Contains (placed_to_end ((before ++ bits_of heard) ++ after) locks now) copy
-    → copy.found.place ≡ length before + 7 * (digit_slot spellings index - 96) + 6 → IsOfSome locks copy
+    → copy.found.place ≡ length before + 7 * (digit_slot spellings index - 96) + 6 → IsOfSome locks
+    copy
 of_some before after messages [] heard seen l index message numbers told spelled locks now stands
     copy there at = absurd (seen-some [] heard seen.visible refl)
 of_some before after messages (zeroth ∷ spellings) heard seen l index message numbers named spelled

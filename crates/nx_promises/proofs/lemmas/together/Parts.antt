@@ -46,7 +46,8 @@ of_lost lock header false i x e =
     (sym (get-drop count (take (sure_count lock.alike) lock.taken) i) ∙ e)
 
 -- however a lock ended, the positions of a copy are those behind its header, up to some
-pub positions_behind : (how : Change) (lock : LockPositions) (header : Header) (i : ℕ) (x : Reception)
+pub positions_behind : (how : Change) (lock : LockPositions) (header : Header) (i : ℕ)
+    (x : Reception)
     → slice_get (positions_in_past how lock header) i ≡ Some x
     → slice_get (behind_header lock.taken header) i ≡ Some x
 unfolding positions_in_lost

@@ -162,7 +162,8 @@ returns-in_default-clause-within g c = λ start ex other.
 begins : (g : _) → (c : After-run_watch g)
     → (c.unwrap_or.result ≡ (starts_by g.C.ChannelReceiver.kind c.in-Ok-starting.listener).moment)
     × ((starts_by g.C.ChannelReceiver.kind c.in-Ok-starting.listener).moment ≤ last_moment)
-    × HearsBy g.C.ChannelReceiver.kind (starts_by g.C.ChannelReceiver.kind c.in-Ok-starting.listener) c.in-Ok-starting.listener [] []
+    × HearsBy g.C.ChannelReceiver.kind (starts_by g.C.ChannelReceiver.kind
+    c.in-Ok-starting.listener) c.in-Ok-starting.listener [] []
     × HasKept g.D.DiskFile (fresh-keeper c.in-Ok.log) (fresh-keeper c.in-Ok.log) [] []
 begins g c =
     let disk = g.D.DiskFile in
@@ -200,7 +201,8 @@ returns-clause-watched g c = λ start entries ex stands.
     let log = c.in-Ok.log in
     let b = begins g (goal.at.returns-clause-watched g c).After-run_watch in
     let some = ran g (goal.at.returns-clause-watched g c).After-run_watch in
-    let any = c.run_watch.ensures.runs c.args.notices.now some.0 some.2 c.requires.loggable b.0 refl b.1 b.2 b.3 in
+    let any = c.run_watch.ensures.runs c.args.notices.now some.0 some.2 c.requires.loggable b.0 refl
+    b.1 b.2 b.3 in
     let explained = any.explained start ex in
     let opened = c.in-Ok.ensures.opened start explained in
     let o = opened in
@@ -216,7 +218,8 @@ returns-clause-watched g c = λ start entries ex stands.
     let saved = c.saved_at-saved.ensures entries
     (took-all c.new-memory.result c.open_log.new.memory entries o.records c.new-memory.ensures each
     o.taken) in
-    let starts : starts_by g.C.ChannelReceiver.kind c.in-Ok-starting.listener ≡ starts_at c.args.moment entries =
+    let starts : starts_by g.C.ChannelReceiver.kind c.in-Ok-starting.listener ≡ starts_at
+    c.args.moment entries =
     c.in-Ok-starting.ensures.start ∙ ap starts_from saved in
     let answer = run.answers start (disk.seen start c.args.device) entries o.records told.1 each
     keeps in
@@ -225,7 +228,8 @@ returns-clause-watched g c = λ start entries ex stands.
     (counted_of c.args.reader.now) (counted_of c.run_watch.new.reader) g.W.Write.contents
     c.args.writer.now c.run_watch.new.writer
     g.F.Write.contents c.args.notices.now c.run_watch.new.notices (stamps_of c.run_watch.new.reader)
-    g.C.ChannelReceiver.kind.printing (disk.seen start c.args.device) (starts_at c.args.moment entries)
+    g.C.ChannelReceiver.kind.printing (disk.seen start c.args.device)
+    (starts_at c.args.moment entries)
     entries o.records c.run_watch.result.0 each c.in-Ok.ensures.faults
     (c.in-Ok.ensures.any_moment start o.records explained (record {
       front = o.front;
@@ -235,7 +239,8 @@ returns-clause-watched g c = λ start entries ex stands.
       split = o.split;
     }))
     (λ file left. keeps-stands disk start o.records (fresh-keeper log) keeps file left)
-    (started-so _ g.C.ChannelReceiver.kind.printing (disk.seen start c.args.device) entries c.run_watch.result.0 starts answer))
+    (started-so _ g.C.ChannelReceiver.kind.printing (disk.seen start c.args.device) entries
+    c.run_watch.result.0 starts answer))
 
 pub returns-clause-cause : goal.returns-clause-cause
 returns-clause-cause g c =
@@ -244,14 +249,16 @@ returns-clause-cause g c =
     let some = ran g (goal.at.returns-clause-cause g c).After-run_watch in
     cause-behind disk c.run_watch.result.0 c.args.device c.in-Ok.log.device c.run_watch.result.1
     c.in-Ok.ensures.faults
-    (c.run_watch.ensures.runs c.args.notices.now some.0 some.2 c.requires.loggable b.0 refl b.1 b.2 b.3).cause
+    (c.run_watch.ensures.runs c.args.notices.now some.0 some.2 c.requires.loggable b.0 refl b.1 b.2
+    b.3).cause
 
 pub returns-clause-within : goal.returns-clause-within
 returns-clause-within g c = λ start ex other.
     let disk = g.D.DiskFile in
     let b = begins g (goal.at.returns-clause-within g c).After-run_watch in
     let some = ran g (goal.at.returns-clause-within g c).After-run_watch in
-    let ran-so = c.run_watch.ensures.runs c.args.notices.now some.0 some.2 c.requires.loggable b.0 refl b.1 b.2 b.3 in
+    let ran-so = c.run_watch.ensures.runs c.args.notices.now some.0 some.2 c.requires.loggable b.0
+    refl b.1 b.2 b.3 in
     let o = c.in-Ok.ensures.opened start (ran-so.explained start ex) in
     ran-so.within start o.records
     (record { front = o.front; kept = o.kept; at_rest = o.at_rest })
@@ -262,7 +269,8 @@ returns-clause-explained g c = λ start ex.
     let b = begins g (goal.at.returns-clause-explained g c).After-run_watch in
     let some = ran g (goal.at.returns-clause-explained g c).After-run_watch in
     c.in-Ok.ensures.explained start
-    ((c.run_watch.ensures.runs c.args.notices.now some.0 some.2 c.requires.loggable b.0 refl b.1 b.2 b.3).explained
+    ((c.run_watch.ensures.runs c.args.notices.now some.0 some.2 c.requires.loggable b.0 refl b.1 b.2
+    b.3).explained
     start ex)
 
 pub returns-clause-damaged : goal.returns-clause-damaged
@@ -271,7 +279,8 @@ returns-clause-damaged g c = λ start line ex e.
     let log = c.in-Ok.log in
     let b = begins g (goal.at.returns-clause-damaged g c).After-run_watch in
     let some = ran g (goal.at.returns-clause-damaged g c).After-run_watch in
-    let any = c.run_watch.ensures.runs c.args.notices.now some.0 some.2 c.requires.loggable b.0 refl b.1 b.2 b.3 in
+    let any = c.run_watch.ensures.runs c.args.notices.now some.0 some.2 c.requires.loggable b.0 refl
+    b.1 b.2 b.3 in
     let opened = c.in-Ok.ensures.opened start (any.explained start ex) in
     let o = opened in
     let found = entries-of o.records o.front o.kept in
@@ -283,16 +292,19 @@ returns-clause-damaged g c = λ start line ex e.
     record { front = o.front; kept = o.kept; at_rest = opened.at_rest } in
     let answer = run.answers start (disk.seen start c.args.device) found.0 o.records told.1 found.1
     keeps in
-    absurd (not-damaged _ g.C.ChannelReceiver.kind.printing found.0 (disk.seen start c.args.device) c.args.moment
+    absurd (not-damaged _ g.C.ChannelReceiver.kind.printing found.0 (disk.seen start c.args.device)
+    c.args.moment
     (starts_by g.C.ChannelReceiver.kind c.in-Ok-starting.listener) line
-    (subst (AnswersOverBy _ g.C.ChannelReceiver.kind.printing (disk.seen start c.args.device) c.args.moment
+    (subst (AnswersOverBy _ g.C.ChannelReceiver.kind.printing (disk.seen start c.args.device)
+    c.args.moment
     (starts_by g.C.ChannelReceiver.kind c.in-Ok-starting.listener) found.0) e answer))
 
 pub returns-clause-refused : goal.returns-clause-refused
 returns-clause-refused g c = λ start ex none.
     let b = begins g (goal.at.returns-clause-refused g c).After-run_watch in
     let some = ran g (goal.at.returns-clause-refused g c).After-run_watch in
-    let any = c.run_watch.ensures.runs c.args.notices.now some.0 some.2 c.requires.loggable b.0 refl b.1 b.2 b.3 in
+    let any = c.run_watch.ensures.runs c.args.notices.now some.0 some.2 c.requires.loggable b.0 refl
+    b.1 b.2 b.3 in
     let opened = c.in-Ok.ensures.opened start (any.explained start ex) in
     let o = opened in
     absurd (none (
@@ -310,7 +322,8 @@ pub returns-clause-foreign : goal.returns-clause-foreign
 returns-clause-foreign g c = λ start ex none.
     let b = begins g (goal.at.returns-clause-foreign g c).After-run_watch in
     let some = ran g (goal.at.returns-clause-foreign g c).After-run_watch in
-    let any = c.run_watch.ensures.runs c.args.notices.now some.0 some.2 c.requires.loggable b.0 refl b.1 b.2 b.3 in
+    let any = c.run_watch.ensures.runs c.args.notices.now some.0 some.2 c.requires.loggable b.0 refl
+    b.1 b.2 b.3 in
     let opened = c.in-Ok.ensures.opened start (any.explained start ex) in
     let o = opened in
     absurd (none (

@@ -356,13 +356,15 @@ pub start-answered : {D C : Type 0} (kind : ReceiverKind C) (disk : TellsOfDisk 
     → MatchResult answer
     (λ _. MayAct (starts_by kind start.listener).moment (acting_lines first lines) (moment n)
     × KeepsLines kind disk start new (acting_lines first lines ++ moment n ∷ []) bytes)
-    (λ fault. Refuses (force_behind (starts_by kind start.listener).moment (acting_lines first lines)) n
+    (λ fault. Refuses (force_behind (starts_by kind start.listener).moment
+    (acting_lines first lines)) n
     fault × (new ≡ old))
     → KeepsLines kind disk start old (acting_lines first lines) bytes
     → KeepsMoments first
     (moments_behind first lines ++ set_by first (moments_behind first lines) line) now
     × KeepsLines kind disk start new (acting_and_set first lines line) bytes
-start-answered kind disk start old new first lines line mark bits bytes n now answer is none same force =
+start-answered kind disk start old new first lines line mark bits bytes n now answer is none same
+    force =
     so answer
   where
     behind : List ℕ
@@ -381,7 +383,8 @@ start-answered kind disk start old new first lines line mark bits bytes n now an
         × KeepsLines kind disk start new (acting_and_set first lines line) bytes
     not-set e k unchanged s = (
       subst (λ l. KeepsMoments first l now) (sym (ap₂ (λ a b. a ++ b) none e)) k,
-      subst (λ l. KeepsLines kind disk start l (acting_and_set first lines line) bytes) (sym unchanged)
+      subst (λ l. KeepsLines kind disk start l (acting_and_set first lines line) bytes)
+          (sym unchanged)
           (subst (λ l. KeepsLines kind disk start old l bytes)
           (sym (ap (λ m. acting_lines first lines ++ map moment m) e
           ∙ append-nil (acting_lines first lines))) s),
@@ -402,7 +405,8 @@ start-answered kind disk start old new first lines line mark bits bytes n now an
         let e : set_by first behind line ≡ n ∷ [] =
         by true (le-leb (given first) last_moment in_range) ∙ ap (λ m. m ∷ []) (sym is) in (
           subst (λ l. KeepsMoments first l now) (sym (ap₂ (λ a b. a ++ b) none e)) k,
-          subst (λ m. KeepsLines kind disk start new (acting_lines first lines ++ map moment m) bytes)
+          subst (λ m. KeepsLines kind disk start new (acting_lines first lines ++ map moment m)
+              bytes)
               (sym e) a.1,
         )
     so (Err (Range at)) k a s =

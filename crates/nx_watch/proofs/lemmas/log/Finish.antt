@@ -204,7 +204,8 @@ module _ {D R W E : Type 0} (disk : TellsOfDisk D) (content : List ℕ) (start :
         → (now.has_failed ≡ false → AllKept disk start now more given
         → AnswersStop (moments_at started starts) stop lines copies outcome)
         → AnswersOverBy (at-hand now.log.device) printing file started starts entries outcome
-    answers-started printing file started starts entries copies texts more now given stop lines outcome each
+    answers-started printing file started starts entries copies texts more now given stop lines
+        outcome each
         zip keeps kept wrote watched failed well =
         (stop, lines, copies, watched, so now.has_failed refl kept)
       where
@@ -373,7 +374,8 @@ heard-on {kind} laws disk contents starts since now keeper lines copies is print
 
 -- what stood at the reads of a run that stands so now, and of which the copies were kept so
 pub stamps-keep : {D C W N : Type 0} (kind : ReceiverKind C) (disk : TellsOfDisk D)
-    (contents : W → Option (List ℕ)) (told : N → Option (List ℕ)) (old : ToldBefore) (first : StartMoments)
+    (contents : W → Option (List ℕ)) (told : N → Option (List ℕ)) (old : ToldBefore)
+    (first : StartMoments)
     (start now : LoggingTo D C W) (bytes : List ℕ) (keeper : Keeper D)
     (acting all : List Line) (copies : List MarkedCopy)
     (stamps : List (Stamp D (CountedDevice W) (CountedDevice N))) → all ≡ acting
@@ -383,7 +385,8 @@ pub stamps-keep : {D C W N : Type 0} (kind : ReceiverKind C) (disk : TellsOfDisk
     → All (WasRunning (telling kind disk contents told old) start first bytes
     (λ whole. (later : List Line) × (all ≡ acting_lines first whole ++ later))
     (KeepsOn disk keeper copies)) stamps
-stamps-keep kind disk contents told old first start now bytes keeper acting all copies stamps is step h =
+stamps-keep kind disk contents told old first start now bytes keeper acting all copies stamps is
+    step h =
     says-too kind disk contents told old first start bytes
     (λ whole. (later : List Line) × (acting ≡ acting_lines first whole ++ later))
     (λ whole. (later : List Line) × (all ≡ acting_lines first whole ++ later))
@@ -426,14 +429,16 @@ printed-first {printing} laws starts stop all whole later printed copies is h k 
     (sym (ap given_by is ∙ map-append given_of whole later)) goes.in_turn in
     so stop k goes.more turn
   where
-    to-end : (more : List MarkedCopy) → PrintsInTurnBy printing starts (given_by all) (printed ++ more)
+    to-end : (more : List MarkedCopy) → PrintsInTurnBy printing starts (given_by all)
+        (printed ++ more)
         → (p : PrintAllToEndBy printing starts (given_by all) copies)
         → (more : List MarkedCopy) × (copies ≡ printed ++ more)
     to-end more turn p = (
       more ++ flat_map (λ channel. map (marked channel) (p.closed channel)) (Zero ∷ One ∷ Two ∷ []),
       p.whole
           ∙ ap (λ l. l ++ flat_map (λ channel. map (marked channel) (p.closed channel))
-          (Zero ∷ One ∷ Two ∷ [])) (one-in_turn_by printing laws starts (given_by all) p.ended (printed ++ more)
+          (Zero ∷ One ∷ Two ∷ [])) (one-in_turn_by printing laws starts (given_by all) p.ended
+          (printed ++ more)
           p.in_turn turn)
           ∙ append_assoc printed more _,
     )
@@ -503,7 +508,8 @@ module _ {D C R W E : Type 0} {kind : ReceiverKind C} (laws : IsReceiver kind)
 
     -- what stood at a read
     stood-at : (stop : Stop) (now : Keeper D) (h : HasStopped stop now)
-        → first ≡ moments_at first.started (starts_by kind logging.listener) → logging.keeper.put ≡ 0
+        → first ≡ moments_at first.started (starts_by kind logging.listener) → logging.keeper.put ≡
+        0
         → (content file : List ℕ) (entries : List MarkedCopy) (texts : List (List ℕ))
         → TellsOfCut file cut
         → AllZip IsLoggedAs entries texts → KeepsTexts disk content texts logging.keeper
@@ -546,7 +552,8 @@ module _ {D C R W E : Type 0} {kind : ReceiverKind C} (laws : IsReceiver kind)
         size = zip-length printed w.stood.1.texts w.stood.1.each
 
         goes : (more : List MarkedCopy) × (h.copies ≡ printed ++ more)
-        goes = printed-first laws.printing (starts_by kind logging.listener) stop (acting_lines first h.lines)
+        goes = printed-first laws.printing (starts_by kind logging.listener) stop
+            (acting_lines first h.lines)
             (acting_lines first w.lines) w.behind.0 printed h.copies w.behind.1
             w.stood.1.heard.in_turn h.printed
 

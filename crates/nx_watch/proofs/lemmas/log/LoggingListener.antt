@@ -192,14 +192,17 @@ pub log-of : (copies : List MarkedCopy) (texts : List (List ℕ)) → AllZip IsL
 log-of copies texts h = record { entries = texts; each = each-entry copies texts h; joined = refl }
 
 -- one line more, which brings no copies
-pub line-kept : {D C : Type 0} (kind : ReceiverKind C) (disk : TellsOfDisk D) (start old new : LoggingOver D C)
+pub line-kept : {D C : Type 0} (kind : ReceiverKind C) (disk : TellsOfDisk D)
+    (start old new : LoggingOver D C)
     (lines : List Line) (given : List ℕ) (line : Line)
     → new.keeper ≡ old.keeper → MayAct (starts_by kind start.listener).moment lines line
     → ((copies : List MarkedCopy)
     → HearsBy kind (starts_by kind start.listener) old.listener (given_by lines) copies
-    → HearsBy kind (starts_by kind start.listener) new.listener (given_by lines ++ given_of line ∷ [])
+    → HearsBy kind (starts_by kind start.listener) new.listener
+    (given_by lines ++ given_of line ∷ [])
     copies)
-    → KeepsLines kind disk start old lines given → KeepsLines kind disk start new (lines ++ line ∷ []) given
+    → KeepsLines kind disk start old lines given → KeepsLines kind disk start new
+    (lines ++ line ∷ []) given
 line-kept kind disk start old new lines given line same may step s = record {
   loggable = s.loggable;
   first = s.first;
@@ -229,7 +232,8 @@ command-acts (accept_subject mark letter) channel given e spared force before = 
 
 -- a moment that was set, or refused
 pub moment-answered : {D C : Type 0} (kind : ReceiverKind C) (disk : TellsOfDisk D)
-    (start old : LoggingOver D C) (now : ListeningOver C) (lines : List Line) (given : List ℕ) (n : ℕ)
+    (start old : LoggingOver D C) (now : ListeningOver C) (lines : List Line) (given : List ℕ)
+    (n : ℕ)
     (answer : Result (Unit {0}) MomentFault)
     → ((copies : List MarkedCopy)
     → HearsBy kind (starts_by kind start.listener) old.listener (given_by lines) copies
@@ -237,7 +241,8 @@ pub moment-answered : {D C : Type 0} (kind : ReceiverKind C) (disk : TellsOfDisk
     (λ _. (moment_in_force (starts_by kind start.listener).moment (given_by lines) ≤ n)
     × (n ≤ last_moment)
     × HearsBy kind (starts_by kind start.listener) now (then_moment (given_by lines) n) copies)
-    (λ fault. Refuses (moment_in_force (starts_by kind start.listener).moment (given_by lines)) n fault
+    (λ fault. Refuses (moment_in_force (starts_by kind start.listener).moment (given_by lines)) n
+    fault
     × (now ≡ old.listener)))
     → KeepsLines kind disk start old lines given
     → MatchResult answer (λ _. MayAct (starts_by kind start.listener).moment lines (moment n)
@@ -289,7 +294,8 @@ module _ {D C W : Type 0} (kind : ReceiverKind C) (disk : TellsOfDisk D)
     command-acts line channel given gives spared _ [],
     next-line start old new writer lines line kept
         (command-acts line channel given gives spared _ lines)
-        (λ copies heard. subst (λ one. HearsBy kind (starts_by kind start.logging.listener) new.listener
+        (λ copies heard. subst (λ one. HearsBy kind (starts_by kind start.logging.listener)
+        new.listener
         (given_by lines ++ one ∷ []) copies) (sym gives) (step copies heard)) h,
   )
 
@@ -329,7 +335,8 @@ module _ {D C W : Type 0} (kind : ReceiverKind C) (disk : TellsOfDisk D)
               (All-cons IsLineInRange line [] tt (All-nil IsLineInRange));
           force = force-one (starts_by kind start.logging.listener).moment lines line tt s.force;
           copies = k.copies;
-          heard = subst (λ g. HearsBy kind (starts_by kind start.logging.listener) now.listener g k.copies)
+          heard = subst (λ g. HearsBy kind (starts_by kind start.logging.listener) now.listener g
+              k.copies)
               (ap (λ (c : Channel). then_elements (given_by lines) c bits) is
               ∙ sym (given_by-one lines line)) k.heard;
           texts = k.texts;
@@ -345,11 +352,13 @@ module _ {D C W : Type 0} (kind : ReceiverKind C) (disk : TellsOfDisk D)
       (given : List Given) (channel : Channel) (part more : List Bool) (next : List TaggedCopy)
       → new.keeper ≡ old.keeper → next ≡ []
       → ((copies : List MarkedCopy)
-      → HearsBy kind (starts_by kind start.listener) old.listener (then_elements given channel part) copies
+      → HearsBy kind (starts_by kind start.listener) old.listener (then_elements given channel part)
+      copies
       → HearsBy kind (starts_by kind start.listener) new.listener
       (then_elements given channel (part ++ more)) (copies ++ map (marked channel) next))
       → KeepsHeard kind disk contents start old first writer (then_elements given channel part)
-      → KeepsHeard kind disk contents start new first writer (then_elements given channel (part ++ more))
+      → KeepsHeard kind disk contents start new first writer
+      (then_elements given channel (part ++ more))
   none-more start old new first writer given channel part more next same none step h = record {
     copies = h.copies;
     heard = subst (HearsBy kind (starts_by kind start.listener) new.listener
@@ -370,18 +379,21 @@ module _ {D C W : Type 0} (kind : ReceiverKind C) (disk : TellsOfDisk D)
       → (starts_by kind start.listener).moment ≤ last_moment → AreInRange given
       → IsSpelled channel true next entry
       → ((copies : List MarkedCopy)
-      → HearsBy kind (starts_by kind start.listener) old.listener (then_elements given channel part) copies
+      → HearsBy kind (starts_by kind start.listener) old.listener (then_elements given channel part)
+      copies
       → HearsBy kind (starts_by kind start.listener) new.listener
       (then_elements given channel (part ++ more)) (copies ++ map (marked channel) next))
       → ((texts : List (List ℕ)) → IsWholeEntry entry
       → KeepsWith disk contents start.keeper old.keeper first before texts
       → KeepsWith disk contents start.keeper new.keeper first writer (texts ++ entry ∷ []))
       → KeepsHeard kind disk contents start old first before (then_elements given channel part)
-      → KeepsHeard kind disk contents start new first writer (then_elements given channel (part ++ more))
+      → KeepsHeard kind disk contents start new first writer
+      (then_elements given channel (part ++ more))
   one-more laws start old new first before writer given channel part more next entry loggable range
       within spelled step keep h =
       let one = marked channel spelled.0 in
-      let heard = subst (λ (l : List TaggedCopy). HearsBy kind (starts_by kind start.listener) new.listener
+      let heard = subst (λ (l : List TaggedCopy). HearsBy kind (starts_by kind start.listener)
+      new.listener
       (then_elements given channel (part ++ more)) (h.copies ++ map (marked channel) l)) spelled.1
       (step h.copies h.heard) in
       let is = spelled-as laws (starts_by kind start.listener) new.listener

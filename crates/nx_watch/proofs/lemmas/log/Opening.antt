@@ -239,7 +239,8 @@ module _ {D R W E : Type 0} (disk : TellsOfDisk D) (content : List ℕ) (old mid
         (h.0, failed-before same h.0 at h.1, h.2, h.3, h.4)
 
     -- what stood at a read
-    stood-before : (printing : Printing) (file : List ℕ) (now : ℕ) (starts : Starts) (entries copies : List MarkedCopy)
+    stood-before : (printing : Printing) (file : List ℕ) (now : ℕ) (starts : Starts)
+        (entries copies : List MarkedCopy)
         (bytes : List ℕ)
         → disk.faults mid ≡ disk.faults old
         → (at : Stamp D (CountedDevice W) (CountedDevice E))
@@ -271,7 +272,8 @@ module _ {D R W E : Type 0} (disk : TellsOfDisk D) (content : List ℕ) (old mid
           (IsToldByRead (moments_at now starts) (take at.read bytes) h.lines) h.told;
     }
 
-    pub started-before : {now : ℕ} (printing : Printing) (file : List ℕ) (starts : Starts) (entries : List MarkedCopy)
+    pub started-before : {now : ℕ} (printing : Printing) (file : List ℕ) (starts : Starts)
+        (entries : List MarkedCopy)
         (texts : List (List ℕ)) (outcome : Result WatchReport WatchFault)
         → AllZip IsLoggedAs entries texts
         → disk.faults mid ≡ disk.faults old
@@ -292,7 +294,8 @@ module _ {D R W E : Type 0} (disk : TellsOfDisk D) (content : List ℕ) (old mid
             read = w.read;
             printed = w.printed;
             before_each_read =
-                All-weaker _ _ (stood-before printing file now starts entries h.2 w.bytes same) stamps
+                All-weaker _ _ (stood-before printing file now starts entries h.2 w.bytes same)
+                stamps
                 w.before_each_read;
             any_moment =
                 joined disk.moment (disk.left_since content) (disk.may_leave content) _ _ old mid

@@ -325,7 +325,8 @@ module _ {D C W N : Type 0} (kind : ReceiverKind C) (disk : TellsOfDisk D)
         (stamps : List AStamp)
         → (h : RunsStamped (telling kind disk contents told old) first bytes run.effects.lines start
         (λ since. IsRunning Stands since now first run beside new failures bytes) stamps)
-        → HasTaken (StandsStamped (telling kind disk contents told old) first bytes stamps) start now
+        → HasTaken (StandsStamped (telling kind disk contents told old) first bytes stamps) start
+        now
         first h.from_start.lines
     running-stamped now run beside new failures bytes stamps h =
         let s = h.from_start in

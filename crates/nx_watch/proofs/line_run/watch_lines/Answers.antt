@@ -29,7 +29,8 @@ returns-in-Ok-clause-watched g c = λ start old force well stood told.
     (none-taken kind disk g.W.Write.contents start c.args.logging.now
     c.args.writer.now stood c.requires.writer) told) in
     let run = r.5.1.from_start in
-    let taken = running-stamped kind disk g.W.Write.contents g.F.Write.contents old c.args.first before
+    let taken = running-stamped kind disk g.W.Write.contents g.F.Write.contents old c.args.first
+    before
     (logging_to c.read_lines.new.logging c.read_lines.new.writer) c.read_lines.new.self r.3
     (g.F.Write.contents c.read_lines.new.notices.inner) c.read_lines.new.notices.failures r.0
     (stamps_of c.read_lines.new.reader) r.5.1 in

@@ -79,18 +79,21 @@ returns-in-Ok-clause-runs g c = λ notices cut told loggable is none range heard
       consumed = w.1;
       within = w.2;
       read = (w.3.0, w.3.1, w.3.2, w.3.3, refl, w.3.4.on);
-      printed = subst (λ l. PrintAllToEndBy kind.printing (starts_by kind logging.listener) (given_by l) closed.copies)
+      printed = subst (λ l. PrintAllToEndBy kind.printing (starts_by kind logging.listener)
+          (given_by l) closed.copies)
           (sym (acting-cut c.args.first w.3.1 w.3.2)) closed.printed;
       failed_read = (
         λ e. absurd (end-apart e),
         λ f. absurd (apart-Ok c.in-Ok.counts (sym c.in-Ok.is ∙ c.watch_lines.ensures.unread.1 f)),
       );
       failed_write = c.finish.ensures.once;
-      stamped = stamps-keep kind disk g.W.Write.contents g.F.Write.contents before c.args.first start
+      stamped = stamps-keep kind disk g.W.Write.contents g.F.Write.contents before c.args.first
+          start
           (logging_to c.watch_lines.new.logging c.watch_lines.new.writer) w.0 c.finish.result
           acting (acting_lines c.args.first (w.3.1 ++ cut_line w.3.2)) closed.copies
           (stamps_of c.watch_lines.new.reader) (acting-cut c.args.first w.3.1 w.3.2)
-          (λ since same k. closed-on laws disk g.W.Write.contents (starts_by kind logging.listener) since
+          (λ since same k. closed-on laws disk g.W.Write.contents (starts_by kind logging.listener)
+          since
           c.finish.result c.finish.new.writer acting closed.copies
           (ap (λ (l : ListeningOver _). starts_by kind l) same) closed.printed
           (c.finish.ensures.closed since acting k)) w.3.4.stood;
@@ -164,7 +167,8 @@ returns-in-Back-clause-runs g c = λ notices cut told loggable is none range hea
         ended.3 ∙ sym (length-append ended.0 (Some (moment c.in-Back.given) ∷ [])),
         ended.4,
       );
-      printed = subst (λ l. PrintAllToEndBy kind.printing (starts_by kind logging.listener) (given_by l) closed.copies)
+      printed = subst (λ l. PrintAllToEndBy kind.printing (starts_by kind logging.listener)
+          (given_by l) closed.copies)
           (sym (acting-idle c.args.first ended.0 (moment c.in-Back.given)
           (ends-idle c.args.first.newest (moments_behind c.args.first ended.0) c.in-Back.given
           ended.2))) closed.printed;
@@ -174,13 +178,15 @@ returns-in-Back-clause-runs g c = λ notices cut told loggable is none range hea
             ∙ c.watch_lines.ensures.unread.1 f)),
       );
       failed_write = c.finish-in-Back.ensures.once;
-      stamped = stamps-keep kind disk g.W.Write.contents g.F.Write.contents before c.args.first start
+      stamped = stamps-keep kind disk g.W.Write.contents g.F.Write.contents before c.args.first
+          start
           (logging_to lines-read.logging lines-read.writer) w.0 c.finish-in-Back.result acting
           (acting_lines c.args.first lines) closed.copies
           (stamps_of lines-read.reader) (acting-idle c.args.first ended.0 (moment c.in-Back.given)
           (ends-idle c.args.first.newest (moments_behind c.args.first ended.0) c.in-Back.given
           ended.2))
-          (λ since same k. closed-on laws disk g.W.Write.contents (starts_by kind logging.listener) since
+          (λ since same k. closed-on laws disk g.W.Write.contents (starts_by kind logging.listener)
+          since
           c.finish-in-Back.result c.finish-in-Back.new.writer acting closed.copies
           (ap (λ (l : ListeningOver _). starts_by kind l) same) closed.printed
           (c.finish-in-Back.ensures.closed since acting k)) ended.5;
@@ -241,14 +247,17 @@ returns-in-Read-clause-runs g c = λ notices cut told loggable is none range hea
       failed_write = none-failed _ c.watch_lines.ensures.written_once
           (λ f. absurd (apart-Written (sym (c.in-Err.is ∙ ap Err c.in-Read.is)
           ∙ c.watch_lines.ensures.unwritten.1 f)));
-      stamped = stamps-keep kind disk g.W.Write.contents g.F.Write.contents before c.args.first start
+      stamped = stamps-keep kind disk g.W.Write.contents g.F.Write.contents before c.args.first
+          start
           (logging_to lines-read.logging lines-read.writer) w.0 c.into_keeper.result
           (acting_lines c.args.first ended.0) (acting_lines c.args.first ended.0) stood.1.copies
           (stamps_of lines-read.reader) refl
-          (λ since same k. heard-on laws disk g.W.Write.contents (starts_by kind logging.listener) since
+          (λ since same k. heard-on laws disk g.W.Write.contents (starts_by kind logging.listener)
+          since
           (logging_to lines-read.logging lines-read.writer) c.into_keeper.result
           (acting_lines c.args.first ended.0) stood.1.copies
-          (ap (λ (l : ListeningOver _). starts_by kind l) same) stood.1.heard.in_turn c.into_keeper.ensures k)
+          (ap (λ (l : ListeningOver _). starts_by kind l) same) stood.1.heard.in_turn
+          c.into_keeper.ensures k)
           ended.3.stood;
       said = subst (λ k. HasToldSo before (g.F.Write.contents lines-read.notices.inner)
           lines-read.notices.failures (IsToldAtEnd c.args.first w.0 ended.0 k.has_failed))
@@ -311,12 +320,14 @@ returns-in-Write-clause-runs g c = λ notices cut told loggable is none range he
             ∙ c.watch_lines.ensures.unread.1 f)),
       );
       failed_write = unwritten_one;
-      stamped = stamps-keep kind disk g.W.Write.contents g.F.Write.contents before c.args.first start
+      stamped = stamps-keep kind disk g.W.Write.contents g.F.Write.contents before c.args.first
+          start
           (logging_to lines-read.logging lines-read.writer) w.0 keeper
           (acting_lines c.args.first (ended.0 ++ Some ended.1 ∷ []))
           (acting_lines c.args.first (ended.0 ++ Some ended.1 ∷ [])) stood.1.copies
           (stamps_of lines-read.reader) refl
-          (λ since same k. heard-on laws disk g.W.Write.contents (starts_by kind logging.listener) since
+          (λ since same k. heard-on laws disk g.W.Write.contents (starts_by kind logging.listener)
+          since
           (logging_to lines-read.logging lines-read.writer) keeper
           (acting_lines c.args.first (ended.0 ++ Some ended.1 ∷ [])) stood.1.copies
           (ap (λ (l : ListeningOver _). starts_by kind l) same) stood.1.heard.in_turn
@@ -340,7 +351,8 @@ told-lines : (g : _) → (c : After-watch_lines g) → (before : ToldBefore)
     → PrintsLoggable g.C.ChannelReceiver.kind.printing
     → c.args.first.newest ≡ (starts_by g.C.ChannelReceiver.kind c.args.logging.listener).moment
     → (starts_by g.C.ChannelReceiver.kind c.args.logging.listener).moment ≤ last_moment
-    → HearsBy g.C.ChannelReceiver.kind (starts_by g.C.ChannelReceiver.kind c.args.logging.listener) c.args.logging.listener [] []
+    → HearsBy g.C.ChannelReceiver.kind (starts_by g.C.ChannelReceiver.kind c.args.logging.listener)
+    c.args.logging.listener [] []
     → HasKept g.D.DiskFile c.args.logging.keeper c.args.logging.keeper [] []
     → (bytes : List ℕ) × (lines : List (Option Line))
     × HasToldSo before (g.F.Write.contents c.watch_lines.new.notices.inner)
@@ -382,7 +394,8 @@ returns-in-Ok-clause-told g c = λ old cut some said loggable is range heard kep
     let before : ToldBefore = record { old = old; text = cut } in
     let mid = c.watch_lines.new in
     let after = c.finish.new.notices in
-    let t = told-lines g (goal.at.returns-in-Ok-clause-told g c).After-watch_lines before said loggable
+    let t = told-lines g (goal.at.returns-in-Ok-clause-told g c).After-watch_lines before said
+    loggable
     is range heard kept in
     told-behind c.args.first old (g.F.Write.contents after.inner) after.failures cut t.0 t.1
     c.finish.result.has_failed some
@@ -395,7 +408,8 @@ returns-in-Back-clause-told g c = λ old cut some said loggable is range heard k
     let before : ToldBefore = record { old = old; text = cut } in
     let mid = c.watch_lines.new in
     let after = c.finish-in-Back.new.notices in
-    let t = told-lines g (goal.at.returns-in-Back-clause-told g c).After-watch_lines before said loggable
+    let t = told-lines g (goal.at.returns-in-Back-clause-told g c).After-watch_lines before said
+    loggable
     is range heard kept in
     told-behind c.args.first old (g.F.Write.contents after.inner) after.failures cut t.0 t.1
     c.finish-in-Back.result.has_failed some
@@ -410,7 +424,8 @@ told-open : (g : _) → (c : After-watch_lines g) → (old : Option (List ℕ)) 
     → PrintsLoggable g.C.ChannelReceiver.kind.printing
     → c.args.first.newest ≡ (starts_by g.C.ChannelReceiver.kind c.args.logging.listener).moment
     → (starts_by g.C.ChannelReceiver.kind c.args.logging.listener).moment ≤ last_moment
-    → HearsBy g.C.ChannelReceiver.kind (starts_by g.C.ChannelReceiver.kind c.args.logging.listener) c.args.logging.listener [] []
+    → HearsBy g.C.ChannelReceiver.kind (starts_by g.C.ChannelReceiver.kind c.args.logging.listener)
+    c.args.logging.listener [] []
     → HasKept g.D.DiskFile c.args.logging.keeper c.args.logging.keeper [] []
     → TellsOfLines old (g.F.Write.contents c.watch_lines.new.notices.inner)
     c.watch_lines.new.notices.failures

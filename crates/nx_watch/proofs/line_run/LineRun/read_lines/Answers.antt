@@ -24,7 +24,8 @@ use Rattle.nx_watch.proofs.line_run.LineRun.read_lines.Goals.{After-read}
 
 -- the lines of the piece were taken, and what there was to tell was told
 settled : (g : _) → (c : After-read g)
-    → (start : LoggingTo g.row.D.Denot g.row.C.Denot g.row.W.Denot) (first : StartMoments) (old : ToldBefore)
+    → (start : LoggingTo g.row.D.Denot g.row.C.Denot g.row.W.Denot) (first : StartMoments)
+    (old : ToldBefore)
     → (starts_by g.C.ChannelReceiver.kind start.logging.listener).moment ≡ first.newest
     → c.args.logging.now.keeper.has_failed ≡ false
     → IsRunning (TakesLines g.C.ChannelReceiver.kind g.D.DiskFile g.W.Write.contents) start
@@ -35,7 +36,8 @@ settled : (g : _) → (c : After-read g)
     (g.R.Read.remaining (counted_of c.loop-has_failed.reader).inner) bytes
     × (length bytes + c.take_next.new.self.lines.room ≡ c.args.self.now.lines.room)
     × (told : ToldBeside) × IsBeside old c.take_next.new.logging.keeper.has_failed told
-    × RunsStamped (telling g.C.ChannelReceiver.kind g.D.DiskFile g.W.Write.contents g.F.Write.contents old) first bytes
+    × RunsStamped (telling g.C.ChannelReceiver.kind g.D.DiskFile g.W.Write.contents
+    g.F.Write.contents old) first bytes
     c.take_next.new.self.effects.lines start
     (λ since. IsRunning (TakesLines g.C.ChannelReceiver.kind g.D.DiskFile g.W.Write.contents) since
     (logging_to c.take_next.new.logging c.take_next.new.writer) first c.take_next.new.self told
@@ -93,14 +95,16 @@ settled g c start first old force well h =
             bytes)
             (λ lines few. omega (arith, few, c.take_next.ensures.grows))
             (λ since is k. step since
-            (ap (λ (l : ListeningOver _). (starts_by g.C.ChannelReceiver.kind l).moment) is ∙ force) k)
+            (ap (λ (l : ListeningOver _). (starts_by g.C.ChannelReceiver.kind l).moment) is ∙ force)
+            k)
             (stamps_of c.loop-has_failed.reader) r.5.from_reads;
       },
     )
 
 -- all that stood at the reads, and at the one that is made now
 stamped : (g : _) → (c : After-read g)
-    → (start : LoggingTo g.row.D.Denot g.row.C.Denot g.row.W.Denot) (first : StartMoments) (old : ToldBefore)
+    → (start : LoggingTo g.row.D.Denot g.row.C.Denot g.row.W.Denot) (first : StartMoments)
+    (old : ToldBefore)
     → (force : (starts_by g.C.ChannelReceiver.kind start.logging.listener).moment ≡ first.newest)
     → (well : c.args.logging.now.keeper.has_failed ≡ false)
     → (h : IsRunning (TakesLines g.C.ChannelReceiver.kind g.D.DiskFile g.W.Write.contents) start
@@ -109,7 +113,8 @@ stamped : (g : _) → (c : After-read g)
     → stamps_of c.read.new.reader ≡ stamp (bytes_given c.loop-has_failed.reader)
     c.take_next.new.logging.keeper.log.device c.take_next.new.writer c.tell_failed_put.new.notices
     ∷ stamps_of c.loop-has_failed.reader
-    → All (WasRunning (telling g.C.ChannelReceiver.kind g.D.DiskFile g.W.Write.contents g.F.Write.contents old) start first
+    → All (WasRunning (telling g.C.ChannelReceiver.kind g.D.DiskFile g.W.Write.contents
+    g.F.Write.contents old) start first
     (settled g c start first old force well h).0
     (λ lines. length lines ≤ c.take_next.new.self.effects.lines)
     (λ since. IsRunning (TakesLines g.C.ChannelReceiver.kind g.D.DiskFile g.W.Write.contents) since
@@ -135,7 +140,8 @@ stamped g c start first old force well h made =
     after.failures s.0)
     (stamp at c.take_next.new.logging.keeper.log.device c.take_next.new.writer after)
     (stamps_of c.loop-has_failed.reader) (stamps_of c.read.new.reader) made
-    (stamp-now kind disk contents told old first start c.take_next.new.logging c.take_next.new.writer
+    (stamp-now kind disk contents told old first start c.take_next.new.logging
+    c.take_next.new.writer
     after run s.3 s.0 at s.4 (omega (arith, inv.given, s.2, c.take_next.ensures.unread))
     c.in-Ok-false.ensures.open (λ content file left. g.met.D.DiskFile.only_now content _ file left)
     s.5.from_start) s.5.from_reads
@@ -188,7 +194,8 @@ loop-has_failed-preserved-in-Ok-true g c =
                   (r.0 ++ take t.0 piece))
                   (λ lines few. omega (arith, few, c.take_next.ensures.grows))
                   (λ since is k. t.3 since first r.3 r.0
-                  (ap (λ (l : ListeningOver _). (starts_by g.C.ChannelReceiver.kind l).moment) is ∙ force) k)
+                  (ap (λ (l : ListeningOver _). (starts_by g.C.ChannelReceiver.kind l).moment) is ∙
+                  force) k)
                   (stamps_of was.reader) r.5.from_reads;
             },
           );
@@ -402,7 +409,8 @@ returns-in-Err-clause-read g c = λ start first old force well h.
             after.failures c.in-Err.end bytes)
             (λ lines few. omega (arith, few, c.take_next.ensures.grows))
             (λ since is k. step since
-            (ap (λ (l : ListeningOver _). (starts_by g.C.ChannelReceiver.kind l).moment) is ∙ force) k)
+            (ap (λ (l : ListeningOver _). (starts_by g.C.ChannelReceiver.kind l).moment) is ∙ force)
+            k)
             (stamps_of was.reader) r.5.from_reads;
       },
     )

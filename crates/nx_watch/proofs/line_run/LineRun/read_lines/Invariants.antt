@@ -33,9 +33,11 @@ invariant-loop-has_failed g l = record {
       (g.R.Read.remaining (counted_of l.reader).inner) (bytes ++ l.self.lines.piece)
       × (length bytes + (length l.self.lines.piece + l.self.lines.room) ≡ l.fn.self.lines.room)
       × (told : ToldBeside) × IsBeside old l.had_failed told
-      × RunsStamped (telling g.C.ChannelReceiver.kind g.D.DiskFile g.W.Write.contents g.F.Write.contents old) first bytes
+      × RunsStamped (telling g.C.ChannelReceiver.kind g.D.DiskFile g.W.Write.contents
+      g.F.Write.contents old) first bytes
       l.self.effects.lines start
-      (λ since. IsRunning (TakesLines g.C.ChannelReceiver.kind g.D.DiskFile g.W.Write.contents) since
+      (λ since. IsRunning (TakesLines g.C.ChannelReceiver.kind g.D.DiskFile g.W.Write.contents)
+      since
       (logging_to l.logging l.writer) first l.self told
       (g.F.Write.contents l.notices.inner) l.notices.failures bytes) (stamps_of l.reader);
 }

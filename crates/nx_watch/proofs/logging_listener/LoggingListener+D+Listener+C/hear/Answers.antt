@@ -16,7 +16,8 @@ loop-at-init g c =
       within = omega arith;
       failed = λ h. h;
       heard = λ start lines h.
-          none-yet kind disk g.W.Write.contents g.met.C.ChannelReceiver.laws start c.args.self.now c.args.writer.now lines
+          none-yet kind disk g.W.Write.contents g.met.C.ChannelReceiver.laws start c.args.self.now
+          c.args.writer.now lines
           c.of-channel.result h;
     }
 

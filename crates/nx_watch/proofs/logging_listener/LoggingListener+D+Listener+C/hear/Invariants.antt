@@ -14,7 +14,8 @@ invariant-loop-at g l = record {
   heard : (start : LoggingTo g.row.D.Denot g.row.C.Denot g.row.W.Denot) (lines : List Line)
       → TakesLines g.C.ChannelReceiver.kind g.D.DiskFile g.W.Write.contents start
       (logging_to l.fn.self l.fn.writer) lines
-      → KeepsHeard g.C.ChannelReceiver.kind g.D.DiskFile g.W.Write.contents start.logging l.self start.writer l.writer
+      → KeepsHeard g.C.ChannelReceiver.kind g.D.DiskFile g.W.Write.contents start.logging l.self
+      start.writer l.writer
       (then_elements (given_by lines) l.channel (take l.at l.packed));
 }
 

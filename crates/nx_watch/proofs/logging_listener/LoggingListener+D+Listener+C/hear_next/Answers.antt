@@ -21,9 +21,11 @@ returns-clause-heard g c = λ start first lines part loggable range within h.
     let disk = g.D.DiskFile in
     let kind = g.C.ChannelReceiver.kind in
     let out = c.hear_spelled-count.ensures.heard in
-    one-more kind disk g.W.Write.contents g.met.C.ChannelReceiver.laws start c.args.self.now _ first c.args.writer.now
+    one-more kind disk g.W.Write.contents g.met.C.ChannelReceiver.laws start c.args.self.now _ first
+    c.args.writer.now
     c.keep.new.writer (given_by lines) c.args.channel part (take c.hear_spelled-count.result.0
-    (drop c.args.from c.args.packed.now)) out.0 c.deref.result.now loggable range (lines_are lines within)
+    (drop c.args.from c.args.packed.now)) out.0 c.deref.result.now loggable range
+    (lines_are lines within)
     (subst (IsSpelled c.args.channel true out.0) (sym c.deref.ensures.0)
     (subst (λ b. IsSpelled c.args.channel b out.0 c.hear_spelled-count.new.entry.items)
     c.if-not-is_spelled.false out.1))

@@ -5,7 +5,9 @@ use Rattle.nx_watch.proofs.logging_listener.LoggingListener+D+Listener+C.set_mom
 
 pub returns-clause-set : goal.returns-clause-set
 returns-clause-set g c = λ start lines bytes h.
-    moment-answered g.C.ChannelReceiver.kind g.D.DiskFile start c.args.self.now c.set_moment.new.self lines bytes
+    moment-answered g.C.ChannelReceiver.kind g.D.DiskFile start c.args.self.now
+    c.set_moment.new.self lines bytes
     c.args.given c.set_moment.result
-    (λ copies heard. c.set_moment.ensures.heard (starts_by g.C.ChannelReceiver.kind start.listener) (given_by lines) copies
+    (λ copies heard. c.set_moment.ensures.heard (starts_by g.C.ChannelReceiver.kind start.listener)
+    (given_by lines) copies
     heard) h

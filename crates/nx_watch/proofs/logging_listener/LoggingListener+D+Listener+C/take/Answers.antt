@@ -17,8 +17,10 @@ pub returns-in-Elements-clause-taken : goal.returns-in-Elements-clause-taken
 returns-in-Elements-clause-taken g c = λ start lines line is h.
     let disk = g.D.DiskFile in
     let bits = c.args.elements.now in
-    subst (λ l. MayAct (force_behind (starts_by g.C.ChannelReceiver.kind start.logging.listener).moment lines) [] l
-    × TakesLines g.C.ChannelReceiver.kind disk g.W.Write.contents start (logging_to c.hear.new.self c.hear.new.writer)
+    subst (λ l. MayAct (force_behind (starts_by g.C.ChannelReceiver.kind
+    start.logging.listener).moment lines) [] l
+    × TakesLines g.C.ChannelReceiver.kind disk g.W.Write.contents start
+    (logging_to c.hear.new.self c.hear.new.writer)
     (lines ++ l ∷ []))
     (sym (is ∙ ap (λ k. line_with k bits) c.in-Elements.is))
     (tt, c.hear.ensures.taken start lines h)
@@ -28,7 +30,8 @@ pub returns-in_ok-set_moment-in-Moment-clause-taken
 returns-in_ok-set_moment-in-Moment-clause-taken g c = λ start lines line same h.
     let is = same ∙ ap (λ k. line_with k c.args.elements.now) c.in-Moment.is in
     let s = c.in_ok-set_moment-in-Moment.ensures.set start.logging lines h.0 h.1 in
-    subst (λ l. MayAct (force_behind (starts_by g.C.ChannelReceiver.kind start.logging.listener).moment lines) [] l
+    subst (λ l. MayAct (force_behind (starts_by g.C.ChannelReceiver.kind
+    start.logging.listener).moment lines) [] l
     × TakesLines g.C.ChannelReceiver.kind g.D.DiskFile g.W.Write.contents start
     (logging_to c.set_moment.new.self c.args.writer.now) (lines ++ l ∷ [])) (sym is)
     (s.0, (h.0, s.1, h.2))
@@ -43,7 +46,8 @@ returns-in_err-set_moment-in-Moment-clause-taken g c =
       (c.in-Moment.moment, is, s.0),
       subst (TakesLines g.C.ChannelReceiver.kind g.D.DiskFile g.W.Write.contents start
           (logging_to c.set_moment.new.self c.args.writer.now)) (sym (append-nil lines))
-          (subst (λ (l : LoggingListener _ _). TakesLines g.C.ChannelReceiver.kind g.D.DiskFile g.W.Write.contents start
+          (subst (λ (l : LoggingListener _ _). TakesLines g.C.ChannelReceiver.kind g.D.DiskFile
+          g.W.Write.contents start
           (logging_to l c.args.writer.now) lines) (sym s.1) h),
     )))
 
