@@ -187,8 +187,8 @@ pub record IsTakenTogether (start : Start) (events : List Event) (parts : List P
   pub few_positions : length copy.positions ≤ most_positions
   pub runs_on : RunsOnAs (behind_digit numbers) behind copy.positions
 
--- What has to be met, so that a message is printed whole once of several sendings, whatever both
--- words of a position were lost in each of them.
+-- What has to be met, so that a message is printed whole once of several sendings, whichever
+-- positions each of them lost.
 pub record IsHeardTogether (start : Start) (events : List Event) (parts : List Part)
     (message : MessageView) (numbers : List ℕ) : Type 0 where
   -- The bits are cut into gaps of any bits and visible emissions.
