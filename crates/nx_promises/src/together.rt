@@ -11,13 +11,13 @@ ghost use Rattle.nx_copies.specs.laws.Emissions.{HoldsThrough};
 ghost use Rattle.nx_combine.specs.CopyPositions.{PlacedCopy};
 ghost use Rattle.nx_copies.specs.Events.{Event, Setting, Start};
 ghost use Rattle.nx_copies.specs.copies.FoundCopies.{TaggedCopy};
-ghost use Rattle.nx_combine.specs.CombinedPrinting.{PrintsCombinedToEnd, combined};
+ghost use Rattle.nx_combine.specs.CombinedPrinting.{HasPrintedCombined, PrintsCombinedToEnd, combined};
 ghost use Rattle.nx_copies.specs.copies.Shares.{MarkedCopy, Starts, copies_on, start_on};
 ghost use Rattle.nx_fec.specs.air_files.AirFile.{Line};
 ghost use Rattle.nx_fec.specs.declared.air_files.channel.Channel.{Channel};
 ghost use Rattle.nx_receiver.specs.air_file_runs.Listen.{IsLogOfFileBy};
 ghost use Rattle.nx_promises.specs.laws.Together.{IsHeardTogether, IsHeardTogetherOn, IsPrintedWholeOnce, IsThroughWith};
-ghost use Rattle.nx_combine.specs.CopyPositions.{placed_to_end};
+ghost use Rattle.nx_combine.specs.CopyPositions.{ended_placed, placed_to_end};
 ghost use Rattle.nx_combine.specs.Laws.{Arrives, IsHeardOf, IsNeverIdle};
 ghost use Rattle.nx_sync.specs.Locks.{IsNow, Lock, Now};
 ghost use Rattle.nx_promises.specs.laws.Together.{IsFoundAt, IsHeaderHeard, IsSeenCut, IsSentIn, heard_with};
@@ -67,13 +67,22 @@ pub fn a_visible_sending_arrives()
         → (setting : Setting) → Arrives (behind_digit numbers) (heard_with setting copy) }
 {}
 
-/// A message is printed whole once, letter for letter, from the bits of its sendings on, though
-/// each of them may have lost other letters; and nothing of it is printed afterwards. It is so
-/// where the sendings are visible and heard together. It is printed with the copy with which the
-/// last of its combinations came through, at the latest.
+/// A message is printed whole once, letter for letter, from the bits of its sendings on, though each
+/// of them may have lost other letters; and nothing of it is printed afterwards. It is so where the
+/// sendings are visible and heard together. It is printed with the copy with which the last of its
+/// combinations came through, at the latest. So it is of the copies that have ended so far, and of
+/// all copies where the events end.
 pub fn a_message_heard_together_is_printed_whole_once()
-    ensures { (start : Start) (events : List Event) (parts : List Part) (message : MessageView)
-        (numbers : List ℕ) (heard : IsHeardTogether start events parts message numbers)
+    ensures so_far { (start : Start) (events : List Event) (parts : List Part)
+        (message : MessageView) (numbers : List ℕ)
+        (heard : IsHeardTogether ended_placed start events parts message numbers)
+        (came : IsThroughWith (behind_digit numbers) message.identity (heard.first ∷ heard.later))
+        (log : List TaggedCopy) → HasPrintedCombined start events log
+        → IsPrintedWholeOnce message start (heard.before ++ (came.up_to ++ came.one ∷ []))
+        came.rest log }
+    ensures to_end { (start : Start) (events : List Event) (parts : List Part)
+        (message : MessageView) (numbers : List ℕ)
+        (heard : IsHeardTogether placed_to_end start events parts message numbers)
         (came : IsThroughWith (behind_digit numbers) message.identity (heard.first ∷ heard.later))
         (log : List TaggedCopy) → PrintsCombinedToEnd start events log
         → IsPrintedWholeOnce message start (heard.before ++ (came.up_to ++ came.one ∷ []))
@@ -96,8 +105,8 @@ pub fn a_log_has_a_message_heard_together_whole_once()
 /// EA01 with the line TEST is sent twice in one emission. In the first sending both words of its
 /// first T are lost, and in the second those of its E.
 pub fn there_is_a_message_heard_together()
-    ensures { (heard : IsHeardTogether at_its_slot (heard_elements twice_heard) twice_parts
-        example_message example_numbers)
+    ensures { (heard : IsHeardTogether placed_to_end at_its_slot (heard_elements twice_heard)
+        twice_parts example_message example_numbers)
         × IsThroughWith (behind_digit example_numbers) example_message.identity
         (heard.first ∷ heard.later) }
 {}

@@ -164,12 +164,18 @@ heard_with setting copy = record {
   positions = copy.positions;
 }
 
--- these are all copies that are found where these events are all, with their positions
-pub record ArePlacedIn (events : List Event) (copies : List PlacedCopy) : Type 0 where
+-- which copies are looked at, by the bits and the locks in them: those that have ended so far, or all
+-- that are found to the end
+abbrev pub Finding : Type 0
+Finding = List Bool → List Lock → Now → List PlacedCopy
+
+-- these are the copies that are looked at in these events, with their positions
+pub record ArePlacedIn (finding : Finding) (events : List Event) (copies : List PlacedCopy)
+    : Type 0 where
   pub locks : List Lock
   pub now : Now
   pub stands : IsNow (elements_among events) locks now
-  pub whole : copies ≡ placed_to_end (elements_among events) locks now
+  pub whole : copies ≡ finding (elements_among events) locks now
 
 -- none of these copies bears the identity
 abbrev pub NoneBears : Identity → List HeardCopy → Type 0
@@ -191,10 +197,10 @@ pub record IsTakenTogether (start : Start) (events : List Event) (parts : List P
   pub few_positions : length copy.positions ≤ most_positions
   pub runs_on : RunsOnAs (behind_digit numbers) behind copy.positions
 
--- What has to be met, so that a message is printed whole once of several sendings, whatever both
--- words of a position were lost in each of them.
-pub record IsHeardTogether (start : Start) (events : List Event) (parts : List Part)
-    (message : MessageView) (numbers : List ℕ) : Type 0 where
+-- What has to be met, so that a message is printed whole once of several sendings, whichever
+-- positions each of them lost.
+pub record IsHeardTogether (finding : Finding) (start : Start) (events : List Event)
+    (parts : List Part) (message : MessageView) (numbers : List ℕ) : Type 0 where
   -- The bits are cut into gaps of any bits and visible emissions.
   pub cut : IsSeenCut (elements_among events) parts
   -- The message has good lines, is told by these combinations, and is not numbered 00.
@@ -205,7 +211,7 @@ pub record IsHeardTogether (start : Start) (events : List Event) (parts : List P
   -- be taken together with the others. All have the same combinations, since positions are joined
   -- by index: a sending with one shift more than another has all behind that one index further.
   pub copies : List PlacedCopy
-  pub found : ArePlacedIn events copies
+  pub found : ArePlacedIn finding events copies
   pub behind : ℕ → ℕ
   pub together : (copy : PlacedCopy) → Contains copies copy
       → copy.found.identity ≡ message.identity
@@ -264,6 +270,6 @@ pub record IsPrintedWholeOnce (message : MessageView) (start : Start)
 pub record IsHeardTogetherOn (channel : Channel) (starts : Starts) (lines : List Line)
     (message : MessageView) (numbers : List ℕ) : Type 0 where
   pub parts : List Part
-  pub heard : IsHeardTogether (start_on starts channel) (events_on channel lines) parts message
-      numbers
+  pub heard : IsHeardTogether placed_to_end (start_on starts channel) (events_on channel lines) parts
+      message numbers
   pub came : IsThroughWith (behind_digit numbers) message.identity (heard.first ∷ heard.later)

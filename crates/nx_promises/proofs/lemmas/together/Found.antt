@@ -5,9 +5,11 @@ use Rattle.std.specs.List.{All, Contains}
 use Rattle.std.proofs.lemmas.Bool.{cases_lt}
 use Rattle.std.proofs.lemmas.List.{length-append}
 use Rattle.std.proofs.lemmas.List.Elements.{All-append, All-contains, All-contains_itself, All-map}
-use Rattle.std.proofs.lemmas.List.Elements.{Contains-append_left, Contains-append_right}
+use Rattle.std.proofs.lemmas.List.Elements.{Contains-append_cases, Contains-append_left}
+use Rattle.std.proofs.lemmas.List.Elements.{Contains-append_right}
+use Rattle.std.proofs.Common.{ap, unwrap_or}
 use Rattle.std.proofs.lemmas.List.Elements.{All-nil, All-weaker}
-use Rattle.nx_envelope.specs.Copies.{Copy, copies}
+use Rattle.nx_envelope.specs.Copies.{Copy, closed_copy, copies, ended_copies, ended_copy, headers}
 use Rattle.nx_sync.specs.Laws.{Extends, same, newer, GoesOn, stands_still, is_past}
 use Rattle.nx_sync.specs.Locks.{IsLocked, IsNow, IsPast, Lock, Now, Past, hunting, locked}
 use Rattle.nx_sync.specs.Words.{first_role, whole_words, word_of_lock}
@@ -19,7 +21,10 @@ use Rattle.nx_copies.specs.copies.FoundCopies.{all_in, found_copy}
 use Rattle.nx_copies.specs.copies.LockText.{lock_text}
 use Rattle.nx_copies.proofs.lemmas.locks.Found.{IsCopyIn, all_in_placed, text_placed}
 use Rattle.nx_copies.proofs.lemmas.locks.Told.{whole_heard}
+use Rattle.nx_copies.proofs.lemmas.emissions.Copies.{copy_at}
+use Rattle.nx_copies.proofs.lemmas.locks.Found.{filter_map-all}
 use Rattle.nx_copies.proofs.lemmas.once.Rising.{contains_map}
+use Rattle.nx_combine.specs.CopyPositions.{ended_placed, standing_placed}
 use Rattle.nx_combine.specs.CopyPositions.{PlacedCopy, lock_bytes, lock_positions, past_placed, placed}
 use Rattle.nx_combine.specs.CopyPositions.{placed_to_end, positions_in_past}
 use Rattle.nx_promises.specs.laws.Together.{IsOfLostLock}
@@ -293,3 +298,40 @@ pub lock_among : (bits more : List Bool) (ls locks : List Lock) (p t : ℕ) (now
 lock_among bits more ls locks p t now is stands =
     among_by bits more ls locks p t now is stands
     (goes-on bits more ls locks (locked p t) now is stands)
+
+-- ---- the copies that have ended so far are among those to the end
+
+-- a copy that has ended in a text is one of its copies
+ended_one : (bytes : List ℕ) → All (Contains (copies bytes)) (ended_copies bytes)
+unfolding ended_copies copies
+ended_one bytes =
+    filter_map-all (Contains (headers bytes)) (Contains (copies bytes)) (ended_copy bytes)
+    (λ h copy there e.
+    let same : copy_at bytes h ≡ copy = ap (λ o. unwrap_or o (closed_copy bytes h)) e in
+    subst (Contains (copies bytes)) same (contains_map (copy_at bytes) (headers bytes) h there))
+    (headers bytes) (All-contains_itself (headers bytes))
+
+standing_within : (bits : List Bool) (now : Now)
+    → All (Contains (standing_placed copies bits now)) (standing_placed ended_copies bits now)
+standing_within bits (hunting p) = All-nil (Contains [])
+standing_within bits (locked p t) =
+    let n = whole_words bits t in
+    let bytes = lock_bytes bits t n in
+    All-map (Contains (standing_placed copies bits (locked p t))) (made bits [] t n Ended t n)
+    (ended_copies bytes)
+    (All-weaker (Contains (copies bytes))
+    (λ one. Contains (standing_placed copies bits (locked p t)) (made bits [] t n Ended t n one))
+    (λ one there. contains_map (made bits [] t n Ended t n) (copies bytes) one there)
+    (ended_copies bytes) (ended_one bytes))
+
+pub ended_within : (bits : List Bool) (locks : List Lock) (now : Now) (copy : PlacedCopy)
+    → Contains (ended_placed bits locks now) copy → Contains (placed_to_end bits locks now) copy
+unfolding ended_placed placed_to_end
+ended_within bits locks now copy there =
+    elim (Contains-append_cases (past_placed bits locks) (standing_placed ended_copies bits now) copy
+    there) [
+      | inl past ↦ Contains-append_left (past_placed bits locks) _ copy past
+      | inr standing ↦ Contains-append_right (past_placed bits locks) _ copy
+          (All-contains (Contains (standing_placed copies bits now))
+          (standing_placed ended_copies bits now) copy (standing_within bits now) standing)
+    ]

@@ -10,22 +10,26 @@ use Rattle.nx_envelope.specs.declared.identity.Identity.{Identity}
 use Rattle.nx_envelope.proofs.lemmas.headers.Identities.{same_identity-true}
 use Rattle.nx_memory.specs.Selection.{admits}
 use Rattle.nx_station.specs.reception.Sendings.{Part}
+use Rattle.nx_sync.specs.Locks.{Lock, Now}
 use Rattle.nx_copies.specs.Events.{Event, Start, elements_among, first_setting, setting_at}
 use Rattle.nx_copies.specs.copies.FoundCopies.{TaggedCopy, tag}
 use Rattle.nx_copies.specs.copies.Printing.{is_number_00}
 use Rattle.nx_copies.proofs.lemmas.locks.Found.{one_told}
-use Rattle.nx_combine.specs.CombinedPrinting.{PrintsCombinedToEnd, printed_of_placed}
-use Rattle.nx_combine.specs.CopyPositions.{HeardCopy, PlacedCopy, heard_copies, placed_to_end}
+use Rattle.nx_combine.specs.CombinedPrinting.{HasPrintedCombined, PrintsCombined, PrintsCombinedToEnd}
+use Rattle.nx_combine.specs.CombinedPrinting.{printed_of_placed}
+use Rattle.nx_combine.specs.CopyPositions.{HeardCopy, PlacedCopy, ended_placed, heard_copies}
+use Rattle.nx_combine.specs.CopyPositions.{placed_to_end}
 use Rattle.nx_combine.specs.Families.{has_family, last_index, most_positions}
 use Rattle.nx_combine.specs.Judging.{Judged, all_copies, all_printed, judged_behind}
 use Rattle.nx_combine.specs.Laws.{AreHeardTogether, Arrives, IsHeardOf, IsSending}
 use Rattle.nx_combine.specs.Laws.{IsWholeOnce, RunsOnAs, bears, text_sent}
 use Rattle.nx_combine.proofs.lemmas.Held.{index_joined-none}
 use Rattle.nx_combine.proofs.lemmas.Once.{all_printed-append, in_order, once_all, once_behind}
-use Rattle.nx_promises.specs.laws.Together.{IsCopyOf, IsHeardTogether, IsPrintedWholeOnce}
+use Rattle.nx_promises.specs.laws.Together.{Finding, IsCopyOf, IsHeardTogether, IsPrintedWholeOnce}
 use Rattle.nx_promises.specs.laws.Together.{IsThroughWith}
 use Rattle.nx_promises.specs.laws.Together.{behind_digit, heard_with, none_judged}
 use Rattle.nx_promises.proofs.lemmas.together.Begun.{judged_behind-append, none_begun, none_whole}
+use Rattle.nx_promises.proofs.lemmas.together.Found.{ended_within}
 use Rattle.nx_promises.proofs.lemmas.together.Heard.{are_heard}
 use Rattle.nx_promises.proofs.lemmas.together.Sending.{copy_arrives}
 use Rattle.nx_promises.proofs.lemmas.together.Told.{sent-ended, sent-text, sent-whole}
@@ -42,8 +46,15 @@ family_by : (selected number : Bool) (few : Bool) → selected ≡ true → numb
 family_by selected number few chosen not_00 fits =
     ap₂ (λ s n. s && not n && few) chosen not_00 ∙ fits
 
-module _ (start : Start) (events : List Event) (parts : List Part) (message : MessageView)
-    (numbers : List ℕ) (t : IsHeardTogether start events parts message numbers) where
+-- what is looked at are copies that are found to the end
+abbrev AreWithin : Finding → Type 0
+AreWithin finding =
+    (bits : List Bool) (locks : List Lock) (now : Now) (copy : PlacedCopy)
+    → Contains (finding bits locks now) copy → Contains (placed_to_end bits locks now) copy
+
+module _ (finding : Finding) (within : AreWithin finding) (start : Start) (events : List Event)
+    (parts : List Part) (message : MessageView) (numbers : List ℕ)
+    (t : IsHeardTogether finding start events parts message numbers) where
   abbrev sent : List ℕ
   sent = behind_digit numbers
 
@@ -69,7 +80,8 @@ module _ (start : Start) (events : List Event) (parts : List Part) (message : Me
         locks = t.found.locks;
         now = t.found.now;
         stands = t.found.stands;
-        found = subst (λ (l : List PlacedCopy). Contains l copy) t.found.whole there;
+        found = within bits t.found.locks t.found.now copy
+            (subst (λ (l : List PlacedCopy). Contains l copy) t.found.whole there);
       } in
       let setting = setting_at (first_setting start) events copy.found.place in
       record {
@@ -156,19 +168,19 @@ module _ (start : Start) (events : List Event) (parts : List Part) (message : Me
       }
 
   -- what is printed is what is judged in order
-  printed_all : (log : List TaggedCopy) → PrintsCombinedToEnd start events log
+  printed_all : (log : List TaggedCopy) → PrintsCombined finding start events log
       → log ≡ all_copies (all_printed (none_judged start) (t.before ++ t.first ∷ t.later))
   printed_all log prints =
       prints.printed
       ∙ ap (printed_of_placed start events)
-      (one_told (placed_to_end bits) bits prints.locks t.found.locks prints.now t.found.now
+      (one_told (finding bits) bits prints.locks t.found.locks prints.now t.found.now
       prints.stands t.found.stands ∙ sym t.found.whole)
       ∙ ap all_copies (sym (in_order (none_judged start)
       (heard_copies (first_setting start) events t.copies)))
       ∙ ap (λ l. all_copies (all_printed (none_judged start) l)) t.in_order
 
   pub printed_whole : (came : IsThroughWith sent identity (t.first ∷ t.later))
-      (log : List TaggedCopy) → PrintsCombinedToEnd start events log
+      (log : List TaggedCopy) → PrintsCombined finding start events log
       → IsPrintedWholeOnce message start (t.before ++ (came.up_to ++ came.one ∷ [])) came.rest log
   printed_whole came log prints =
       let mid = came.up_to in
@@ -197,3 +209,22 @@ module _ (start : Start) (events : List Event) (parts : List Part) (message : Me
             (ap (λ j. all_printed j rest)
             (sym (judged_behind-append (none_judged start) t.before up_to))) all);
       }
+
+pub whole_to_end : (start : Start) (events : List Event) (parts : List Part)
+    (message : MessageView) (numbers : List ℕ)
+    (t : IsHeardTogether placed_to_end start events parts message numbers)
+    (came : IsThroughWith (behind_digit numbers) message.identity (t.first ∷ t.later))
+    (log : List TaggedCopy) → PrintsCombinedToEnd start events log
+    → IsPrintedWholeOnce message start (t.before ++ (came.up_to ++ came.one ∷ [])) came.rest log
+whole_to_end start events parts message numbers t =
+    printed_whole placed_to_end (λ bits locks now copy there. there) start events parts message
+    numbers t
+
+pub whole_so_far : (start : Start) (events : List Event) (parts : List Part)
+    (message : MessageView) (numbers : List ℕ)
+    (t : IsHeardTogether ended_placed start events parts message numbers)
+    (came : IsThroughWith (behind_digit numbers) message.identity (t.first ∷ t.later))
+    (log : List TaggedCopy) → HasPrintedCombined start events log
+    → IsPrintedWholeOnce message start (t.before ++ (came.up_to ++ came.one ∷ [])) came.rest log
+whole_so_far start events parts message numbers t =
+    printed_whole ended_placed ended_within start events parts message numbers t
