@@ -74,7 +74,7 @@ class State:
 
     def __init__(self, path):
         self.path = path and os.path.abspath(path)
-        self.is_new = True
+        self.is_new = self.is_changed = True
         self.kept = {"version": 1, "file": None, "changed": 0, "place": None, "is_open": True, "next": 0,
                      "seen": [], "old": [], "is_short": False}
         if path:
@@ -109,11 +109,12 @@ class State:
 
     def save(self):
         """Brings it to the disk: what was there before stands until all of it does."""
+        self.is_changed = False
         if not self.path:
             return
         try:
             with open(self.path + ".new", "w", encoding="ascii") as file:
-                json.dump(self.kept, file, separators=(",", ":"))
+                file.write(json.dumps(self.kept, separators=(",", ":")))
                 file.flush()
                 os.fsync(file.fileno())
             os.replace(self.path + ".new", self.path)
@@ -313,6 +314,7 @@ class Follower:
             place = entries[-1].next
 
     def note_change(self):
+        self.state.is_changed = True
         self.state.kept["changed"] = self.log.status().st_mtime_ns
 
     def stands(self):
