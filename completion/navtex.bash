@@ -1,4 +1,4 @@
-# Completion of the arguments of navtex and its tools for sound, for bash. Which commands and options there are, and what each takes, is read from their own help.
+# Completion of the arguments of navtex and its tools, for bash. Which commands and options there are, and what each takes, is read from their own help.
 
 # What may stand for a value, of a line of help as `<KIND> The words that are meant: dx, rx or all`.
 _navtex_values() {
@@ -45,7 +45,7 @@ _navtex() {
     fi
     mapfile -t COMPREPLY < <(compgen -W "$choices" -- "$word")
 }
-# The tools for sound: options, and of an option its values. navtex-watch hands its options on.
+# The tools: options, and of an option its values. navtex-watch hands its options on.
 _navtex_tool() {
     local word=${COMP_WORDS[COMP_CWORD]} before=${COMP_WORDS[COMP_CWORD - 1]} help choices='' value=''
     help=$("${COMP_WORDS[0]/%watch/elements}" --help 2>/dev/null)
@@ -60,4 +60,4 @@ _navtex_tool() {
 }
 # behind < and > bash completes the names of files
 complete -o default -F _navtex navtex
-complete -o default -F _navtex_tool navtex-elements navtex-tones navtex-watch
+complete -o default -F _navtex_tool navtex-elements navtex-tones navtex-watch navtex-follow navtex-alarm

@@ -1,4 +1,4 @@
-# Completion of the arguments of navtex and its tools for sound, for fish. Which commands and options there are, and what each takes, is read from their own help.
+# Completion of the arguments of navtex and its tools, for fish. Which commands and options there are, and what each takes, is read from their own help.
 
 # Each command and, behind a tab, what it does.
 function __navtex_commands
@@ -49,7 +49,7 @@ function __navtex_values
     end
 end
 
-# The help of a tool for sound; navtex-watch hands its options on.
+# The help of a tool; navtex-watch hands its options on.
 function __navtex_tool_help
     set --local given (commandline --tokenize --cut-at-cursor --current-process)
     set --local tool (string replace --regex 'watch$' elements -- $given[1])
@@ -68,12 +68,12 @@ function __navtex_tool_values
     end
 end
 
-# Each option of a tool for sound and, behind a tab, what it does.
+# Each option of a tool and, behind a tab, what it does.
 function __navtex_tool_options
     __navtex_tool_help | string replace --regex --filter '^  (?:-., )?(--[a-z][a-z-]*)(?: [A-Z{]\S*)? *(.*)' '$1\t$2'
 end
 
-for tool in navtex-elements navtex-tones navtex-watch
+for tool in navtex-elements navtex-tones navtex-watch navtex-follow navtex-alarm
     complete -c $tool -n 'string match --quiet -- "-*" (commandline --current-token)' -a '(__navtex_tool_options)'
     complete -c $tool -a '(__navtex_tool_values)'
 end

@@ -67,11 +67,11 @@ pub fn a_visible_sending_arrives()
         → (setting : Setting) → Arrives (behind_digit numbers) (heard_with setting copy) }
 {}
 
-/// A message is printed whole once, letter for letter, from the bits of its sendings on, though each
-/// of them may have lost other letters; and nothing of it is printed afterwards. It is so where the
-/// sendings are visible and heard together. It is printed with the copy with which the last of its
-/// combinations came through, at the latest. So it is of the copies that have ended so far, and of
-/// all copies where the events end.
+/// A message is printed whole once, letter for letter, from the bits of its sendings on, though
+/// each of them may have lost other letters; and nothing of it is printed afterwards. It is so
+/// where the sendings are visible and heard together. It is printed with the copy with which the
+/// last of its combinations came through, at the latest. So it is of the copies that have ended so
+/// far, and of all copies where the events end.
 pub fn a_message_heard_together_is_printed_whole_once()
     ensures so_far { (start : Start) (events : List Event) (parts : List Part)
         (message : MessageView) (numbers : List ℕ)

@@ -164,8 +164,8 @@ heard_with setting copy = record {
   positions = copy.positions;
 }
 
--- which copies are looked at, by the bits and the locks in them: those that have ended so far, or all
--- that are found to the end
+-- which copies are looked at, by the bits and the locks in them: those that have ended so far, or
+-- all that are found to the end
 abbrev pub Finding : Type 0
 Finding = List Bool → List Lock → Now → List PlacedCopy
 
@@ -270,6 +270,7 @@ pub record IsPrintedWholeOnce (message : MessageView) (start : Start)
 pub record IsHeardTogetherOn (channel : Channel) (starts : Starts) (lines : List Line)
     (message : MessageView) (numbers : List ℕ) : Type 0 where
   pub parts : List Part
-  pub heard : IsHeardTogether placed_to_end (start_on starts channel) (events_on channel lines) parts
+  pub heard : IsHeardTogether placed_to_end (start_on starts channel) (events_on channel lines)
+      parts
       message numbers
   pub came : IsThroughWith (behind_digit numbers) message.identity (heard.first ∷ heard.later)

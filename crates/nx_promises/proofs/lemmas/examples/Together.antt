@@ -391,7 +391,8 @@ few_families : (heard : HeardCopy) → length (families_after [] heard) ≤ 1
 unfolding families_after index_joined
 few_families heard = begun_if heard (has_family heard)
 
-pub twice_together : IsHeardTogether placed_to_end at_its_slot events twice_parts example_message example_numbers
+pub twice_together : IsHeardTogether placed_to_end at_its_slot events twice_parts example_message
+    example_numbers
 unfolding heard_copies
 twice_together =
     record {

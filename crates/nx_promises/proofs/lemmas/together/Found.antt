@@ -328,7 +328,8 @@ pub ended_within : (bits : List Bool) (locks : List Lock) (now : Now) (copy : Pl
     → Contains (ended_placed bits locks now) copy → Contains (placed_to_end bits locks now) copy
 unfolding ended_placed placed_to_end
 ended_within bits locks now copy there =
-    elim (Contains-append_cases (past_placed bits locks) (standing_placed ended_copies bits now) copy
+    elim (Contains-append_cases (past_placed bits locks) (standing_placed ended_copies bits now)
+    copy
     there) [
       | inl past ↦ Contains-append_left (past_placed bits locks) _ copy past
       | inr standing ↦ Contains-append_right (past_placed bits locks) _ copy
