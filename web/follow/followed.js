@@ -1,7 +1,7 @@
 // The entries of a log that is followed, as the list of messages takes them: in the order of the log.
 import { Marks } from './marks.js';
 
-const ALARMING = 237600; // seconds, 66 hours, before the newest entry in which a message rings
+const ALARMING = 200; // entries at the end of the log that may ring
 const NOTHING_REFUSED = Object.freeze([0, 1, 2].map(() => ({ stations: [], subjects: [] })));
 
 export class FollowedLog {
@@ -18,10 +18,10 @@ export class FollowedLog {
         return this.#messages;
     }
 
-    /** The messages that may ring: who opens an old log hears no alarm of last month. */
+    /** The messages that may ring: who opens an old log hears no alarm of last year. They are counted, and
+     *  no clock decides it. */
     get alarming() {
-        const newest = this.#messages.reduce((most, { moment }) => Math.max(most, moment), 0);
-        return this.#messages.filter(({ moment }) => moment > newest - ALARMING);
+        return this.#messages.slice(-ALARMING);
     }
 
     /** The watch alone refuses. */

@@ -78,13 +78,17 @@ export class FollowSection {
 
     /** Begins; answers the log that is followed, as the list of messages takes it. */
     open(page) {
-        this.#log = new FollowedLog(new Marks(new URL(this.#name, page).pathname, () => this.#readMarks()));
+        let place = '';
         try {
-            this.#reader = new LogReader(addressOf(this.#name, page), (...given) => fetch(...given));
+            const address = addressOf(this.#name, page);
+            place = new URL(address).pathname;
+            this.#reader = new LogReader(address, (...given) => fetch(...given));
         } catch (fault) {
-            find('followed').textContent = fault.message;
-            find('followed').classList.add('fault');
+            if (!(fault instanceof PageFault)) throw fault;
+            this.#tell('failing', fault.message);
+            find('followed').hidden = true;
         }
+        this.#log = new FollowedLog(new Marks(place, () => this.#readMarks()));
         return this.#log;
     }
 
@@ -131,31 +135,34 @@ export class FollowSection {
     }
 
     #show({ damaged }) {
-        find('followed').classList.remove('fault');
+        this.#tell('failing', '');
         find('followed').textContent = `Read at ${civilOf(Math.floor(this.#now))} UTC.`;
         const last = this.#log.messages.at(-1);
         find('last-heard').textContent = last === undefined ? 'The log has no message yet.'
             : `Last heard: ${identityOf(last)} at ${last.time} UTC.`;
-        find('damaged').hidden = damaged === null;
-        find('damaged').textContent = damaged === null ? '' : `${this.#name} is damaged at line ${damaged}, or is no `
-            + 'log of a watch. What stands before that line is shown, and nothing behind it.';
+        this.#tell('damaged', damaged === null ? '' : `${this.#name} is damaged at line ${damaged}, or is no log of a `
+            + 'watch. What stands before that line is shown, and nothing behind it.');
         this.#showSilence();
     }
 
     #showFailing(words) {
-        find('followed').classList.add('fault');
-        find('followed').textContent = `${this.#name} can't be read since ${civilOf(Math.floor(this.#failing))} UTC. `
-            + `${words}. ${this.#isRead ? 'What is shown is from before. ' : ''}It is tried again.`;
+        this.#tell('failing', `${this.#name} can't be read since ${civilOf(Math.floor(this.#failing))} UTC. `
+            + `${words}. ${this.#isRead ? 'What is shown is from before. ' : ''}It is tried again.`);
         this.#showSilence();
+    }
+
+    /** Shows words where they are others than before, so that a screen reader says them once. */
+    #tell(id, words) {
+        find(id).hidden = words === '';
+        if (find(id).textContent !== words) find(id).textContent = words;
     }
 
     /** Says where the log has not grown for longer than it should. */
     #showSilence() {
         const seconds = this.#grown === null ? 0 : this.#now - this.#grown;
         const isSilent = this.silence > 0 && seconds > this.silence * HOUR;
-        find('silent').hidden = !isSilent;
-        find('silent').textContent = isSilent ? `The log has not grown for ${spanSaid(seconds)}. Look whether the `
-            + 'watch runs and hears.' : '';
+        this.#tell('silent', isSilent ? `The log has not grown for ${spanSaid(seconds)}. Look whether the watch runs `
+            + 'and hears.' : '');
     }
 
     #readMarks() {

@@ -164,6 +164,9 @@ async function triesRanges() {
     file.text = keptOf(many.slice(0, 5));
     const cut = await reader.read();
     assert.deepEqual([cut.isAnew, cut.added.length], [true, 5]);
+    file.text = `${keptOf(many.slice(0, 4))}${many[4]} `; // the gate before the last one is closed again
+    const closed = await reader.read();
+    assert.deepEqual([closed.isAnew, closed.added.length], [true, 4]);
 }
 
 /** What ends within an entry may still be written: it is told as damaged where it stays so. */
@@ -208,6 +211,7 @@ function triesNames() {
     assert.equal(addressOf('watch.log', 'http://x/a/navtex.html?log=watch.log'), 'http://x/a/watch.log');
     assert.throws(() => addressOf('http://y/watch.log', 'http://x/navtex.html'), /is on another server/);
     assert.throws(() => addressOf('javascript:alert(1)', 'http://x/navtex.html'), /is on another server/);
+    assert.throws(() => addressOf('http://[', 'http://x/navtex.html'), /is no name of a log/);
     assert.throws(() => addressOf('watch.log', 'file:///navtex.html?log=watch.log'), /opened from a disk/);
     assert.deepEqual([30, 60, 7199, 7200, 172800].map(spanSaid),
         ['less than a minute', '1 minute', '119 minutes', '2 hours', '2 days']);
@@ -236,12 +240,12 @@ function triesMarks() {
     assert.equal(opened(entries).messages.length, 3);
 }
 
-/** Who opens an old log hears no alarm of last month. */
+/** Who opens an old log hears no alarm of last year; an entry of a clock far ahead silences none. */
 function triesAlarming() {
     const log = new FollowedLog(new Marks('/l', () => {}, null));
-    log.take({ isAnew: false, added: [0, 1, 237600, 237601].map((after) =>
-        entryAt(entryOf('TEST\n', { moment: 1735692000 + after }))) });
-    assert.deepEqual(log.alarming.map(({ moment }) => moment - 1735692000), [237600, 237601]);
+    const moments = [...Array.from({ length: 250 }, (_, at) => 1735692000 + at), 32503679999];
+    log.take({ isAnew: false, added: moments.map((moment) => entryAt(entryOf('TEST\n', { moment }))) });
+    assert.deepEqual(log.alarming.map(({ moment }) => moment), moments.slice(-200));
 }
 
 /** Of the entries of a message the best is shown. */
@@ -276,7 +280,10 @@ function triesCopies() {
 
 /** 220 texts with their places beside them, which web/trial/places.py wrote or somebody by hand. */
 function triesPositions() {
-    const lines = readFileSync(new URL('places.jsonl', import.meta.url), 'utf8').trim().split('\n');
+    const kept = readFileSync(new URL('places.jsonl', import.meta.url), 'utf8');
+    const made = spawnSync('python3', [new URL('places.py', import.meta.url).pathname], { encoding: 'utf8' });
+    assert.equal(made.stdout, kept);
+    const lines = kept.trim().split('\n');
     assert.ok(lines.length >= 200);
     const degrees = ([letter, ...digits], minutes) =>
         ('SW'.includes(letter) ? -1 : 1) * (Number(digits.join('')) + Number(minutes) / 60);

@@ -154,7 +154,9 @@ async function triesLogs({ browser, tab, room }) {
     const log = await saved(tab, room, '#save-log', 'navtex.log');
     for (const entry of example('heard-badly.log').split(/(?=\[)/)) assert.ok(log.includes(entry), entry);
     const lines = (await saved(tab, room, '#save-json', 'navtex.json')).split('\n').slice(0, -1).map(JSON.parse);
-    assert.equal(lines.length, count + 1, 'all messages, of EA01 both copies');
+    const others = await tab.textsOf('#list .copies > div');
+    assert.ok(others.length > 0);
+    assert.equal(lines.length, count + others.length, 'each copy of each message');
     assert.ok(lines.some(({ text }) => text === 'ABCDEFGHIJKLMNOPQRSTUVWX\n'));
     tab.agrees = false;
     await tab.press('#anew');

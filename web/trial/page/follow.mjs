@@ -10,7 +10,6 @@ import { setTimeout as pause } from 'node:timers/promises';
 import { entryOf, keptOf, put, writeKept } from '../kept.mjs';
 
 const SOON = 20000; // milliseconds in which the page has read the log again, on a busy machine
-const PORT = 8417;
 
 /** The page needs no receiver here, so it isn't opened from the disk first. */
 export const isOpened = false;
@@ -19,11 +18,22 @@ export const isOpened = false;
 const host = Object.values(networkInterfaces()).flat()
     .find(({ internal, family }) => !internal && family === 'IPv4')?.address ?? '127.0.0.1';
 
+/** A port that no program listens to. */
+async function freePort() {
+    const server = createServer();
+    await new Promise((resolve) => server.listen(0, '0.0.0.0', resolve));
+    const { port } = server.address();
+    await new Promise((resolve) => server.close(resolve));
+    return port;
+}
+
+const port = await freePort(); // of http.server, which comes back where it was
+
 /** http.server, which gives a file whole each time. */
 async function plainServer(folder) {
-    const server = spawn('python3', ['-m', 'http.server', String(PORT), '--bind', '0.0.0.0', '--directory', folder],
+    const server = spawn('python3', ['-m', 'http.server', String(port), '--bind', '0.0.0.0', '--directory', folder],
         { stdio: 'ignore' });
-    const address = `http://${host}:${PORT}`;
+    const address = `http://${host}:${port}`;
     await answers(address);
     return { address, stop: () => new Promise((resolve) => { server.once('exit', resolve); server.kill(); }) };
 }
@@ -57,12 +67,12 @@ async function rangeServer(folder) {
             ...(from > 0 ? { 'Content-Range': `bytes ${from}-${bytes.length - 1}/${bytes.length}` } : {}),
         }).end(bytes.subarray(from));
     });
-    await new Promise((resolve) => server.listen(PORT + 1, '0.0.0.0', resolve));
+    await new Promise((resolve) => server.listen(0, '0.0.0.0', resolve));
     const stop = async () => {
         server.close();
         server.closeAllConnections();
     };
-    return { address: `http://${host}:${PORT + 1}`, sent, stop };
+    return { address: `http://${host}:${server.address().port}`, sent, stop };
 }
 
 /** A folder with the page in it, for a log. */
@@ -97,7 +107,7 @@ async function triesLog(browser, server, folder) {
     rmSync(log, { force: true });
     const tab = await browser.tab();
     await open(tab, server);
-    assert.match(await tab.textOf('followed'),
+    assert.match(await tab.textOf('failing'),
         /^watch.log can't be read since .* UTC. The server answers 404 .*It is tried again.$/);
     writeKept(log, []);
     await tab.until("document.getElementById('last-heard').textContent === 'The log has no message yet.'", SOON);
@@ -177,7 +187,7 @@ async function triesPlain({ browser, room }) {
         await untilShown(tab, 'EA02', 'EB01');
         await server.stop();
         const words = "The server doesn't answer. What is shown is from before.";
-        await tab.until(`document.getElementById('followed').textContent.includes(${JSON.stringify(words)})`, SOON);
+        await tab.until(`document.getElementById('failing').textContent.includes(${JSON.stringify(words)})`, SOON);
         assert.deepEqual(await shown(tab), ['EA02', 'EB01']);
         put(`${folder}/watch.log`, THIRD);
         server = await plainServer(folder);
@@ -234,17 +244,20 @@ async function triesWhatIsGiven({ browser, room, address }) {
         for (const id of ['anew', 'microphone', 'file']) {
             assert.equal(await tab.value(`document.getElementById('${id}').offsetParent`), null, id);
         }
-        await tab.open(`http://localhost:${PORT}/navtex.html?log=watch.log`);
+        await tab.open(`http://localhost:${port}/navtex.html?log=watch.log`);
         await tab.ready();
         assert.equal(await tab.value("document.getElementById('ask-place').hidden"), false);
         assert.equal(await isSeen(tab, '.by-https'), true);
         await tab.open(`${server.address}/navtex.html?log=http://localhost:1/watch.log`);
         await tab.ready();
-        assert.match(await tab.textOf('followed'),
+        assert.match(await tab.textOf('failing'),
             /is on another server. The page follows a log of its own server alone/);
+        await tab.openPage(`${server.address}/navtex.html`); // a receiver by plain http
+        assert.equal(await tab.value("document.getElementById('microphone').hidden"), host !== '127.0.0.1');
+        assert.equal(await isSeen(tab, '#listen .by-http'), host !== '127.0.0.1');
         await tab.open(`${address}?log=watch.log`);
         await tab.ready();
-        assert.match(await tab.textOf('followed'),
+        assert.match(await tab.textOf('failing'),
             /^This page was opened from a disk, and there a browser lets no page read a file/);
         assert.deepEqual(tab.errors, []);
         await tab.close();
@@ -269,7 +282,7 @@ async function triesPlaces({ browser, room, pictures }) {
     try {
         writeKept(`${folder}/watch.log`, PLACES);
         const tab = await browser.tab();
-        await tab.open(`http://localhost:${PORT}/navtex.html?log=watch.log`);
+        await tab.open(`http://localhost:${port}/navtex.html?log=watch.log`);
         await tab.ready();
         await untilShown(tab, 'New ED12', 'New GL13', 'New EB11', 'New EA10');
         assert.deepEqual(await tab.textsOf('#list mark.place'), ['55-12.0N 006-40.0E', '55-12.0N 006-40.0E',
@@ -319,18 +332,18 @@ async function keepsPictures(tab, pictures) {
     if (!pictures) return;
     mkdirSync(pictures, { recursive: true });
     const keep = async (name, ...size) => {
-        await tab.value('window.scrollTo(0, 0)');
+        await tab.value('document.activeElement.blur(); window.scrollTo(0, 0)');
         writeFileSync(`${pictures}/${name}.png`, await tab.picture(...size));
     };
-    await keep('follow-day', 1280, 1000, false);
+    await keep('follow-day', 1280, 960, false);
     await keep('follow-phone', 390, 844, true);
     await tab.value("document.getElementById('places').scrollIntoView()");
     writeFileSync(`${pictures}/follow-phone-chart.png`, await tab.picture(390, 844, true));
     await tab.press('#night');
-    await keep('follow-night', 1280, 1000, false);
+    await keep('follow-night', 1280, 960, false);
     await tab.press('#night');
     await tab.call('Emulation.setEmulatedMedia', { features: [{ name: 'prefers-color-scheme', value: 'dark' }] });
-    await keep('follow-dark', 1280, 1000, false);
+    await keep('follow-dark', 1280, 960, false);
 }
 
 export const trials = (kind) => (kind === 'chromium'
