@@ -201,6 +201,45 @@ async function triesPlain({ browser, room }) {
     }
 }
 
+const LIGHTTPD = '/usr/sbin/lighttpd';
+const isLocal = /^(127|10|169\.254|192\.168|172\.(1[6-9]|2\d|3[01]))\./.test(host);
+
+/** The server of navtex-page.service, with its settings: the page and the log, and nothing else. */
+async function triesService({ browser, room }) {
+    if (!existsSync(LIGHTTPD)) {
+        console.error('ci/web: left out: the settings of navtex-page.service, since there is no lighttpd');
+        return;
+    }
+    const folder = folderOf(room, 'service/navtex');
+    const log = `${room}/service/other.log`;
+    writeKept(log, [FIRST]);
+    copyFileSync(log, `${log}.old`);
+    const settings = readFileSync(new URL('../../../package/navtex-page.conf', import.meta.url), 'utf8');
+    writeFileSync(`${folder}/page.conf`, settings.replaceAll('@share@', `${room}/service`));
+    const server = spawn(LIGHTTPD, ['-D', '-f', `${folder}/page.conf`],
+        { stdio: 'ignore', env: { ...process.env, LOG: log, PORT: String(port) } });
+    const address = `http://127.0.0.1:${port}`;
+    try {
+        await answers(address);
+        const answered = async (way, given) => (await fetch(`${address}${way}`, given)).status;
+        for (const way of ['/page.conf', '/navtex.log.old', '/navtex.log/', '/x', '/navtex.html/', '/..%2fother.log']) {
+            assert.equal(await answered(way), 403, way);
+        }
+        for (const method of ['PUT', 'DELETE']) assert.equal(await answered('/navtex.log', { method }), 501, method);
+        assert.equal((await fetch(`http://${host}:${port}/navtex.log`)).status, isLocal ? 200 : 403);
+        assert.equal(await answered('/navtex.log', { headers: { Range: 'bytes=1-' } }), 206);
+        const tab = await browser.tab();
+        await tab.openPage(`${address}/`);
+        await untilShown(tab, 'New EB01');
+        put(log, SECOND);
+        await untilShown(tab, 'New EA02', 'New EB01');
+        assert.deepEqual(tab.errors, []);
+        await tab.close();
+    } finally {
+        server.kill();
+    }
+}
+
 /** A log that doesn't grow is told, by the time of its file. */
 async function triesSilence({ browser, room }) {
     const folder = folderOf(room, 'plain');
@@ -347,4 +386,4 @@ async function keepsPictures(tab, pictures) {
 }
 
 export const trials = (kind) => (kind === 'chromium'
-    ? [triesPlain, triesRanges, triesSilence, triesWhatIsGiven, triesPlaces] : []);
+    ? [triesPlain, triesRanges, triesService, triesSilence, triesWhatIsGiven, triesPlaces] : []);
