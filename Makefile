@@ -55,11 +55,13 @@ uninstall:
 	rm -f $(DESTDIR)$(PREFIX)/bin/navtex
 	rm -f $(DESTDIR)$(PREFIX)/share/man/man1/navtex.1 $(DESTDIR)$(PREFIX)/share/man/man1/navtex-elements.1
 	rm -f $(DESTDIR)$(PREFIX)/share/man/man1/navtex-tones.1 $(DESTDIR)$(PREFIX)/share/man/man8/navtex-watch.8
-	for tool in '' -elements -tones -watch; do rm -f $(DESTDIR)$(PREFIX)/share/bash-completion/completions/navtex$$tool $(DESTDIR)$(PREFIX)/share/fish/vendor_completions.d/navtex$$tool.fish; done
+	rm -f $(DESTDIR)$(PREFIX)/share/man/man1/navtex-follow.1 $(DESTDIR)$(PREFIX)/share/man/man8/navtex-alarm.8
+	for tool in '' -elements -tones -watch -follow -alarm; do rm -f $(DESTDIR)$(PREFIX)/share/bash-completion/completions/navtex$$tool $(DESTDIR)$(PREFIX)/share/fish/vendor_completions.d/navtex$$tool.fish; done
 	rm -f $(DESTDIR)$(PREFIX)/share/zsh/site-functions/_navtex
 	rm -rf $(DESTDIR)$(PREFIX)/lib/navtex
 	rm -f $(DESTDIR)$(PREFIX)/bin/navtex-elements $(DESTDIR)$(PREFIX)/bin/navtex-tones $(DESTDIR)$(PREFIX)/bin/navtex-watch
-	rm -f $(DESTDIR)$(PREFIX)/lib/systemd/system/navtex-watch.service $(DESTDIR)$(PREFIX)/lib/sysusers.d/navtex.conf
+	rm -f $(DESTDIR)$(PREFIX)/bin/navtex-follow $(DESTDIR)$(PREFIX)/bin/navtex-alarm
+	rm -f $(DESTDIR)$(PREFIX)/lib/systemd/system/navtex-watch.service $(DESTDIR)$(PREFIX)/lib/systemd/system/navtex-alarm.service $(DESTDIR)$(PREFIX)/lib/systemd/system/navtex-page.service $(DESTDIR)$(PREFIX)/lib/sysusers.d/navtex.conf
 	rm -rf $(DESTDIR)$(PREFIX)/share/doc/navtex
 
 deb:

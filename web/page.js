@@ -3,6 +3,7 @@ import { clock, breathe } from './hear/sound.js';
 import { logOf } from './hear/files.js';
 import { ListenSection } from './hear/section.js';
 import { keepChoices, keptBefore, readChoices } from './keep/choices.js';
+import { followedIn, FollowSection } from './follow/section.js';
 import { KeptReceiver } from './keep/kept.js';
 import { NoStore, Store } from './keep/store.js';
 import { newWindow, Windows } from './keep/windows.js';
@@ -14,11 +15,19 @@ import { View } from './show/view.js';
 
 const TICK = 1000; // milliseconds
 
+const HEARING = ['listen', 'tones', 'arriving', 'refuse', 'receives']; // what isn't there where a watch is followed
+
 const find = (id) => document.getElementById(id);
 const now = () => Math.floor(clock());
 
 function bytesOfModule() {
     return Uint8Array.from(atob(find('module').textContent.trim()), (letter) => letter.charCodeAt(0));
+}
+
+/** What a browser gives only to a page of its own disk or of https isn't offered elsewhere; it says why. */
+function showWhatIsGiven() {
+    for (const one of document.querySelectorAll('.by-https')) one.hidden = !window.isSecureContext;
+    for (const one of document.querySelectorAll('.by-http')) one.hidden = window.isSecureContext;
 }
 
 class Page {
@@ -32,15 +41,42 @@ class Page {
     #view;
     #listen;
     #messages;
+    #follows = null;    // the part that follows a watch, where the address names its log
 
     start() {
         return this.#faults.try(async () => {
-            this.#joinParts();
+            showWhatIsGiven();
             this.#showClock();
-            await this.#openStore();
-            await this.#open(this.#windows === null || await this.#windows.claim());
+            const log = followedIn(location.href);
+            if (log === null) await this.#receive();
+            else await this.#follow(log);
             document.body.dataset.ready = 'yes';
         });
+    }
+
+    async #receive() {
+        this.#joinParts();
+        await this.#openStore();
+        await this.#open(this.#windows === null || await this.#windows.claim());
+    }
+
+    /** Shows the log of a watch, and hears nothing. */
+    async #follow(log) {
+        for (const id of HEARING) find(id).hidden = true;
+        for (const id of ['watch', 'follows']) find(id).hidden = false;
+        document.body.classList.add('follows');
+        this.#view = new View(this.#choices.view, () => this.#keepChoices());
+        this.#messages = new MessageSection(this.#faults, this.#choices, {
+            channel: () => 0,
+            chosen: () => this.#keepChoices(),
+        });
+        this.#follows = new FollowSection(this.#faults, log, this.#choices.silence, {
+            added: (added) => this.#messages.add(added),
+            anew: () => this.#messages.showAll(),
+            chosen: () => this.#keepChoices(),
+        });
+        this.#messages.open(this.#follows.open(location.href), true);
+        await this.#follows.follow();
     }
 
     #joinParts() {
@@ -68,10 +104,12 @@ class Page {
         find('take-over').addEventListener('click', () => this.#faults.try(() => this.#takeOver()));
     }
 
+    /** Keeps what was chosen here, and what isn't chosen here as it was. */
     #keepChoices() {
-        if (this.#messages === undefined || this.#listen === undefined) return;
-        keepChoices({ view: this.#view.ways, tunings: this.#tones.tunings, ends: this.#listen.ends,
-            ...this.#messages.choices });
+        const heard = this.#listen === undefined ? null : { tunings: this.#tones.tunings, ends: this.#listen.ends };
+        const followed = this.#follows === null ? null : { silence: this.#follows.silence };
+        if (this.#messages === undefined || (heard ?? followed) === null) return;
+        keepChoices({ ...readChoices(), view: this.#view.ways, ...heard, ...followed, ...this.#messages.choices });
     }
 
     #showClock() {

@@ -1,6 +1,7 @@
 // The choices of the page, which stay over a reload: how it looks, the tones of each frequency, what
 // rings, names of stations. A value that is none of these is as if nobody had chosen.
 import { CHANNELS } from '../receiver/state.js';
+import { shipOf } from '../places/ship.js';
 import { PageFault } from '../show/faults.js';
 
 const KEY = 'navtex.choices';
@@ -11,6 +12,8 @@ export const USUAL_TUNING = Object.freeze({ centre: 1000, search: true, exchange
 export const RINGING = ['A', 'B', 'D', 'L', '00']; // a subject, or the number
 const USUAL_RINGING = ['D', '00'];
 const LONGEST_NAME = 40;
+const SILENCES = [0, 4, 8, 12, 24, 48]; // hours after which a log that doesn't grow is told; 0 is never
+const USUAL_SILENCE = 12;
 
 const isObject = (value) => typeof value === 'object' && value !== null && !Array.isArray(value);
 const listed = (value, all, usual) => (Array.isArray(value) ? all.filter((one) => value.includes(one)) : usual);
@@ -32,7 +35,7 @@ function namesOf(value) {
 
 /** Choices of a value that may be anything. */
 export function choicesOf(value) {
-    const { view, tunings, rings, notifies, names, ends } = isObject(value) ? value : {};
+    const { view, tunings, rings, notifies, names, ends, silence, ship } = isObject(value) ? value : {};
     return {
         view: listed(view, ['night', 'large'], []),
         tunings: Array.from({ length: CHANNELS }, (_, channel) => tuningOf(Array.isArray(tunings) && tunings[channel])),
@@ -40,6 +43,8 @@ export function choicesOf(value) {
         notifies: notifies === true,
         names: namesOf(names),
         ends: ends === 'now' ? 'now' : 'changed',
+        silence: SILENCES.includes(silence) ? silence : USUAL_SILENCE,
+        ship: shipOf(ship),
     };
 }
 

@@ -1,26 +1,39 @@
 // What the entries of a log say, read from its text; and the same as JSON, as `navtex log` gives it.
 import { MAX_MOMENT } from './receiver.js';
 
-const HEAD = /\[([A-Z])([A-Z])(\d\d)(?:\/([12]))? (\d{4}-\d\d-\d\d \d\d:\d\d:\d\d) (full|cut|long) (\d+)\/(\d+)\]\n/y;
+const HEAD = /\[([A-Z])([A-Z])(\d\d)(?:\/([12]))? (\d{4}-\d\d-\d\d \d\d:\d\d:\d\d) (full|cut|long) (0|[1-9]\d{0,3})\/(0|[1-9]\d{0,3})\]\n/y;
 const TEXT = /^[A-Z0-9 \n*\-?:().,'=+/]*$/;
+const MOST_CHARACTERS = 4100;
 
-/** The entry that begins at a place of a text and its length, or null where none stands there. */
-export function entryAt(text, at = 0) {
+/** What the head says that stands at a place of a text, and where the text behind it begins; or null. */
+export function headAt(text, at) {
     HEAD.lastIndex = at;
     const head = HEAD.exec(text);
     if (head === null) return null;
-    const [, station, subject, number, channel = '0', civil, how, errors, characters] = head;
-    const begin = at + head[0].length;
-    const body = text.slice(begin, begin + Number(characters));
-    const gap = body === '' || body.endsWith('\n') ? '\n' : '\n\n';
-    const lost = body.split('*').length - 1;
-    const moment = momentOf(civil);
-    const isWhole = body.length === Number(characters) && TEXT.test(body) && lost === Number(errors)
-        && moment !== null && text.startsWith(gap, begin + body.length);
+    const [whole, station, subject, number, channel = '0', time, how] = head;
+    const [errors, characters] = [Number(head[7]), Number(head[8])];
+    const moment = momentOf(time);
+    if (moment === null || errors > characters || characters > MOST_CHARACTERS) return null;
+    return { station, subject, number, channel: Number(channel), time, moment, how, errors, characters,
+        begin: at + whole.length };
+}
+
+/** The entry that begins at a place of a text, or null where none stands there. */
+export function entryAt(text, at = 0) {
+    const head = headAt(text, at);
+    if (head === null) return null;
+    const { begin, ...said } = head;
+    const body = text.slice(begin, begin + said.characters);
+    const gap = gapBehind(body);
+    const isWhole = body.length === said.characters && TEXT.test(body)
+        && body.split('*').length - 1 === said.errors && text.startsWith(gap, begin + body.length);
     if (!isWhole) return null;
-    const length = head[0].length + body.length + gap.length;
-    return { station, subject, number, channel: Number(channel), time: civil, moment, how,
-        errors: lost, characters: body.length, text: body, log: text.slice(at, at + length) };
+    return { ...said, text: body, log: text.slice(at, begin + body.length + gap.length) };
+}
+
+/** What stands behind the text of an entry. */
+export function gapBehind(body) {
+    return body === '' || body.endsWith('\n') ? '\n' : '\n\n';
 }
 
 /** Seconds since 1970 of a time of UTC, as 2025-01-01 00:40:00; null where there is no such time. */

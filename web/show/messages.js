@@ -1,4 +1,5 @@
 // One message, as the page shows it.
+import { placesOf, positionsOf } from '../places/places.js';
 import { identityOf } from '../receiver/entries.js';
 import { subjectName } from './subjects.js';
 
@@ -39,8 +40,8 @@ function countOf(message) {
 }
 
 /** A text in which each lost letter is marked. */
-function textWithMarks(text) {
-    return text.split(/(\*+)/).map((part) => {
+function withLost(text) {
+    return text.split(/(\*+)/).filter((part) => part !== '').map((part) => {
         if (!part.startsWith('*')) return part;
         const mark = made('mark', 'lost', part);
         mark.title = part.length === 1 ? 'a lost letter' : `${part.length} lost letters`;
@@ -48,30 +49,63 @@ function textWithMarks(text) {
     });
 }
 
-/** A message as an item of the list; `rings` says whether it is one of those that ring. */
-export function itemOf(message, { names, rings, onRead }) {
-    const title = made('h3', '', titleOf(message, names));
-    const time = made('time', '', `${message.time} UTC`);
-    time.dateTime = message.time.replace(' ', 'T') + 'Z';
-    const facts = made('p', 'facts', time,
-        `, ${FREQUENCIES[message.channel]}, ${ENDS[message.how]}, ${countOf(message)}`);
-    const text = made('pre', '', ...textWithMarks(message.text.replace(/\n$/, '')));
+/** The text of an entry, with its lost letters and its positions marked. */
+function textOf(entry) {
+    const parts = [];
+    let done = 0;
+    for (const { at, end } of positionsOf(entry)) {
+        parts.push(...withLost(entry.text.slice(done, at)), made('mark', 'place', entry.text.slice(at, end)));
+        done = end;
+    }
+    return made('pre', '', ...parts, ...withLost(entry.text.slice(done).replace(/\n$/, '')));
+}
+
+/** When an entry came, and how much of it. */
+function factsOf(entry) {
+    const time = made('time', '', `${entry.time} UTC`);
+    time.dateTime = entry.time.replace(' ', 'T') + 'Z';
+    return made('p', 'facts', time, `, ${FREQUENCIES[entry.channel]}, ${ENDS[entry.how]}, ${countOf(entry)}`);
+}
+
+/** How far it is to each place of a message, where the ship's place is known. */
+function waysOf(message, waySaid) {
+    const ways = placesOf(message).map((place) => [place.said.replace(/\n/g, ' '), waySaid(place)]);
+    if (ways.length === 0 || ways[0][1] === '') return [];
+    return [made('ul', 'ways facts', ...ways.map(([said, way]) => made('li', '', `${said}: ${way}`)))];
+}
+
+/** The other copies of a message, behind a click. */
+function othersOf({ others }) {
+    if (others.length === 0) return [];
+    const fresh = others.filter(({ isRead }) => !isRead).length;
+    const count = `${others.length} other ${others.length === 1 ? 'copy' : 'copies'} of it`;
+    const words = made('summary', '', fresh > 0 ? `${count}, ${fresh} not read yet` : count);
+    return [made('details', 'copies', words, ...others.map((one) => made('div', '', factsOf(one), textOf(one))))];
+}
+
+/** A message as an item of the list: its best copy, and the others behind it. `rings` says whether it is one
+ *  of those that ring. */
+export function itemOf(message, { names, rings, waySaid, onRead }) {
+    const { best } = message;
+    const title = made('h3', '', titleOf(best, names));
     const head = made('div', 'head', title);
     if (!message.isRead) addUnread(head, title, message, onRead);
     const kinds = ['message', message.isRead ? '' : 'unread', rings ? 'vital' : ''];
-    return made('li', kinds.filter(Boolean).join(' '), made('article', '', head, facts, text));
+    return made('li', kinds.filter(Boolean).join(' '), made('article', '', head, factsOf(best), textOf(best),
+        ...waysOf(message, waySaid), ...othersOf(message)));
 }
 
 function addUnread(head, title, message, onRead) {
     title.prepend(made('span', 'badge', 'New'), ' ');
     const mark = button('Mark as read', () => onRead(message));
-    mark.setAttribute('aria-label', `Mark ${identityOf(message)} as read`);
+    mark.setAttribute('aria-label', `Mark ${identityOf(message.best)} as read`);
     head.append(mark);
 }
 
 /** How many there are and how many of them are new, in words. */
-export function countsOf(all, unread, shown) {
+export function countsOf({ all, unread, chosen, placeless }) {
     if (all === 0) return 'No message was received yet.';
-    const chosen = shown === all ? '' : `, ${shown} of them chosen`;
-    return `${all} ${all === 1 ? 'message' : 'messages'}, ${unread} not read yet${chosen}`;
+    const some = chosen === all ? '' : `, ${chosen} of them chosen`;
+    const left = placeless > 0 ? `. ${placeless} more ${placeless === 1 ? 'has' : 'have'} no place that is read` : '';
+    return `${all} ${all === 1 ? 'message' : 'messages'}, ${unread} not read yet${some}${left}`;
 }

@@ -1,5 +1,6 @@
-// The part of the page with the messages: the list, what is refused, the alarm, logs that are saved and
-// loaded.
+// The part of the page with the messages: the list, the chart of their places, what is refused, the alarm,
+// logs that are saved and loaded.
+import { PlaceSection } from '../places/section.js';
 import { jsonOf } from '../receiver/entries.js';
 import { offer } from '../hear/files.js';
 import { Alarm } from './alarm.js';
@@ -21,6 +22,7 @@ export class MessageSection {
     #names;
     #alarm;
     #list;
+    #places;
     #shownRefusals = '';
 
     /** `on` has `channel()`, the one whose refusals are chosen; and is told `chosen`, where the user
@@ -32,15 +34,25 @@ export class MessageSection {
         this.#alarm = new Alarm(choices, () => this.#names.all, () => this.#choose());
         this.#list = new MessageList({
             names: () => this.#names.all,
-            rings: (message) => this.#alarm.rings(message),
-            onRead: (message) => this.#faults.try(() => this.#markRead([message])),
+            rings: (entry) => this.#alarm.rings(entry),
+            places: () => this.#places,
+            onRead: ({ copies }) => this.#faults.try(() => this.#markRead(copies)),
             onChosen: () => this.#showCounts(),
+        });
+        this.#places = new PlaceSection(faults, choices.ship, {
+            chosen: () => {
+                this.#on.chosen();
+                this.#list.tellPlaces();
+                if (this.#kept !== null) this.#showCounts();
+            },
+            shown: (message) => this.#list.goTo(message),
+            rings: (entry) => this.#alarm.rings(entry),
         });
         this.#join();
     }
 
     get choices() {
-        return { ...this.#alarm.choices, names: this.#names.all };
+        return { ...this.#alarm.choices, names: this.#names.all, ship: this.#places.ship };
     }
 
     /** Shows the messages of a receiver; only a window that receives rings. */
@@ -133,14 +145,16 @@ export class MessageSection {
     }
 
     #showCounts() {
-        const { messages } = this.#kept;
-        const unread = messages.reduce((count, { isRead }) => count + (isRead ? 0 : 1), 0);
-        find('counts').textContent = countsOf(messages.length, unread, this.#list.chosen.length);
+        const { messages, alarming = messages } = this.#kept;
+        const { counts } = this.#list;
+        const { unread } = counts;
+        find('counts').textContent = countsOf(counts);
+        this.#places.show(this.#list.shown);
         find('jump').textContent = unread > 0 ? `Messages: ${unread} new` : 'Messages';
         document.title = unread > 0 ? `(${unread}) ${TITLE}` : TITLE;
         find('read-all').disabled = unread === 0;
         for (const id of ['save-log', 'save-json']) find(id).disabled = messages.length === 0;
-        this.#alarm.watch(this.#receives ? messages : []);
+        this.#alarm.watch(this.#receives ? alarming : []);
     }
 }
 

@@ -270,13 +270,15 @@ async function triesOddStores() {
 function triesChoices() {
     const usual = choicesOf(null);
     assert.deepEqual(usual, { view: [], tunings: Array(3).fill({ ...USUAL_TUNING }), rings: ['D', '00'],
-        notifies: false, names: {}, ends: 'changed' });
+        notifies: false, names: {}, ends: 'changed', silence: 12, ship: null });
     for (const odd of [7, 'x', [], { view: 7, tunings: { centre: 'x' }, rings: 'D', names: [1], notifies: 'yes' },
-        { tunings: [{ centre: 1e9, search: 'no' }, null, 5], names: { e: 'x', E: 7, F: ' ' } }]) {
+        { tunings: [{ centre: 1e9, search: 'no' }, null, 5], names: { e: 'x', E: 7, F: ' ' } },
+        { silence: 7, ship: { latitude: 54, longitude: 181, moment: 0 } }, { silence: '4', ship: [] }]) {
         assert.deepEqual(choicesOf(odd), usual);
     }
-    assert.deepEqual(choicesOf(JSON.parse(JSON.stringify({ ...usual, view: ['night'], names: { E: 'Niton' } }))),
-        { ...usual, view: ['night'], names: { E: 'Niton' } });
+    const chosen = { ...usual, view: ['night'], names: { E: 'Niton' }, silence: 0,
+        ship: { latitude: 54.5, longitude: -7, moment: 1735692000 } };
+    assert.deepEqual(choicesOf(JSON.parse(JSON.stringify(chosen))), chosen);
 }
 
 /** A file, as the browser gives one. */

@@ -10,6 +10,7 @@ import { Chromium } from './chromium.mjs';
 import { Firefox } from './firefox.mjs';
 import * as alarm from './page/alarm.mjs';
 import * as files from './page/files.mjs';
+import * as follow from './page/follow.mjs';
 import * as lacking from './page/lacking.mjs';
 import * as live from './page/live.mjs';
 import * as long from './page/long.mjs';
@@ -17,7 +18,7 @@ import * as looks from './page/looks.mjs';
 import * as queue from './page/queue.mjs';
 import * as store from './page/store.mjs';
 
-const TRIALS = { files, queue, long, live, store, alarm, looks, lacking };
+const TRIALS = { files, queue, long, live, store, alarm, looks, lacking, follow };
 
 const [, , kind, program, room, pictures, ...names] = process.argv;
 const address = pathToFileURL(`${room}/navtex.html`).href;
@@ -31,13 +32,13 @@ async function started(name, options = []) {
     return kind === 'firefox' ? Firefox.start(program, folder) : Chromium.start(program, folder, options);
 }
 
-for (const [name, { options, trials }] of Object.entries(TRIALS)) {
+for (const [name, { options, trials, isOpened = true }] of Object.entries(TRIALS)) {
     if (names.length > 0 && !names.includes(name)) continue;
     const browser = await started(name, options?.(room));
     try {
         const begun = performance.now();
         const tab = await browser.tab();
-        await tab.openPage(address);
+        if (isOpened) await tab.openPage(address);
         const given = { browser, tab, room, address, kind, pictures };
         for (const trial of trials(kind)) {
             try {

@@ -188,8 +188,8 @@ const WATCH_EXAMPLE: &str = "Example, live from the sound of a radio (rec is a p
       navtex-elements | navtex watch watch.log \"$(date +%s)\"
 navtex-watch is a script and a service that do this, and start it again; its man
 page is navtex-watch(8), and its settings are in /etc/default/navtex-watch.
-Examples lie in share/doc/navtex/examples below /usr, or below /usr/local after
-make install. Of them sound/alarm runs a command for each new message.";
+navtex-follow shows each entry of the log once, and navtex-alarm runs a command
+for each new message.";
 
 const WATCH: Row = Row {
     name: "watch",

@@ -7,23 +7,24 @@ import { bitsOf, example, path, tonesOf, waveOf } from '../waves.mjs';
 async function triesAirFile({ tab }) {
     assert.deepEqual(await tab.hear(path('heard-badly.air')),
         ['heard-badly.air: 2 messages heard: 2 new, 0 known, 0 refused; 1 of the new not whole.']);
-    const shown = await tab.titles();
-    assert.match(shown[0], /^New EA01: station E, A navigational warning, number 01$/);
-    assert.equal((await tab.textsOf('mark.lost')).length, 1);
+    assert.deepEqual(await tab.titles(), ['New EA01: station E, A navigational warning, number 01']);
+    assert.match((await tab.textsOf('#list .facts'))[0], /complete, none of 25 letters lost$/, 'the best copy');
+    assert.deepEqual(await tab.textsOf('#list summary'), ['1 other copy of it, 1 not read yet']);
+    assert.equal((await tab.textsOf('#list .copies mark.lost')).length, 1);
     assert.match(await tab.textOf('look'), /ZCZC EA01/);
-    assert.equal(await tab.textOf('counts'), '2 messages, 2 not read yet');
+    assert.equal(await tab.textOf('counts'), '1 message, 1 not read yet');
     await tab.value("document.querySelector('.unread button').focus()");
     await tab.press('.unread button');
-    assert.equal(await tab.value("document.activeElement.getAttribute('aria-label')"), 'Mark EA01 as read');
-    assert.equal(await tab.textOf('counts'), '2 messages, 1 not read yet');
+    assert.equal(await tab.value('document.activeElement.id'), 'messages', 'nothing else is new');
+    assert.equal(await tab.textOf('counts'), '1 message, 0 not read yet');
 }
 
 async function triesReload({ tab }) {
     await tab.loadAgain();
-    assert.equal(await tab.textOf('counts'), '2 messages, 1 not read yet');
+    assert.equal(await tab.textOf('counts'), '1 message, 0 not read yet');
     assert.deepEqual(await tab.hear(path('ea01.air')), ['ea01.air: 1 message heard: 0 new, 1 known, 0 refused.']);
     assert.match((await tab.faults())[0], /^Lines without effect: 1\. The first is line 1: the time is before/);
-    assert.equal((await tab.titles()).length, 2);
+    assert.equal((await tab.titles()).length, 1);
     await tab.forgetFaults();
 }
 
@@ -38,7 +39,7 @@ async function triesRecording({ tab, room }) {
     await tab.untilEnded(before + 1);
     assert.match((await tab.ended())[0], /^two-messages.wav: 2 messages heard: 2 new, .* The demodulator heard NAVTEX/);
     const shown = await tab.titles();
-    assert.equal(shown.length, 4);
+    assert.equal(shown.length, 3);
     assert.match(shown[0], /EB02: station E, B meteorological warning, number 02$/);
     assert.match((await tab.textsOf('#list time'))[0], /^2025-01-05 00:40:\d\d UTC$/);
     assert.equal(await tab.value("document.getElementById('began').value"), '', 'it is said of one recording');
@@ -153,7 +154,9 @@ async function triesLogs({ browser, tab, room }) {
     const log = await saved(tab, room, '#save-log', 'navtex.log');
     for (const entry of example('heard-badly.log').split(/(?=\[)/)) assert.ok(log.includes(entry), entry);
     const lines = (await saved(tab, room, '#save-json', 'navtex.json')).split('\n').slice(0, -1).map(JSON.parse);
-    assert.equal(lines.length, count);
+    const others = await tab.textsOf('#list .copies > div');
+    assert.ok(others.length > 0);
+    assert.equal(lines.length, count + others.length, 'each copy of each message');
     assert.ok(lines.some(({ text }) => text === 'ABCDEFGHIJKLMNOPQRSTUVWX\n'));
     tab.agrees = false;
     await tab.press('#anew');

@@ -50,8 +50,9 @@ async function triesMany({ tab }) {
     await tab.value(inStore(`
         for (let id = 100; id < ${100 + MANY}; id++) {
             const text = 'MESSAGE ' + id + '\\n';
+            const day = new Date(Date.UTC(2024, 0, 1 + 3 * Math.floor(id / 792))).toISOString().slice(0, 10);
             const head = '[' + 'ABCDEFGH'[id % 8] + 'E' + String(id % 99 + 1).padStart(2, '0')
-                + ' 2024-06-01 00:00:00 full 0/' + text.length + ']\\n';
+                + ' ' + day + ' 00:00:00 full 0/' + text.length + ']\\n';
             messages.put({ id, text: head + text + '\\n', isRead: true });
         }`));
     const begun = Date.now();
