@@ -57,7 +57,7 @@ export class FollowSection {
     #grown = null;       // when the log grew last, by the server's clock
 
     /** `silence` is the number of hours after which a log that doesn't grow is told; `on` is told
-     *  `added` of new messages, `anew` where all changed, `marked`, and `chosen`. */
+     *  `added` of new messages, `anew` where all changed, and `chosen`. */
     constructor(faults, name, silence, on) {
         this.#faults = faults;
         this.#name = name;

@@ -385,5 +385,7 @@ async function keepsPictures(tab, pictures) {
     await keep('follow-dark', 1280, 960, false);
 }
 
+/** In Firefox what needs no leave of it and no word of its network. */
 export const trials = (kind) => (kind === 'chromium'
-    ? [triesPlain, triesRanges, triesService, triesSilence, triesWhatIsGiven, triesPlaces] : []);
+    ? [triesPlain, triesRanges, triesService, triesSilence, triesWhatIsGiven, triesPlaces]
+    : [triesRanges, triesService, triesSilence]);
