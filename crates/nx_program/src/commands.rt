@@ -684,8 +684,7 @@ fn with_number<'a>(
 fn listen_command<'a>(alloc: Global, name: &'a str) -> Result<Command<'a>, AllocError>
     ensures { IfOk result (IsBuiltAs (listen_tree name.entry.now)) }
 {
-    let command = Command::new(alloc, name);
-    with_flag(alloc, command, "combine", COMBINE_HELP)
+    with_flag(alloc, Command::new(alloc, name), "combine", COMBINE_HELP)
 }
 
 /// A command that takes a station and a moment.

@@ -291,7 +291,7 @@ lacks_value arguments name values taken entered none =
         → Lacks arguments name values
     go (plain call) makes gives = absurd (let has = makes values in none call has.0 has.1)
     go (by_sendings make) makes gives =
-        absurd (let has = makes values _ refl in none (make _) has.0 has.1)
+        absurd (let has = makes.1 values _ refl in none (make _) has.0 has.1)
     go (slot make) makes gives = elim (moment_of_text gives.text) [
       | inr no_moment ↦ a_moment (slot-takes_moment name makes.0) gives.text
           (record { given = gives.given; no_moment = no_moment })
@@ -402,6 +402,7 @@ damage-bounds arguments kind from count named =
         (codes "FROM") from
         (λ rows has. has.1))
     go (slot make) makes given = absurd (not_both _ makes.0 refl)
+    go (by_sendings make) makes given = absurd (differ _ _ refl makes.0)
     go (options make) makes given = absurd (differ _ _ refl makes.0)
     go (on_file make) makes given = absurd (differ _ _ refl makes.0)
     go (range make) makes given =

@@ -47,7 +47,8 @@ HasCall name rows call = (name ≡ command_name call) × HasValues call rows
 abbrev pub Makes : Text → Maker → Type 0
 Makes name (plain call) = (rows : List Row) → HasCall name rows call
 Makes name (by_sendings make) =
-    (rows : List Row) (s : Sendings) → AsksSendings rows s → HasCall name rows (make s)
+    (name ≡ codes "listen")
+    × ((rows : List Row) (s : Sendings) → AsksSendings rows s → HasCall name rows (make s))
 Makes name (slot make) =
     IsSlotName name × ((rows : List Row) (s : Letter) (m : ℕ) → IsStation rows s
     → IsMoment rows m

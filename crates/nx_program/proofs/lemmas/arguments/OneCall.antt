@@ -23,7 +23,7 @@ use Rattle.nx_program.proofs.lemmas.EachFound.{Each}
 made-is : (name : Text) (maker : Maker) → Makes name maker → (rows : List Row)
     → IfSome (made maker rows) (HasCall name rows)
 made-is name (plain call) makes rows = makes rows
-made-is name (by_sendings make) makes rows = makes rows _ refl
+made-is name (by_sendings make) makes rows = makes.1 rows _ refl
 made-is name (slot make) makes rows = slot_call-is make rows (HasCall name rows) (makes.1 rows)
 made-is name (on_file make) makes rows = file_call-is make rows (HasCall name rows) (makes.1 rows)
 made-is name (range make) makes rows = range_call-is make rows (HasCall name rows) (makes.1 rows)
