@@ -16,6 +16,10 @@
 #include <stdlib.h>
 #include <string.h>
 #include <time.h>
+#ifdef _WIN32
+#include <fcntl.h>
+#include <io.h>
+#endif
 
 static _Alignas(NX_LIVE_ROOM_ALIGNMENT) unsigned char room[NX_LIVE_ROOM];
 static uint8_t entry[NX_LIVE_MAX_ENTRY];
@@ -148,7 +152,16 @@ static int speed(size_t piece, int times) {
     return 0;
 }
 
+/* Each byte as it is: Windows would write two bytes at the end of a line. */
+static void take_bytes(void) {
+#ifdef _WIN32
+    _setmode(_fileno(stdin), _O_BINARY);
+    _setmode(_fileno(stdout), _O_BINARY);
+#endif
+}
+
 int main(int argument_count, char **arguments) {
+    take_bytes();
     nx_live_lend(&receiver, room);
     if (argument_count == 3 && strcmp(arguments[1], "hear") == 0)
         return hear_file(strtoul(arguments[2], NULL, 10));

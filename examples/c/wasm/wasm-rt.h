@@ -24,6 +24,32 @@ extern "C" {
 #endif
 #define wasm_rt_memcpy memcpy
 
+/* What wasm2c takes of GNU C, or of Microsoft's, for other compilers. A count of zeros isn't asked of 0. */
+#if !defined __GNUC__ && !defined _MSC_VER
+static inline int nx_ones(uint64_t bits) {
+    int count = 0;
+    for (; bits != 0; bits &= bits - 1)
+        count++;
+    return count;
+}
+
+static inline int nx_zeros_below(uint64_t bits) { return nx_ones((bits & (0 - bits)) - 1); }
+
+static inline int nx_zeros_above(uint64_t bits) {
+    int count = 63;
+    while (bits >>= 1)
+        count--;
+    return count;
+}
+
+#define __builtin_popcount(bits) nx_ones(bits)
+#define __builtin_popcountll(bits) nx_ones(bits)
+#define __builtin_ctz(bits) nx_zeros_below(bits)
+#define __builtin_ctzll(bits) nx_zeros_below(bits)
+#define __builtin_clz(bits) (nx_zeros_above(bits) - 32)
+#define __builtin_clzll(bits) nx_zeros_above(bits)
+#endif
+
 /* Each access to the module's memory is checked, unless NX_LIVE_UNCHECKED is defined. */
 #ifdef NX_LIVE_UNCHECKED
 #define WASM_RT_MEMCHECK_SIGNAL_HANDLER 1
