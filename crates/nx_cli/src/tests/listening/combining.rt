@@ -80,7 +80,11 @@ fn combines_sendings(rt: HostRuntime) {
     static ROWS: [Combined; 10] = [
         (
             "two halves",
-            &[Sent(NOW, OF_24, NO_172), Sent(LATER, OF_24, NO_174), Sent(LATEST, OF_24, WHOLE)],
+            &[
+                Sent(NOW, OF_24, NO_172),
+                Sent(LATER, OF_24, NO_174),
+                Sent(LATEST, OF_24, WHOLE),
+            ],
             b"[EA01 2025-01-01 00:40:00 full 1/25]\n*BCDEFGHIJKLMNOPQRSTUVWX\n\n\
                 [EA01 2025-01-01 04:40:00 full 1/25]\nA*CDEFGHIJKLMNOPQRSTUVWX\n\n\
                 [EA01 2025-01-01 08:40:00 full 0/25]\nABCDEFGHIJKLMNOPQRSTUVWX\n\n",
@@ -89,7 +93,11 @@ fn combines_sendings(rt: HostRuntime) {
         ),
         (
             "a good copy with a hole",
-            &[Sent(NOW, OF_52, NO_172), Sent(LATER, OF_52, WHOLE), Sent(LATEST, OF_52, WHOLE)],
+            &[
+                Sent(NOW, OF_52, NO_172),
+                Sent(LATER, OF_52, WHOLE),
+                Sent(LATEST, OF_52, WHOLE),
+            ],
             b"[EA01 2025-01-01 00:40:00 full 1/53]\n\
                 *BCDEFGHIJKLMNOPQRSTUVWXYZABCDEFGHIJKLMNOPQRSTUVWXYZ\n\n",
             b"[EA01 2025-01-01 00:40:00 full 1/53]\n\
@@ -99,14 +107,21 @@ fn combines_sendings(rt: HostRuntime) {
         ),
         (
             "a lost shift, and a digit that is lost in the second sending",
-            &[Sent(NOW, BUOY, NO_182), Sent(LATER, BUOY, NO_190), Sent(LATEST, BUOY, WHOLE)],
+            &[
+                Sent(NOW, BUOY, NO_182),
+                Sent(LATER, BUOY, NO_190),
+                Sent(LATEST, BUOY, WHOLE),
+            ],
             b"[EA01 2025-01-01 00:40:00 full 1/31]\nBUOY *TQAWRMEN 002-11.0E UNLIT\n\n",
             b"[EA01 2025-01-01 00:40:00 full 1/31]\nBUOY *TQAWRMEN 002-11.0E UNLIT\n\n\
                 [EA01 2025-01-01 04:40:00 full 0/30]\nBUOY 51-24.3N 002-11.0E UNLIT\n\n",
         ),
         (
             "another text under the number",
-            &[Sent(NOW, BUOY, NO_174_176), Sent(LATER, OTHER_BUOY, NO_190_198)],
+            &[
+                Sent(NOW, BUOY, NO_174_176),
+                Sent(LATER, OTHER_BUOY, NO_190_198),
+            ],
             b"[EA01 2025-01-01 00:40:00 full 2/30]\nB**Y 51-24.3N 002-11.0E UNLIT\n\n\
                 [EA01 2025-01-01 04:40:00 full 2/31]\nBUOY 53-*7.8*, 004-46.2E UNLIT\n\n",
             b"[EA01 2025-01-01 00:40:00 full 2/30]\nB**Y 51-24.3N 002-11.0E UNLIT\n\n\
