@@ -2,38 +2,47 @@
 // browser decodes.
 import { behindTag, bytesOf, cut, hasWord } from './bytes.js';
 
-const SLICE = 1 << 20;  // bytes that are read at a time
+const SLICE = 1 << 17;  // bytes that are read at a time: of silence, some thousand frames
 const HEAD = 42;        // bytes of the mark, and of what is said of the whole stream
 const PART = 4;         // bytes of the mark, and of a part's kind and length
 const LAST = 128;       // with which the last part before the frames is marked
 const FRAME = 17;       // bytes of a frame's head with its remainder, at most
 const LEAP = 1 << 20;   // samples that a file may lack in one place
 const SIDES = 10;       // the last way in which a frame has its sides
+const SIZE_BYTES = { 6: 1, 7: 2 };          // bytes behind the number that say how many samples a frame has
+const RATE_BYTES = { 12: 1, 13: 2, 14: 2 }; // and those that say its rate
+const DIVISOR = 7;      // of the remainder of a head
 
-/** The remainder by which a frame's head is known as whole. */
-function remainderOf(bytes) {
+const REMAINDERS = Uint8Array.from({ length: 256 }, (_, byte) => {
+    let sum = byte;
+    for (let bit = 0; bit < 8; bit++) sum = (sum << 1) ^ (sum & 128 ? DIVISOR : 0);
+    return sum;
+});
+
+/** The remainder of bytes from one place to another, by which a frame's head is known as whole. */
+function remainderOf(bytes, from, to) {
     let sum = 0;
-    for (const byte of bytes) {
-        sum ^= byte;
-        for (let bit = 0; bit < 8; bit++) sum = ((sum << 1) ^ (sum & 128 ? 7 : 0)) & 255;
-    }
+    for (let at = from; at < to; at++) sum = REMAINDERS[sum ^ bytes[at]];
     return sum;
 }
 
 /** The number at a place, written as in UTF-8 of up to seven bytes: [number, bytes]; or null. */
 function numberAt(bytes, at) {
     const ones = Math.clz32(~(bytes[at] << 24));
+    if (ones === 0) return [bytes[at], 1];
     if (ones === 1 || ones > 7) return null;
-    const more = bytes.subarray(at + 1, at + Math.max(ones, 1));
-    if (more.some((byte) => byte >> 6 !== 2)) return null;
-    const begin = ones === 0 ? bytes[at] : bytes[at] & (127 >> ones);
-    return [more.reduce((sum, byte) => 64 * sum + (byte & 63), begin), 1 + more.length];
+    let number = bytes[at] & (127 >> ones);
+    for (let place = at + 1; place < at + ones; place++) {
+        if (bytes[place] >> 6 !== 2) return null;
+        number = 64 * number + (bytes[place] & 63);
+    }
+    return [number, ones];
 }
 
-/** How many samples a frame has by its head, of which `rest` is what stands behind its number. */
-function samplesSaid(code, rest) {
-    if (code === 6) return rest[0] + 1;
-    if (code === 7) return 256 * rest[0] + rest[1] + 1;
+/** How many samples a frame has by its head, whose number ends before a place. */
+function samplesSaid(code, bytes, place) {
+    if (code === 6) return bytes[place] + 1;
+    if (code === 7) return 256 * bytes[place] + bytes[place + 1] + 1;
     if (code === 1) return 192;
     return code < 6 ? 576 << (code - 2) : 256 << (code - 8);
 }
@@ -48,9 +57,9 @@ export function frameAt(bytes, at) {
     if (said === null) return null;
     const [number, length] = said;
     const place = at + PART + length;
-    const end = place + ({ 6: 1, 7: 2 }[size] ?? 0) + ({ 12: 1, 13: 2, 14: 2 }[rate] ?? 0);
-    if (remainderOf(bytes.subarray(at, end)) !== bytes[end]) return null;
-    return { number, isFixed: bytes[at + 1] === 0xf8, samples: samplesSaid(size, bytes.subarray(place)) };
+    const end = place + (SIZE_BYTES[size] ?? 0) + (RATE_BYTES[rate] ?? 0);
+    if (remainderOf(bytes, at, end) !== bytes[end]) return null;
+    return { number, isFixed: bytes[at + 1] === 0xf8, samples: samplesSaid(size, bytes, place) };
 }
 
 /** The head of a file of its own: no length and no sum are said of it. */

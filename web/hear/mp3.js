@@ -3,7 +3,7 @@
 // lies in memory whole.
 import { behindTag, bytesOf, cut, hasWord } from './bytes.js';
 
-const SLICE = 1 << 20;  // bytes that are read at a time
+const SLICE = 1 << 18;  // bytes that are read at a time
 const HEAD = 4;         // bytes of a frame's head
 const INDEX = 40;       // bytes of a frame by which one without sound is known
 const WARM = 0.5;       // seconds from which on a decoder gives what it would have given all along

@@ -2,7 +2,7 @@
 // the stream, is an Ogg file that the browser decodes.
 import { bytesOf, cut, hasWord } from './bytes.js';
 
-const SLICE = 1 << 20; // bytes that are read at a time
+const SLICE = 1 << 18; // bytes that are read at a time
 const PAGE = 27;       // bytes of a page's head, without the lengths of what is in it
 const WHOLE = 255;     // bytes of a part of a packet behind which another one follows
 const [MOMENT, STREAM, NUMBER, SUM, COUNT] = [6, 14, 18, 22, 26]; // places in a page's head
