@@ -1,5 +1,5 @@
-// A recording that the browser decodes whole, as MP3, FLAC or Ogg. It takes memory for all of it, so a
-// recording that is too long is told before.
+// A recording that the browser decodes whole, since the page can't cut it into pieces (hear/pieces.js). It takes
+// memory for all of it, so a recording that is too long is told before.
 import { PageFault } from '../show/faults.js';
 import { takenOf } from './wave.js';
 
@@ -44,7 +44,7 @@ export async function decodedOf(file, side) {
     const seconds = await secondsOf(file);
     if (seconds * SECOND + file.size > MOST) {
         throw new PageFault(`${file.name} is too long for this browser, some ${Math.ceil(seconds / 3600)} hours: `
-            + 'only WAV is read piece by piece. Make a WAV file of it, or cut it into parts.');
+            + 'only WAV, MP3, FLAC and Ogg are read piece by piece. Make one of these of it, or cut it into parts.');
     }
     let sound;
     try {
@@ -56,17 +56,21 @@ export async function decodedOf(file, side) {
         pieces: (length) => piecesOf(sound, side, length) };
 }
 
+/** Samples of a sound, of one side or of both as one: so many from a place on, silent where it has none. */
+export function partOf(sound, side, from, count) {
+    const samples = new Float32Array(count);
+    const [first, last] = takenOf(sound.numberOfChannels, side);
+    for (let one = first; one <= last; one++) {
+        sound.getChannelData(one).subarray(from, from + count).forEach((sample, at) => { samples[at] += sample; });
+    }
+    return last > first ? samples.map((sample) => sample / (last - first + 1)) : samples;
+}
+
 /** Pieces of so many seconds, of one side or of both as one, each with the second of its end. */
 function* piecesOf(sound, side, length) {
-    const [first, last] = takenOf(sound.numberOfChannels, side);
-    const sides = [];
-    for (let one = first; one <= last; one++) sides.push(sound.getChannelData(one));
-    const count = Math.round(length * sound.sampleRate);
-    for (let from = 0; from < sound.length; from += count) {
-        const samples = sides[0].slice(from, from + count);
-        for (const other of sides.slice(1)) {
-            for (let at = 0; at < samples.length; at++) samples[at] += other[from + at];
-        }
-        yield [samples.map((sample) => sample / sides.length), Math.min(from + count, sound.length) / sound.sampleRate];
+    const most = Math.round(length * sound.sampleRate);
+    for (let from = 0; from < sound.length; from += most) {
+        const count = Math.min(most, sound.length - from);
+        yield [partOf(sound, side, from, count), (from + count) / sound.sampleRate];
     }
 }

@@ -1,9 +1,12 @@
 // An MP3 file, read in slices: its frames are found here, and the browser decodes them one by one beside
-// the page (worker/packed.js). So a recording of hours never lies in memory whole.
+// the page (worker/packed.js), or in pieces where it has no decoder for that. So a recording of hours never
+// lies in memory whole.
+import { behindTag, bytesOf, cut, hasWord } from './bytes.js';
 
-const SLICE = 1 << 20;  // bytes that are read at a time
+const SLICE = 1 << 18;  // bytes that are read at a time
 const HEAD = 4;         // bytes of a frame's head
-const TAG = 10;         // bytes that begin a tag before the sound (ID3)
+const INDEX = 40;       // bytes of a frame by which one without sound is known
+const WARM = 0.5;       // seconds from which on a decoder gives what it would have given all along
 const MPEG1 = 3;
 const RESERVED = 1;
 const LAYER3 = 1;
@@ -40,17 +43,6 @@ export function* framesIn(bytes, rate) {
     }
 }
 
-async function bytesOf(file, at, length) {
-    return new Uint8Array(await file.slice(at, at + length).arrayBuffer());
-}
-
-/** Where the sound begins: behind a tag, if there is one. */
-async function beginOf(file) {
-    const head = await bytesOf(file, 0, TAG);
-    if (String.fromCharCode(...head.subarray(0, 3)) !== 'ID3') return 0;
-    return TAG + head.subarray(6).reduce((sum, byte) => 128 * sum + (byte & 127), 0);
-}
-
 /** The first frame, where another one of its kind follows it; or null, where this is no MP3 file. */
 async function firstOf(file, begin) {
     const bytes = await bytesOf(file, begin, SLICE);
@@ -59,39 +51,54 @@ async function firstOf(file, begin) {
     return second && second.rate === first.rate && second.sides === first.sides ? first : null;
 }
 
-/** Cuts the file into pieces of whole frames of some `length` seconds: [from, to, the second of its end]. */
-async function piecesOf(file, begin, rate, length) {
-    const pieces = [];
-    let [from, samples, cut] = [begin, 0, 0];
-    for (let at = begin; at < file.size;) {
-        const bytes = await bytesOf(file, at, SLICE);
+/** The frames in lists, as `cut` takes them. */
+async function* framesOf(file, begin, rate) {
+    let samples = 0;
+    for (let from = begin; from < file.size;) {
+        const bytes = await bytesOf(file, from, SLICE);
         let end = bytes.length;
+        const list = [];
         for (const frame of framesIn(bytes, rate)) {
             end = frame.at + frame.length;
-            samples += frame.samples;
-            if (samples - cut < length * rate) continue;
-            pieces.push([from, at + end, samples / rate]);
-            [from, cut] = [at + end, samples];
+            list.push({ at: from + frame.at, first: samples, last: samples += frame.samples });
         }
-        at += end;
+        yield list;
+        from += end;
     }
-    if (samples > cut) pieces.push([from, file.size, samples / rate]);
-    return pieces;
 }
 
 /** The sound of an MP3 file, in pieces of some `length` seconds; null where it is none, or where this browser
- *  decodes none piece by piece. */
+ *  decodes none frame by frame. */
 export async function mp3Of(file, length) {
-    const begin = await beginOf(file);
+    const begin = await behindTag(file);
     const first = await firstOf(file, begin);
     if (first === null || typeof AudioDecoder === 'undefined') return null;
     const packed = { codec: 'mp3', sampleRate: first.rate, numberOfChannels: first.sides };
     const { supported } = await AudioDecoder.isConfigSupported(packed).catch(() => ({ supported: false }));
     if (!supported) return null;
-    const pieces = await piecesOf(file, begin, first.rate, length);
-    return { rate: first.rate, seconds: pieces.at(-1)[2], layout: null, packed, pieces: () => read(file, pieces) };
+    const pieces = await cut(file, framesOf(file, begin, first.rate), length * first.rate, 0);
+    const seconds = pieces.reduce((sum, { count }) => sum + count, 0) / first.rate;
+    return { rate: first.rate, seconds, layout: null, packed, pieces: () => read(file, pieces, first.rate) };
 }
 
-async function* read(file, pieces) {
-    for (const [from, to, second] of pieces) yield [await file.slice(from, to).arrayBuffer(), second];
+async function* read(file, pieces, rate) {
+    for (const { from, to, base, count } of pieces) {
+        yield [await file.slice(from, to).arrayBuffer(), (base + count) / rate];
+    }
+}
+
+/** Whether a frame has no sound, and only says how many follow it. */
+async function isIndex(file, { at, length }) {
+    const bytes = await bytesOf(file, at, Math.min(length, INDEX));
+    return ['Xing', 'Info'].some((word) => [13, 21, 36].some((place) => hasWord(bytes, word, place)));
+}
+
+/** An MP3 file in pieces of some `size` samples of all sides, each a file of its own; null where it is none. */
+export async function mp3PiecesOf(file, size) {
+    const at = await behindTag(file);
+    const first = await firstOf(file, at);
+    if (first === null) return null;
+    const begin = await isIndex(file, { ...first, at }) ? at + first.length : at;
+    const pieces = await cut(file, framesOf(file, begin, first.rate), size / first.sides, WARM * first.rate);
+    return { rate: first.rate, pieces, fileOf: ({ from, to }) => file.slice(from, to).arrayBuffer() };
 }

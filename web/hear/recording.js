@@ -5,6 +5,7 @@ import { decodedOf } from './decoded.js';
 import { kindOf, linesOf, logOf } from './files.js';
 import { Look } from './look.js';
 import { mp3Of } from './mp3.js';
+import { piecesOf } from './pieces.js';
 import { Stopped, unlessStopped } from './queue.js';
 import { clock, Sound } from './sound.js';
 import { layoutOf } from './wave.js';
@@ -110,14 +111,14 @@ export class Recording extends Sound {
         }
     }
 
-    /** The sound: a WAV or MP3 file in slices, any other one as the browser decodes it. */
+    /** The sound: a WAV, MP3, FLAC or Ogg file in slices, any other one as the browser decodes it. */
     async #open() {
+        const { side } = this.#given;
         const layout = await layoutOf(this.#file);
-        const packed = layout === null ? await mp3Of(this.#file, PIECE) : null;
-        if (packed !== null) return packed;
-        if (layout === null || layout.rate < RATES[0] || layout.rate > RATES[1]) {
-            return decodedOf(this.#file, this.#given.side);
+        if (layout === null) {
+            return await mp3Of(this.#file, PIECE) ?? await piecesOf(this.#file, side) ?? decodedOf(this.#file, side);
         }
+        if (layout.rate < RATES[0] || layout.rate > RATES[1]) return decodedOf(this.#file, side);
         const seconds = (layout.end - layout.begin) / layout.width / layout.rate;
         return { rate: layout.rate, seconds, layout, pieces: (length) => slicesOf(this.#file, layout, length) };
     }

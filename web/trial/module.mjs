@@ -6,7 +6,9 @@ import { readFileSync, readdirSync } from 'node:fs';
 import { kindOf, linesOf, logOf } from '../hear/files.js';
 import { Look } from '../hear/look.js';
 import { Ring } from '../worker/ring.js';
-import { frameAt, framesIn } from '../hear/mp3.js';
+import { flacOf } from '../hear/flac.js';
+import { frameAt, framesIn, mp3PiecesOf } from '../hear/mp3.js';
+import { oggOf } from '../hear/ogg.js';
 import { layoutOf, samplesOf } from '../hear/wave.js';
 import { choicesOf, USUAL_TUNING } from '../keep/choices.js';
 import { KeptReceiver } from '../keep/kept.js';
@@ -15,6 +17,7 @@ import { AirRun, LineSplitter, readLine } from '../receiver/air.js';
 import { entryAt, isGood, jsonOf, momentOf, readLog } from '../receiver/entries.js';
 import { MAX_ENTRY, Receiver, ReceiverFault, ROOM, Status } from '../receiver/receiver.js';
 import { EMPTY_STATE, readState, refusedIn, stateAt, stateRefusing, stateWith, writeState } from '../receiver/state.js';
+import { flacFile, OGGS, oggTimes } from './packed.mjs';
 import { headOf, waveOf } from './waves.mjs';
 
 const EXAMPLES = new URL('../../examples/', import.meta.url);
@@ -352,6 +355,80 @@ function triesMp3() {
     assert.equal([...framesIn(Buffer.concat([Buffer.alloc(99), file]), 16000)].length, frames.length);
 }
 
+/** Pieces follow each other, and are as long as they should be; each begins before what is wanted of it. */
+function expectPieces({ pieces }, size, warm, total) {
+    let first = 0;
+    for (const { from, to, base, count } of pieces) {
+        assert.ok(from < to && base <= first && (first === 0 || base <= first - warm));
+        first += count;
+    }
+    assert.ok(pieces.slice(0, -1).every(({ count }) => count >= size && count < 1.5 * size));
+    assert.equal(first, total);
+}
+
+/** A tag as it stands before the sound of some files. */
+const tagOf = (length) =>
+    Buffer.from([...Buffer.from('ID3'), 4, 0, 0, 0, 0, length >> 7, length & 127, ...Buffer.alloc(length, 255)]);
+
+const countsOf = ({ pieces }) => pieces.map(({ count }) => count);
+
+/** A FLAC file is cut where its frames begin: the pieces joined are the file, behind a tag too. What is lost, and
+ *  what only looks like a frame, takes no time from what follows. */
+async function triesFlac() {
+    const samples = Int16Array.from({ length: 100000 }, (_, at) => ((at * at * 7919) % 65536) - 32768);
+    const own = 42; // bytes of a head
+    for (const sides of [1, 2]) {
+        const bytes = flacFile(samples, { rate: 44100, sides });
+        const cutOf = (...parts) => flacOf(fileOf(Buffer.concat(parts)), sides * 20000);
+        const cut = await cutOf(bytes);
+        assert.equal(cut.rate, 44100);
+        expectPieces(cut, 20000, 0, samples.length);
+        const files = await Promise.all(cut.pieces.map((piece) => cut.fileOf(piece)));
+        assert.deepEqual(Buffer.concat(files.map((file) => Buffer.from(file).subarray(own))), bytes.subarray(own));
+        assert.deepEqual(countsOf(await cutOf(tagOf(1000), bytes)), countsOf(cut));
+        const [, { from, to }] = cut.pieces;
+        const others = Buffer.from([0xff, 0xf8, 0x69, 0x08, 0]);
+        const hurt = countsOf(await cutOf(bytes.subarray(0, from), others, bytes.subarray(to)));
+        assert.equal(hurt.reduce((sum, count) => sum + count), samples.length);
+    }
+    for (const other of ['fLaC', 'fLaX'.padEnd(99), 'RIFF'.padEnd(99)]) assert.equal(await flacOf(fileOf(other), 1), null);
+}
+
+/** An Ogg file is cut at its pages. Where it is one piece, that is the file, with the sums of its own encoder. */
+async function triesOgg() {
+    for (const [name, { rate, length, step }] of Object.entries(OGGS)) {
+        const once = readFileSync(new URL(name, import.meta.url));
+        const whole = await oggOf(fileOf(once), Infinity);
+        assert.equal(whole.pieces.length, 1);
+        assert.deepEqual(Buffer.from(await whole.fileOf(whole.pieces[0])), once, name);
+        assert.equal(whole.pieces[0].count, length);
+        const cut = await oggOf(fileOf(oggTimes(once, 9, step)), 20 * rate);
+        assert.equal(cut.rate, rate);
+        expectPieces(cut, 20 * rate, rate / 4, 8 * step + length);
+        for (const piece of cut.pieces) {
+            const own = await oggOf(fileOf(Buffer.from(await cut.fileOf(piece))), Infinity);
+            assert.ok(own.pieces[0].count >= piece.count && own.pieces[0].count < piece.count + 5 * rate);
+        }
+        const two = once.map((byte, at) => (at === 14 ? byte ^ 1 : byte));
+        assert.equal(await oggOf(fileOf(Buffer.concat([once, two])), rate), null, 'two streams');
+        assert.equal(await oggOf(fileOf(once.subarray(0, 50)), rate), null);
+    }
+    assert.equal(await oggOf(fileOf(Buffer.alloc(100)), 1), null);
+}
+
+/** An MP3 file is cut at its frames, and a frame without sound is in no piece. */
+async function triesMp3Pieces() {
+    const once = readFileSync(new URL('slip.mp3', import.meta.url));
+    const samples = (once.length / 72) * 576;
+    const thrice = fileOf(Buffer.concat([tagOf(1000), once, once, once]));
+    expectPieces(await mp3PiecesOf(thrice, 160000), 160000, 8000, 3 * samples);
+    const index = Buffer.from(once.subarray(0, 72));
+    index.write('Info', 21);
+    const [first] = (await mp3PiecesOf(fileOf(Buffer.concat([index, once])), 160000)).pieces;
+    assert.equal(first.from, 72);
+    assert.equal(await mp3PiecesOf(fileOf(Buffer.alloc(100)), 1), null);
+}
+
 function triesRing() {
     const ring = new Ring(5);
     ring.push(Float32Array.of(1, 2, 3));
@@ -393,6 +470,9 @@ triesLook();
 triesChoices();
 triesRing();
 triesMp3();
+await triesMp3Pieces();
+await triesFlac();
+await triesOgg();
 await triesFiles();
 await triesWaves();
 await triesExamples();

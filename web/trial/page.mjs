@@ -15,10 +15,12 @@ import * as lacking from './page/lacking.mjs';
 import * as live from './page/live.mjs';
 import * as long from './page/long.mjs';
 import * as looks from './page/looks.mjs';
+import * as packed from './page/packed.mjs';
+import * as pieces from './page/pieces.mjs';
 import * as queue from './page/queue.mjs';
 import * as store from './page/store.mjs';
 
-const TRIALS = { files, queue, long, live, store, alarm, looks, lacking, follow };
+const TRIALS = { files, packed, queue, long, pieces, live, store, alarm, looks, lacking, follow };
 
 const [, , kind, program, room, pictures, ...names] = process.argv;
 const address = pathToFileURL(`${room}/navtex.html`).href;

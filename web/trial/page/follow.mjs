@@ -5,18 +5,14 @@ import { spawn } from 'node:child_process';
 import { copyFileSync, existsSync, mkdirSync, readFileSync, rmSync, truncateSync, utimesSync,
     writeFileSync } from 'node:fs';
 import { createServer } from 'node:http';
-import { networkInterfaces } from 'node:os';
 import { setTimeout as pause } from 'node:timers/promises';
 import { entryOf, keptOf, put, writeKept } from '../kept.mjs';
+import { host } from '../served.mjs';
 
 const SOON = 20000; // milliseconds in which the page has read the log again, on a busy machine
 
 /** The page needs no receiver here, so it isn't opened from the disk first. */
 export const isOpened = false;
-
-/** An address of this computer that a browser doesn't take for its own, so that it gives it less. */
-const host = Object.values(networkInterfaces()).flat()
-    .find(({ internal, family }) => !internal && family === 'IPv4')?.address ?? '127.0.0.1';
 
 /** A port that no program listens to. */
 async function freePort() {

@@ -23,7 +23,7 @@ async function triesLacking({ tab, room }) {
     await tab.loadWith('delete window.AudioDecoder', async () => {
         await tab.ready();
         const mp3 = new URL('../slip.mp3', import.meta.url).pathname;
-        assert.match((await tab.hear(mp3))[0], /^slip.mp3: 1 message heard/, 'the browser decodes it whole');
+        assert.match((await tab.hear(mp3))[0], /^slip.mp3: 1 message heard/, 'it is decoded in pieces');
     });
     await tab.loadWith('delete window.Worker', () =>
         expect(/lacks what sound needs here/, () => give(`${room}/slices.wav`)));
