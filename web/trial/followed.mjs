@@ -14,21 +14,13 @@ import { positionOf, positionSaid, positionsIn } from '../places/positions.js';
 import { shipOf } from '../places/ship.js';
 import { entryAt, lineOf, readLog } from '../receiver/entries.js';
 import { Messages } from '../show/copies.js';
+import { chanceOf } from './chance.mjs';
 import { entryOf, keptOf } from './kept.mjs';
 
 const ROOT = new URL('../../', import.meta.url).pathname;
 const EXAMPLES = new URL('../../examples/', import.meta.url);
 const CASES = 4000;    // texts that are compared with the plain reader
 const FOLLOWED = 120;  // files that grow, are cut and replaced
-
-/** Numbers from 0 to below one, the same in each run. */
-function chanceOf(seed) {
-    let state = seed;
-    return () => {
-        state = (Math.imul(state, 1664525) + 1013904223) >>> 0;
-        return state / 2 ** 32;
-    };
-}
 
 const chance = chanceOf(20250101);
 const below = (most) => Math.floor(chance() * most);

@@ -2,7 +2,8 @@
 // usage: node web/trial/page.mjs BROWSER PROGRAM ROOM [PICTURES] [NAME..]
 //
 // BROWSER is chromium or firefox, PROGRAM the path of it. ROOM has navtex.html. PICTURES is a folder in
-// which pictures of the page are kept, or '' for none; each NAME is one of the trials below.
+// which pictures of the page are kept, or '' for none; each NAME is one of the trials below. NAVTEX and
+// KILLS are of one of them (web/trial/page/watched.mjs).
 import assert from 'node:assert/strict';
 import { mkdirSync } from 'node:fs';
 import { pathToFileURL } from 'node:url';
@@ -19,8 +20,9 @@ import * as packed from './page/packed.mjs';
 import * as pieces from './page/pieces.mjs';
 import * as queue from './page/queue.mjs';
 import * as store from './page/store.mjs';
+import * as watched from './page/watched.mjs';
 
-const TRIALS = { files, packed, queue, long, pieces, live, store, alarm, looks, lacking, follow };
+const TRIALS = { files, packed, queue, long, pieces, live, store, alarm, looks, lacking, follow, watched };
 
 const [, , kind, program, room, pictures, ...names] = process.argv;
 const address = pathToFileURL(`${room}/navtex.html`).href;
@@ -35,7 +37,7 @@ async function started(name, options = []) {
 }
 
 for (const [name, { options, trials, isOpened = true }] of Object.entries(TRIALS)) {
-    if (names.length > 0 && !names.includes(name)) continue;
+    if ((names.length > 0 && !names.includes(name)) || trials(kind).length === 0) continue;
     const browser = await started(name, options?.(room));
     try {
         const begun = performance.now();

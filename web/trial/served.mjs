@@ -1,11 +1,7 @@
 // A page by plain http, from an address that a browser doesn't take for its own, so that it gives it less.
 import { readFileSync } from 'node:fs';
 import { createServer } from 'node:http';
-import { networkInterfaces } from 'node:os';
-
-/** The address of this computer on a network; its own one where it is on none. */
-export const host = Object.values(networkInterfaces()).flat()
-    .find(({ internal, family }) => !internal && family === 'IPv4')?.address ?? '127.0.0.1';
+import { host } from './servers.mjs';
 
 const SCRIPT = /^\/\w+\/\w+\.js$/;
 

@@ -1,46 +1,19 @@
 // Tries the page that follows the log of a watch: by http.server of Python, and by a server that gives ranges.
 // The log grows, is cut, replaced and damaged, and the watch and the server are killed. Then places and copies.
 import assert from 'node:assert/strict';
-import { spawn } from 'node:child_process';
 import { copyFileSync, existsSync, mkdirSync, readFileSync, rmSync, truncateSync, utimesSync,
     writeFileSync } from 'node:fs';
 import { createServer } from 'node:http';
 import { setTimeout as pause } from 'node:timers/promises';
 import { entryOf, keptOf, put, writeKept } from '../kept.mjs';
-import { host } from '../served.mjs';
+import { folderOf, freePort, hasService, host, plainServer, serviceServer } from '../servers.mjs';
 
 const SOON = 20000; // milliseconds in which the page has read the log again, on a busy machine
 
 /** The page needs no receiver here, so it isn't opened from the disk first. */
 export const isOpened = false;
 
-/** A port that no program listens to. */
-async function freePort() {
-    const server = createServer();
-    await new Promise((resolve) => server.listen(0, '0.0.0.0', resolve));
-    const { port } = server.address();
-    await new Promise((resolve) => server.close(resolve));
-    return port;
-}
-
 const port = await freePort(); // of http.server, which comes back where it was
-
-/** http.server, which gives a file whole each time. */
-async function plainServer(folder) {
-    const server = spawn('python3', ['-m', 'http.server', String(port), '--bind', '0.0.0.0', '--directory', folder],
-        { stdio: 'ignore' });
-    const address = `http://${host}:${port}`;
-    await answers(address);
-    return { address, stop: () => new Promise((resolve) => { server.once('exit', resolve); server.kill(); }) };
-}
-
-async function answers(address) {
-    for (let tried = 0; tried < 200; tried++) {
-        if (await fetch(address).then(() => true, () => false)) return;
-        await pause(50);
-    }
-    throw new Error(`${address} doesn't answer`);
-}
 
 /** A server that gives the part of a file that is asked for; `sent` has how many bytes of each log it sent. */
 async function rangeServer(folder) {
@@ -69,14 +42,6 @@ async function rangeServer(folder) {
         server.closeAllConnections();
     };
     return { address: `http://${host}:${server.address().port}`, sent, stop };
-}
-
-/** A folder with the page in it, for a log. */
-function folderOf(room, name) {
-    const folder = `${room}/${name}`;
-    mkdirSync(folder, { recursive: true });
-    copyFileSync(`${room}/navtex.html`, `${folder}/navtex.html`);
-    return folder;
 }
 
 const at = (hour, given = {}) => ({ moment: Date.UTC(2025, 0, 1, hour) / 1000, ...given });
@@ -175,7 +140,7 @@ async function triesRanges({ browser, room }) {
 /** http.server; it is killed and comes back. */
 async function triesPlain({ browser, room }) {
     const folder = folderOf(room, 'plain');
-    let server = await plainServer(folder);
+    let server = await plainServer(folder, port);
     try {
         await triesLog(browser, server, folder);
         const tab = await browser.tab();
@@ -186,7 +151,7 @@ async function triesPlain({ browser, room }) {
         await tab.until(`document.getElementById('failing').textContent.includes(${JSON.stringify(words)})`, SOON);
         assert.deepEqual(await shown(tab), ['EA02', 'EB01']);
         put(`${folder}/watch.log`, THIRD);
-        server = await plainServer(folder);
+        server = await plainServer(folder, port);
         await untilShown(tab, 'New EE03', 'EA02', 'EB01');
         assert.match(await tab.textOf('followed'), /^Read at /);
         const asked = new Set(tab.requests.map((one) => one.replace(/^http:\/\/[^/]*/, '')));
@@ -197,26 +162,21 @@ async function triesPlain({ browser, room }) {
     }
 }
 
-const LIGHTTPD = '/usr/sbin/lighttpd';
 const isLocal = /^(127|10|169\.254|192\.168|172\.(1[6-9]|2\d|3[01]))\./.test(host);
 
 /** The server of navtex-page.service, with its settings: the page and the log, and nothing else. */
 async function triesService({ browser, room }) {
-    if (!existsSync(LIGHTTPD)) {
+    if (!hasService) {
         console.error('ci/web: left out: the settings of navtex-page.service, since there is no lighttpd');
         return;
     }
-    const folder = folderOf(room, 'service/navtex');
+    folderOf(room, 'service/navtex');
     const log = `${room}/service/other.log`;
     writeKept(log, [FIRST]);
     copyFileSync(log, `${log}.old`);
-    const settings = readFileSync(new URL('../../../package/navtex-page.conf', import.meta.url), 'utf8');
-    writeFileSync(`${folder}/page.conf`, settings.replaceAll('@share@', `${room}/service`));
-    const server = spawn(LIGHTTPD, ['-D', '-f', `${folder}/page.conf`],
-        { stdio: 'ignore', env: { ...process.env, LOG: log, PORT: String(port) } });
-    const address = `http://127.0.0.1:${port}`;
+    const server = await serviceServer(`${room}/service`, log, port);
+    const { address } = server;
     try {
-        await answers(address);
         const answered = async (way, given) => (await fetch(`${address}${way}`, given)).status;
         for (const way of ['/page.conf', '/navtex.log.old', '/navtex.log/', '/x', '/navtex.html/', '/..%2fother.log']) {
             assert.equal(await answered(way), 403, way);
@@ -232,14 +192,14 @@ async function triesService({ browser, room }) {
         assert.deepEqual(tab.errors, []);
         await tab.close();
     } finally {
-        server.kill();
+        await server.stop();
     }
 }
 
 /** A log that doesn't grow is told, by the time of its file. */
 async function triesSilence({ browser, room }) {
     const folder = folderOf(room, 'plain');
-    const server = await plainServer(folder);
+    const server = await plainServer(folder, port);
     try {
         writeKept(`${folder}/watch.log`, [FIRST]);
         const tab = await browser.tab();
@@ -266,7 +226,7 @@ async function triesSilence({ browser, room }) {
 /** What a browser gives only by https is hidden with its reason; by file:// the page says what it can't. */
 async function triesWhatIsGiven({ browser, room, address }) {
     const folder = folderOf(room, 'plain');
-    const server = await plainServer(folder);
+    const server = await plainServer(folder, port);
     const isSeen = (tab, selector) =>
         tab.value(`[...document.querySelectorAll('${selector}')].every((one) => !one.hidden)`);
     try {
@@ -313,7 +273,7 @@ const PLACES = [
 /** Places are marked and drawn, and the way to each is told; copies stand behind the best one. */
 async function triesPlaces({ browser, room, pictures }) {
     const folder = folderOf(room, 'plain');
-    const server = await plainServer(folder);
+    const server = await plainServer(folder, port);
     try {
         writeKept(`${folder}/watch.log`, PLACES);
         const tab = await browser.tab();
