@@ -3,11 +3,14 @@ import { identityOf } from '../receiver/entries.js';
 
 const APART = 237600; // seconds, 66 hours; what is further apart is another message of that number
 
-/** Whether an entry is better than one before it, or as good: it is later. */
-function replaces(later, one) {
-    const [isFull, wasFull] = [later.how === 'full', one.how === 'full'];
-    return isFull === wasFull ? later.errors <= one.errors : isFull;
+/** Whether an entry is better than another one. */
+function isBetter(one, other) {
+    const [isFull, wasFull] = [one.how === 'full', other.how === 'full'];
+    return isFull === wasFull ? one.errors < other.errors : isFull;
 }
+
+/** The best of entries, of equal ones the later one. */
+const bestOf = (entries) => entries.reduce((best, entry) => (isBetter(best, entry) ? best : entry));
 
 /** A message of its entries, in order: `best`, the `others`, the newest first, and whether all are read. */
 export class Message {
@@ -26,7 +29,15 @@ export class Message {
     }
 
     get best() {
-        return this.copies.reduce((best, entry) => (replaces(entry, best) ? entry : best));
+        return bestOf(this.copies);
+    }
+
+    /** The copy whose place the best one took: the best of those before it, where it is worse; or null. */
+    get replaced() {
+        const { best } = this;
+        const before = this.copies.slice(0, this.copies.indexOf(best));
+        const last = before.length === 0 ? best : bestOf(before);
+        return isBetter(best, last) ? last : null;
     }
 
     get others() {

@@ -65,7 +65,7 @@ export class MessageList {
         this.#refill();
     }
 
-    /** Shows entries that came, the newest of all. */
+    /** Shows entries that came, the newest of all: the messages that changed by them, in order. */
     add(added) {
         const changed = this.#messages.add(added);
         const [isChosen, isNear] = [this.#isChosen(), this.#isNear()];
@@ -76,6 +76,7 @@ export class MessageList {
             this.#list.lastElementChild.remove();
             this.#more.hidden = false;
         }
+        return changed;
     }
 
     /** Shows entries as read, whose messages stand in the list as they were. */

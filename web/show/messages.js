@@ -39,6 +39,14 @@ function countOf(message) {
     return `${message.errors} of ${message.characters} letters lost`;
 }
 
+/** What is said of a message of which some entries were `added`. */
+export function newsOf(message, added, names) {
+    const isAdded = (entry) => added.includes(entry);
+    const isBetter = message.replaced !== null && isAdded(message.best);
+    const kind = message.copies.every(isAdded) ? 'New message' : isBetter ? 'A better copy' : 'Another copy';
+    return `${kind}. ${titleOf(message.best, names)}.`;
+}
+
 /** A text in which each lost letter is marked. */
 function withLost(text) {
     return text.split(/(\*+)/).filter((part) => part !== '').map((part) => {
@@ -67,6 +75,13 @@ function factsOf(entry) {
     return made('p', 'facts', time, `, ${FREQUENCIES[entry.channel]}, ${ENDS[entry.how]}, ${countOf(entry)}`);
 }
 
+/** What is said where the best copy took the place of a worse one. */
+function replacedOf({ replaced }) {
+    if (replaced === null) return [];
+    const words = `Better than the copy before it (${ENDS[replaced.how]}, ${countOf(replaced)}).`;
+    return [made('p', 'replaced', words)];
+}
+
 /** How far it is to each place of a message, where the ship's place is known. */
 function waysOf(message, waySaid) {
     const ways = placesOf(message).map((place) => [place.said.replace(/\n/g, ' '), waySaid(place)]);
@@ -92,7 +107,7 @@ export function itemOf(message, { names, rings, waySaid, onRead }) {
     if (!message.isRead) addUnread(head, title, message, onRead);
     const kinds = ['message', message.isRead ? '' : 'unread', rings ? 'vital' : ''];
     return made('li', kinds.filter(Boolean).join(' '), made('article', '', head, factsOf(best), textOf(best),
-        ...waysOf(message, waySaid), ...othersOf(message)));
+        ...replacedOf(message), ...waysOf(message, waySaid), ...othersOf(message)));
 }
 
 function addUnread(head, title, message, onRead) {

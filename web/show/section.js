@@ -6,7 +6,7 @@ import { offer } from '../hear/files.js';
 import { Alarm } from './alarm.js';
 import { PageFault } from './faults.js';
 import { MessageList } from './list.js';
-import { countsOf, FREQUENCIES, titleOf } from './messages.js';
+import { countsOf, FREQUENCIES, newsOf } from './messages.js';
 import { Names } from './names.js';
 import { checkBoxes, makeBoxes, showRefusals } from './refusals.js';
 
@@ -65,8 +65,8 @@ export class MessageSection {
 
     /** Shows new messages, and rings for those that ring. */
     add(added) {
-        find('news').textContent = added.map((one) => `New message. ${titleOf(one, this.#names.all)}.`).join(' ');
-        this.#list.add(added);
+        const changed = this.#list.add(added);
+        find('news').textContent = changed.map((message) => newsOf(message, added, this.#names.all)).join(' ');
         this.#showCounts();
         this.#alarm.notify(added);
     }

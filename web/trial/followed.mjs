@@ -14,6 +14,7 @@ import { positionOf, positionSaid, positionsIn } from '../places/positions.js';
 import { shipOf } from '../places/ship.js';
 import { entryAt, lineOf, readLog } from '../receiver/entries.js';
 import { Messages } from '../show/copies.js';
+import { newsOf } from '../show/messages.js';
 import { chanceOf } from './chance.mjs';
 import { entryOf, keptOf } from './kept.mjs';
 
@@ -270,6 +271,26 @@ function triesCopies() {
     assert.equal(changed.isRead, true);
 }
 
+/** A message says whose place its best copy took, and what is new of it. */
+function triesBetter() {
+    const copy = (text, given = {}) => ({ ...entryAt(entryOf(text, given)), isRead: false });
+    const [worst, worse, whole] = [copy('A***\n', { how: 'cut' }), copy('A***\n'), copy('ABCD\n')];
+    const replaced = (...entries) => new Messages(entries).all[0].replaced;
+    assert.equal(replaced(worst), null);
+    assert.equal(replaced(worst, worse), worst);
+    assert.equal(replaced(worst, worse, whole), worse, 'the best of those before it');
+    assert.equal(replaced(worse, worst, whole), worse);
+    assert.equal(replaced(whole, worst, worse), null, 'what comes behind it takes no place');
+    assert.equal(replaced(whole, copy('ABCD\n')), null, 'nor does what is as good');
+    const title = 'EA01: station E, A navigational warning, number 01.';
+    const messages = new Messages([worst]);
+    const news = (...added) => messages.add(added).map((message) => newsOf(message, added, {}));
+    assert.deepEqual(news(worse), [`A better copy. ${title}`]);
+    assert.deepEqual(news(copy('A***\n', { how: 'cut' })), [`Another copy. ${title}`]);
+    assert.deepEqual(news(copy('A*\n', { channel: 1 }), whole, copy('AB\n', { channel: 1 })),
+        [`A better copy. ${title}`, `New message. ${title}`]);
+}
+
 /** 220 texts with their places beside them, which web/trial/places.py wrote or somebody by hand. */
 function triesPositions() {
     const kept = readFileSync(new URL('places.jsonl', import.meta.url), 'utf8');
@@ -350,6 +371,7 @@ triesNames();
 triesMarks();
 triesAlarming();
 triesCopies();
+triesBetter();
 triesPositions();
 triesWays();
 triesChart();

@@ -7,6 +7,7 @@ import { createServer } from 'node:http';
 import { setTimeout as pause } from 'node:timers/promises';
 import { entryOf, keptOf, put, writeKept } from '../kept.mjs';
 import { folderOf, freePort, hasService, host, plainServer, serviceServer } from '../servers.mjs';
+import { example } from '../waves.mjs';
 
 const SOON = 20000; // milliseconds in which the page has read the log again, on a busy machine
 
@@ -323,6 +324,49 @@ async function triesPlaces({ browser, room, pictures }) {
     }
 }
 
+/** The log of a watch that takes sendings together: what became better takes the place of the worse copy, says
+ *  so, and is New again; its alarm rings again. */
+async function triesCombined({ browser, room }) {
+    const folder = folderOf(room, 'plain');
+    const server = await plainServer(folder, port);
+    const inCopies = (tab) => tab.textsOf('#list .copies .facts');
+    try {
+        const [bad, good] = example('buoy.combined').split(/(?<=\n\n)/);
+        writeKept(`${folder}/watch.log`, [bad]);
+        const tab = await browser.tab();
+        await open(tab, server);
+        await untilShown(tab, 'New EA01');
+        await tab.press('#rings input[value="A"]');
+        assert.deepEqual(await tab.textsOf('#list .replaced, #list .copies, #list mark.place'), []);
+        await tab.press('.unread button');
+        await untilShown(tab, 'EA01');
+        assert.equal(await tab.value("document.getElementById('alarm').hidden"), true);
+        put(`${folder}/watch.log`, good);
+        await untilShown(tab, 'New EA01');
+        assert.deepEqual(await tab.textsOf('#list article > pre'), ['BUOY 51-24.3N 002-11.0E UNLIT']);
+        assert.deepEqual(await tab.textsOf('#list article > .facts'),
+            ['2025-01-01 04:40:00 UTC, 518 kHz, complete, none of 30 letters lost']);
+        assert.deepEqual(await tab.textsOf('#list .replaced'),
+            ['Better than the copy before it (complete, 1 of 31 letters lost).']);
+        assert.equal(await tab.textOf('news'), 'A better copy. EA01: station E, A navigational warning, number 01.');
+        assert.deepEqual(await tab.textsOf('#list .copies summary'), ['1 other copy of it']);
+        assert.deepEqual(await inCopies(tab), ['2025-01-01 00:40:00 UTC, 518 kHz, complete, 1 of 31 letters lost']);
+        assert.equal(await tab.textOf('counts'), '1 message, 1 not read yet');
+        assert.equal(await tab.textOf('alarm-words'), 'Alarm: EA01. It rings until marked as read.');
+        assert.deepEqual(await tab.textsOf('#chart .point text'), ['EA01'], 'its place is read now');
+        await tab.loadAgain();
+        await untilShown(tab, 'New EA01');
+        await tab.press('.unread button');
+        await untilShown(tab, 'EA01');
+        assert.equal((await tab.textsOf('#list .replaced')).length, 1);
+        await tab.press('#rings input[value="A"]');
+        assert.deepEqual(tab.errors, []);
+        await tab.close();
+    } finally {
+        await server.stop();
+    }
+}
+
 async function keepsPictures(tab, pictures) {
     if (!pictures) return;
     mkdirSync(pictures, { recursive: true });
@@ -343,5 +387,5 @@ async function keepsPictures(tab, pictures) {
 
 /** In Firefox what needs no leave of it and no word of its network. */
 export const trials = (kind) => (kind === 'chromium'
-    ? [triesPlain, triesRanges, triesService, triesSilence, triesWhatIsGiven, triesPlaces]
+    ? [triesPlain, triesRanges, triesService, triesSilence, triesWhatIsGiven, triesPlaces, triesCombined]
     : [triesRanges, triesService, triesSilence]);
