@@ -1,6 +1,7 @@
 //! The watch: a receiver that is left on, whatever its input is.
 #![tactic(auto)]
 
+mod combined_watch;
 mod kept_log;
 pub mod laws;
 mod left_on;
@@ -12,6 +13,7 @@ mod watch_fault;
 mod watch_report;
 mod watch_run;
 
+pub use combined_watch::watch_combined;
 pub use kept_log::log_grammar::LogGrammar;
 pub use kept_log::start::remembered;
 pub use left_on::{watch, watch_with};

@@ -229,7 +229,7 @@ all_in-nil =
     open_headers-nil)
 
 -- those that were found are those that are found to the end
-found-end : (bits : List Bool) (locks : List Lock) (now : Now)
+pub found-end : (bits : List Bool) (locks : List Lock) (now : Now)
     → found_of (placed_to_end bits locks now) ≡ found_to_end bits locks now
 unfolding placed_to_end found_to_end
 found-end bits locks (hunting p) =

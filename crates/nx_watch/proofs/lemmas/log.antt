@@ -1,5 +1,6 @@
 -- The log of a watch, opened, remembered and added to.
 pub mod Finish
+pub mod CombinedLoggable
 pub mod Loggable
 pub mod Keeping
 pub mod Opening

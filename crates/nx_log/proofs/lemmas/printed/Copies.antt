@@ -19,7 +19,7 @@ pub record IsFoundText (text : List ℕ) : Type 0 where
   pub short : length text ≤ most_found
   pub letters : All IsTextByte text
 
-less_is : (text : List ℕ) → All IsTextByte text → All IsTextByte (less_newline text)
+pub less_is : (text : List ℕ) → All IsTextByte text → All IsTextByte (less_newline text)
 less_is [] h = h
 less_is (b ∷ text) h =
     elim (b == newline) as (λ t. All IsTextByte (if t then text else b ∷ text))
@@ -38,7 +38,7 @@ taken_is text raw n e few h = record {
   letters = All-same IsTextByte text (take n raw) e (All-take IsTextByte n raw h);
 }
 
-ended_is : (raw : List ℕ) (ending : Ending) → All IsTextByte raw → ending_of raw ≡ Some ending
+pub ended_is : (raw : List ℕ) (ending : Ending) → All IsTextByte raw → ending_of raw ≡ Some ending
     → IsFoundText ending.text
 ended_is raw ending h e =
     elim ((ended_both raw ending).0 e) [
@@ -48,7 +48,7 @@ ended_is raw ending h e =
       | inr long ↦ taken_is ending.text raw most_found long.text (omega arith) h
     ]
 
-open_is : (raw : List ℕ) → All IsTextByte raw → ending_of raw ≡ None → IsFoundText raw
+pub open_is : (raw : List ℕ) → All IsTextByte raw → ending_of raw ≡ None → IsFoundText raw
 open_is raw h e =
     let short = ((open_both raw).0 e).short in record { short = omega arith; letters = h }
 

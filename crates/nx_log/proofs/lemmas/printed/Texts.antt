@@ -72,7 +72,7 @@ one_byte None h = All-nil IsTextByte
 one_byte (Some c) h = All-cons IsTextByte c [] (h c refl) (All-nil IsTextByte)
 
 -- whatever the positions are
-text_is : (those : List Reception) (shift : Shift) → All IsTextByte (text those shift)
+pub text_is : (those : List Reception) (shift : Shift) → All IsTextByte (text those shift)
 text_is [] shift = All-nil IsTextByte
 text_is (position ∷ those) shift =
     All-append IsTextByte _ _ (one_byte (byte_of position shift) (byte_is position shift))
