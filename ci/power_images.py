@@ -235,7 +235,7 @@ class Recorder:
 
     def words(self, run, room, given, is_traced):
         """The words of the call, and its environment."""
-        words = [self.trial.program, "watch", given, str(run.feed.moment)]
+        words = [*self.trial.watching, given, str(run.feed.moment)]
         env = {"LD_PRELOAD": self.trial.library(), "POWER_RECORD": f"{room}/record"}
         if not is_traced:
             return words, {**os.environ, **env}
@@ -443,7 +443,7 @@ class Opener:
     def start(self, path):
         """Starts a watch with an empty input; its status, and all that it writes. Nothing between
         it and the system costs time: there are many files."""
-        words = [self.trial.program, "watch", path, str(self.run.feed.moment)]
+        words = [*self.trial.watching, path, str(self.run.feed.moment)]
         to = os.O_WRONLY | os.O_CREAT | os.O_TRUNC
         streams = [(os.POSIX_SPAWN_OPEN, 0, "/dev/null", os.O_RDONLY, 0),
                    (os.POSIX_SPAWN_OPEN, 1, f"{path}.told", to, 0o600),

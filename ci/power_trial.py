@@ -57,6 +57,8 @@ class Trial:
 
     def __init__(self, given, folder):
         self.program = os.path.realpath(given.program)
+        # what asks for a watch
+        self.watching = [self.program, "watch", *(["--combine"] if given.combine else [])]
         self.folder, self.all, self.short, self.kills = folder, given.all, given.short, given.kills
         self.days = 2 if given.short else 7
         self.chance = random.Random(given.seed)
@@ -115,7 +117,7 @@ class Trial:
 
         try:
             ran = subprocess.run(
-                [self.program, "watch", path, str(moment)], input=given, stdout=subprocess.PIPE,
+                [*self.watching, path, str(moment)], input=given, stdout=subprocess.PIPE,
                 stderr=subprocess.PIPE, env={**os.environ, **(env or {})}, timeout=120,
                 preexec_fn=None if limit is None else prepare,
             )

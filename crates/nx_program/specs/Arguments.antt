@@ -51,7 +51,7 @@ command_name Code = codes "code"
 command_name Show = codes "show"
 command_name Check = codes "check"
 command_name (Listen sendings) = codes "listen"
-command_name (Watch name moment) = codes "watch"
+command_name (Watch sendings name moment) = codes "watch"
 command_name Resume = codes "resume"
 command_name Save = codes "save"
 command_name Locks = codes "locks"
@@ -71,8 +71,8 @@ abbrev pub plain_tree : Text → App
 plain_tree name = new_app name
 
 -- a command that takes the flag `combine`
-abbrev pub listen_tree : Text → App
-listen_tree name = with_rule (new_app name) (flag_rule (codes "combine"))
+abbrev pub sendings_tree : Text → App
+sendings_tree name = with_rule (new_app name) (flag_rule (codes "combine"))
 
 -- a value of this name, which is any text and must be given
 abbrev pub text_rule : Text → Rule
@@ -89,10 +89,10 @@ slot_tree name =
     let with_station = with_rule (new_app name) (text_rule (codes "STATION")) in
     with_rule with_station (text_rule (codes "MOMENT"))
 
--- a command that takes a file and a moment, each of which is any text to clap
+-- a command that takes the flag `combine`, a file and a moment, each of which is any text to clap
 abbrev pub file_tree : Text → App
 file_tree name =
-    let with_file = with_rule (new_app name) (text_rule (codes "FILE")) in
+    let with_file = with_rule (sendings_tree name) (text_rule (codes "FILE")) in
     with_rule with_file (text_rule (codes "MOMENT"))
 
 -- the greatest number of 32 bits
@@ -116,20 +116,20 @@ bare_tree = on_top (λ s. record s {
 }) (new_app (codes "navtex"))
 
 -- What a command takes, and the call that it makes of it. It takes nothing; or how sendings are
--- taken; or a station and a moment; or a file and a moment; or a kind of damage and two numbers; or
--- the options of a query, of a form and of how a log is read.
+-- taken; or a station and a moment; or how sendings are taken, a file and a moment; or a kind of
+-- damage and two numbers; or the options of a query, of a form and of how a log is read.
 pub data Maker : Type 0 where
   plain : Call → Maker
   by_sendings : (Sendings → Call) → Maker
   slot : (Letter → ℕ → Call) → Maker
-  on_file : (Text → ℕ → Call) → Maker
+  on_file : (Sendings → Text → ℕ → Call) → Maker
   range : (DamageKind → ℕ → ℕ → Call) → Maker
   options : (Query → Form → ReadAs → Call) → Maker
 
 -- the command tree of a command of this name
 abbrev pub tree_of : Text → Maker → App
 tree_of name (plain call) = plain_tree name
-tree_of name (by_sendings make) = listen_tree name
+tree_of name (by_sendings make) = sendings_tree name
 tree_of name (slot make) = slot_tree name
 tree_of name (on_file make) = file_tree name
 tree_of name (range make) = damage_tree name
@@ -209,7 +209,8 @@ abbrev pub HasValues : Call → List Row → Type 0
 HasValues (Listen sendings) values = AsksSendings values sendings
 HasValues (Send station moment) values = HasStationAndMoment values station moment
 HasValues (Slots station moment) values = HasStationAndMoment values station moment
-HasValues (Watch name moment) values = IsFile values name × IsMoment values moment
+HasValues (Watch sendings name moment) values =
+    AsksSendings values sendings × IsFile values name × IsMoment values moment
 HasValues (Damage kind from count) values =
     IsKind values kind × IsNumber (codes "FROM") values from
     × IsNumber (codes "COUNT") values count

@@ -162,7 +162,7 @@ PerformsOnStreams (Damage kind from count) d outcome =
     Tells (λ why. call.Damage why)
     (Damages (record { kind = kind; from = from; count = count }) d) outcome
 PerformsOnStreams (LogCall query form reading) d outcome = ⊥
-PerformsOnStreams (Watch name moment) d outcome = ⊥
+PerformsOnStreams (Watch sendings name moment) d outcome = ⊥
 
 -- the arguments name a call, which had this outcome
 pub record RunsCall {R W : Type 0} (arguments : List Text) (d : Devices R W)
@@ -220,10 +220,11 @@ EndsOnStreams arguments d (Err (fault.Call why)) =
 -- the arguments name a watch, which had this outcome
 pub record RunsWatch {R W F D E : Type 0} (arguments : List Text) (d : Devices R W)
     (b : Beside F D W E) (outcome : Result (Unit {0}) Fault) : Type 0 where
+  pub sendings : Sendings
   pub name : Text
   pub moment : ℕ
-  pub named : Names arguments (Watch name moment)
-  pub watched : WatchesLog d b name moment outcome
+  pub named : Names arguments (Watch sendings name moment)
+  pub watched : WatchesLog d b sendings name moment outcome
 
 -- what a run over a log answered, as the program tells it
 abbrev pub log_outcome : Result ℕ LogFault → Result (Unit {0}) Fault
@@ -274,7 +275,7 @@ EndsRun arguments d b outcome =
 -- alone.
 abbrev pub Performs : {R W F D E : Type 0} → Call → Devices R W → Beside F D W E
     → Result (Unit {0}) Fault → Type 0
-Performs (Watch name moment) d b outcome = WatchesLog d b name moment outcome
+Performs (Watch sendings name moment) d b outcome = WatchesLog d b sendings name moment outcome
 Performs (LogCall query form reading) d b outcome = ReadsLog query form reading d b outcome
 Performs call d b (Ok done) = IsUnused b × PerformsOnStreams call d (Ok done)
 Performs call d b (Err (fault.Call why)) = IsUnused b × PerformsOnStreams call d (Err why)
@@ -294,7 +295,9 @@ Succeeds arguments d b = EndsRun arguments d b (Ok tt)
 
 -- the arguments name a watch
 abbrev pub NamesWatch : List Text → Type 0
-NamesWatch arguments = (name : Text) × (moment : ℕ) × Names arguments (Watch name moment)
+NamesWatch arguments =
+    (sendings : Sendings) × (name : Text) × (moment : ℕ)
+    × Names arguments (Watch sendings name moment)
 
 -- the arguments name a run over a log
 abbrev pub NamesLog : List Text → Type 0

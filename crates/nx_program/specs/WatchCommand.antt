@@ -1,4 +1,5 @@
--- What `navtex watch FILE MOMENT` does: the log is opened, watched, and handed back (this profile).
+-- What `navtex watch FILE MOMENT` does, with `--combine` and without it: the log is opened,
+-- watched, and handed back (this profile).
 use Rattle.std.specs.Prelude.{◌≡◌, ◌++◌, ℕ, List, [], Option, Some, None, Result, Ok, Err}
 use Rattle.std.specs.Prelude.{codes, decimal}
 use Rattle.clap.specs.Words.{Text}
@@ -8,17 +9,21 @@ use Rattle.nx_kept.specs.Kept.{IsDamaged, IsKeptLog}
 use Rattle.nx_kept.specs.declared.disk.DiskFile.{Ghosts as TellsOfDisk}
 use Rattle.nx_log.specs.Entries.{IsWholeEntry}
 use Rattle.nx_log.specs.Notices.{Notices}
+use Rattle.nx_combine.specs.CombinedPrinting.{combined}
+use Rattle.nx_copies.specs.copies.Log.{Printing, plain}
 use Rattle.nx_copies.specs.copies.Shares.{MarkedCopy}
 use Rattle.nx_disk.specs.declared.file.FileFault.{FileFault}
 use Rattle.nx_disk.specs.declared.file.FileFault.TheVariants as file
-use Rattle.nx_watch.specs.Watch.{AnswersWatch, FailsWithin, HasCause, RefusesLog, StandsForEntries}
-use Rattle.nx_watch.specs.Watch.{WatchDevices, longest_entry}
+use Rattle.nx_watch.specs.Watch.{AnswersWatchBy, FailsWithin, HasCause, RefusesLog}
+use Rattle.nx_watch.specs.Watch.{StandsForEntries, WatchDevices, longest_entry}
 use Rattle.nx_watch.specs.LineRun.{TellsOfLines}
 use Rattle.nx_watch.specs.Stamp.{Stamp}
 use Rattle.nx_watch.specs.declared.watch_fault.WatchFault.{WatchFault}
 use Rattle.nx_watch.specs.declared.watch_fault.WatchFault.TheVariants as watch
 use Rattle.nx_watch.specs.declared.watch_report.WatchReport.{WatchReport}
 use Rattle.nx_program.specs.FaultText.{open_reason}
+use Rattle.nx_program.specs.declared.arguments.Sendings.{Sendings}
+use Rattle.nx_program.specs.declared.arguments.Sendings.TheVariants.{Alone, Together}
 use Rattle.nx_program.specs.declared.fault.Fault.{Fault}
 use Rattle.nx_program.specs.declared.fault.Fault.TheVariants as fault
 use Rattle.nx_program.specs.declared.watch_command.WatchFailure.{WatchFailure}
@@ -97,6 +102,16 @@ watch_fault_line name (Ended (watch.Back line last given)) =
     codes "navtex: line " ++ (decimal line ++ (codes ": moment " ++ (decimal given
     ++ (codes " is before " ++ (decimal last ++ codes "\n")))))
 
+-- what receivers print that take the sendings of a message so: each copy by itself, or all together
+abbrev pub printing_of : Sendings → Printing
+printing_of Alone = plain
+printing_of Together = combined
+
+-- the answer of the watch of the log of this name, as the program tells it
+abbrev pub watch_outcome : Text → Result WatchReport WatchFault → Result (Unit {0}) Fault
+watch_outcome name (Ok report) = Ok tt
+watch_outcome name (Err why) = Err (fault.Watch name (Ended why))
+
 module _ {R W F D E : Type 0} (d : Devices R W) (b : Beside F D W E) where
   -- the devices of the watch of a file, told for this first content of it
   abbrev pub devices_of : D → D → List ℕ → WatchDevices D R W E
@@ -115,15 +130,18 @@ module _ {R W F D E : Type 0} (d : Devices R W) (b : Beside F D W E) where
 
   -- The file was watched from this moment on, with this answer, and stands so now. Something is
   -- said for each first content that explains what it answered. Where it stood for entries, all is
-  -- said of what was read, kept, written and told; where it was damaged, at which line. Where it
-  -- was no kept log, it was refused, and nothing was done but to read it. The disk is blamed only
-  -- where it failed, and that was at a place within the file or at its end. Whatever the file was,
-  -- it was told on standard error what is cut, and of some lines, and nothing else.
-  pub record WatchesFile (moment : ℕ) (disk disk_after : D) (answer : Result WatchReport WatchFault)
+  -- said of what was read, kept, written and told, by how the sendings of a message are taken;
+  -- where it was damaged, at which line. Where it was no kept log, it was refused, and nothing was
+  -- done but to read it. The disk is blamed only where it failed, and that was at a place within
+  -- the file or at its end. Whatever the file was, it was told on standard error what is cut, and
+  -- of some lines, and nothing else.
+  pub record WatchesFile (sendings : Sendings) (moment : ℕ) (disk disk_after : D)
+      (answer : Result WatchReport WatchFault)
       : Type 0 where
     pub watched : (start : List ℕ) (entries : List MarkedCopy)
         → b.tells.explains start disk_after → StandsForEntries entries (b.tells.seen start disk)
-        → AnswersWatch (devices_of disk disk_after start) moment entries answer
+        → AnswersWatchBy (devices_of disk disk_after start) (printing_of sendings) moment entries
+        answer
     pub damaged : (start : List ℕ) (line : ℕ) → b.tells.explains start disk_after
         → answer ≡ Err (watch.Damaged line)
         → IsDamaged IsWholeEntry longest_entry line (b.tells.seen start disk)
@@ -144,25 +162,22 @@ module _ {R W F D E : Type 0} (d : Devices R W) (b : Beside F D W E) where
     pub told : TellsOfLines (b.contents b.faults.inner) (b.contents b.faults_after.inner)
         b.faults_after.failures
 
-  -- the answer of the watch of the log of this name, as the program tells it
-  abbrev pub watch_outcome : Text → Result WatchReport WatchFault → Result (Unit {0}) Fault
-  watch_outcome name (Ok report) = Ok tt
-  watch_outcome name (Err why) = Err (fault.Watch name (Ended why))
-
   -- Where the log can't be had, nothing was read, written or told. Else its file was watched, and
   -- it is handed back.
-  abbrev pub WatchesOpened : Text → ℕ → Result D FileFault → Result (Unit {0}) Fault → Type 0
-  WatchesOpened name moment (Err why) outcome =
+  abbrev pub WatchesOpened : Sendings → Text → ℕ → Result D FileFault → Result (Unit {0}) Fault
+      → Type 0
+  WatchesOpened sendings name moment (Err why) outcome =
       (d.reader_after ≡ d.reader) × (d.writer_after ≡ d.writer) × IsUnused b
       × (outcome ≡ Err (fault.Watch name (Unopened why)))
-  WatchesOpened name moment (Ok disk) outcome =
+  WatchesOpened sendings name moment (Ok disk) outcome =
       (disk_after : D) × (b.disk_after ≡ Some disk_after)
-      × (answer : Result WatchReport WatchFault) × WatchesFile moment disk disk_after answer
+      × (answer : Result WatchReport WatchFault)
+      × WatchesFile sendings moment disk disk_after answer
       × (outcome ≡ watch_outcome name answer)
 
   -- The log of this name was opened, which gave what opening it may give, and watched from this
-  -- moment on.
-  abbrev pub WatchesLog : Text → ℕ → Result (Unit {0}) Fault → Type 0
-  WatchesLog name moment outcome =
+  -- moment on, with the sendings of a message taken so.
+  abbrev pub WatchesLog : Sendings → Text → ℕ → Result (Unit {0}) Fault → Type 0
+  WatchesLog sendings name moment outcome =
       (opened : Result D FileFault) × b.gives b.files name opened
-      × WatchesOpened name moment opened outcome
+      × WatchesOpened sendings name moment opened outcome

@@ -1,5 +1,5 @@
--- Runs of `navtex watch FILE MOMENT` over one log, one after another, and what the log holds then
--- (this profile).
+-- Runs of `navtex watch FILE MOMENT`, without `--combine`, over one log, one after another, and
+-- what the log holds then (this profile).
 use Rattle.std.specs.Prelude.{◌≡◌, ◌⊎◌, ⊤, ℕ, List, [], ◌∷◌, ◌++◌, Contains, Option, Some}
 use Rattle.std.specs.Prelude.{Result, Ok, Err}
 use Rattle.clap.specs.Words.{Text}
@@ -18,6 +18,7 @@ use Rattle.nx_copies.specs.laws.Once.{IsPrintedOnce}
 use Rattle.nx_watch.specs.Stamp.{Stamp}
 use Rattle.nx_watch.specs.Watch.{StandsForEntries}
 use Rattle.nx_program.specs.WatchCommand.{Beside, WatchesLog, beside}
+use Rattle.nx_program.specs.declared.arguments.Sendings.TheVariants.{Alone}
 use Rattle.nx_program.specs.declared.fault.Fault.{Fault}
 use Rattle.nx_program.specs.declared.fault.Fault.TheVariants as fault
 use Rattle.nx_program.specs.declared.watch_command.WatchFailure.TheVariants.{Ended}
@@ -114,10 +115,11 @@ module _ {F D R W E : Type 0} (gives : F → List ℕ → Result D FileFault →
   CouldLeave run left =
       (disk : D) × (run.disk_after ≡ Some disk) × Leaves run disk run.ended left
 
-  -- The run did what the program says of a watch. What it found explains what its file answered,
-  -- and it left what it could leave.
+  -- The run did what the program says of a watch that judges each copy by itself. What it found
+  -- explains what its file answered, and it left what it could leave.
   pub record WasRun (run : WatchRun F D R W E) : Type 0 where
-    pub watched : WatchesLog (streams_of run) (beside_of run) run.name run.moment run.outcome
+    pub watched :
+        WatchesLog (streams_of run) (beside_of run) Alone run.name run.moment run.outcome
     pub disk : D
     pub handed_back : run.disk_after ≡ Some disk
     pub explained : tells.explains run.found disk

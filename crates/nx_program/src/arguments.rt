@@ -58,6 +58,8 @@ pub enum Call<'a> {
     },
     /// Listen to the lines of any bytes, and put each entry into a log that is kept.
     Watch {
+        /// How the sendings of a message are taken.
+        sendings: Sendings,
         /// The log.
         file: FileName<'a>,
         /// The moment, in seconds since 1970, at which the watch starts.
@@ -251,7 +253,11 @@ impl<'a> Call<'a> {
             }
             "watch" => {
                 let (file, moment) = watch_in(values)?;
-                Some(Call::Watch { file, moment })
+                Some(Call::Watch {
+                    sendings: sendings_in(values),
+                    file,
+                    moment,
+                })
             }
             _ => None,
         }

@@ -1,7 +1,7 @@
 //! The command tree of the program, and the texts of its help.
 
 ghost use Rattle.std.specs.Prelude.{IfOk};
-ghost use Rattle.nx_program.specs.Arguments.{bare_tree, damage_tree, file_tree, listen_tree, navtex, number_rule, slot_tree};
+ghost use Rattle.nx_program.specs.Arguments.{bare_tree, damage_tree, file_tree, navtex, number_rule, sendings_tree, slot_tree};
 ghost use Rattle.nx_program.specs.Arguments.{text_rule};
 ghost use Rattle.nx_program.specs.private.Reading.{AddsRule, IsBuiltAs, IsReadAs};
 ghost use Rattle.nx_program.specs.private.Reading.{row_tree, with_rows};
@@ -24,7 +24,7 @@ enum Takes {
     Sendings,
     /// A station and a moment.
     Slot,
-    /// A file and a moment.
+    /// How the sendings of a message are taken, a file and a moment.
     File,
     /// A kind of damage and a range of words.
     Range,
@@ -176,6 +176,12 @@ standard output, but where an entry can't be put: then it and all later ones
 go there. Where the input ends, a message that is being heard is put as cut, and
 its next sending as full beside it.
 
+With --combine all sendings of a message that this watch hears are taken
+together, as listen --help says. What has become better is put into FILE as one
+more entry. That is the way for a receiver that is left on, since a message is
+sent again every few hours. Without it each entry is a copy as it was heard.
+What FILE remembers is the same. It takes 5 megabytes more of memory.
+
 FILE is a regular file on a local disk, which is made where it isn't there.
 Where it can't be opened, the reason is told. A damaged one is refused at its
 line and stays as it is, and so is a log of listen. A second watch of the same
@@ -185,7 +191,7 @@ is left out.";
 
 const WATCH_EXAMPLE: &str = "Example, live from the sound of a radio (rec is a part of sox):
   $ rec -q -t raw -r 8000 -c 1 -e signed -b 16 - |
-      navtex-elements | navtex watch watch.log \"$(date +%s)\"
+      navtex-elements | navtex watch --combine watch.log \"$(date +%s)\"
 navtex-watch is a script and a service that do this, and start it again; its man
 page is navtex-watch(8), and its settings are in /etc/default/navtex-watch.
 navtex-follow shows each entry of the log once, and navtex-alarm runs a command
@@ -194,7 +200,7 @@ for each new message.";
 const WATCH: Row = Row {
     name: "watch",
     takes: Takes::File,
-    usage: "navtex watch <FILE> <MOMENT> < x.air",
+    usage: "navtex watch [--combine] <FILE> <MOMENT> < x.air",
     about: "Keep the log of a receiver that is left on",
     short: Some(WATCH_SHORT),
     long: WATCH_HELP,
@@ -681,8 +687,8 @@ fn with_number<'a>(
 }
 
 /// A command that takes the flag `--combine`.
-fn listen_command<'a>(alloc: Global, name: &'a str) -> Result<Command<'a>, AllocError>
-    ensures { IfOk result (IsBuiltAs (listen_tree name.entry.now)) }
+fn sendings_command<'a>(alloc: Global, name: &'a str) -> Result<Command<'a>, AllocError>
+    ensures { IfOk result (IsBuiltAs (sendings_tree name.entry.now)) }
 {
     with_flag(alloc, Command::new(alloc, name), "combine", COMBINE_HELP)
 }
@@ -705,19 +711,20 @@ fn slot_command<'a>(alloc: Global, name: &'a str) -> Result<Command<'a>, AllocEr
     )
 }
 
-/// A command that takes a file and a moment.
+/// A command that takes the flag `--combine`, a file and a moment.
 fn file_command<'a>(alloc: Global, name: &'a str) -> Result<Command<'a>, AllocError>
     ensures { IfOk result (IsBuiltAs (file_tree name.entry.now)) }
 {
-    let command = with_text(
+    let with_combine = sendings_command(alloc, name)?;
+    let with_file = with_text(
         alloc,
-        Command::new(alloc, name),
+        with_combine,
         "FILE",
         "The log: a regular file, which is made where it isn't there",
     )?;
     with_text(
         alloc,
-        command,
+        with_file,
         "MOMENT",
         "Its start: seconds since 1970, 0 to 32503679999: $(date +%s) is now",
     )
@@ -756,7 +763,7 @@ impl Row {
     {
         match self.takes {
             Takes::Nothing => Ok(Command::new(alloc, self.name)),
-            Takes::Sendings => listen_command(alloc, self.name),
+            Takes::Sendings => sendings_command(alloc, self.name),
             Takes::Slot => slot_command(alloc, self.name),
             Takes::File => file_command(alloc, self.name),
             Takes::Range => range_command(alloc, self.name),

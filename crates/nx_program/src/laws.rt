@@ -7,6 +7,7 @@ ghost use Rattle.nx_program.specs.Arguments.{AsksForHelp, AsksForVersion, IsRefu
 ghost use Rattle.nx_program.specs.Arguments.{LacksKind, LacksMoment, LacksStation, Names, as_read, moment_report};
 ghost use Rattle.nx_program.specs.declared.arguments.Call.{Call};
 ghost use Rattle.nx_program.specs.declared.arguments.Call.TheVariants.{Check, Code, Decode, Encode, Listen, Show};
+ghost use Rattle.nx_program.specs.declared.arguments.Sendings.{Sendings};
 ghost use Rattle.nx_program.specs.declared.arguments.Sendings.TheVariants.{Alone, Together};
 ghost use Rattle.nx_program.specs.declared.arguments.Call.TheVariants.{Damage, Locks, Resume, Save, Send, Slots, Watch};
 ghost use Rattle.nx_station.specs.declared.damaging.DamageKind.{DamageKind};
@@ -77,8 +78,8 @@ pub fn numbers_are_in_range()
         → Names arguments (Send station moment) → moment ≤ 32503679999 }
     ensures slots { (arguments : List Text) (station : Letter) (moment : ℕ)
         → Names arguments (Slots station moment) → moment ≤ 32503679999 }
-    ensures watch { (arguments : List Text) (name : Text) (moment : ℕ)
-        → Names arguments (Watch name moment) → moment ≤ 32503679999 }
+    ensures watch { (arguments : List Text) (sendings : Sendings) (name : Text) (moment : ℕ)
+        → Names arguments (Watch sendings name moment) → moment ≤ 32503679999 }
     ensures from { (arguments : List Text) (kind : DamageKind) (from count : ℕ)
         → Names arguments (Damage kind from count) → from ≤ 4294967295 }
     ensures count { (arguments : List Text) (kind : DamageKind) (from count : ℕ)
@@ -109,7 +110,10 @@ pub fn slots_in_examples()
 pub fn watch_in_examples()
     ensures some { (program : Text)
         → Names (program ∷ codes "watch" ∷ codes "x.log" ∷ codes "1735692000" ∷ [])
-        (Watch (codes "x.log") 1735692000) }
+        (Watch Alone (codes "x.log") 1735692000) }
+    ensures combine { (program : Text)
+        → Names (program ∷ codes "watch" ∷ codes "--combine" ∷ codes "x.log" ∷ codes "1735692000"
+        ∷ []) (Watch Together (codes "x.log") 1735692000) }
     ensures too_late { (program : Text)
         → LacksMoment (program ∷ codes "watch" ∷ codes "x.log" ∷ codes "32503680000" ∷ [])
         (moment_report (codes "32503680000")) }

@@ -11,7 +11,7 @@ ghost use Rattle.nx_program.specs.WatchCommand.{WatchesLog, beside, notices_betw
 ghost use Rattle.nx_watch.specs.Stamps.{IsFresh, counted_of, stamps_of};
 ghost use Rattle.nx_program.specs.Arguments.{IsRefused, Names, as_read};
 ghost use Rattle.nx_program.specs.Arguments.{help_words as the_words};
-ghost use Rattle.nx_program.specs.private.Reading.{EndsUncalled, ExplainsArguments, IsOnStreams};
+ghost use Rattle.nx_program.specs.private.Reading.{EndsUncalled, ExplainsArguments, IsOnStreams, told_of_call};
 ghost use Rattle.clap.specs.Words.{Text};
 ghost use Rattle.nx_fec.specs.Transfers.{CountedDevice, devices};
 ghost use Rattle.nx_fec.specs.texts.TableText.{table_text};
@@ -126,6 +126,16 @@ fn perform<R: Read, W: Write>(
     Ok(())
 }
 
+/// The outcome of a call as the program tells it.
+fn call_outcome(outcome: Result<(), CallFault>) -> Result<(), Fault<'static>>
+    ensures { result ≡ told_of_call outcome }
+{
+    match outcome {
+        Ok(()) => Ok(()),
+        Err(why) => Err(Fault::Call(why)),
+    }
+}
+
 /// Writes the text of help, which is what `help` displays.
 fn give_help<D: Display, W: Write>(
     alloc: Global,
@@ -211,9 +221,13 @@ fn obey<'a, S: AsStr, R: Read, W: Write, E: Write, F: LogFiles + Drop>(
         result.outcome }
 {
     match call_of(alloc, arguments) {
-        Ok(Call::Watch { file, moment }) => {
-            watch_input(alloc, file, moment, files, input, writer, faults)
-        }
+        Ok(
+            Call::Watch {
+                sendings,
+                file,
+                moment,
+            },
+        ) => watch_input(alloc, sendings, file, moment, files, input, writer, faults),
         Ok(
             Call::Log {
                 query,
@@ -225,7 +239,7 @@ fn obey<'a, S: AsStr, R: Read, W: Write, E: Write, F: LogFiles + Drop>(
             let mut reader = input.into_inner();
             let outcome = perform(alloc, call, &mut reader, writer);
             Obeyed {
-                outcome: outcome.map_err(|why| Fault::Call(why)),
+                outcome: call_outcome(outcome),
                 input: StampedReader::new(reader),
                 file: None,
             }
@@ -238,9 +252,10 @@ fn obey<'a, S: AsStr, R: Read, W: Write, E: Write, F: LogFiles + Drop>(
     }
 }
 
-/// Watches the log of this name.
+/// Watches the log of this name, and takes the sendings of a message so.
 fn watch_input<'a, R: Read, W: Write, E: Write, F: LogFiles + Drop>(
     alloc: Global,
+    sendings: Sendings,
     log: FileName<'a>,
     moment: u64,
     files: F,
@@ -256,9 +271,11 @@ fn watch_input<'a, R: Read, W: Write, E: Write, F: LogFiles + Drop>(
         writer.new)
         (beside files F.gives result.file F.Disk.DiskFile E.contents faults.old faults.new
         (stamps_of result.input))
-        log.entry moment result.outcome }
+        sendings log.entry moment result.outcome }
 {
-    let (outcome, file) = watch_log(alloc, log, moment, files, &mut input, writer, faults);
+    let (outcome, file) = watch_log(
+        alloc, sendings, log, moment, files, &mut input, writer, faults,
+    );
     Obeyed {
         outcome,
         input,

@@ -1,21 +1,22 @@
 //! The watch of a log: how its file is opened, and how a failure is told.
 
-ghost use Rattle.std.specs.Prelude.{◌≡◌, List, ℕ, Option, Result, Err, ◌++◌};
+ghost use Rattle.std.specs.Prelude.{◌≡◌, List, ℕ, Option, Result, Err, Some, ◌++◌};
 ghost use Rattle.nx_fec.specs.Transfers.{devices};
 ghost use Rattle.nx_disk.specs.declared.file.FileFault.TheVariants.{Open};
 ghost use Rattle.nx_program.specs.Status.{watch_failure_status};
 ghost use Rattle.nx_program.specs.declared.watch_command.WatchFailure.TheVariants.{Unopened, Ended};
-ghost use Rattle.nx_program.specs.WatchCommand.{WatchesLog, beside, watch_fault_line};
+ghost use Rattle.nx_program.specs.WatchCommand.{WatchesLog, beside, watch_fault_line, watch_outcome};
 ghost use Rattle.nx_watch.specs.LineRun.{HasTold};
 ghost use Rattle.nx_watch.specs.Stamps.{IsFresh, counted_of, stamps_of};
 
+use crate::arguments::Sendings;
 use crate::fault::Fault;
 use crate::fault_text::open_reason;
 use crate::file_name::FileName;
 use nx_disk::{FileFault, FileOpenFault, LeftBefore, LogFile, Noted, RawFile};
 use nx_fec::Counting;
 use nx_kept::{DiskFailed, DiskFile};
-use nx_watch::{StampedReader, WatchFault, tell, watch, write_more};
+use nx_watch::{StampedReader, WatchFault, WatchReport, tell, watch, watch_combined, write_more};
 use std::alloc::Global;
 use std::fs::{File, Files};
 use std::io::{Read, Write};
@@ -216,10 +217,28 @@ fn tell_of_log<E: Write>(before: &[u8], log: &FileName, behind: &[u8], faults: &
     write_more(behind, faults);
 }
 
-/// Opens the log of this name and watches it from this moment on. Its file is handed back, if it
-/// was opened.
+/// What the program tells of the watch of the log of this name, by its answer and its file, which
+/// is handed back.
+fn ended<'a, D: Drop>(
+    log: FileName<'a>,
+    watched: (Result<WatchReport, WatchFault>, D),
+) -> (Result<(), Fault<'a>>, Option<D>)
+    ensures outcome { result.0 ≡ watch_outcome log.entry watched.0 }
+    ensures file { result.1 ≡ Some watched.1 }
+{
+    let (answer, file) = watched;
+    let outcome = match answer {
+        Ok(_) => Ok(()),
+        Err(why) => Err(Fault::Watch(log, WatchFailure::Ended(why))),
+    };
+    (outcome, Some(file))
+}
+
+/// Opens the log of this name and watches it from this moment on, and takes the sendings of a
+/// message so. Its file is handed back, if it was opened.
 pub fn watch_log<'a, F: LogFiles, R: Read, W: Write, E: Write>(
     alloc: Global,
+    sendings: Sendings,
     log: FileName<'a>,
     moment: u64,
     files: F,
@@ -235,16 +254,16 @@ pub fn watch_log<'a, F: LogFiles, R: Read, W: Write, E: Write>(
         writer.new)
         (beside files F.gives result.1 F.Disk.DiskFile E.contents faults.old faults.new
         (stamps_of reader.new))
-        log.entry moment result.0 }
+        sendings log.entry moment result.0 }
 {
     match files.open(log.as_str()) {
-        Ok(disk) => {
-            let (answer, disk) = watch(alloc, moment, disk, reader, writer, faults);
-            match answer {
-                Ok(_) => (Ok(()), Some(disk)),
-                Err(why) => (Err(Fault::Watch(log, WatchFailure::Ended(why))), Some(disk)),
-            }
-        }
+        Ok(disk) => match sendings {
+            Sendings::Alone => ended(log, watch(alloc, moment, disk, reader, writer, faults)),
+            Sendings::Together => ended(
+                log,
+                watch_combined(alloc, moment, disk, reader, writer, faults),
+            ),
+        },
         Err(why) => (Err(Fault::Watch(log, WatchFailure::Unopened(why))), None),
     }
 }

@@ -10,6 +10,7 @@ ghost use Rattle.nx_program.specs.Report.{Answers};
 ghost use Rattle.nx_program.specs.WatchCommand.{WatchesLog, with_faults};
 ghost use Rattle.nx_program.specs.WatchRuns.{AreOfOneLog, ComesBehind, CouldLeave, KeepsOnce, Leaves, MayBeLeftAsFound, OpensFresh, StandsAlike, WatchRun, beside_of, cut_at_any_moment, streams_of};
 ghost use Rattle.nx_program.specs.declared.arguments.Call.TheVariants.{Watch};
+ghost use Rattle.nx_program.specs.declared.arguments.Sendings.TheVariants.{Alone};
 ghost use Rattle.nx_program.specs.declared.fault.Fault.{Fault};
 ghost use Rattle.nx_copies.specs.copies.Shares.{MarkedCopy};
 ghost use Rattle.nx_watch.specs.Watch.{StandsForEntries};
@@ -20,17 +21,17 @@ use nx_kept::DiskFile;
 use std::fs::{File, Files};
 use std::io::{Read, Write};
 
-/// The law of a receiver that is left on. Take runs `navtex watch FILE MOMENT` over one log, one
-/// after another, of each of which holds what `answer` says of it (`WatchesLog`). A run was over,
-/// by the end of its input, a clock that went back, or a failed read. Or a crash cut it off, or a
-/// fault of the disk did: behind a read of its input, or at any moment from the opening of its log
-/// on, also before its first read. What a crash could leave before such a run is what the run
-/// before it could leave, or what stands for the same entries as what it found. The runs are a
-/// chain of watches, of the lines that act of what each read. One that was cut off at any moment
-/// may be none of them: it left what the run before it could leave, which then counts as left by
-/// that run. What the last one left stands for the entries from before, and then for what each put.
-/// A message that is heard in time over them has exactly one entry of its channel among these. An
-/// empty log stands for no entries.
+/// The law of a receiver that is left on. Take runs `navtex watch FILE MOMENT`, without
+/// `--combine`, over one log, one after another, of each of which holds what `answer` says of it
+/// (`WatchesLog`). A run was over, by the end of its input, a clock that went back, or a failed
+/// read. Or a crash cut it off, or a fault of the disk did: behind a read of its input, or at any
+/// moment from the opening of its log on, also before its first read. What a crash could leave
+/// before such a run is what the run before it could leave, or what stands for the same entries as
+/// what it found. The runs are a chain of watches, of the lines that act of what each read. One
+/// that was cut off at any moment may be none of them: it left what the run before it could leave,
+/// which then counts as left by that run. What the last one left stands for the entries from
+/// before, and then for what each put. A message that is heard in time over them has exactly one
+/// entry of its channel among these. An empty log stands for no entries.
 pub fn a_message_stands_once_in_the_log_of_runs<F: LogFiles, R: Read, W: Write, E: Write>()
     ensures once { (log : List MarkedCopy) (file : List ℕ) (runs : List (WatchRun F F.Disk R W E))
         → OpensFresh F.gives F.Disk.DiskFile → StandsForEntries log file
@@ -69,12 +70,12 @@ pub fn what_is_found_after_a_fault_is_left<F: LogFiles, R: Read, W: Write, E: Wr
         cut_at_any_moment (F.Disk.seen run.found disk) }
 {}
 
-/// Where a run with the arguments `watch FILE MOMENT` hands a file back, the clause `exits` of
-/// `answer` says that it did what a watch does. Standard error is told of as it stood behind the
-/// watch, before a fault was reported there.
+/// Where a run with the arguments `watch FILE MOMENT`, without `--combine`, hands a file back, the
+/// clause `exits` of `answer` says that it did what a watch does. Standard error is told of as it
+/// stood behind the watch, before a fault was reported there.
 pub fn a_run_that_hands_its_log_back_watched_it<F: LogFiles, R: Read, W: Write, E: Write>()
     ensures { (arguments : List Text) (run : WatchRun F F.Disk R W E) (reported : CountedDevice E)
-        (disk : F.Disk) (status : ℕ) → Names arguments (Watch run.name run.moment)
+        (disk : F.Disk) (status : ℕ) → Names arguments (Watch Alone run.name run.moment)
         → run.disk_after ≡ Some disk
         → Answers arguments
         (streams_of F.gives F.Disk.DiskFile R.remaining W.contents E.contents run)
@@ -85,7 +86,7 @@ pub fn a_run_that_hands_its_log_back_watched_it<F: LogFiles, R: Read, W: Write, 
         × WatchesLog (streams_of F.gives F.Disk.DiskFile R.remaining W.contents E.contents run)
         (with_faults (beside_of F.gives F.Disk.DiskFile R.remaining W.contents E.contents run)
         behind)
-        run.name run.moment outcome }
+        Alone run.name run.moment outcome }
 {}
 
 /// Opening a log in the files of the system gives a file of which no call was made.

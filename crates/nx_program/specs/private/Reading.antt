@@ -20,8 +20,8 @@ use Rattle.nx_program.specs.Arguments.{HasUnfitValue, IsFile, IsKind, IsMoment, 
 use Rattle.nx_program.specs.Arguments.{IsReportedMoment, IsStation, LacksKind, LacksStation}
 use Rattle.nx_program.specs.LogArguments.{log_tree}
 use Rattle.nx_program.specs.Program.{Tells, WritesText, version_text}
-use Rattle.nx_program.specs.Arguments.{SaysMoment, damage_tree, file_tree, listen_tree, plain_tree}
-use Rattle.nx_program.specs.Arguments.{slot_tree}
+use Rattle.nx_program.specs.Arguments.{SaysMoment, damage_tree, file_tree, plain_tree}
+use Rattle.nx_program.specs.Arguments.{sendings_tree, slot_tree}
 use Rattle.nx_program.specs.declared.commands.Row.{Row as TableRow}
 use Rattle.nx_program.specs.declared.commands.Takes.{Takes}
 use Rattle.nx_program.specs.declared.commands.Takes.TheVariants.{File, Nothing, Query, Range, Sendings, Slot}
@@ -47,7 +47,7 @@ pub record IsReadAs (old new : Command) : Type 0 where
 -- the command tree of a command that takes this
 abbrev pub taking_tree : Takes → Text → App
 taking_tree Nothing name = plain_tree name
-taking_tree Sendings name = listen_tree name
+taking_tree Sendings name = sendings_tree name
 taking_tree Slot name = slot_tree name
 taking_tree File name = file_tree name
 taking_tree Range name = damage_tree name
@@ -144,8 +144,13 @@ EndsUncalled arguments contents old new (Err (fault.Call why)) =
     GivesAsked arguments contents old new (Err why)
     ⊎ ((new ≡ old) × (why ≡ Run (run.Memory alloc_error)))
 
+-- the outcome of a call, as the program tells it
+abbrev pub told_of_call : Result (Unit {0}) CallFault → Result (Unit {0}) Fault
+told_of_call (Ok done) = Ok tt
+told_of_call (Err why) = Err (fault.Call why)
+
 -- the call is neither a watch nor a run over a log
 abbrev pub IsOnStreams : Call → Type 0
-IsOnStreams (call.Watch name moment) = ⊥
+IsOnStreams (call.Watch sendings name moment) = ⊥
 IsOnStreams (call.Log query form damaged) = ⊥
 IsOnStreams _ = ⊤

@@ -1,9 +1,8 @@
 use Rattle.std.proofs.lemmas.Result.{IfOk-weaker}
-use Rattle.clap.specs.Words.{new_app}
 use Rattle.nx_program.proofs.commands.file_command.Goals as goal
 
 pub returns : goal.returns
 returns c =
     IfOk-weaker c.with_text-2.result _ _
-    (λ r adds. adds _ (c.in_ok-command.ensures (new_app c.args.name.now)
-    (record { tree = c.new.ensures.app; local = c.new.ensures.local }))) c.with_text-2.ensures
+    (λ r adds. adds _ (c.in_ok-with_file.ensures _ c.in_ok-with_combine.ensures))
+    c.with_text-2.ensures

@@ -2,14 +2,16 @@ use Rattle.std.proofs.Common.{List, [], ◌∷◌, codes, refl, inl, inr}
 use Rattle.clap.proofs.OnLiterals.{clap_on_literals}
 use Rattle.clap.specs.Words.{Row, Text}
 use Rattle.clap.specs.declared.error.kind.ErrorKind.TheVariants as kind
-use Rattle.nx_program.proofs.lemmas.arguments.GivenValues.{given}
+use Rattle.nx_program.proofs.lemmas.arguments.GivenValues.{given, off}
 use Rattle.nx_program.proofs.lemmas.arguments.CallValues.{moment-given, moment-none, moment-of}
 use Rattle.nx_program.proofs.lemmas.arguments.Arguments.{missing_argument_is_refusal}
 use Rattle.nx_program.proofs.lemmas.arguments.Arguments.{unknown_is_refusal}
 use Rattle.nx_program.proofs.laws.watch_in_examples.Goals as goal
 
 abbrev values : Text → List Row
-values moment = given (codes "FILE") (codes "x.log") ∷ given (codes "MOMENT") moment ∷ []
+values moment =
+    given (codes "FILE") (codes "x.log") ∷ given (codes "MOMENT") moment
+    ∷ off (codes "combine") ∷ []
 
 pub returns : goal.returns
 unfolding clap_on_literals
@@ -19,6 +21,18 @@ returns c = record {
     values = values (codes "1735692000");
     command = refl;
     given = (
+      refl,
+      refl,
+      moment-given _ (codes "1735692000") 1735692000 refl (moment-of (codes "1735692000") refl),
+    );
+  };
+  combine = λ program. record {
+    taken = refl;
+    values = given (codes "combine") (codes "true") ∷ given (codes "FILE") (codes "x.log")
+        ∷ given (codes "MOMENT") (codes "1735692000") ∷ [];
+    command = refl;
+    given = (
+      refl,
       refl,
       moment-given _ (codes "1735692000") 1735692000 refl (moment-of (codes "1735692000") refl),
     );

@@ -22,6 +22,7 @@ use Rattle.clap.specs.declared.parser.matches.ArgMatches.TheViews.{out-ArgMatche
 use Rattle.clap.specs.declared.parser.matches.SubCommand.{SubCommand}
 use Rattle.nx_program.specs.declared.arguments.Call.{Call}
 use Rattle.nx_program.specs.declared.arguments.ArgumentsFault.{ArgumentsFault}
+use Rattle.nx_program.specs.declared.arguments.Sendings.{Sendings}
 use Rattle.nx_program.specs.declared.arguments.ArgumentsFault.TheVariants.{Help, Refused, Station, Kind}
 use Rattle.nx_program.specs.declared.arguments.ArgumentsFault.TheVariants.{Memory, Value, Version}
 use Rattle.nx_station.specs.declared.damaging.DamageKind.{DamageKind}
@@ -313,8 +314,8 @@ lacks_value arguments name values taken entered none =
           (record { given = gives.1.given; no_moment = no_moment })
       | inl moment ↦
           let is = moment-given values gives.1.text moment.0 gives.1.given moment.1 in
-          let has = makes.1 values gives.0.text moment.0 gives.0.given is in
-          absurd (none (make gives.0.text moment.0) has.0 has.1)
+          let has = makes.1 values _ gives.0.text moment.0 refl gives.0.given is in
+          absurd (none (make _ gives.0.text moment.0) has.0 has.1)
     ]
     go (range make) makes gives =
         let from = number-given _ _ values gives.0 in
@@ -382,10 +383,10 @@ pub slots-bound : (arguments : List Text) (station : Letter) (moment : ℕ)
 slots-bound arguments station moment named = named.given.1.said.in_range
 
 -- and that of a watch
-pub watch-bound : (arguments : List Text) (name : Text) (moment : ℕ)
-    → Names arguments (Watch name moment)
+pub watch-bound : (arguments : List Text) (sendings : Sendings) (name : Text) (moment : ℕ)
+    → Names arguments (Watch sendings name moment)
     → moment ≤ 32503679999
-watch-bound arguments name moment named = named.given.1.said.in_range
+watch-bound arguments sendings name moment named = named.given.2.said.in_range
 
 -- and so are the numbers of a call that damages
 pub damage-bounds : (arguments : List Text) (kind : DamageKind) (from count : ℕ)

@@ -1,7 +1,7 @@
 -- The table of commands gives each call by its name and its values. A new kind of row asks for a
 -- line here, a new command that takes what others do for none.
 use Rattle.std.proofs.Common.{◌≡◌, ◌⊎◌, ℕ, List, [], ◌∷◌, Option, Some, None, codes, if◌then◌else◌}
-use Rattle.std.proofs.Common.{ap, refl, rules}
+use Rattle.std.proofs.Common.{◌∙◌, ap, refl, rules}
 use Rattle.std.specs.Str.{bytes_eq}
 use Rattle.clap.specs.Words.{Row, Text}
 use Rattle.nx_envelope.specs.declared.letter.Letter.{Letter}
@@ -27,7 +27,8 @@ abbrev pub made : Maker → List Row → Option Call
 made (plain call) rows = Some call
 made (by_sendings make) rows = Some (make (sendings_of (has_flag (codes "combine") rows)))
 made (slot make) rows = slot_call make rows
-made (on_file make) rows = file_call make rows
+made (on_file make) rows =
+    file_call (make (sendings_of (has_flag (codes "combine") rows))) rows
 made (range make) rows = range_call make rows
 made (options make) rows = query_call make rows
 
@@ -54,9 +55,9 @@ Makes name (slot make) =
     → IsMoment rows m
     → HasCall name rows (make s m))
 Makes name (on_file make) =
-    (name ≡ codes "watch") × ((rows : List Row) (n : Text) (m : ℕ) → IsFile rows n
-    → IsMoment rows m
-    → HasCall name rows (make n m))
+    (name ≡ codes "watch") × ((rows : List Row) (s : Sendings) (n : Text) (m : ℕ)
+    → AsksSendings rows s → IsFile rows n → IsMoment rows m
+    → HasCall name rows (make s n m))
 Makes name (range make) =
     (name ≡ codes "damage") × ((rows : List Row) (k : DamageKind) (f c : ℕ) → IsKind rows k
     → IsNumber (codes "FROM") rows f → IsNumber (codes "COUNT") rows c
@@ -78,8 +79,9 @@ call_in-only (Listen sendings) rows given = ap (λ s. Some (Listen s)) given
 call_in-only (Send station moment) rows given = slot_call-only _ rows station moment given.0 given.1
 call_in-only (Slots station moment) rows given =
     slot_call-only _ rows station moment given.0 given.1
-call_in-only (Watch name moment) rows given =
-    file_call-only _ rows name moment given.0 given.1
+call_in-only (Watch sendings name moment) rows given =
+    file_call-only _ rows name moment given.1 given.2
+    ∙ ap (λ s. Some (Watch s name moment)) given.0
 call_in-only (Damage kind from count) rows given =
     range_call-only _ rows kind from count given.0 given.1 given.2
 call_in-only (Log query form reading) rows given =

@@ -3,6 +3,7 @@
 use Rattle.std.proofs.Common.{◌≡◌, ◌&&◌, ◌||◌, option_map, Bool, true, false, not, List, [], ◌∷◌}
 use Rattle.std.proofs.Common.{Option, Some, None, IfSome, refl, subst, codes, find}
 use Rattle.std.specs.Option.{option_map_or}
+use Rattle.std.specs.Str.{bytes_eq}
 use Rattle.clap.specs.Kinds.{check_kinds}
 use Rattle.clap.specs.Takes.{is_given}
 use Rattle.clap.specs.Words.{Row, Rule, Shape, Text, built, fault_of, subcommand_of}
@@ -15,21 +16,26 @@ use Rattle.nx_program.proofs.lemmas.EachFound.{Each, each-map, found_is}
 use Rattle.nx_program.proofs.lemmas.arguments.NumbersGiven.{GivesNumber, IsNumeric, gets, uses-other, uses-text}
 use Rattle.nx_program.proofs.lemmas.arguments.NumbersGiven.{uses-wanted}
 use Rattle.nx_program.proofs.lemmas.arguments.RowsKept.{UsesWell, or-first, or-second}
-use Rattle.nx_program.proofs.lemmas.arguments.TextsGiven.{GivesText, IsTexted, gets-text, uses-other_text}
+use Rattle.nx_program.proofs.lemmas.arguments.TextsGiven.{DefaultsWell, GivesText, IsTexted}
+use Rattle.nx_program.proofs.lemmas.arguments.TextsGiven.{all-none, built_flag, defaults-other, gets-text}
+use Rattle.nx_program.proofs.lemmas.arguments.TextsGiven.{uses-flag, uses-other_text}
 use Rattle.nx_program.proofs.lemmas.arguments.TextsGiven.{uses-wanted_text}
 use Rattle.nx_program.specs.Arguments.{by_sendings}
 use Rattle.nx_program.specs.Arguments.{CommandRow, Maker, command_rows, navtex, number_rule, on_file, options}
 use Rattle.nx_program.specs.Arguments.{plain, range, slot, text_rule, tree_of}
 
--- the values of a command that wants a station and a moment, of one that wants a file and a moment,
--- and of one that wants a range of words, as they are built
+-- the values of a command that wants a station and a moment, of one that takes a flag and wants a
+-- file and a moment, and of one that wants a range of words, as they are built
 abbrev slot_rules : List Rule
 slot_rules = filled_from 1
     (text_rule (codes "STATION") ∷ text_rule (codes "MOMENT") ∷ help_rule ∷ [])
 
-abbrev file_rules : List Rule
-file_rules = filled_from 1
+abbrev text_rules_of_file : List Rule
+text_rules_of_file = filled_from 1
     (text_rule (codes "FILE") ∷ text_rule (codes "MOMENT") ∷ help_rule ∷ [])
+
+abbrev file_rules : List Rule
+file_rules = built_flag (codes "combine") ∷ text_rules_of_file
 
 abbrev damage_rules : List Rule
 damage_rules = filled_from 1
@@ -44,14 +50,31 @@ slot_rules-moment = (
 
 file_rules-moment : Each (UsesWell (IsTexted (codes "MOMENT"))) file_rules
 file_rules-moment = (
-  uses-other_text _ 1 _ refl,
-  (uses-wanted_text _ 2, ((λ again vs rows e good. good), tt)),
+  uses-flag _ _ refl,
+  (
+    uses-other_text _ 1 _ refl,
+    (uses-wanted_text _ 2, ((λ again vs rows e good. good), tt)),
+  ),
 )
 
 file_rules-file : Each (UsesWell (IsTexted (codes "FILE"))) file_rules
 file_rules-file = (
-  uses-wanted_text _ 1,
-  (uses-other_text _ 2 _ refl, ((λ again vs rows e good. good), tt)),
+  uses-flag _ _ refl,
+  (
+    uses-wanted_text _ 1,
+    (uses-other_text _ 2 _ refl, ((λ again vs rows e good. good), tt)),
+  ),
+)
+
+-- what they leave out changes nothing of a text that they want
+slot_defaults : (id : Text) → Each (DefaultsWell id) slot_rules
+slot_defaults id = all-none id slot_rules (refl, (refl, (refl, tt)))
+
+file_defaults : (id : Text) → bytes_eq (codes "combine") id ≡ false
+    → Each (DefaultsWell id) file_rules
+file_defaults id other = (
+  defaults-other id (built_flag (codes "combine")) other,
+  all-none id text_rules_of_file (refl, (refl, (refl, tt))),
 )
 
 damage_rules-from : Each (UsesWell (IsNumeric (codes "FROM") 4294967295)) damage_rules
@@ -145,7 +168,7 @@ leaf-is name (options make) makes arguments e = record {
 leaf-is name (slot make) makes arguments e = record {
   maker = slot make;
   makes = makes;
-  gives = gets-text _ _ slot_rules-moment (refl, (refl, (refl, tt)))
+  gives = gets-text _ _ slot_rules-moment (slot_defaults _)
       (λ rows checked. second_wanted (is_given (codes "STATION") rows)
       (is_given (codes "MOMENT") rows) checked) arguments e;
 }
@@ -153,10 +176,10 @@ leaf-is name (on_file make) makes arguments e = record {
   maker = on_file make;
   makes = makes;
   gives = (
-    gets-text _ _ file_rules-file (refl, (refl, (refl, tt)))
+    gets-text _ _ file_rules-file (file_defaults _ refl)
         (λ rows checked. first_wanted (is_given (codes "FILE") rows)
         (is_given (codes "MOMENT") rows) checked) arguments e,
-    gets-text _ _ file_rules-moment (refl, (refl, (refl, tt)))
+    gets-text _ _ file_rules-moment (file_defaults _ refl)
         (λ rows checked. second_wanted (is_given (codes "FILE") rows)
         (is_given (codes "MOMENT") rows) checked) arguments e,
   );

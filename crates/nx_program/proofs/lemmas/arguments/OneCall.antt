@@ -25,7 +25,8 @@ made-is : (name : Text) (maker : Maker) → Makes name maker → (rows : List Ro
 made-is name (plain call) makes rows = makes rows
 made-is name (by_sendings make) makes rows = makes.1 rows _ refl
 made-is name (slot make) makes rows = slot_call-is make rows (HasCall name rows) (makes.1 rows)
-made-is name (on_file make) makes rows = file_call-is make rows (HasCall name rows) (makes.1 rows)
+made-is name (on_file make) makes rows =
+    file_call-is _ rows (HasCall name rows) (λ n m. makes.1 rows _ n m refl)
 made-is name (range make) makes rows = range_call-is make rows (HasCall name rows) (makes.1 rows)
 made-is name (options make) makes rows = query_call-is make rows (HasCall name rows) (makes.1 rows)
 

@@ -1,19 +1,23 @@
 -- Where clap takes the arguments of a command that wants a text, that text stands among its values.
 use Rattle.std.proofs.Common.{◌≡◌, ◌∙◌, ℕ, option_and_then, Bool, true, false, List, [], ◌∷◌, ◌++◌}
 use Rattle.std.proofs.Common.{Option, Some, None, IfSome, refl, sym, subst, slice_get, find, cond}
+use Rattle.std.proofs.Common.{fold, if◌then◌else◌}
 use Rattle.std.specs.Prelude.{⊤}
 use Rattle.std.specs.Option.{option_map_or}
 use Rattle.std.specs.Str.{bytes_eq}
 use Rattle.clap.specs.Facts.{explicit_source}
+use Rattle.clap.specs.Simple.{filled}
 use Rattle.clap.specs.Takes.{is_given}
-use Rattle.clap.specs.Words.{Row, Shape, Text, first_of}
-use Rattle.clap.specs.Walk.{more_values, nothing_held, rows_after, settled, values_or_missing, walk}
-use Rattle.clap.specs.Walk.{with_values}
+use Rattle.clap.specs.Words.{Row, Rule, Shape, Text, first_of}
+use Rattle.clap.specs.Walk.{default_rows, has_row, more_values, nothing_held, reading_by}
+use Rattle.clap.specs.Walk.{rows_after, settled, values_or_missing, walk, with_default, with_values}
 use Rattle.clap.specs.Faults.{check_fault, level_fault, use_fault}
 use Rattle.clap.specs.declared.builder.value_parser.Reading.{Reading}
 use Rattle.clap.specs.declared.parser.matches.ValueSource.{ValueSource}
+use Rattle.clap.specs.declared.parser.matches.ValueSource.TheVariants.{DefaultValue}
+use Rattle.nx_program.specs.LogArguments.{flag_rule}
 use Rattle.nx_program.proofs.lemmas.EachFound.{Each}
-use Rattle.nx_program.proofs.lemmas.arguments.NumbersGiven.{built_text, no_defaults}
+use Rattle.nx_program.proofs.lemmas.arguments.NumbersGiven.{built_text}
 use Rattle.nx_program.proofs.lemmas.arguments.RowsKept.{UsesWell, good-at_row, good-settled_end, good-without}
 use Rattle.nx_program.proofs.lemmas.arguments.RowsKept.{level-check}
 
@@ -29,6 +33,10 @@ IsTexted id r = bytes_eq r.id id ≡ true → AreSome r.values
 some-append : (xs ys : List Text) → AreSome xs → AreSome (xs ++ ys)
 some-append [] ys are = absurd are
 some-append (x ∷ xs) ys are = tt
+
+-- a flag, as it is built
+abbrev pub built_flag : Text → Rule
+built_flag name = filled (flag_rule name)
 
 -- a text stands among the values under this name
 pub record GivesText (id : Text) (rows : List Row) : Type 0 where
@@ -63,6 +71,53 @@ module _ (id : Text) where
       texted-with_values _ _ _ _ _ (λ is. absurd (let no : false ≡ true = sym other
       ∙ is in cc)) (good-without (IsTexted id) _ _ good)
 
+  pub uses-flag : (name : Text) → bytes_eq name id ≡ false
+      → UsesWell (IsTexted id) (built_flag name)
+  uses-flag name other again vs rows e good =
+      texted-with_values _ _ _ _ _ (λ is. absurd (let no : false ≡ true = sym other
+      ∙ is in cc)) (good-without (IsTexted id) _ _ good)
+
+  -- the default of a rule leaves what is found under this name as it is
+  abbrev pub DefaultsWell : Rule → Type 0
+  DefaultsWell a =
+      (rows : List Row) → Each (IsTexted id) rows → Each (IsTexted id) (with_default rows a)
+
+  defaults-none : (a : Rule) → a.defaults ≡ [] → DefaultsWell a
+  defaults-none a none rows good =
+      elim (has_row a.id rows) as (λ b. Each (IsTexted id)
+      (if b then rows else default_rows a.id (reading_by a) a.defaults rows)) [
+        | true ↦ good
+        | false ↦ subst (λ (ds : List Text).
+            Each (IsTexted id) (default_rows a.id (reading_by a) ds rows)) (sym none) good
+      ]
+
+  pub all-none : (rules : List Rule) → Each (λ a. a.defaults ≡ []) rules
+      → Each DefaultsWell rules
+  all-none [] each = tt
+  all-none (a ∷ rest) each = (defaults-none a each.0, all-none rest each.1)
+
+  default-rows : (name : Text) (how : Reading) (ds : List Text) (rows : List Row)
+      → bytes_eq name id ≡ false → Each (IsTexted id) rows
+      → Each (IsTexted id) (default_rows name how ds rows)
+  default-rows name how [] rows other good = good
+  default-rows name how (d ∷ ds) rows other good =
+      texted-with_values name how DefaultValue (d ∷ ds) rows (λ is. absurd
+      (let no : false ≡ true = sym other ∙ is in cc)) good
+
+  pub defaults-other : (a : Rule) → bytes_eq a.id id ≡ false → DefaultsWell a
+  defaults-other a other rows good =
+      elim (has_row a.id rows) as (λ b. Each (IsTexted id)
+      (if b then rows else default_rows a.id (reading_by a) a.defaults rows)) [
+        | true ↦ good
+        | false ↦ default-rows a.id (reading_by a) a.defaults rows other good
+      ]
+
+  all-default : (rules : List Rule) → Each DefaultsWell rules → (rows : List Row)
+      → Each (IsTexted id) rows → Each (IsTexted id) (fold with_default rows rules)
+  all-default [] each rows good = good
+  all-default (a ∷ rest) each rows good =
+      all-default rest each.1 (with_default rows a) (each.0 rows good)
+
   -- a row of this name that was found has a text
   found-texted : (rows : List Row) → Each (IsTexted id) rows
       → IfSome (find (λ r. bytes_eq r.id id) rows) (λ r. AreSome r.values)
@@ -92,16 +147,15 @@ module _ (id : Text) where
       let found = gives-found (find (λ r. bytes_eq r.id id) rows) (found-texted rows good) given in
       record { text = found.0; given = found.1 }
 
-  -- a command whose rules are used well, have no default and want this text is given it
+  -- a command whose rules are used well, have well-kept defaults and want this text is given it
   pub gets-text : (s : Shape) → Each (UsesWell (IsTexted id)) s.rules
-      → Each (λ a. a.defaults ≡ []) s.rules
+      → Each DefaultsWell s.rules
       → ((rows : List Row) → check_fault s rows false ≡ [] → is_given id rows ≡ true)
       → (arguments : List Text) → level_fault s [] nothing_held arguments false [] ≡ []
       → GivesText id (rows_after s.rules [] arguments)
-  gets-text s each none wants arguments e =
+  gets-text s each defaults wants arguments e =
       let end = (walk s.rules [] nothing_held arguments).held in
-      let same = no_defaults s.rules none (settled s.rules end).rows in
-      let P : List Row → Type 0 = λ rows. Each (IsTexted id) rows in
       gives (rows_after s.rules [] arguments)
-      (subst P (sym same) (good-settled_end (IsTexted id) s each arguments [] e))
+      (all-default s.rules defaults (settled s.rules end).rows
+      (good-settled_end (IsTexted id) s each arguments [] e))
       (wants (rows_after s.rules [] arguments) (level-check s arguments [] e))

@@ -41,13 +41,14 @@ use Rattle.nx_log.specs.declared.queries.query.Query.{Query}
 use Rattle.nx_log.specs.declared.writing.form.Form.{Form}
 use Rattle.nx_program.specs.WatchCommand.{Beside, IsUnused, WatchesLog, beside, watch_outcome}
 use Rattle.nx_program.specs.declared.arguments.Call.TheVariants.{Log, Watch}
+use Rattle.nx_program.specs.declared.arguments.Sendings.{Sendings}
 use Rattle.std.specs.declared.alloc.AllocError.{AllocError}
 use Rattle.nx_program.specs.Status.{IsStatus, call_status, check_status, damage_status}
 use Rattle.nx_program.specs.Status.{fault_status, listen_status, log_status, resume_status}
 use Rattle.nx_program.specs.Status.{run_status, send_status, status_of, watch_failure_status}
 use Rattle.nx_fec.specs.Transfers.{Devices, devices, CountedDevice}
 use Rattle.nx_program.specs.Arguments.{IsRefused, Names}
-use Rattle.nx_program.specs.private.Reading.{EndsUncalled}
+use Rattle.nx_program.specs.private.Reading.{EndsUncalled, told_of_call}
 use Rattle.nx_program.proofs.lemmas.arguments.Arguments.{help_not_refused, named_not_help, named_not_refused}
 use Rattle.nx_program.proofs.lemmas.arguments.Arguments.{named_not_version, named_once, version_not_refused}
 
@@ -215,20 +216,20 @@ success-exits arguments d b status exits zero =
     success-ends arguments d b exits.outcome exits.ends (sym exits.status_is ∙ zero)
 
 -- a watch doesn't end with the status of arguments
-watch-arguments : {R W F D E : Type 0} (d : Devices R W) (b : Beside F D W E) (name : Text)
-    (moment : ℕ)
-    (outcome : Result (Unit {0}) Fault) → WatchesLog d b name moment outcome
+watch-arguments : {R W F D E : Type 0} (d : Devices R W) (b : Beside F D W E)
+    (sendings : Sendings) (name : Text) (moment : ℕ)
+    (outcome : Result (Unit {0}) Fault) → WatchesLog d b sendings name moment outcome
     → status_of outcome ≡ 64 → ⊥
-watch-arguments d b name moment outcome (Err why, gives, opened) is =
+watch-arguments d b sendings name moment outcome (Err why, gives, opened) is =
     elim (watch-status (Unopened why)) [
       | inl one ↦ absurd (let e = sym (ap status_of opened.3) ∙ is in omega (arith, e, one))
       | inr two ↦ absurd (let e = sym (ap status_of opened.3) ∙ is in omega (arith, e, two))
     ]
-watch-arguments d b name moment outcome (Ok disk, gives, opened) is =
+watch-arguments d b sendings name moment outcome (Ok disk, gives, opened) is =
     go opened.2 (sym (ap status_of opened.4) ∙ is)
   where
     go : (answer : Result WatchReport WatchFault)
-        → status_of (watch_outcome d b name answer) ≡ 64 → ⊥
+        → status_of (watch_outcome name answer) ≡ 64 → ⊥
     go (Ok report) e = absurd (omega (arith, e))
     go (Err why) e = elim (watch-status (Ended why)) [
       | inl one ↦ absurd (omega (arith, e, one))
@@ -270,8 +271,8 @@ pub arguments-exit : {R W F D E : Type 0} (arguments : List Text) (d : Devices R
     (b : Beside F D W E)
     (status : ℕ) → Exits arguments d b status → status ≡ 64 → IsRefused arguments
 arguments-exit arguments d b status exits is = elim exits.ends [
-  | inl runs ↦ absurd (watch-arguments d b runs.name runs.moment exits.outcome runs.watched
-      (sym exits.status_is ∙ is))
+  | inl runs ↦ absurd (watch-arguments d b runs.sendings runs.name runs.moment exits.outcome
+      runs.watched (sym exits.status_is ∙ is))
   | inr (inl runs) ↦ absurd (log-arguments runs.query runs.form runs.reading d _ exits.outcome
       runs.read.1
       (sym exits.status_is ∙ is))
@@ -307,7 +308,8 @@ pub refused-exits : {R W F D E : Type 0} (arguments : List Text) (d : Devices R 
     → Exits arguments d b status
     → IsRefused arguments → (status ≡ 64) ⊎ (status ≡ 1)
 refused-exits arguments d b status exits refused = elim exits.ends [
-  | inl runs ↦ absurd (named_not_refused arguments (Watch runs.name runs.moment) runs.named refused)
+  | inl runs ↦ absurd (named_not_refused arguments
+      (Watch runs.sendings runs.name runs.moment) runs.named refused)
   | inr (inl runs) ↦ absurd (named_not_refused arguments
       (Log runs.query runs.form runs.reading) runs.named
       refused)
@@ -320,7 +322,7 @@ refused-exits arguments d b status exits refused = elim exits.ends [
 -- what a call did that is neither a watch nor a run over a log
 performs-streams : {R W F D E : Type 0} (call : Call) (d : Devices R W) (b : Beside F D W E)
     → IsUnused b → PerformsOnStreams call d (Ok tt) → Performs call d b (Ok tt)
-performs-streams (Watch name moment) d b unused performed = absurd performed
+performs-streams (Watch sendings name moment) d b unused performed = absurd performed
 performs-streams (Log query form reading) d b unused performed = absurd performed
 performs-streams call d b unused performed = (unused, performed)
 
@@ -333,7 +335,7 @@ pub success-named : {R W F D E : Type 0} (arguments : List Text) (d : Devices R 
 success-named arguments d b call named success = elim success [
   | inl runs ↦ let P : Call → Type 0 = λ c. Performs c d b (Ok tt) in
       subst P (named_once arguments
-      (Watch runs.name runs.moment) call runs.named named) runs.watched
+      (Watch runs.sendings runs.name runs.moment) call runs.named named) runs.watched
   | inr (inl runs) ↦ let P : Call → Type 0 = λ c. Performs c d b (Ok tt) in
       subst P (named_once arguments
       (Log runs.query runs.form runs.reading) call runs.named named) runs.read
@@ -374,6 +376,30 @@ uncalled-ends arguments remaining contents reader old new (Err (fault.Call why))
       untouched = record { reader = refl; writer = lacks.0 };
       memory = lacks.1;
     })))
+
+-- how it ends where they name a call that was performed over the reader of its input
+pub called-ends : {R W : Type 0} (arguments : List Text) (remaining : R → Option (List ℕ))
+    (contents : W → Option (List ℕ)) (given taken left handed_back : CountedDevice R)
+    (old new : CountedDevice W) (call : Call) (outcome : Result (Unit {0}) CallFault)
+    (told : Result (Unit {0}) Fault) → Names arguments call → taken ≡ given → handed_back ≡ left
+    → PerformsOnStreams call (devices remaining contents taken left old new) outcome
+    → told ≡ told_of_call outcome
+    → EndsOnStreams arguments (devices remaining contents given handed_back old new) told
+called-ends {R} arguments remaining contents given taken left handed_back old new call outcome told
+    named from to performed is =
+    subst (λ (o : Result (Unit {0}) Fault).
+    EndsOnStreams arguments (devices remaining contents given handed_back old new) o) (sym is)
+    (go outcome (subst (λ (r : CountedDevice R).
+    PerformsOnStreams call (devices remaining contents given r old new) outcome) (sym to)
+    (subst (λ (r : CountedDevice R).
+    PerformsOnStreams call (devices remaining contents r left old new) outcome) from performed)))
+  where
+    go : (o : Result (Unit {0}) CallFault)
+        → PerformsOnStreams call (devices remaining contents given handed_back old new) o
+        → EndsOnStreams arguments (devices remaining contents given handed_back old new)
+        (told_of_call o)
+    go (Ok done) p = inl (record { call = call; named = named; performed = p })
+    go (Err why) p = inl (record { call = call; named = named; performed = p })
 
 -- what a run answered is told
 pub tells-ok : {N F : Type 0} (name : F → CallFault) (answers : Result N F → Type 0) (answer : N)

@@ -40,6 +40,7 @@ use Rattle.nx_program.specs.declared.log_arguments.ReadAs.TheVariants.{Kept as A
 use Rattle.nx_program.specs.Report.{Answers, IsFaultLine, IsFaultText, Reports, WritesLast, WritesOne}
 use Rattle.nx_program.specs.Status.{fault_status, status_of}
 use Rattle.nx_program.specs.WatchCommand.{Beside, IsUnused, WatchesLog, watch_fault_line}
+use Rattle.nx_program.specs.declared.arguments.Sendings.{Sendings}
 use Rattle.nx_program.specs.WatchCommand.{notices_between, with_faults}
 use Rattle.nx_program.specs.Arguments.{Names}
 use Rattle.nx_program.specs.declared.arguments.Call.{Call}
@@ -309,11 +310,13 @@ lines-told contents old mid (cut, some, first, bytes, lines, failed, text, is, w
   written = written;
 }
 
-watch-told : {R W F D E : Type 0} (d : Devices R W) (b : Beside F D W E) (name : Text) (moment : ℕ)
+watch-told : {R W F D E : Type 0} (d : Devices R W) (b : Beside F D W E) (sendings : Sendings)
+    (name : Text) (moment : ℕ)
     (outcome : Result (Unit {0}) Fault) → b.faults.failures ≡ 0
-    → WatchesLog d b name moment outcome → HasLed b.contents b.faults b.faults_after
-watch-told d b name moment outcome none (Err why, gives, opened) = nothing-told b none opened.2
-watch-told d b name moment outcome none (Ok disk, gives, opened) =
+    → WatchesLog d b sendings name moment outcome → HasLed b.contents b.faults b.faults_after
+watch-told d b sendings name moment outcome none (Err why, gives, opened) =
+    nothing-told b none opened.2
+watch-told d b sendings name moment outcome none (Ok disk, gives, opened) =
     lines-told b.contents b.faults b.faults_after opened.3.told
 
 -- what is told of torn entries leads
@@ -417,7 +420,7 @@ pub ends-told : {R W F D E : Type 0} (arguments : List Text) (d : Devices R W) (
     (outcome : Result (Unit {0}) Fault) → b.faults.failures ≡ 0 → EndsRun arguments d b outcome
     → HasLed b.contents b.faults b.faults_after
 ends-told arguments d b outcome none (inl runs) =
-    watch-told d b runs.name runs.moment outcome none runs.watched
+    watch-told d b runs.sendings runs.name runs.moment outcome none runs.watched
 ends-told arguments d b outcome none (inr (inl runs)) =
     log-told runs.query runs.form runs.reading d b outcome runs.read
 ends-told arguments d b outcome none (inr (inr ends)) = nothing-told b none ends.0
@@ -460,7 +463,7 @@ silent-outcome : {R W F D E : Type 0} (arguments : List Text) (d : Devices R W) 
     → (NamesTelling arguments → ⊥) → b.faults_after ≡ b.faults
 silent-outcome arguments d b behind_call (Err why) ends reports zero none = absurd (failed why zero)
 silent-outcome arguments d b behind_call (Ok done) (inl runs) reports zero none =
-    absurd (none (inl (runs.name, runs.moment, runs.named)))
+    absurd (none (inl (runs.sendings, runs.name, runs.moment, runs.named)))
 silent-outcome arguments d b behind_call (Ok done) (inr (inl runs)) reports zero none =
     absurd (none (inr (runs.query, runs.form, runs.reading, runs.named)))
 silent-outcome arguments d b behind_call (Ok done) (inr (inr ends)) reports zero none =
@@ -496,29 +499,33 @@ answers-called {R} {W} {F} {D} {E} arguments d b status answers call named zero 
 
 -- ---- where no log can be opened, no file is handed back
 
-watch-none : {R W F D E : Type 0} (d : Devices R W) (b : Beside F D W E) (name : Text) (moment : ℕ)
+watch-none : {R W F D E : Type 0} (d : Devices R W) (b : Beside F D W E) (sendings : Sendings)
+    (name : Text) (moment : ℕ)
     (outcome : Result (Unit {0}) Fault)
     → ((disk : D) → b.gives b.files name (Ok disk) → ⊥)
-    → WatchesLog d b name moment outcome → b.disk_after ≡ None
-watch-none d b name moment outcome never (Err why, gives, opened) = opened.2.unopened
-watch-none d b name moment outcome never (Ok disk, gives, opened) = absurd (never disk gives)
+    → WatchesLog d b sendings name moment outcome → b.disk_after ≡ None
+watch-none d b sendings name moment outcome never (Err why, gives, opened) = opened.2.unopened
+watch-none d b sendings name moment outcome never (Ok disk, gives, opened) =
+    absurd (never disk gives)
 
 pub ends-none : {R W F D E : Type 0} (arguments : List Text) (d : Devices R W) (b : Beside F D W E)
     (outcome : Result (Unit {0}) Fault)
     → ((name : Text) (disk : D) → b.gives b.files name (Ok disk) → ⊥)
     → EndsRun arguments d b outcome → b.disk_after ≡ None
 ends-none arguments d b outcome never (inl runs) =
-    watch-none d b runs.name runs.moment outcome (never runs.name) runs.watched
+    watch-none d b runs.sendings runs.name runs.moment outcome (never runs.name) runs.watched
 ends-none arguments d b outcome never (inr (inl runs)) = runs.read.0.unopened
 ends-none arguments d b outcome never (inr (inr ends)) = ends.0.unopened
 
 -- and no read is stamped
-watch-unstamped : {R W F D E : Type 0} (d : Devices R W) (b : Beside F D W E) (name : Text)
-    (moment : ℕ) (outcome : Result (Unit {0}) Fault)
+watch-unstamped : {R W F D E : Type 0} (d : Devices R W) (b : Beside F D W E)
+    (sendings : Sendings) (name : Text) (moment : ℕ) (outcome : Result (Unit {0}) Fault)
     → ((disk : D) → b.gives b.files name (Ok disk) → ⊥)
-    → WatchesLog d b name moment outcome → b.stamps ≡ []
-watch-unstamped d b name moment outcome never (Err why, gives, opened) = opened.2.unstamped
-watch-unstamped d b name moment outcome never (Ok disk, gives, opened) = absurd (never disk gives)
+    → WatchesLog d b sendings name moment outcome → b.stamps ≡ []
+watch-unstamped d b sendings name moment outcome never (Err why, gives, opened) =
+    opened.2.unstamped
+watch-unstamped d b sendings name moment outcome never (Ok disk, gives, opened) =
+    absurd (never disk gives)
 
 pub ends-unstamped : {R W F D E : Type 0} (arguments : List Text) (d : Devices R W)
     (b : Beside F D W E)
@@ -526,6 +533,6 @@ pub ends-unstamped : {R W F D E : Type 0} (arguments : List Text) (d : Devices R
     → ((name : Text) (disk : D) → b.gives b.files name (Ok disk) → ⊥)
     → EndsRun arguments d b outcome → b.stamps ≡ []
 ends-unstamped arguments d b outcome never (inl runs) =
-    watch-unstamped d b runs.name runs.moment outcome (never runs.name) runs.watched
+    watch-unstamped d b runs.sendings runs.name runs.moment outcome (never runs.name) runs.watched
 ends-unstamped arguments d b outcome never (inr (inl runs)) = runs.read.0.unstamped
 ends-unstamped arguments d b outcome never (inr (inr ends)) = ends.0.unstamped

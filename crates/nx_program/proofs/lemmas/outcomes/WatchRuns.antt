@@ -21,6 +21,8 @@ use Rattle.nx_program.specs.Report.{Answers}
 use Rattle.nx_program.specs.WatchCommand.{Beside, WatchesFile, WatchesLog, devices_of, watch_outcome}
 use Rattle.nx_program.specs.WatchCommand.{with_faults}
 use Rattle.nx_program.specs.declared.arguments.Call.TheVariants.{Watch as WatchCall}
+use Rattle.nx_program.specs.declared.arguments.Sendings.{Sendings}
+use Rattle.nx_program.specs.declared.arguments.Sendings.TheVariants.{Alone}
 use Rattle.nx_program.specs.declared.fault.Fault.{Fault}
 use Rattle.nx_program.proofs.lemmas.arguments.Arguments.{named_once}
 use Rattle.nx_program.specs.WatchRuns.{AreOfOneLog, AreWatchesOf, ComesBehind, CouldLeave, FollowOn}
@@ -45,24 +47,28 @@ none-some option one n s = let odd : Some one ≡ None = sym s ∙ n in cc
 
 -- arguments that name a watch, of which a file is handed back, are a run of it
 pub hands-back : {R W F D E : Type 0} (arguments : List Text) (d : Devices R W)
-    (b : Beside F D W E) (reported : CountedDevice E) (name : Text) (moment : ℕ) (disk : D)
-    (status : ℕ) → Names arguments (WatchCall name moment) → b.disk_after ≡ Some disk
+    (b : Beside F D W E) (reported : CountedDevice E) (sendings : Sendings) (name : Text)
+    (moment : ℕ) (disk : D) (status : ℕ) → Names arguments (WatchCall sendings name moment)
+    → b.disk_after ≡ Some disk
     → Answers arguments d (with_faults b reported) status
     → (behind : CountedDevice E) × (outcome : Result (Unit {0}) Fault)
-    × WatchesLog d (with_faults b behind) name moment outcome
-hands-back arguments d b reported name moment disk status named back answers =
+    × WatchesLog d (with_faults b behind) sendings name moment outcome
+hands-back arguments d b reported sendings name moment disk status named back answers =
     elim answers.ends [
       | inl runs ↦
-          let call = named_once arguments (WatchCall runs.name runs.moment) (WatchCall name moment)
-          runs.named named in
+          let call = named_once arguments (WatchCall runs.sendings runs.name runs.moment)
+          (WatchCall sendings name moment) runs.named named in
+          let taken : runs.sendings ≡ sendings = cc in
           let names : runs.name ≡ name = cc in
           let moments : runs.moment ≡ moment = cc in
           let b_after = with_faults b answers.behind_call in (
             answers.behind_call,
             answers.outcome,
-            subst (λ (m : ℕ). WatchesLog d b_after name m answers.outcome) moments
-                (subst (λ (n : Text). WatchesLog d b_after n runs.moment answers.outcome) names
-                runs.watched),
+            subst (λ (m : ℕ). WatchesLog d b_after sendings name m answers.outcome) moments
+                (subst (λ (n : Text). WatchesLog d b_after sendings n runs.moment answers.outcome)
+                names
+                (subst (λ (s : Sendings).
+                WatchesLog d b_after s runs.name runs.moment answers.outcome) taken runs.watched)),
           )
       | inr (inl runs) ↦ absurd (none-some b.disk_after disk runs.read.0.unopened back)
       | inr (inr ends) ↦ absurd (none-some b.disk_after disk ends.0.unopened back)
@@ -85,8 +91,7 @@ module _ {F D R W E : Type 0} (gives : F → List ℕ → Result D FileFault →
 
   -- what the program tells as all kept, the watch answered so
   tells-kept : (run : Run) (name : Text) (answer : Result WatchReport WatchFault)
-      → HasKeptAll (watch_outcome (streams_of gives tells remaining contents told run)
-      (beside_of gives tells remaining contents told run) name answer)
+      → HasKeptAll (watch_outcome name answer)
       → TellsAllKept answer
   tells-kept run name (Ok report) h = tt
   tells-kept run name (Err why) h = h
@@ -95,9 +100,8 @@ module _ {F D R W E : Type 0} (gives : F → List ℕ → Result D FileFault →
   module _ (run : Run) (log : List MarkedCopy) (disk disk_after : D)
       (answer : Result WatchReport WatchFault)
       (file : WatchesFile (streams_of gives tells remaining contents told run)
-      (beside_of gives tells remaining contents told run) run.moment disk disk_after answer)
-      (told_so : run.outcome ≡ watch_outcome (streams_of gives tells remaining contents told run)
-      (beside_of gives tells remaining contents told run) run.name answer)
+      (beside_of gives tells remaining contents told run) Alone run.moment disk disk_after answer)
+      (told_so : run.outcome ≡ watch_outcome run.name answer)
       (given : gives run.files run.name (Ok disk))
       (explained : tells.explains run.found disk_after)
       (stands : StandsForEntries log run.found) where
@@ -137,7 +141,7 @@ module _ {F D R W E : Type 0} (gives : F → List ℕ → Result D FileFault →
   log-leaves : (Could : List ℕ → Type 0) (run : Run) (log : List MarkedCopy) (disk : D)
       (file : List ℕ)
       → WatchesLog (streams_of gives tells remaining contents told run)
-      (beside_of gives tells remaining contents told run) run.name run.moment run.outcome
+      (beside_of gives tells remaining contents told run) Alone run.name run.moment run.outcome
       → run.disk_after ≡ Some disk → tells.explains run.found disk
       → ComesBehind gives tells remaining contents told Could run run.ended
       → Leaves gives tells remaining contents told run disk run.ended file

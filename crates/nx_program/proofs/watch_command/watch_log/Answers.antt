@@ -1,75 +1,78 @@
-use Rattle.std.proofs.Common.{◌∙◌, Ok, Some, ap, refl, subst, sym}
+use Rattle.std.proofs.Common.{◌∙◌, Ok, ap, subst, sym}
 use Rattle.nx_fec.specs.Transfers.{devices}
 use Rattle.nx_watch.specs.Stamps.{counted_of, stamps_of}
-use Rattle.nx_program.specs.WatchCommand.{beside, watch_outcome}
+use Rattle.nx_program.specs.WatchCommand.{WatchesFile, beside}
+use Rattle.nx_program.specs.declared.arguments.Sendings.{Sendings}
 use Rattle.nx_program.proofs.watch_command.watch_log.Goals as goal
 
-pub returns-in-Ok-answer : goal.returns-in-Ok-answer
-returns-in-Ok-answer g c =
+pub returns-in-Alone : goal.returns-in-Alone
+returns-in-Alone g c =
     let d = devices g.R.Read.remaining g.W.Write.contents (counted_of c.args.reader.now)
-    (counted_of c.watch-answer.new.reader) c.args.writer.now c.watch-answer.new.writer in
-    let b = beside c.args.files g.F.LogFiles.gives (Some c.watch-answer.result.1) g.F.Disk.DiskFile
-    g.E.Write.contents c.args.faults.now c.watch-answer.new.notices
-    (stamps_of c.watch-answer.new.reader) in (
+    (counted_of c.watch.new.reader) c.args.writer.now c.watch.new.writer in
+    let b = beside c.args.files g.F.LogFiles.gives c.ended.result.1 g.F.Disk.DiskFile
+    g.E.Write.contents c.args.faults.now c.watch.new.notices
+    (stamps_of c.watch.new.reader) in (
       Ok c.in-Ok.disk,
       subst (λ n. g.F.LogFiles.gives c.args.files n (Ok c.in-Ok.disk)) c.as_str.ensures
           c.in-Ok.ensures,
       (
-        c.watch-answer.result.1,
-        refl,
-        c.watch-answer.result.0,
-        record {
-          watched = c.watch-answer.ensures.watched;
-          damaged = c.watch-answer.ensures.damaged;
-          foreign = λ start explained none.
-              let only = c.watch-answer.ensures.foreign start explained none in (
-                only.0,
-                ap counted_of only.1,
-                only.2,
-                only.3,
-                ap stamps_of only.1 ∙ c.requires.reader.none_made,
-              );
-          refused = c.watch-answer.ensures.refused;
-          cause = c.watch-answer.ensures.cause;
-          within = c.watch-answer.ensures.within;
-          explained = c.watch-answer.ensures.explained;
-          told = c.watch-answer.ensures.told;
-        },
-        sym (ap (λ r. watch_outcome d b c.args.log r) c.in-Ok-answer.is),
+        c.watch.result.1,
+        c.ended.ensures.file,
+        c.watch.result.0,
+        subst (λ (taken : Sendings). WatchesFile d b taken c.args.moment c.in-Ok.disk
+            c.watch.result.1 c.watch.result.0) (sym c.in-Alone.is) (record {
+              watched = c.watch.ensures.watched;
+              damaged = c.watch.ensures.damaged;
+              foreign = λ start explained none.
+                  let only = c.watch.ensures.foreign start explained none in (
+                    only.0,
+                    ap counted_of only.1,
+                    only.2,
+                    only.3,
+                    ap stamps_of only.1 ∙ c.requires.reader.none_made,
+                  );
+              refused = c.watch.ensures.refused;
+              cause = c.watch.ensures.cause;
+              within = c.watch.ensures.within;
+              explained = c.watch.ensures.explained;
+              told = c.watch.ensures.told;
+            }),
+        c.ended.ensures.outcome,
       ),
     )
 
-pub returns-in-Err-answer : goal.returns-in-Err-answer
-returns-in-Err-answer g c =
+pub returns-in-Together : goal.returns-in-Together
+returns-in-Together g c =
     let d = devices g.R.Read.remaining g.W.Write.contents (counted_of c.args.reader.now)
-    (counted_of c.watch-answer.new.reader) c.args.writer.now c.watch-answer.new.writer in
-    let b = beside c.args.files g.F.LogFiles.gives (Some c.watch-answer.result.1) g.F.Disk.DiskFile
-    g.E.Write.contents c.args.faults.now c.watch-answer.new.notices
-    (stamps_of c.watch-answer.new.reader) in (
+    (counted_of c.watch_combined.new.reader) c.args.writer.now c.watch_combined.new.writer in
+    let b = beside c.args.files g.F.LogFiles.gives c.ended-in-Together.result.1 g.F.Disk.DiskFile
+    g.E.Write.contents c.args.faults.now c.watch_combined.new.notices
+    (stamps_of c.watch_combined.new.reader) in (
       Ok c.in-Ok.disk,
       subst (λ n. g.F.LogFiles.gives c.args.files n (Ok c.in-Ok.disk)) c.as_str.ensures
           c.in-Ok.ensures,
       (
-        c.watch-answer.result.1,
-        refl,
-        c.watch-answer.result.0,
-        record {
-          watched = c.watch-answer.ensures.watched;
-          damaged = c.watch-answer.ensures.damaged;
-          foreign = λ start explained none.
-              let only = c.watch-answer.ensures.foreign start explained none in (
-                only.0,
-                ap counted_of only.1,
-                only.2,
-                only.3,
-                ap stamps_of only.1 ∙ c.requires.reader.none_made,
-              );
-          refused = c.watch-answer.ensures.refused;
-          cause = c.watch-answer.ensures.cause;
-          within = c.watch-answer.ensures.within;
-          explained = c.watch-answer.ensures.explained;
-          told = c.watch-answer.ensures.told;
-        },
-        sym (ap (λ r. watch_outcome d b c.args.log r) c.in-Err-answer.is),
+        c.watch_combined.result.1,
+        c.ended-in-Together.ensures.file,
+        c.watch_combined.result.0,
+        subst (λ (taken : Sendings). WatchesFile d b taken c.args.moment c.in-Ok.disk
+            c.watch_combined.result.1 c.watch_combined.result.0) (sym c.in-Together.is) (record {
+              watched = c.watch_combined.ensures.watched;
+              damaged = c.watch_combined.ensures.damaged;
+              foreign = λ start explained none.
+                  let only = c.watch_combined.ensures.foreign start explained none in (
+                    only.0,
+                    ap counted_of only.1,
+                    only.2,
+                    only.3,
+                    ap stamps_of only.1 ∙ c.requires.reader.none_made,
+                  );
+              refused = c.watch_combined.ensures.refused;
+              cause = c.watch_combined.ensures.cause;
+              within = c.watch_combined.ensures.within;
+              explained = c.watch_combined.ensures.explained;
+              told = c.watch_combined.ensures.told;
+            }),
+        c.ended-in-Together.ensures.outcome,
       ),
     )

@@ -1,6 +1,8 @@
 use Rattle.std.proofs.Common.{codes}
 use Rattle.clap.specs.Words.{found_of, rows_of}
 use Rattle.nx_program.proofs.lemmas.arguments.ValuesRead.{if_none}
+use Rattle.nx_program.specs.Arguments.{sendings_of}
+use Rattle.nx_program.specs.LogArguments.{has_flag}
 use Rattle.nx_program.specs.declared.arguments.Call.TheVariants.{Damage, Send, Slots, Watch}
 use Rattle.nx_program.proofs.lemmas.arguments.CallValues.{file_call-absent, range_call-absent, slot_call-absent}
 use Rattle.nx_program.proofs.lemmas.arguments.OneCall.{at_name}
@@ -34,4 +36,7 @@ returns-in_err-file-in-watch-clause-none c =
     if_none c.from_residual-in_err-file-in-watch.result _
     (λ call other. at_name (codes "watch") c.args.name.now (rows_of (found_of c.args.values.now))
     c.in-watch.is
-    (file_call-absent (λ n m. Watch n m) _ c.in_err-file-in-watch.ensures.none) call)
+    (file_call-absent
+    (λ n m. Watch (sendings_of
+    (has_flag (codes "combine") (rows_of (found_of c.args.values.now)))) n m) _
+    c.in_err-file-in-watch.ensures.none) call)

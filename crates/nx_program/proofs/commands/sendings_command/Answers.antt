@@ -1,6 +1,6 @@
 use Rattle.std.proofs.lemmas.Result.{IfOk-weaker}
 use Rattle.clap.specs.Words.{new_app}
-use Rattle.nx_program.proofs.commands.listen_command.Goals as goal
+use Rattle.nx_program.proofs.commands.sendings_command.Goals as goal
 
 pub returns : goal.returns
 returns c =
