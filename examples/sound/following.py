@@ -428,12 +428,14 @@ class Follower:
         self.note_change()
 
     def pass_all(self):
-        """Takes all that stands in the log by now."""
+        """Takes all that stands in the log by now, and answers it."""
+        passed = []
         while True:
             entries = self.look()
             if entries:
                 self.take(entries)
+                passed += entries
             elif self.is_unclear:
                 time.sleep(QUIET / 2)
             else:
-                return
+                return passed
