@@ -44,13 +44,15 @@ export async function decodedOf(file, side) {
     const seconds = await secondsOf(file);
     if (seconds * SECOND + file.size > MOST) {
         throw new PageFault(`${file.name} is too long for this browser, some ${Math.ceil(seconds / 3600)} hours: `
-            + 'only WAV, MP3, FLAC and Ogg are read piece by piece. Make one of these of it, or cut it into parts.');
+            + 'only WAV, MP3, FLAC, Ogg and M4A are read piece by piece. Make one of these of it, or cut it into '
+            + 'parts.');
     }
     let sound;
     try {
         sound = await context.decodeAudioData(await file.arrayBuffer());
     } catch {
-        throw new PageFault('This file is no sound that the browser can decode. WAV, MP3, FLAC and Ogg mostly are.');
+        throw new PageFault('This file is no sound that the browser can decode. '
+            + 'WAV, MP3, FLAC, Ogg and M4A mostly are.');
     }
     return { rate: sound.sampleRate, seconds: sound.duration, layout: null,
         pieces: (length) => piecesOf(sound, side, length) };

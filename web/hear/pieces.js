@@ -1,7 +1,8 @@
-// A FLAC, Ogg or MP3 file that the browser decodes in pieces, so that it never hands over the sound of hours
-// at once, which would hold up the page, and take memory for all of it.
+// A FLAC, Ogg, MP3 or M4A file that the browser decodes in pieces, so that it never hands over the sound of
+// hours at once, which would hold up the page, and take memory for all of it.
 import { partOf } from './decoded.js';
 import { flacOf } from './flac.js';
+import { m4aOf } from './m4a.js';
 import { mp3PiecesOf } from './mp3.js';
 import { oggOf } from './ogg.js';
 
@@ -48,7 +49,8 @@ async function* read({ rate, pieces, fileOf }, { context, first, side }, length)
 /** The sound of a file: its rate, how many seconds it has, its pieces; null where it can't be cut, or where
  *  the browser can't decode its first piece. */
 export async function piecesOf(file, side) {
-    const cut = await flacOf(file, SIZE) ?? await oggOf(file, SIZE) ?? await mp3PiecesOf(file, SIZE);
+    const cut = await flacOf(file, SIZE) ?? await oggOf(file, SIZE) ?? await mp3PiecesOf(file, SIZE)
+        ?? await m4aOf(file, SIZE);
     if (!cut || cut.rate < RATES[0] || cut.rate > RATES[1] || cut.pieces.length === 0) return null;
     const context = decoder(cut.rate);
     const first = context && await soundOf(context, cut.fileOf(cut.pieces[0]));

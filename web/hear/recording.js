@@ -111,7 +111,7 @@ export class Recording extends Sound {
         }
     }
 
-    /** The sound: a WAV, MP3, FLAC or Ogg file in slices, any other one as the browser decodes it. */
+    /** The sound: a WAV, MP3, FLAC, Ogg or M4A file in slices, any other one as the browser decodes it. */
     async #open() {
         const { side } = this.#given;
         const layout = await layoutOf(this.#file);

@@ -7,6 +7,7 @@ import { kindOf, linesOf, logOf } from '../hear/files.js';
 import { Look } from '../hear/look.js';
 import { Ring } from '../worker/ring.js';
 import { flacOf } from '../hear/flac.js';
+import { m4aOf } from '../hear/m4a.js';
 import { frameAt, framesIn, mp3PiecesOf } from '../hear/mp3.js';
 import { oggOf } from '../hear/ogg.js';
 import { layoutOf, samplesOf } from '../hear/wave.js';
@@ -17,7 +18,7 @@ import { AirRun, LineSplitter, readLine } from '../receiver/air.js';
 import { entryAt, isGood, jsonOf, momentOf, readLog } from '../receiver/entries.js';
 import { MAX_ENTRY, Receiver, ReceiverFault, ROOM, Status } from '../receiver/receiver.js';
 import { EMPTY_STATE, readState, refusedIn, stateAt, stateRefusing, stateWith, writeState } from '../receiver/state.js';
-import { flacFile, OGGS, oggTimes } from './packed.mjs';
+import { flacFile, M4A, m4aTimes, OGGS, oggTimes } from './packed.mjs';
 import { headOf, waveOf } from './waves.mjs';
 
 const EXAMPLES = new URL('../../examples/', import.meta.url);
@@ -429,6 +430,51 @@ async function triesMp3Pieces() {
     assert.equal(await mp3PiecesOf(fileOf(Buffer.alloc(100)), 1), null);
 }
 
+/** An M4A file is cut at its frames, wherever its tables stand: what is behind the heads of all frames of all
+ *  pieces, each once, is its sound. What the tables don't say is for the browser. */
+async function triesM4a() {
+    const once = readFileSync(new URL('ea01.m4a', import.meta.url));
+    const framesOf = (bytes) => {
+        const frames = [];
+        for (let at = 0; at < bytes.length;) {
+            assert.equal(bytes.readUInt16BE(at), 0xfff1);
+            const length = (bytes.readUIntBE(at + 3, 3) >> 5) & 8191;
+            frames.push(bytes.subarray(at + 7, at + length));
+            at += length;
+        }
+        return frames;
+    };
+    for (const isEarly of [false, true]) {
+        const bytes = m4aTimes(once, 9, { isEarly });
+        const cut = await m4aOf(fileOf(bytes), 160000);
+        assert.equal(cut.rate, M4A.rate);
+        const files = await Promise.all(cut.pieces.map((piece) => cut.fileOf(piece)));
+        const sound = files.flatMap((file, at) => {
+            const frames = framesOf(Buffer.from(file));
+            const { base, count } = cut.pieces[at];
+            return frames.slice(at === 0 ? 0 : -Math.ceil(count / M4A.frame));
+        });
+        expectPieces(cut, 160000, 2 * M4A.frame, sound.length * M4A.frame - M4A.silent);
+        const at = bytes.indexOf('mdat');
+        assert.deepEqual(Buffer.concat(sound), bytes.subarray(at + 4, at - 4 + bytes.readUInt32BE(at - 4)));
+    }
+    const [whole] = (await m4aOf(fileOf(once), Infinity)).pieces;
+    assert.ok(Math.abs(whole.count - M4A.length) < M4A.frame);
+    const other = (word, change) => {
+        const bytes = Buffer.from(once);
+        change(bytes, bytes.indexOf(word));
+        return m4aOf(fileOf(bytes), 1);
+    };
+    assert.notEqual(await other('mdat', () => {}), null);
+    assert.equal(await other('mp4a', (bytes, at) => bytes.write('alac', at)), null, 'another kind of sound');
+    assert.equal(await other('soun', (bytes, at) => bytes.write('vide', at)), null, 'a picture');
+    assert.equal(await other('stco', (bytes, at) => bytes.write('free', at)), null, 'no places');
+    assert.equal(await other('stsz', (bytes, at) => bytes.writeUInt32BE(9000, at + 16)), null, 'too long a frame');
+    assert.equal(await other('moov', (bytes, at) => bytes.writeUInt32BE(0xffffffff, at - 4)), null);
+    for (let length = 0; length < once.length; length += 97) await m4aOf(fileOf(once.subarray(0, length)), 1);
+    assert.equal(await m4aOf(fileOf(once.subarray(0, -1)), 1), null);
+}
+
 function triesRing() {
     const ring = new Ring(5);
     ring.push(Float32Array.of(1, 2, 3));
@@ -473,6 +519,7 @@ triesMp3();
 await triesMp3Pieces();
 await triesFlac();
 await triesOgg();
+await triesM4a();
 await triesFiles();
 await triesWaves();
 await triesExamples();

@@ -1,6 +1,6 @@
 // Packed recordings that are made for a trial: FLAC with samples as they are, and Ogg many times in a row.
-// ea01.ogg and ea01.opus are examples/ea01.air as sound, a second of silence around it, packed by libvorbis and
-// libopus; slip.mp3 is examples/slip.air.
+// ea01.ogg, ea01.opus and ea01.m4a are examples/ea01.air as sound, a second of silence around it, packed by
+// libvorbis, libopus and libavcodec; slip.mp3 is examples/slip.air.
 const BLOCK = 4096;    // samples of a FLAC frame
 const RATES = { 8000: 4, 16000: 5, 24000: 7, 44100: 9, 48000: 10 }; // as a FLAC frame says them
 const BITS = 16;
@@ -105,4 +105,70 @@ export function oggTimes(bytes, times, step) {
         page.writeUInt32LE(sumOf(page, LONG, 32), SUM);
     });
     return Buffer.concat(all);
+}
+
+const CONTAINERS = new Set(['moov', 'trak', 'mdia', 'minf', 'stbl', 'edts']);
+
+/** The boxes of MPEG-4 that follow each other, each a name and its content. */
+function boxesOf(bytes) {
+    const boxes = [];
+    for (let at = 0; at < bytes.length; at += bytes.readUInt32BE(at)) {
+        boxes.push([bytes.toString('latin1', at + 4, at + 8), bytes.subarray(at + 8, at + bytes.readUInt32BE(at))]);
+    }
+    return boxes;
+}
+
+function boxOf(name, content) {
+    const head = Buffer.alloc(8);
+    head.writeUInt32BE(head.length + content.length);
+    head.write(name, 4, 'latin1');
+    return Buffer.concat([head, content]);
+}
+
+/** Boxes as they are, but for those of which `others` makes another content. */
+const rebuilt = (bytes, others) => Buffer.concat(boxesOf(bytes).map(([name, content]) =>
+    boxOf(name, CONTAINERS.has(name) ? rebuilt(content, others) : others[name]?.(content) ?? content)));
+
+/** Numbers of 32 bits. */
+function wordsOf(...numbers) {
+    const bytes = Buffer.alloc(4 * numbers.length);
+    numbers.forEach((number, at) => bytes.writeUInt32BE(number, 4 * at));
+    return bytes;
+}
+
+/** The samples of ea01.m4a, those of a frame, and those at its beginning that aren't heard. */
+export const M4A = { rate: 8000, length: 129680, frame: 1024, silent: 1024 };
+
+/** An M4A file whose frames come so many times, in a chunk each time. Its tables stand at the end, or before
+ *  the sound where they are `early`. */
+export function m4aTimes(bytes, times, { isEarly = false } = {}) {
+    const boxes = Object.fromEntries(boxesOf(bytes));
+    const sound = Buffer.concat(Array(times).fill(boxes.mdat));
+    const longer = (at) => (content) => {
+        const later = Buffer.from(content);
+        later.writeUInt32BE(content.readUInt32BE(at) * times, at);
+        return later;
+    };
+    const tablesAt = (begin) => {
+        let count = 0;
+        const sizes = (content) => {
+            count = content.readUInt32BE(8);
+            return Buffer.concat([wordsOf(0, 0, count * times), ...Array(times).fill(content.subarray(12))]);
+        };
+        rebuilt(boxes.moov, { stsz: sizes });
+        return boxOf('moov', rebuilt(boxes.moov, {
+            stsz: sizes,
+            stts: () => wordsOf(0, 1, count * times, M4A.frame),
+            stsc: () => wordsOf(0, 1, 1, count, 1),
+            stco: () => wordsOf(0, times, ...Array.from({ length: times }, (_, time) => begin + time * boxes.mdat.length)),
+            mvhd: longer(16),
+            tkhd: longer(20),
+            mdhd: longer(16),
+            elst: () => wordsOf(0, 1, (1000 * (count * times * M4A.frame - M4A.silent)) / M4A.rate, M4A.silent, 1 << 16),
+        }));
+    };
+    const head = boxOf('ftyp', boxes.ftyp);
+    if (!isEarly) return Buffer.concat([head, boxOf('mdat', sound), tablesAt(head.length + 8)]);
+    const begin = head.length + tablesAt(0).length + 8;
+    return Buffer.concat([head, tablesAt(begin), boxOf('mdat', sound)]);
 }

@@ -1,10 +1,10 @@
-// Tries two hours of FLAC, Ogg and MP3 by plain http, where the browser decodes them in pieces: the page answers
-// from when a recording is opened on.
+// Tries two hours of FLAC, Ogg, MP3 and M4A by plain http, where the browser decodes them in pieces: the page
+// answers from when a recording is opened on.
 import assert from 'node:assert/strict';
 import { readFileSync, writeFileSync } from 'node:fs';
 import { setTimeout as pause } from 'node:timers/promises';
 import { expectSoon } from '../answers.mjs';
-import { flacFile, OGGS, oggTimes } from '../packed.mjs';
+import { flacFile, m4aTimes, OGGS, oggTimes } from '../packed.mjs';
 import { served } from '../served.mjs';
 import { bitsOf, example, tonesOf } from '../waves.mjs';
 
@@ -28,6 +28,7 @@ export const KINDS = {
     ogg: (times) => oggTimes(once('ea01.ogg'), times, OGGS['ea01.ogg'].step),
     opus: (times) => oggTimes(once('ea01.opus'), times, OGGS['ea01.opus'].step),
     mp3: (times) => Buffer.concat(Array(times).fill(once('slip.mp3'))),
+    m4a: (times) => m4aTimes(once('ea01.m4a'), times),
 };
 
 /** Opens a recording, and stops it after it was heard for a while. */

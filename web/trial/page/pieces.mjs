@@ -1,5 +1,6 @@
-// Tries FLAC, Ogg and MP3 where the browser decodes them in pieces: joined they are the sound that it decodes
-// whole, sample by sample, and what is heard of them is what is heard of a WAV file. Then two hours from a disk.
+// Tries FLAC, Ogg, MP3 and M4A where the browser decodes them in pieces: joined they are the sound that it
+// decodes whole, sample by sample, and what is heard of them is what is heard of a WAV file. Then two hours from
+// a disk.
 import assert from 'node:assert/strict';
 import { writeFileSync } from 'node:fs';
 import { served } from '../served.mjs';
@@ -7,8 +8,9 @@ import { writeWave } from '../waves.mjs';
 import { answersThroughHours, KINDS } from './packed.mjs';
 
 const RATE = 48000;
-const TIMES = { flac: 4, ogg: 17, opus: 4, mp3: 9 }; // of an example, so that there are some pieces
-const EXAMPLES = { flac: 'ea01.air', ogg: 'ea01.air', opus: 'ea01.air', mp3: 'slip.air' };
+const TIMES = { flac: 4, ogg: 17, opus: 4, mp3: 9, m4a: 9 }; // of an example, so that there are some pieces
+const LESS = { m4a: 1024 }; // samples at the end that a browser may leave out where it decodes all at once
+const EXAMPLES = { flac: 'ea01.air', ogg: 'ea01.air', opus: 'ea01.air', mp3: 'slip.air', m4a: 'ea01.air' };
 const BEGAN = '2025-01-05 00:40';
 const NEAR = 1e-4; // to which a decoder of MP3 gives the same again
 
@@ -24,7 +26,8 @@ const COMPARED = `(async () => {
     const whole = sound.getChannelData(0);
     let [at, apart, longest] = [0, 0, 0];
     for await (const [samples] of pieces(2)) {
-        samples.forEach((sample, place) => { apart = Math.max(apart, Math.abs(sample - whole[at + place])); });
+        const farthest = (most, sample, place) => Math.max(most, Math.abs(sample - (whole[at + place] ?? sample)));
+        apart = samples.reduce(farthest, apart);
         at += samples.length;
         longest = Math.max(longest, samples.length / rate);
     }
@@ -39,7 +42,8 @@ async function triesSameSound({ tab, room }) {
         await tab.giveFiles('#file', `${room}/pieces.${name}`);
         const { joined, said, whole, apart, longest } = await tab.value(COMPARED);
         assert.ok(joined > (1 << 20), `${name} is one piece`);
-        assert.deepEqual([said, whole, longest], [joined, joined, 2], name);
+        assert.deepEqual([said, longest], [joined, 2], name);
+        assert.ok(whole <= joined && whole >= joined - (LESS[name] ?? 0), `${name}: ${whole} of ${joined}`);
         assert.ok(apart <= NEAR, `${name}: ${apart}`);
     }
     stop();
