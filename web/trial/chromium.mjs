@@ -86,6 +86,7 @@ class ChromiumTab extends Tab {
     #onLoaded = () => {};
     #traced = [];
     #onTraced = () => {};
+    #pid = null;
 
     constructor(browser, session, target) {
         super();
@@ -152,6 +153,13 @@ class ChromiumTab extends Tab {
         }
     }
 
+    /** The process of the page. */
+    async pid() {
+        await this.watchTasks();
+        await this.tasks();
+        return this.#pid;
+    }
+
     /** From here on the tasks of the page's thread are looked at. */
     async watchTasks() {
         this.#traced = [];
@@ -165,6 +173,7 @@ class ChromiumTab extends Tab {
         await this.call('Tracing.end');
         await whole;
         const { pid, tid } = this.#traced.find(({ name }) => name === MARK);
+        this.#pid = pid;
         const tasks = this.#traced.filter((one) => one.pid === pid && one.tid === tid && one.name === TASK
             && one.tdur !== undefined);
         this.#traced = [];

@@ -35,7 +35,8 @@ export class Firefox {
         mkdirSync(folder, { recursive: true });
         writeFileSync(`${folder}/user.js`, Object.entries(SETTINGS)
             .map(([name, value]) => `user_pref(${JSON.stringify(name)}, ${JSON.stringify(value)});\n`).join(''));
-        browser.#process = spawn(program, ['--headless', '--marionette', '--no-remote', '--profile', folder],
+        browser.#process = spawn(program, ['--headless', '--marionette', '--remote-allow-system-access', '--no-remote',
+            '--profile', folder],
             { stdio: 'ignore', env: { ...process.env, HOME: folder } });
         process.once('exit', () => browser.#process.kill('SIGKILL')); // it would go on alone
         await browser.#connect(`${folder}/MarionetteActivePort`);
@@ -173,6 +174,18 @@ class FirefoxTab extends Tab {
     async giveFiles(selector, ...files) {
         const { value } = await this.call('WebDriver:FindElement', { using: 'css selector', value: selector });
         await this.call('WebDriver:ElementSendKeys', { id: value[ELEMENT], text: files.join('\n') });
+    }
+
+    /** The process of the page, which the browser itself tells. */
+    async pid() {
+        const script = 'return gBrowser.selectedBrowser.browsingContext.currentWindowGlobal.osPid;';
+        await this.call('Marionette:SetContext', { value: 'chrome' });
+        try {
+            const { value } = await this.#browser.send('WebDriver:ExecuteScript', { script, args: [] });
+            return value;
+        } finally {
+            await this.#browser.send('Marionette:SetContext', { value: 'content' });
+        }
     }
 
     /** It has no drop of its own: files come by the dialog. */
