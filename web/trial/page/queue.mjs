@@ -1,9 +1,11 @@
 // Tries that one sound is heard at a time: each pair of sounds at each moment, and Stop.
 import assert from 'node:assert/strict';
+import { writeFileSync } from 'node:fs';
 import { setTimeout as pause } from 'node:timers/promises';
 import { path, writeWave } from '../waves.mjs';
+import { KINDS } from './packed.mjs';
 
-const NUMBER_00 = 'number-00.air'; // whose messages are printed each time
+const NUMBER_00 = 'EA00'; // whose messages are printed each time
 const AT_ONCE = 2000; // milliseconds in which Stop has an effect, on a machine that does other things too
 const WATCHED = `
     window.tracks = [];
@@ -15,15 +17,17 @@ const WATCHED = `
     };
     true`;
 
-/** The sounds: a file of each kind with the messages that it gives, and the microphone. */
+/** The sounds: a file of each kind, of which messages it is and how many it gives, and the microphone. */
 function soundsIn(room) {
     writeWave(`${room}/slices.wav`, 'slip.air');
     writeWave(`${room}/decoded.wav`, 'refused.air', { rate: 5000 }); // a rate that only the browser reads
+    writeFileSync(`${room}/pieces.flac`, KINDS.flac(1));
     return {
         air: { file: path('number-00.air'), name: 'number-00.air', of: NUMBER_00, messages: 3 },
-        slices: { file: `${room}/slices.wav`, name: 'slices.wav', of: 'slip.air', messages: 1 },
-        mp3: { file: new URL('../slip.mp3', import.meta.url).pathname, name: 'slip.mp3', of: 'slip.air', messages: 1 },
-        decoded: { file: `${room}/decoded.wav`, name: 'decoded.wav', of: 'refused.air', messages: 2 },
+        slices: { file: `${room}/slices.wav`, name: 'slices.wav', of: 'EA01', messages: 1 },
+        mp3: { file: new URL('../slip.mp3', import.meta.url).pathname, name: 'slip.mp3', of: 'EA01', messages: 1 },
+        pieces: { file: `${room}/pieces.flac`, name: 'pieces.flac', of: 'EA01', messages: 1 },
+        decoded: { file: `${room}/decoded.wav`, name: 'decoded.wav', of: 'EL06', messages: 2 },
         microphone: { name: 'The microphone', messages: 0 },
     };
 }
@@ -163,6 +167,4 @@ async function triesWaiting({ tab, room }) {
 
 export const options = () => ['--use-fake-device-for-media-stream'];
 
-/** All pairs take Firefox a quarter of an hour; it is tried with Stop, the order, and what waits. */
-export const trials = (kind) => (kind === 'chromium' ? [triesWatching, triesPairs, triesStop, triesOrder, triesWaiting]
-    : [triesWatching, triesOrder, triesWaiting, triesStop]);
+export const trials = () => [triesWatching, triesStop, triesOrder, triesWaiting, triesPairs];
