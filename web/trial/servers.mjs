@@ -1,5 +1,6 @@
-// The web servers by which a trial gives the page and a log: http.server of Python, and lighttpd with the
-// settings of navtex-page.service. Both are killed by whoever started them.
+// The web servers by which a trial gives the page and a log: http.server of Python, lighttpd with the settings of
+// navtex-page.service, and nginx with those of docs/PAGE.md. They are killed by whoever started them.
+import assert from 'node:assert/strict';
 import { spawn } from 'node:child_process';
 import { copyFileSync, existsSync, mkdirSync, readFileSync, writeFileSync } from 'node:fs';
 import { createServer } from 'node:http';
@@ -8,9 +9,14 @@ import { setTimeout as pause } from 'node:timers/promises';
 
 const LIGHTTPD = '/usr/sbin/lighttpd';
 const SETTINGS = new URL('../../package/navtex-page.conf', import.meta.url);
+const NGINX = '/usr/sbin/nginx';
+const RECIPE = new URL('../../docs/PAGE.md', import.meta.url);
 
 /** Whether the server of navtex-page.service is here. */
 export const hasService = existsSync(LIGHTTPD);
+
+/** Whether nginx is here. */
+export const hasNginx = existsSync(NGINX);
 
 /** An address of this computer that a browser doesn't take for its own, so that it gives it less. */
 export const host = Object.values(networkInterfaces()).flat()
@@ -59,6 +65,21 @@ export function serviceServer(share, log, port) {
     writeFileSync(file, readFileSync(SETTINGS, 'utf8').replaceAll('@share@', share));
     return started(LIGHTTPD, ['-D', '-f', file], `http://127.0.0.1:${port}`,
         { ...process.env, LOG: log, PORT: String(port) });
+}
+
+/** nginx with the settings of docs/PAGE.md, for the page in a folder and a log, to this computer alone. */
+export function nginxServer(folder, log, port) {
+    const [, recipe] = /```nginx\n([^]*?)```/.exec(readFileSync(RECIPE, 'utf8'));
+    const own = [['8417', port], ['192.168.0.0/16', '127.0.0.1'], ['/usr/local/share/navtex', folder],
+        ['/var/lib/navtex/navtex.log', log]];
+    for (const [word] of own) assert.ok(recipe.includes(word), word);
+    const server = own.reduce((text, [word, other]) => text.replace(word, other), recipe);
+    const temporary = ['client_body', 'proxy', 'fastcgi', 'uwsgi', 'scgi']
+        .map((name) => `${name}_temp_path ${folder}/nginx-${name};`).join(' ');
+    const file = `${folder}/nginx.conf`;
+    writeFileSync(file, `daemon off; master_process off; pid ${folder}/nginx.pid; error_log ${folder}/nginx.errors;
+        events {} http { access_log off; ${temporary} ${server} }`);
+    return started(NGINX, ['-c', file, '-e', `${folder}/nginx.errors`], `http://127.0.0.1:${port}`);
 }
 
 /** A folder with the page in it, for a log. */

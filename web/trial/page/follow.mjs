@@ -6,7 +6,8 @@ import { copyFileSync, existsSync, mkdirSync, readFileSync, rmSync, truncateSync
 import { createServer } from 'node:http';
 import { setTimeout as pause } from 'node:timers/promises';
 import { entryOf, keptOf, put, writeKept } from '../kept.mjs';
-import { folderOf, freePort, hasService, host, plainServer, serviceServer } from '../servers.mjs';
+import { folderOf, freePort, hasNginx, hasService, host, nginxServer, plainServer, serviceServer }
+    from '../servers.mjs';
 import { example } from '../waves.mjs';
 
 const SOON = 20000; // milliseconds in which the page has read the log again, on a busy machine
@@ -190,6 +191,38 @@ async function triesService({ browser, room }) {
         await untilShown(tab, 'New EB01');
         put(log, SECOND);
         await untilShown(tab, 'New EA02', 'New EB01');
+        assert.deepEqual(tab.errors, []);
+        await tab.close();
+    } finally {
+        await server.stop();
+    }
+}
+
+/** nginx with the settings of docs/PAGE.md. */
+async function triesNginx({ browser, room }) {
+    if (!hasNginx) {
+        console.error('ci/web: left out: the settings of docs/PAGE.md for nginx, which is not here (nginx-light)');
+        return;
+    }
+    const folder = folderOf(room, 'nginx');
+    const log = `${folder}/other.log`;
+    writeKept(log, [FIRST]);
+    const server = await nginxServer(folder, log, port);
+    const { address } = server;
+    try {
+        const answered = async (way, given) => (await fetch(`${address}${way}`, given)).status;
+        for (const way of ['/', '/other.log', '/nginx.conf', '/navtex.log/', '/x']) {
+            assert.equal(await answered(way), 404, way);
+        }
+        for (const method of ['PUT', 'DELETE']) assert.equal(await answered('/navtex.log', { method }), 405, method);
+        assert.equal(await answered('/navtex.log', { headers: { Range: 'bytes=1-' } }), 206);
+        const tab = await browser.tab();
+        await tab.openPage(`${address}/navtex.html?log=navtex.log`);
+        await untilShown(tab, 'New EB01');
+        put(log, SECOND);
+        await untilShown(tab, 'New EA02', 'New EB01');
+        writeKept(log, [SECOND, THIRD]);
+        await untilShown(tab, 'New EE03', 'New EA02');
         assert.deepEqual(tab.errors, []);
         await tab.close();
     } finally {
@@ -387,5 +420,5 @@ async function keepsPictures(tab, pictures) {
 
 /** In Firefox what needs no leave of it and no word of its network. */
 export const trials = (kind) => (kind === 'chromium'
-    ? [triesPlain, triesRanges, triesService, triesSilence, triesWhatIsGiven, triesPlaces, triesCombined]
+    ? [triesPlain, triesRanges, triesService, triesNginx, triesSilence, triesWhatIsGiven, triesPlaces, triesCombined]
     : [triesRanges, triesService, triesSilence]);
