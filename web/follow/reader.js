@@ -21,6 +21,7 @@ export class LogReader {
     #gate = 0;         // where the last gate stands
     #lines = 0;        // lines before it
     #length = null;    // bytes of the file when it was read last
+    #broken = null;    // the byte at which it was no log then
     #count = 0;        // how often it was read
     #takesRanges = true;
 
@@ -32,8 +33,8 @@ export class LogReader {
 
     /**
      * Reads the log: the entries that are `added`; whether they are all of one that began anew (`isAnew`);
-     * the line at which it is `damaged`, or null; when the file was `changed`, and what time it is by the
-     * server (`now`), as far as it says so.
+     * the line at which it is `damaged`, or null; whether the next reading has to tell that (`isUnsure`); when
+     * the file was `changed`, and what time it is by the server (`now`), as far as it says so.
      */
     async read() {
         const part = await this.#part(this.#count++ % WHOLE === 0 ? 0 : this.#again());
@@ -66,15 +67,17 @@ export class LogReader {
         const behind = text.slice(begin - from);
         const read = readKept(behind);
         const added = read.entries.map((entry) => ({ ...entry, place: begin + entry.place, next: begin + entry.next }));
-        // a text that ends within an entry may have been read while it was written
+        // A server may give the length of one moment and the bytes of another, or the bytes of two. So what is
+        // no log is damaged where it was none there before; and where it ends too early, where it didn't grow.
+        const broken = read.broken === null ? null : begin + read.broken;
         const isStill = from + text.length === this.#length;
-        const isDamaged = read.broken !== null && (isStill || !read.isEarly);
+        const isDamaged = broken !== null && broken === this.#broken && (isStill || !read.isEarly);
         const damaged = isDamaged ? this.#lines + lineOf(behind, read.broken) : null;
-        this.#length = from + text.length;
+        [this.#broken, this.#length] = [broken, from + text.length];
         this.#gate = begin + read.gate;
         this.#lines += lineOf(behind, read.gate) - 1;
         this.#entries = this.#entries.concat(added.map(({ place, log }) => ({ place, log })));
-        return { added, damaged, changed, now };
+        return { added, damaged, isUnsure: broken !== null && !isDamaged, changed, now };
     }
 
     /** The text from a place on, or from the beginning where the server gives no ranges; null where it has

@@ -6,6 +6,7 @@ import { Marks } from './marks.js';
 import { LogReader } from './reader.js';
 
 const EVERY = 5000; // milliseconds between two readings
+const UNSURE = 1000; // and where the next one has to tell whether the log is damaged
 const HOUR = 3600;
 const BY_FILE = 'This page was opened from a disk, and there a browser lets no page read a file. Open it by a web '
     + 'server: run python3 -m http.server in the folder of the log and of the page.';
@@ -51,6 +52,7 @@ export class FollowSection {
     #log;
     #isRead = false;     // whether the log was read once
     #isReading = false;
+    #isUnsure = false;   // whether the next reading has to tell if it is damaged
     #timer = 0;
     #failing = null;     // since when it can't be read
     #ahead = 0;          // seconds by which the server's clock is ahead of this one
@@ -99,7 +101,7 @@ export class FollowSection {
         this.#isReading = true;
         await this.#faults.try(() => this.#read());
         this.#isReading = false;
-        this.#timer = setTimeout(() => this.follow(), EVERY);
+        this.#timer = setTimeout(() => this.follow(), this.#isUnsure ? UNSURE : EVERY);
     }
 
     async #read() {
@@ -113,6 +115,7 @@ export class FollowSection {
             return;
         }
         this.#failing = null;
+        this.#isUnsure = read.isUnsure;
         const added = this.#log.take(read);
         this.#note(read, added);
         if (!this.#isRead || read.isAnew) this.#on.anew();

@@ -150,6 +150,7 @@ async function triesRanges() {
     assert.ok(file.sent < 9000, `${file.sent} bytes were sent`);
     const damaged = `${file.text.slice(0, -1)}\nnotes of somebody\n`;
     file.text = damaged;
+    assert.deepEqual((({ damaged: line, isUnsure }) => [line, isUnsure])(await reader.read()), [null, true]);
     const read = await reader.read();
     assert.equal(read.damaged, lineOf(damaged, readKept(damaged).broken), 'lines are counted from the beginning');
     file.text = keptOf([...many.slice(0, -1), entryOf('ANOTHER 2999\n'), entryOf('ONE MORE\n')]);
@@ -172,6 +173,21 @@ async function triesEarly() {
     file.text = text;
     const { damaged, added } = await reader.read();
     assert.deepEqual([damaged, added.length], [null, 1]);
+}
+
+/** A server that gives the length of one moment and the bytes of a later one damages no log: the watch was killed,
+ *  and the next one cut what it left, and put a longer entry in its place. */
+async function triesTwoMoments() {
+    const [one, two] = [entryOf('ONE\n'), entryOf('THIS IS LONGER\n', { identity: 'EA02' })];
+    const torn = `${keptOf([one])}${two.slice(0, 20)}`;
+    const file = { text: torn, asked: 0, sent: 0 };
+    const reader = new LogReader('http://x/watch.log', serverOf(file, false));
+    const told = async () => (({ damaged, isUnsure, added }) => [damaged, isUnsure, added.length])(await reader.read());
+    assert.deepEqual(await told(), [null, false, 1]);
+    file.text = keptOf([one, two]).slice(0, torn.length);
+    assert.deepEqual(await told(), [null, true, 0]);
+    file.text = keptOf([one, two]);
+    assert.deepEqual(await told(), [null, false, 1]);
 }
 
 /** What servers answer beside a log. */
@@ -366,6 +382,7 @@ triesKept();
 await triesFollowing();
 await triesRanges();
 await triesEarly();
+await triesTwoMoments();
 await triesServers();
 triesNames();
 triesMarks();
