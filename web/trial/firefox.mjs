@@ -42,6 +42,7 @@ export class Firefox {
         await browser.#connect(`${folder}/MarionetteActivePort`);
         const alwaysMatch = { unhandledPromptBehavior: 'ignore' };
         await browser.send('WebDriver:NewSession', { capabilities: { alwaysMatch } });
+        await browser.send('WebDriver:SetTimeouts', { script: PATIENCE, pageLoad: PATIENCE });
         return browser;
     }
 

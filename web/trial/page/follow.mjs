@@ -106,6 +106,7 @@ async function triesLog(browser, server, folder) {
     assert.equal(await tab.value("document.getElementById('damaged').hidden"), true);
     writeFileSync(log, FIRST);
     await untilShown(tab);
+    await tab.until("!document.getElementById('damaged').hidden", SOON);
     assert.match(await tab.textOf('damaged'), /is damaged at line 1, or is no log of a watch/);
     writeKept(log, [FIRST, SECOND]);
     await untilShown(tab, 'EA02', 'New EB01');

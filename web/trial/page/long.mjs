@@ -16,13 +16,14 @@ const HEARING = "document.getElementById('source').textContent.startsWith('Heari
 /** The one at the beginning of a long recording, and the one at its end. */
 const emissions = () => ['ea01.air', 'refused.air'].map((name) => tonesOf(bitsOf(example(name))));
 
-/** A page that is kept busy is told from one that answers, on this machine too. */
+/** A page that is kept busy is told from one that answers, on a busy machine too, where others have most of the
+ *  time for which it is kept busy. */
 async function triesSlowPage({ browser, tab }) {
     await tab.value(`window.slow = setInterval(() => {
         const begun = performance.now();
-        while (performance.now() < begun + 400);
-    }, 1000)`);
-    const found = await answersDuring(browser, tab, () => pause(WATCHED / 3));
+        while (performance.now() < begun + 1500);
+    }, 3000)`);
+    const found = await answersDuring(browser, tab, () => pause(WATCHED));
     await tab.value('clearInterval(window.slow)');
     assert.ok(!isSoon(found), `a page that is kept busy: ${found.words}`);
     assert.ok(!isSoon({ ...found, tasks: null }), `by its answers alone: ${found.words}`);

@@ -109,11 +109,12 @@ async function expectPair(tab, what, first, second) {
     await expectTracksEnded(tab, what);
 }
 
-/** The milliseconds from a press on until nothing is heard: how long the machine itself takes, where that is so. */
-async function untilIdleFrom(tab, selector) {
+/** The milliseconds from a press on until nothing more is heard, or what waits of a microphone that was let go:
+ *  how long the machine itself takes, where that is so before. */
+async function untilStoppedFrom(tab, selector) {
     const begun = Date.now();
     await tab.press(selector);
-    await tab.untilIdle();
+    await tab.until("/^(Nothing is being heard|Ending)/.test(document.getElementById('source').textContent)");
     return Date.now() - begun;
 }
 
@@ -125,8 +126,9 @@ async function triesStop({ tab, room }) {
             await beginAnew(tab);
             await begin(tab, first);
             await wait(tab);
-            const took = await untilIdleFrom(tab, '#stop');
-            const usual = await untilIdleFrom(tab, '#clock');
+            const took = await untilStoppedFrom(tab, '#stop');
+            await tab.untilIdle();
+            const usual = await untilStoppedFrom(tab, '#clock');
             assert.ok(took - usual < AT_ONCE, `${one}, stopped ${when}, after ${took} ms; nothing takes ${usual}`);
             const [line] = await tab.hear(sounds.air.file);
             assert.match(line, /^number-00.air: 3 messages heard: 3 new/, `${one}, stopped ${when}`);
