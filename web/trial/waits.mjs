@@ -1,9 +1,10 @@
-// How long the main thread of a process waited for a processor: that is the machine's doing, and not its own.
-// Linux tells it.
+// How long the main thread of a process waited for a processor, as Linux tells it: that is the machine's doing, and
+// not its own. And how many times slower the machine is by what else it does.
 import { readFileSync } from 'node:fs';
 
 const EVERY = 20;    // milliseconds between two looks
 const MILLION = 1e6; // nanoseconds of a millisecond
+const WORK = 50;     // milliseconds of a processor by which the machine is tried
 
 export class Waits {
     #looks = []; // the moments of looks, and the milliseconds that it had waited until then
@@ -33,4 +34,12 @@ export class Waits {
     stop() {
         clearInterval(this.#timer);
     }
+}
+
+/** How many times slower this machine is now than one that does nothing else: by a little work of this process. */
+export function slowness() {
+    const [begun, used] = [performance.now(), process.cpuUsage()];
+    const worked = () => Object.values(process.cpuUsage(used)).reduce((sum, part) => sum + part) / 1000;
+    while (worked() < WORK);
+    return Math.max(1, (performance.now() - begun) / WORK);
 }
