@@ -7,4 +7,5 @@ pub mod Repairing
 pub mod Scanning
 pub mod Settling
 pub mod Stages
+pub mod Staying
 pub mod Steps

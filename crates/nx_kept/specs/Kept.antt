@@ -24,6 +24,10 @@ module _ (is_record : List ℕ → Type 0) where
       × is_record first
       × (bytes ≡ gate ∷ (first ++ rest)) × IsBehindOpenGates records rest
 
+-- the list begins with this one, where any rest may stand behind it
+abbrev pub BeginsWith : {A : Type 0} → List A → List A → Type 0
+BeginsWith {A} front all = (rest : List A) × (all ≡ front ++ rest)
+
 -- Nothing, or one byte, or a closed gate and at most as many bytes as the longest record and its
 -- gate.
 abbrev pub IsTail : ℕ → List ℕ → Type 0

@@ -1,7 +1,7 @@
 -- What the opening of a kept log tells.
 use Rattle.std.specs.Prelude.{◌≡◌, ◌⊎◌, ℕ, List}
 use Rattle.nx_kept.specs.Disk.{FailedOnce, LeavesOnly, Only, OnlyReads}
-use Rattle.nx_kept.specs.Kept.{StandsFor, StandsForEither}
+use Rattle.nx_kept.specs.Kept.{BeginsWith, StandsFor, StandsForEither}
 use Rattle.nx_kept.specs.Log.{IsAtRest}
 use Rattle.nx_kept.specs.Taker.{TookAll}
 use Rattle.nx_kept.specs.declared.log.KeptLog.{KeptLog}
@@ -25,6 +25,14 @@ abbrev pub KeepsRecords : {D : Type 0}
 KeepsRecords is_record longest may_leave moment left_since records old new =
     LeavesOnly moment left_since old new
     (λ c. may_leave old c ⊎ StandsFor is_record longest records c)
+
+-- A crash from old to new leaves what a crash before old could leave, or a file that begins with
+-- these bytes.
+abbrev pub KeepsFront : {D : Type 0}
+    → (may_leave : D → List ℕ → Type 0) (moment : D → ℕ) (left_since : D → ℕ → List ℕ → Type 0)
+    (front : List ℕ) (old new : D) → Type 0
+KeepsFront may_leave moment left_since front old new =
+    LeavesOnly moment left_since old new (λ c. may_leave old c ⊎ BeginsWith front c)
 
 -- The file is only read, and brought to the disk: then a crash leaves just what a read finds, and
 -- from then on only files that stand for the records.

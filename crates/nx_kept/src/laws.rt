@@ -1,7 +1,7 @@
 //! What the words of a kept log mean: laws over the definitions alone.
 
 ghost use Rattle.std.specs.Prelude.{◌≡◌, List, ℕ};
-ghost use Rattle.nx_kept.specs.Kept.{IsDamaged, StandsFor};
+ghost use Rattle.nx_kept.specs.Kept.{BeginsWith, IsBehindOpenGates, IsDamaged, StandsFor};
 ghost use Rattle.nx_kept.specs.Log.{Keeps};
 
 use crate::disk::DiskFile;
@@ -21,4 +21,14 @@ pub fn what_is_kept_is_left<D: DiskFile, G: Grammar>(log: &KeptLog<D, G>)
     ensures { (start c : List ℕ) (records : List (List ℕ)) →
         Keeps (D.seen start) (D.may_leave start) G.is_record records log.now →
         D.may_leave start log.now.device c → StandsFor G.is_record G.LONGEST records c }
+{}
+
+/// What stands before a gate stays in each file that begins with it, whatever such a file stands
+/// for: it stands for the records there, and for those that stand behind them. So a start, which
+/// keeps what stands before the tail of its file, keeps it too.
+pub fn what_stands_before_a_gate_stays<G: Grammar>()
+    ensures { (records others : List (List ℕ)) (front file : List ℕ) →
+        IsBehindOpenGates G.is_record records front → BeginsWith front file →
+        (stands : StandsFor G.is_record G.LONGEST others file) →
+        BeginsWith records others × BeginsWith front stands.front }
 {}

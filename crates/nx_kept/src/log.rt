@@ -28,10 +28,10 @@ pub struct KeptLog<D, G> {
 
 impl<D: DiskFile, G: Grammar> KeptLog<D, G> {
     ghost use Rattle.nx_kept.specs.Disk.{LeavesOnly, OnlyReads, TellsFaults};
-    ghost use Rattle.nx_kept.specs.Kept.{open_gate, IsBehindOpenGates, IsDamaged, IsKeptLog, StandsFor, WithOrWithout};
+    ghost use Rattle.nx_kept.specs.Kept.{open_gate, BeginsWith, IsBehindOpenGates, IsDamaged, IsKeptLog, StandsFor, WithOrWithout};
     ghost use Rattle.nx_kept.specs.Log.{IsAtRest, Keeps};
     ghost use Rattle.nx_kept.specs.Taker.{TookAll, TookOnly, TookSome};
-    ghost use Rattle.nx_kept.specs.Open.{HasCause, KeepsEither, KeepsRecords, Opens, SyncsFirst, SyncsFirstOrReads};
+    ghost use Rattle.nx_kept.specs.Open.{HasCause, KeepsEither, KeepsFront, KeepsRecords, Opens, SyncsFirst, SyncsFirstOrReads};
 
     /// Opens a file that a crash may have left, and gives each of its records to the taker, in
     /// order. What the file holds is brought to the disk first. A damaged file is refused, and
@@ -81,6 +81,18 @@ impl<D: DiskFile, G: Grammar> KeptLog<D, G> {
             StandsFor G.is_record G.LONGEST records (D.seen start device) →
             KeepsEither G.is_record G.LONGEST (D.may_leave start) D.moment (D.left_since start)
             records others device e.1) }
+
+        // What stands before the tail stays: a crash at any moment leaves a file that begins with
+        // it, or what a crash before the call could leave.
+        ensures stays { IfOk result (λ log. (start : List ℕ) (records : List (List ℕ)) →
+            D.explains start log.device →
+            (stands : StandsFor G.is_record G.LONGEST records (D.seen start device)) →
+            KeepsFront (D.may_leave start) D.moment (D.left_since start) stands.front device
+            log.device) }
+        ensures stays_err { IfErr result (λ e. (start : List ℕ) (records : List (List ℕ)) →
+            D.explains start e.1 →
+            (stands : StandsFor G.is_record G.LONGEST records (D.seen start device)) →
+            KeepsFront (D.may_leave start) D.moment (D.left_since start) stands.front device e.1) }
 
         // From its first sync that succeeds on, a crash leaves the records.
         ensures synced_first { IfOk result (λ log. (start : List ℕ) (records : List (List ℕ)) →
@@ -160,6 +172,13 @@ impl<D: DiskFile, G: Grammar> KeptLog<D, G> {
             Keeps (D.seen start) (D.may_leave start) G.is_record records self.old →
             LeavesOnly D.moment (D.left_since start) self.old.device self.new.device
             (WithOrWithout G.is_record G.LONGEST records bytes.now) }
+
+        // What stands before its closed gate stays: a crash at any moment leaves a file that begins
+        // with it, whatever the bytes are.
+        ensures stays { (start front : List ℕ) →
+            IsAtRest (D.seen start) (D.may_leave start) front self.old →
+            LeavesOnly D.moment (D.left_since start) self.old.device self.new.device
+            (BeginsWith front) }
 
         // It doesn't give up by itself, and goes no further after a call that failed.
         ensures faults { TellsFaults (D.faults self.old.device) (D.faults self.new.device)

@@ -3,7 +3,7 @@
 ghost use Rattle.std.specs.Prelude.{◌≡◌, ◌≢◌, ◌⊎◌, ◌+◌, ◌<◌, ◌≤◌, ◌^◌, [], ◌∷◌, ◌++◌, List, ℕ, length, take, IfOk, IfErr, IsErrOf, OnErr, OnOk};
 ghost use Rattle.nx_kept.specs.Disk.{LeavesOnly, Only, OnlyReads, TellsFaults};
 ghost use Rattle.nx_kept.specs.Kept.{closed_gate, IsDamaged, IsKeptLog, StandsFor};
-ghost use Rattle.nx_kept.specs.Open.{HasCause, SyncsFirst, SyncsFirstOrReads};
+ghost use Rattle.nx_kept.specs.Open.{HasCause, KeepsFront, SyncsFirst, SyncsFirstOrReads};
 ghost use Rattle.nx_kept.specs.Taker.{TookAll, TookOnly, TookSome};
 ghost use Rattle.nx_kept.specs.private.Scan.{IsCutThere, Settles};
 
@@ -74,6 +74,10 @@ pub(crate) fn settle<D: DiskFile, G: Grammar, T: RecordTaker>(
         StandsFor G.is_record G.LONGEST records (D.seen start device.old) → OnErr result
         (SyncsFirstOrReads G.is_record G.LONGEST (D.seen start) (D.may_leave start) D.moment
         (D.left_since start) records device.old device.new) }
+    ensures stays { (start : List ℕ) (records : List (List ℕ)) → D.explains start device.new →
+        (stands : StandsFor G.is_record G.LONGEST records (D.seen start device.old)) →
+        KeepsFront (D.may_leave start) D.moment (D.left_since start) stands.front device.old
+        device.new }
     ensures damaged { (start : List ℕ) (line : ℕ) → D.explains start device.new →
         IsErrOf result (OpenFault.Damaged line) →
         IsDamaged G.is_record G.LONGEST line (D.seen start device.old) }

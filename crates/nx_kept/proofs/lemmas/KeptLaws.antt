@@ -115,7 +115,7 @@ module _ (is_record : List ℕ → Type 0) (longest : ℕ) where
           )
     ]
 
-    not_a_tail : (gate : ℕ) (first rest : List ℕ) → gate ≢ closed_gate → 0 < length first
+    pub not_a_tail : (gate : ℕ) (first rest : List ℕ) → gate ≢ closed_gate → 0 < length first
         → IsTail longest (gate ∷ (first ++ rest)) → ⊥
     not_a_tail gate [] rest is_open long is = absurd (omega arith)
     not_a_tail gate (next ∷ more) rest is_open long is = is_open is.0

@@ -4,9 +4,10 @@ use Rattle.nx_kept.specs.Kept.{IsDamaged}
 use Rattle.nx_kept.proofs.lemmas.Calls.{file_of, sync_reads}
 use Rattle.nx_kept.proofs.lemmas.Pieces.{on_err}
 use Rattle.nx_kept.proofs.lemmas.Repairing.{read_cause, read_first, repaired}
-use Rattle.nx_kept.proofs.lemmas.Stages.{reads_both}
+use Rattle.nx_kept.proofs.lemmas.Stages.{reads_both, rests}
 use Rattle.nx_kept.proofs.lemmas.Scanning.{nothing_heard}
 use Rattle.nx_kept.proofs.lemmas.Settling.{all_of, is_kept_log, settled_closed, settled_repaired}
+use Rattle.nx_kept.proofs.lemmas.Staying.{reads_stay, repairs_stay}
 use Rattle.nx_kept.proofs.opening.settle.Goals as goal
 
 -- the file is being brought to the disk
@@ -267,3 +268,81 @@ pub returns-clause-only_read_err : goal.returns-clause-only_read_err
 returns-clause-only_read_err g c = λ start explains none.
     absurd (none (is_kept_log (c.sync.ensures.seen start)
     (c.in_ok-rest.ensures.found start (c.repair.ensures.explained start explains))))
+
+-- what stands before the tail stays
+pub returns-in_err-buffer-clause-stays : goal.returns-in_err-buffer-clause-stays
+returns-in_err-buffer-clause-stays g c = λ start records explains stands.
+    let d = g.D.DiskFile in
+    let f = file_of (d.seen start) (d.may_leave start) d.moment (d.left_since start) in
+    reads_stay f stands.front (rests f.moment f.left_since f.may_leave f.seen c.args.device.now
+    (g.met.D.DiskFile.only_now start c.args.device.now))
+
+pub returns-in_err-sync-clause-stays : goal.returns-in_err-sync-clause-stays
+returns-in_err-sync-clause-stays g c = λ start records explains stands.
+    let d = g.D.DiskFile in
+    let f = file_of (d.seen start) (d.may_leave start) d.moment (d.left_since start) in
+    let first = sync_reads f (g.met.D.DiskFile.only_now start c.args.device.now)
+    (record {
+      time = c.sync.ensures.time start;
+      crash = c.sync.ensures.crash start;
+      seen = c.sync.ensures.seen start;
+    }) in
+    reads_stay f stands.front first
+
+pub returns-in_err-rest-clause-stays : goal.returns-in_err-rest-clause-stays
+returns-in_err-rest-clause-stays g c = λ start records explains stands.
+    let d = g.D.DiskFile in
+    let f = file_of (d.seen start) (d.may_leave start) d.moment (d.left_since start) in
+    let first = sync_reads f (g.met.D.DiskFile.only_now start c.args.device.now)
+    (record {
+      time = c.sync.ensures.time start;
+      crash = c.sync.ensures.crash start;
+      seen = c.sync.ensures.seen start;
+    }) in
+    reads_stay f stands.front (reads_both f.moment f.left_since f.may_leave f.seen
+    c.args.device.now c.sync.new.self c.scan.new.device first (c.scan.ensures.only_reads start))
+
+pub returns-then-rest-clause-stays : goal.returns-then-rest-clause-stays
+returns-then-rest-clause-stays g c = λ start records explains stands.
+    let d = g.D.DiskFile in
+    let f = file_of (d.seen start) (d.may_leave start) d.moment (d.left_since start) in
+    let first = sync_reads f (g.met.D.DiskFile.only_now start c.args.device.now)
+    (record {
+      time = c.sync.ensures.time start;
+      crash = c.sync.ensures.crash start;
+      seen = c.sync.ensures.seen start;
+    }) in
+    reads_stay f stands.front (reads_both f.moment f.left_since f.may_leave f.seen
+    c.args.device.now c.sync.new.self c.scan.new.device first (c.scan.ensures.only_reads start))
+
+pub returns-in_err-repair-clause-stays : goal.returns-in_err-repair-clause-stays
+returns-in_err-repair-clause-stays g c = λ start records explains stands.
+    let d = g.D.DiskFile in
+    let f = file_of (d.seen start) (d.may_leave start) d.moment (d.left_since start) in
+    let first = sync_reads f (g.met.D.DiskFile.only_now start c.args.device.now)
+    (record {
+      time = c.sync.ensures.time start;
+      crash = c.sync.ensures.crash start;
+      seen = c.sync.ensures.seen start;
+    }) in
+    repairs_stay f g.G.Grammar.is_record g.G.Grammar.LONGEST g.met.G.Grammar.some
+    g.met.G.Grammar.one records c.in_ok-rest.rest stands first (c.in_ok-sync.ensures.durable start)
+    (c.scan.ensures.only_reads start)
+    (c.in_ok-rest.ensures.found start (c.repair.ensures.explained start explains))
+    (c.repair.ensures.any_moment start)
+
+pub returns-clause-stays : goal.returns-clause-stays
+returns-clause-stays g c = λ start records explains stands.
+    let d = g.D.DiskFile in
+    let f = file_of (d.seen start) (d.may_leave start) d.moment (d.left_since start) in
+    let first = sync_reads f (g.met.D.DiskFile.only_now start c.args.device.now)
+    (record {
+      time = c.sync.ensures.time start;
+      crash = c.sync.ensures.crash start;
+      seen = c.sync.ensures.seen start;
+    }) in
+    repairs_stay f g.G.Grammar.is_record g.G.Grammar.LONGEST g.met.G.Grammar.some
+    g.met.G.Grammar.one records c.in_ok-rest.rest stands first (c.in_ok-sync.ensures.durable start)
+    (c.scan.ensures.only_reads start)
+    (c.in_ok-rest.ensures.found start (c.repair.ensures.explained start explains))
+    (c.repair.ensures.any_moment start)
