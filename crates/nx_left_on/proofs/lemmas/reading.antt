@@ -4,4 +4,5 @@ pub mod Placed
 pub mod Quiet
 pub mod Reaches
 pub mod Rests
+pub mod Staying
 pub mod Written
