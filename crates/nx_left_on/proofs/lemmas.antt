@@ -5,3 +5,4 @@ pub mod Example
 pub mod chains
 pub mod entries
 pub mod reading
+pub mod shortened

@@ -1,8 +1,9 @@
 -- Watches on both sides of each bound in what the law of a message that stands in the log once asks
 -- for (this profile).
-use Rattle.std.specs.Prelude.{ℕ, zero, suc, ◌+◌, List, [], ◌∷◌, ◌++◌, codes, replicate}
+use Rattle.std.specs.Prelude.{ℕ, zero, suc, ◌+◌, List, [], ◌∷◌, ◌++◌, codes, replicate, false, None, Some}
 use Rattle.nx_envelope.specs.declared.found.How.TheVariants.{Full}
 use Rattle.nx_fec.specs.declared.air_files.channel.Channel.TheVariants.{Zero}
+use Rattle.nx_log.specs.declared.queries.query.Query.{Query}
 use Rattle.nx_memory.specs.Memory.{seconds_known}
 use Rattle.nx_memory.specs.declared.memories.entry.MemoryEntry.{MemoryEntry}
 use Rattle.nx_copies.specs.copies.FoundCopies.{TaggedCopy}
@@ -41,6 +42,22 @@ other_entries count = replicate count (marked Zero (heard_at first_moment eb02 F
 abbrev pub watches_between : ℕ → List Watch
 watches_between count =
     first_watch ∷ silent_watch first_moment (other_entries count) ∷ second_watch 1735706400 ∷ []
+
+-- an entry of EB02, 66 hours newer than the one entry of the worked chain
+abbrev pub newer_entry : List MarkedCopy
+newer_entry = marked Zero (heard_at 1735929600 eb02 Full []) ∷ []
+
+-- the query for all entries since a moment
+abbrev pub asks_since : ℕ → Query
+asks_since first = record {
+  stations = None;
+  subjects = None;
+  channel = None;
+  since = Some first;
+  until = None;
+  good = false;
+  last = false;
+}
 
 -- ---- one receiver
 

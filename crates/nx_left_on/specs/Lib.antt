@@ -6,3 +6,4 @@ pub mod ReadBack
 pub mod Example
 pub mod Bounds
 pub mod Written
+pub mod Shortened

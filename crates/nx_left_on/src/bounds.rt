@@ -1,15 +1,22 @@
 //! Laws of the bounds in what the law of a message that stands in the log once asks for: an example
 //! on each side of each bound. Each function does nothing; its contract is the law.
 
-ghost use Rattle.std.specs.Prelude.{[], ◌∷◌};
+ghost use Rattle.std.specs.Prelude.{◌≡◌, ℕ, [], ◌∷◌, ◌++◌, Some};
+ghost use Rattle.nx_envelope.specs.declared.found.How.TheVariants.{Full};
+ghost use Rattle.nx_fec.specs.air_files.AirFile.{moment};
 ghost use Rattle.nx_fec.specs.declared.air_files.channel.Channel.TheVariants.{One, Zero};
-ghost use Rattle.nx_promises.specs.examples.Repeats.{first_copy};
+ghost use Rattle.nx_log.specs.Logged.{remembered_on};
+ghost use Rattle.nx_log.specs.Query.{chosen};
+ghost use Rattle.nx_promises.specs.examples.Repeats.{first_copy, heard_at};
+ghost use Rattle.nx_copies.specs.copies.Printing.{printed_copies};
 ghost use Rattle.nx_copies.specs.laws.Once.{FewBetween, IsUnknownAtFirst};
 ghost use Rattle.nx_station.specs.reception.PathExample.{ea01, example_message};
-ghost use Rattle.nx_left_on.specs.Chain.{ClocksAreNear, IsChain};
+ghost use Rattle.nx_watch.specs.Watch.{moments_at, starts_at};
+ghost use Rattle.nx_left_on.specs.Chain.{ClocksAreNear, IsChain, acting_at};
 ghost use Rattle.nx_left_on.specs.Example.{first_moment, one_entry, watches_apart};
-ghost use Rattle.nx_left_on.specs.Bounds.{copies_between, entry_then, silent_watch, watch_behind, watches_between};
+ghost use Rattle.nx_left_on.specs.Bounds.{asks_since, copies_between, entry_then, newer_entry, silent_watch, watch_behind, watches_between};
 ghost use Rattle.nx_left_on.specs.LeftOn.{AreFewOver, IsHeardInTimeOver, IsUnknownOver};
+ghost use Rattle.nx_left_on.specs.Shortened.{HearsFrom, LeavesOutOld};
 
 /// The clock of a watch is near where its MOMENT lies 66 hours less a second before the newest
 /// entry of the channel, and not where it lies 66 hours before. Entries that an earlier watch of
@@ -54,4 +61,34 @@ pub fn one_receiver_has_the_same_bounds()
     ensures known { IsUnknownAtFirst (entry_then 1735454401 ∷ []) ea01 (first_copy ∷ []) → ⊥ }
     ensures few { FewBetween [] ea01 (copies_between 199) }
     ensures many { FewBetween [] ea01 (copies_between 200) → ⊥ }
+{}
+
+/// A log of one entry is shortened to none at the moment at which that is 66 hours old, and not a
+/// second before, when it still keeps its message out. MOMENT alone tells nothing: a line may say
+/// an earlier one, which has no effect behind the entry, and acts where it is left out.
+pub fn a_shortened_log_leaves_out_what_is_66_hours_old()
+    ensures old { LeavesOutOld 1735929600 one_entry [] }
+    ensures young { LeavesOutOld 1735929599 one_entry [] → ⊥ }
+    ensures kept_out { printed_copies (remembered_on Zero one_entry)
+        (heard_at 1735929599 ea01 Full [] ∷ []) ≡ [] }
+    ensures let_in { printed_copies (remembered_on Zero [])
+        (heard_at 1735929599 ea01 Full [] ∷ []) ≡ heard_at 1735929599 ea01 Full [] ∷ [] }
+    ensures heard { HearsFrom 1735929600 (moments_at 1735929600 (starts_at 1735929600 one_entry))
+        (Some (moment 1735929600) ∷ []) }
+    ensures not_heard { HearsFrom 1735929600
+        (moments_at 1735929600 (starts_at 1735929600 one_entry))
+        (Some (moment 1735929599) ∷ []) → ⊥ }
+    ensures idle { acting_at 1735929600 one_entry (Some (moment 5) ∷ []) ≡ [] }
+    ensures acts { acting_at 1735929600 [] (Some (moment 5) ∷ []) ≡ moment 5 ∷ [] }
+{}
+
+/// Where an entry that is left out stands behind one that stays, the whole log remembers the older
+/// one alone, and the shorter log the newer one.
+pub fn a_log_out_of_order_is_not_shortened_so()
+    ensures chosen { chosen (asks_since 1735929600) (newer_entry ++ one_entry) ≡ newer_entry }
+    ensures not_old { (moment : ℕ) → LeavesOutOld moment (newer_entry ++ one_entry) newer_entry → ⊥ }
+    ensures whole { (starts_at 1735929600 (newer_entry ++ one_entry)).entries Zero
+        ≡ remembered_on Zero one_entry }
+    ensures shorter { (starts_at 1735929600 newer_entry).entries Zero
+        ≡ remembered_on Zero newer_entry }
 {}

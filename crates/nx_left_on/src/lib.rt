@@ -6,4 +6,5 @@ pub mod bounds;
 pub mod laws;
 pub mod places;
 pub mod reading;
+pub mod shortening;
 pub mod writing;

@@ -49,7 +49,7 @@ entries-append channel front back =
     ap kept_entries (copies_on-append channel front back)
     ∙ kept-append (copies_on channel front) (copies_on channel back)
 
-known-is : (moment : ℕ) (log : List MarkedCopy) (channel : Channel)
+pub known-is : (moment : ℕ) (log : List MarkedCopy) (channel : Channel)
     → (saved_of (all_saved_at moment log) channel).entries
     ≡ remembered_at moment (remembered_on channel log)
 known-is moment log Zero = refl
@@ -146,7 +146,7 @@ module _ (channel : Channel) (log : List MarkedCopy) (watch : Watch) (goes : Goe
       ∙ ap (λ made. entries ++ made)
       (ap kept_entries puts-on ∙ sym (made_is_kept entries copies))
 
-  low : newest_moment (remembered_on channel log) ≤ watch.starts.moment
+  pub low : newest_moment (remembered_on channel log) ≤ watch.starts.moment
   low = subst (λ es. newest_moment es ≤ watch.starts.moment) starts-with
       (newest-start channel log watch goes)
 

@@ -48,7 +48,7 @@ open-placed bits locks (locked p t) is =
     (open_in_placed t (t + 7 * whole_words bits t) text
     (text_placed (first_role bits t) (word_of_lock bits t) t (whole_words bits t)))
 
-found-placed : (bits : List Bool) (locks : List Lock) (now : Now) → IsNow bits locks now
+pub found-placed : (bits : List Bool) (locks : List Lock) (now : Now) → IsNow bits locks now
     → All (IsCopyIn 0 (length bits)) (found_to_end bits locks now)
 found-placed bits locks now is =
     subst (All (IsCopyIn 0 (length bits))) (sym (end_adds bits locks now))

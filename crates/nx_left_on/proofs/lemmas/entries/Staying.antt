@@ -32,7 +32,7 @@ pub record Stands (entry : MemoryEntry) (count : ℕ) (entries : List MemoryEntr
 
 -- ---- the newest entry
 
-newest-append : (front behind : List MemoryEntry) (entry : MemoryEntry)
+pub newest-append : (front behind : List MemoryEntry) (entry : MemoryEntry)
     → newest_moment (front ++ entry ∷ behind) ≡ newest_moment (entry ∷ behind)
 newest-append [] behind entry = refl
 newest-append (x ∷ []) behind entry = newest_behind x entry behind
