@@ -5,6 +5,7 @@ ghost use Rattle.std.specs.Prelude.{◌≡◌, ◌↔◌, ◌+◌, ◌<◌, ◌�
 ghost use Rattle.nx_copies.specs.copies.Shares.{MarkedCopy};
 ghost use Rattle.nx_fec.specs.air_files.AirFile.{Line};
 ghost use Rattle.nx_receiver.specs.air_file_runs.Listen.{given_by};
+ghost use Rattle.nx_watch.specs.Acting.{effects};
 ghost use Rattle.nx_watch.specs.Watch.{HasRead, PrintsUntil, Stop, moments_at, starts_at};
 ghost use Rattle.nx_fec.specs.declared.air_files.channel.Channel.{Channel};
 ghost use Rattle.nx_log.specs.Logged.{remembered_on};
@@ -18,14 +19,20 @@ ghost use Rattle.nx_left_on.specs.Shortened.{AreInOrder, AsksSince, HearsFrom, L
 /// A watch over a shortened log does what it would do over the whole one. What the whole log
 /// remembers on each channel is entries that are 66 hours old at some moment, or older, and then
 /// what the shorter one remembers; and nothing is heard before that moment. Then of any lines the
-/// same act, and they print the same, however the watch stops. Of any bytes it reads the same lines
-/// until it stops so. What is heard lies behind the newest moment that the whole log remembers. So
+/// same act, so as many have no effect, and they print the same, however the watch stops. Of any
+/// bytes it reads the same lines until it stops so. What is heard lies behind the newest moment that the whole log remembers. So
 /// where the entries left out lie 66 hours or more before that one, this holds of all bytes.
 pub fn a_watch_over_a_shortened_log_does_the_same()
     ensures acts { (moment now : ℕ) (whole shorter : List MarkedCopy) (lines : List (Option Line))
         → LeavesOutOld moment whole shorter
         → HearsFrom moment (moments_at now (starts_at now whole)) lines
         → acting_at now shorter lines ≡ acting_at now whole lines }
+    ensures tells { (moment now : ℕ) (whole shorter : List MarkedCopy)
+        (lines : List (Option Line))
+        → LeavesOutOld moment whole shorter
+        → HearsFrom moment (moments_at now (starts_at now whole)) lines
+        → effects (moments_at now (starts_at now shorter)) [] lines
+        ≡ effects (moments_at now (starts_at now whole)) [] lines }
     ensures prints { (moment now : ℕ) (whole shorter : List MarkedCopy)
         (lines : List (Option Line)) (stop : Stop) (copies : List MarkedCopy)
         → LeavesOutOld moment whole shorter

@@ -1,12 +1,10 @@
 -- What stands before the closed gate of a log stays.
-use Rattle.std.proofs.Common.{◌≡◌, ◌⊎◌, inl, inr, ⊎_elim, ℕ, ◌+◌, ◌<◌, ◌≤◌, List, [], ◌∷◌, ◌++◌, length, take, drop, refl, sym, ◌∙◌, ap, ap₂, subst, arith, append_assoc, length-append, take-append-drop}
+use Rattle.std.proofs.Common.{◌≡◌, ◌⊎◌, inr, ℕ, ◌<◌, ◌≤◌, List, [], ◌∷◌, ◌++◌, length, take, drop, refl, sym, ◌∙◌, ap, ap₂, subst, arith, append_assoc, length-append, take-append-drop}
 use Rattle.std.proofs.lemmas.List.{take-take, take_at}
 use Rattle.nx_kept.specs.Disk.{LeavesOnly, Only, Torn}
 use Rattle.nx_kept.specs.Kept.{BeginsWith, IsBehindOpenGates, IsTail, StandsFor}
-use Rattle.nx_kept.specs.Log.{IsAtRest}
 use Rattle.nx_kept.specs.Open.{KeepsFront}
 use Rattle.nx_kept.specs.private.Scan.{Ends, IsCutThere}
-use Rattle.nx_kept.specs.declared.log.KeptLog.{KeptLog}
 use Rattle.nx_kept.specs.declared.scan.Rest.{Rest}
 use Rattle.nx_kept.proofs.lemmas.Calls.{File, IsOnlyNow, Leaves, Reads, Writes, begun, reads_leave, wrote}
 use Rattle.nx_kept.proofs.lemmas.KeptLaws.{not_a_tail, same_record}

@@ -1,7 +1,6 @@
 -- The places of entries stay.
 use Rattle.std.proofs.Common.{◌≡◌, ℕ, ◌+◌, ◌-◌, List, [], ◌∷◌, ◌++◌, length, drop, Some, ap, ap₂, sym, ◌∙◌, refl, subst, arith, append_assoc}
 use Rattle.std.specs.Prelude.{map, Option}
-use Rattle.std.proofs.lemmas.List.{map-append, append_cancel_left}
 use Rattle.nx_copies.specs.copies.Log.{IsEntry}
 use Rattle.nx_copies.specs.copies.Shares.{MarkedCopy}
 use Rattle.nx_copies.proofs.lemmas.printing.Log as printed

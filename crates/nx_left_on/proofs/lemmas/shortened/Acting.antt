@@ -14,7 +14,7 @@ use Rattle.nx_memory.specs.Selection.{is_vital}
 use Rattle.nx_copies.specs.Events as fed
 use Rattle.nx_copies.specs.Events.{Event, at_moment, command, element}
 use Rattle.nx_receiver.specs.air_file_runs.Listen.{events_on}
-use Rattle.nx_watch.specs.Acting.{acting_behind, acting_lines, acts, given, in_force, moment_said}
+use Rattle.nx_watch.specs.Acting.{acting_behind, acting_lines, acts, in_force, moment_said}
 use Rattle.nx_watch.specs.Acting.{moments_behind, moments_said, with_start}
 use Rattle.nx_watch.specs.declared.lines.line_effects.StartMoments.{StartMoments}
 
@@ -89,7 +89,7 @@ module _ (now one other floor : ℕ) (less : other ≤ one) (below : one < floor
       let same : max other n ≡ max one n = omega arith in
       ap (λ (m : ℕ). in_force m moments) same
 
-  acts-same : (n : ℕ) (moments : List ℕ) (line : Option Line) → floor ≤ n
+  pub acts-same : (n : ℕ) (moments : List ℕ) (line : Option Line) → floor ≤ n
       → acts other (n ∷ moments) line ≡ acts one (n ∷ moments) line
   acts-same n moments None late = refl
   acts-same n moments (Some (moment m)) late =

@@ -1,12 +1,12 @@
 -- What is in force at each element of events that begin late.
-use Rattle.std.proofs.Common.{◌≡◌, ℕ, ◌<◌, ◌≤◌, Bool, List, [], ◌∷◌, ◌++◌, length, get_or, take}
+use Rattle.std.proofs.Common.{◌≡◌, ℕ, ◌<◌, ◌≤◌, List, [], ◌∷◌, ◌++◌, length, get_or, take}
 use Rattle.std.proofs.Common.{refl, sym, ap, ap₂, ◌∙◌, subst, arith}
 use Rattle.std.specs.List.{All}
 use Rattle.std.proofs.Math.Seq.{take-append_seam}
 use Rattle.std.proofs.lemmas.List.{get_or_default}
 use Rattle.std.proofs.lemmas.List.Elements.{All-cons, All-head, All-nil, All-tail}
 use Rattle.nx_memory.specs.Selection.{Refused}
-use Rattle.nx_copies.specs.Events.{Event, Setting, at_moment, command, element, elements_among}
+use Rattle.nx_copies.specs.Events.{Event, Setting, at_moment, command, element}
 use Rattle.nx_copies.specs.Events.{refused_after, setting_after, setting_after_all, setting_at, settings}
 use Rattle.nx_copies.specs.copies.FoundCopies.{FoundCopy, TaggedCopy, tag, tagged_copies}
 use Rattle.nx_copies.proofs.lemmas.printing.Logged.{length-settings, settings-append}

@@ -1,7 +1,7 @@
 -- Old entries make nothing known.
-use Rattle.std.proofs.Common.{◌≡◌, inl, inr, ℕ, ◌+◌, ◌-◌, ◌<◌, ◌≤◌, Bool, false, not, ◌&&◌, ◌||◌, cond, nat_lt, List, []}
+use Rattle.std.proofs.Common.{◌≡◌, inl, inr, ℕ, ◌+◌, ◌-◌, ◌≤◌, false, not, ◌&&◌, ◌||◌, cond, nat_lt, List, []}
 use Rattle.std.proofs.Common.{◌∷◌, ◌++◌, length, drop, refl, sym, ap, ap₂, ◌∙◌, arith, append_assoc}
-use Rattle.std.specs.List.{All, list_any}
+use Rattle.std.specs.List.{All}
 use Rattle.std.proofs.Math.Seq.{drop-append-add}
 use Rattle.std.proofs.lemmas.Bool.{and_right, cases_lt, le-ltb}
 use Rattle.std.proofs.lemmas.List.{drop-append-le, length-append}
@@ -14,7 +14,7 @@ use Rattle.nx_memory.specs.Memory.{is_known, is_recent, most_entries, seconds_kn
 use Rattle.nx_memory.specs.declared.memories.entry.MemoryEntry.{MemoryEntry}
 use Rattle.nx_copies.specs.copies.FoundCopies.{TaggedCopy}
 use Rattle.nx_copies.specs.copies.Printing.{entry_made, entry_of, if_printed, is_entered, is_good}
-use Rattle.nx_copies.specs.copies.Printing.{is_number_00, is_printed, is_remembered, printed_copies}
+use Rattle.nx_copies.specs.copies.Printing.{is_number_00, is_printed, printed_copies}
 use Rattle.nx_left_on.specs.Shortened.{IsOldAt}
 use Rattle.nx_left_on.proofs.lemmas.shortened.Starting.{AreBehindOld}
 

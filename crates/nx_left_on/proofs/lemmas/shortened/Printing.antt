@@ -1,15 +1,12 @@
 -- A watch over a log that was shortened prints what it would print over the whole one.
-use Rattle.std.proofs.Common.{◌≡◌, ◌⊎◌, inl, inr, ℕ, ◌+◌, ◌<◌, ◌≤◌, Bool, List, [], ◌∷◌, ◌++◌, length, take}
+use Rattle.std.proofs.Common.{◌≡◌, inl, inr, ℕ, ◌<◌, ◌≤◌, Bool, List, [], ◌++◌, length, take}
 use Rattle.std.proofs.Common.{Option, refl, sym, ap, ap₂, ◌∙◌, subst, arith, append-nil}
 use Rattle.std.specs.Prelude.{◌↔◌}
 use Rattle.std.specs.List.{All}
 use Rattle.std.proofs.lemmas.Bool.{cases_lt}
 use Rattle.std.proofs.lemmas.List.Elements.{All-weaker}
-use Rattle.nx_envelope.specs.Moment.{last_moment}
 use Rattle.nx_fec.specs.air_files.AirFile.{Line}
 use Rattle.nx_fec.specs.declared.air_files.channel.Channel.{Channel}
-use Rattle.nx_memory.specs.Memory.{seconds_known}
-use Rattle.nx_memory.specs.declared.memories.entry.MemoryEntry.{MemoryEntry}
 use Rattle.nx_copies.specs.Events.{Event, Setting, Start, elements_among, first_setting, settings}
 use Rattle.nx_copies.specs.copies.FoundCopies.{FoundCopy, TaggedCopy, ended_so_far, found_to_end}
 use Rattle.nx_copies.specs.copies.FoundCopies.{tagged_copies}
@@ -25,7 +22,6 @@ use Rattle.nx_sync.specs.Locks.{IsNow, Lock, Now}
 use Rattle.nx_watch.specs.Acting.{acting_lines}
 use Rattle.nx_watch.specs.Watch.{PrintsUntil, Stop, at_end, back, moments_at, starts_at, unread}
 use Rattle.nx_watch.specs.Watch.{unwritten}
-use Rattle.nx_watch.specs.declared.lines.line_effects.StartMoments.{StartMoments}
 use Rattle.nx_left_on.specs.Chain.{acting_at}
 use Rattle.nx_left_on.specs.Shortened.{HearsFrom, LeavesOutOld}
 use Rattle.nx_left_on.proofs.lemmas.Acting.{acting-act}

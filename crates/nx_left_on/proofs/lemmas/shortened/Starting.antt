@@ -1,5 +1,5 @@
 -- With what a watch starts over a log that was shortened.
-use Rattle.std.proofs.Common.{◌≡◌, ◌⊎◌, inl, inr, ℕ, ◌+◌, ◌-◌, ◌<◌, ◌≤◌, max, Bool, true, false, cond, List, []}
+use Rattle.std.proofs.Common.{◌≡◌, ◌⊎◌, inl, inr, ℕ, ◌+◌, ◌≤◌, max, Bool, true, false, cond, List, []}
 use Rattle.std.proofs.Common.{◌∷◌, ◌++◌, refl, sym, ap, ap₂, ◌∙◌, subst, arith, append_assoc}
 use Rattle.std.specs.Prelude.{Option, Some, None, filter, unwrap_or}
 use Rattle.std.specs.List.{All}
@@ -13,7 +13,7 @@ use Rattle.nx_memory.specs.Memory.{newest_moment, newest_of, seconds_known}
 use Rattle.nx_memory.specs.Saved.{SavedStates, later_of, newest_of_all}
 use Rattle.nx_memory.specs.declared.memories.entry.MemoryEntry.{MemoryEntry}
 use Rattle.nx_memory.proofs.lemmas.Content.{newest_behind}
-use Rattle.nx_copies.specs.copies.Shares.{MarkedCopy, saved_of}
+use Rattle.nx_copies.specs.copies.Shares.{MarkedCopy}
 use Rattle.nx_watch.specs.Start.{is_in_order, is_last_known, is_near, passing, remembered_at}
 use Rattle.nx_watch.specs.Watch.{all_saved_at, starts_at}
 use Rattle.nx_left_on.specs.Shortened.{IsOldAt, LeavesOutOld}

@@ -1,25 +1,28 @@
 -- Where a watch over a log that was shortened stops.
 use Rattle.std.proofs.Common.{◌≡◌, inl, inr, ℕ, suc, ◌+◌, ◌-◌, ◌<◌, ◌≤◌, ◌&&◌, nat_le, nat_lt, max, Bool, true, false, not, cond, List, [], ◌∷◌}
-use Rattle.std.proofs.Common.{◌++◌, length, Option, Some, None, get_or, take, refl, sym, ap, ap₂, ◌∙◌, subst, arith, append-nil}
+use Rattle.std.proofs.Common.{◌++◌, length, Option, Some, None, get_or, take, refl, sym, ap, ap₂, ◌∙◌, subst, arith, append-nil, append_assoc}
 use Rattle.std.specs.Prelude.{◌↔◌}
-use Rattle.std.proofs.lemmas.Bool.{and_right, cases_lt, lt-leb, true≢false}
+use Rattle.std.proofs.lemmas.Bool.{and_right, cases_lt, le-leb, lt-leb, true≢false}
 use Rattle.std.proofs.lemmas.List.Elements.{All-cons, All-nil}
 use Rattle.nx_envelope.specs.Moment.{last_moment}
 use Rattle.nx_fec.specs.air_files.AirFile.{Line, accept_station, accept_subject, elements, moment}
 use Rattle.nx_fec.specs.air_files.AirFile.{refuse_station, refuse_subject}
 use Rattle.nx_memory.specs.Memory.{seconds_known}
 use Rattle.nx_copies.specs.copies.Shares.{MarkedCopy}
-use Rattle.nx_watch.specs.Acting.{ends_watch, goes_on, goes_on_behind, in_force, is_far_back}
+use Rattle.nx_watch.specs.Acting.{acts, effects, ends_watch, goes_on, goes_on_behind, in_force, is_far_back}
 use Rattle.nx_watch.specs.Acting.{moment_said, moments_behind, moments_said, went_far_back, with_start}
 use Rattle.nx_watch.specs.AnyLines.{cut_line}
 use Rattle.nx_watch.specs.LineRun.{StopsBehind}
 use Rattle.nx_watch.specs.Watch.{HasRead, Stop, at_end, back, moments_at, starts_at, unread, unwritten}
 use Rattle.nx_watch.specs.declared.lines.line_effects.StartMoments.{StartMoments}
 use Rattle.nx_left_on.specs.Shortened.{HearsFrom, LeavesOutOld}
-use Rattle.nx_left_on.proofs.lemmas.shortened.Acting.{AreLate, first, force-same, in-range, late-head}
-use Rattle.nx_left_on.proofs.lemmas.shortened.Acting.{said-first, second, starts-same, unsaid-first}
+use Rattle.nx_left_on.proofs.lemmas.shortened.Acting.{AreLate, acts-same, first, force-same, in-range}
+use Rattle.nx_left_on.proofs.lemmas.shortened.Acting.{late-head, said-first, second, starts-same, unsaid-first}
 use Rattle.nx_left_on.proofs.lemmas.shortened.Printing.{newest-stays, no-later}
 use Rattle.nx_left_on.proofs.lemmas.shortened.Starting.{moments-agree}
+
+some-said : (n : ℕ) (moments : List ℕ) → n ∷ moments ≡ [] → ⊥
+some-said n moments e = cc
 
 -- ---- two starts that stop alike
 
@@ -264,6 +267,82 @@ module _ (now one other floor : ℕ) (less : other ≤ one) (below : one < floor
               ∙ force-too (moments_behind ours before) line so_far ends;
         }
 
+    -- behind lines that say no moment, the first one is said by those behind them
+    none-before : (before rest : List (Option Line)) → moments_behind ours before ≡ []
+        → moments_behind ours (before ++ rest) ≡ moments_behind ours rest
+    none-before [] rest none = refl
+    none-before (None ∷ before) rest none = none-before before rest none
+    none-before (Some (moment n) ∷ before) rest none =
+        elim (nat_le n last_moment) as (λ b. nat_le n last_moment ≡ b
+        → moments_said (Some (moment n) ∷ cond b before (with_start ours before)) ≡ []
+        → moments_said (Some (moment n)
+        ∷ cond b (before ++ rest) (with_start ours (before ++ rest))) ≡ moments_behind ours rest) [
+          | true ↦ λ is none.
+              absurd (some-said n (moments_said before)
+              (sym (said-first n before (in-range n is)) ∙ none))
+          | false ↦ λ is none.
+              unsaid-first n (with_start ours (before ++ rest)) is
+              ∙ none-before before rest
+              (sym (unsaid-first n (with_start ours before) is) ∙ none)
+        ] refl none
+    none-before (Some (elements mark bits) ∷ before) rest none =
+        let behind = Some (elements mark bits) ∷ before in
+        absurd (some-said (max one now) (moments_said behind)
+        (sym (said-first (max one now) behind high) ∙ none))
+    none-before (Some (refuse_station mark letter) ∷ before) rest none =
+        none-before before rest none
+    none-before (Some (accept_station mark letter) ∷ before) rest none =
+        none-before before rest none
+    none-before (Some (refuse_subject mark letter) ∷ before) rest none =
+        none-before before rest none
+    none-before (Some (accept_subject mark letter) ∷ before) rest none =
+        none-before before rest none
+
+    -- behind none a line acts on both or on neither
+    acts-first : (line : Option Line) (rest : List (Option Line))
+        → AreLate floor (moments_behind ours (line ∷ rest))
+        → acts other [] line ≡ acts one [] line
+    acts-first None rest late = refl
+    acts-first (Some (moment n)) rest late =
+        elim (nat_le n last_moment) as (λ b. nat_le n last_moment ≡ b
+        → AreLate floor (moments_said (Some (moment n) ∷ cond b rest (with_start ours rest)))
+        → (b && nat_le other n) ≡ (b && nat_le one n)) [
+          | true ↦ λ is late.
+              let here = late-head floor n (moments_said rest)
+              (subst (AreLate floor) (said-first n rest (in-range n is)) late) in
+              le-leb other n (omega arith) ∙ sym (le-leb one n (omega arith))
+          | false ↦ λ is late. refl
+        ] refl late
+    acts-first (Some (elements mark bits)) rest late = refl
+    acts-first (Some (refuse_station mark letter)) rest late = refl
+    acts-first (Some (accept_station mark letter)) rest late = refl
+    acts-first (Some (refuse_subject mark letter)) rest late = refl
+    acts-first (Some (accept_subject mark letter)) rest late = refl
+
+    acts-behind : (before rest : List (Option Line)) (line : Option Line) (moments : List ℕ)
+        → moments_behind ours before ≡ moments
+        → AreLate floor (moments_behind ours (before ++ line ∷ rest))
+        → acts other moments line ≡ acts one moments line
+    acts-behind before rest line [] is late =
+        acts-first line rest (subst (AreLate floor) (none-before before (line ∷ rest) is) late)
+    acts-behind before rest line (n ∷ moments) is late =
+        let so_far = subst (AreLate floor) is (late-front before (line ∷ rest) late) in
+        acts-same now one other floor less below n moments line (late-head floor n moments so_far)
+
+    pub effects-same : (before lines : List (Option Line))
+        → AreLate floor (moments_behind ours (before ++ lines))
+        → effects theirs before lines ≡ effects ours before lines
+    effects-same before [] late = refl
+    effects-same before (line ∷ lines) late =
+        let moments = moments_behind ours before in
+        let next = before ++ line ∷ [] in
+        ap₂ (λ b bs. b ∷ bs)
+        (ap (λ ms. acts other ms line) (moments-same before (late-front before (line ∷ lines) late))
+        ∙ acts-behind before lines line moments refl late)
+        (effects-same next lines
+        (subst (λ l. AreLate floor (moments_behind ours l))
+        (sym (append_assoc before (line ∷ []) lines)) late))
+
 -- ---- a watch over a shortened log
 
 module _ (floor now : ℕ) (whole shorter : List MarkedCopy) (lines : List (Option Line))
@@ -299,3 +378,19 @@ module _ (floor now : ℕ) (whole shorter : List MarkedCopy) (lines : List (Opti
     reads-too AtEnd at_shorter at_whole stop bytes lines
         (alike-back at_whole at_shorter lines both),
   )
+
+  pub tells : effects at_shorter [] lines ≡ effects at_whole [] lines
+  tells = elim (cases_lt (starts_at now whole).moment floor) [
+    | inl below ↦ of below hears
+    | inr near ↦
+        ap (λ (m : ℕ). effects (record { newest = m; started = now }) [] lines)
+        (newest-stays floor now whole shorter lines left hears near)
+  ]
+    where
+      of : (starts_at now whole).moment < floor → HearsFrom floor at_whole lines
+          → effects at_shorter [] lines ≡ effects at_whole [] lines
+      of below (inl near) = absurd (omega (arith, below, near))
+      of below (inr late) =
+          effects-same now (starts_at now whole).moment (starts_at now shorter).moment floor
+          (no-later floor now whole shorter lines left hears
+          (moments-agree floor now whole shorter left)) below late.0 [] lines late.1

@@ -6,6 +6,8 @@ pub returns : goal.returns
 returns c = record {
   acts = λ moment now whole shorter lines left hears.
       printing.acts moment now whole shorter lines left hears;
+  tells = λ moment now whole shorter lines left hears.
+      stopping.tells moment now whole shorter lines left hears;
   prints = λ moment now whole shorter lines stop copies left hears.
       printing.prints moment now whole shorter lines left hears stop copies;
   reads = λ moment now whole shorter stop bytes lines left hears.
