@@ -7,6 +7,7 @@ A kept log is a gate, an entry, a gate, an entry, and so on, a gate, each gate o
   that was closed must not land there. It is locked before any other call.
 - Before its first read what it holds is brought to the disk (synced), and so is its folder, where
   the file was made.
+- Where it is empty, its first gate is written, a space; a sync.
 - Where it isn't at rest, it is cut at the gate behind its last entry; a sync; the gate is written
   closed, a space; a sync. Where it is at rest, nothing is written.
 - An entry is put by writing it and a closed gate behind the last gate; a sync; then that gate is
@@ -135,7 +136,9 @@ class Held:
         # what a read finds
         self.seen = bytearray(start or b"")
         self.is_made, self.is_opened = start is None, False
-        self.is_locked = self.is_synced = self.folder_is_synced = False
+        self.is_locked = self.folder_is_synced = False
+        # what is empty has nothing that has to be brought to the disk
+        self.is_synced = not start
         self.waiting, self.stages = [], []
         # the bytes of the feed that had come before the last read, and those that have come
         self.before, self.come = 0, 0
@@ -212,6 +215,8 @@ def stages_due(start, entries):
     begin = settled(start or b"")
     gate = len(begin) - 1
     due = [] if begin == start else [[gate], bytes_at(gate, b" ")]
+    if not start:
+        due = [bytes_at(gate, b" ")]
     opening = len(due)
     for it in entries:
         whole = bytes_of(it)

@@ -36,7 +36,7 @@ pub enum FileOpenFault {
     /// It is a link that leads to no file.
     #[error("the file is a link that leads nowhere")]
     DeadLink,
-    /// Its name is that of a folder: it ends in `/`.
+    /// Its name is that of a folder: it leads to one, or ends in `/`.
     #[error("the name of the file is that of a folder")]
     FolderName,
     /// Its name, or that of a folder that it leads through, is longer than the disk takes.
@@ -48,7 +48,7 @@ pub enum FileOpenFault {
     /// The disk can't be written to.
     #[error("the disk can only be read")]
     OnlyRead,
-    /// It is a folder, a pipe, a device, or another thing that is no regular file.
+    /// It is a pipe, a device, or another thing that is no folder and no regular file.
     #[error("the file is no regular file")]
     NotRegular,
     /// The disk gives no lock.
@@ -57,6 +57,9 @@ pub enum FileOpenFault {
     /// Its name led to another file, or to none, as soon as it was locked.
     #[error("the file was moved while it was opened")]
     Moved,
+    /// The system gives no leave to read its folder, so that it can't be brought to the disk.
+    #[error("there is no leave to read the folder of the file")]
+    FolderUnread,
     /// Its folder can't be brought to the disk, so a crash might lose the file.
     #[error("the folder of the file can't be brought to the disk")]
     FolderUnsynced,

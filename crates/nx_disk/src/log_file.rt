@@ -27,10 +27,14 @@ pub struct LogFile<'a, R> {
     inode: u64,
 }
 
+/// The closed gate with which an empty log begins.
+const FIRST_GATE: u8 = b' ';
+
 /// Opens the regular file of that name, or makes it, and locks it. Its folder is brought to the
-/// disk, so that a crash doesn't lose a file that was made. Its own bytes are brought to the disk
-/// by the first call of a `KeptLog`. A link at the name is followed. No call of it was made then,
-/// and a crash may leave what it holds, or one of the files of `left`.
+/// disk, so that a crash doesn't lose a file that was made. An empty file is given its first gate,
+/// so that a disk without room for one byte is told. Its other bytes are brought to the disk by the
+/// first call of a `KeptLog`. A link at the name is followed. No call of it was made then, and a
+/// crash may leave what it holds, or one of the files of `left`.
 pub fn open<'a, R: Files<File = File>>(
     alloc: Global,
     files: &'a R,
@@ -66,8 +70,12 @@ pub fn open<'a, R: Files<File = File>>(
         return Err(FileFault::Open(FileOpenFault::Moved));
     }
     // Is the folder brought to the disk before a byte is written?
-    if sync_folder(files, log.path.as_str()).is_err() {
-        return Err(FileFault::Open(FileOpenFault::FolderUnsynced));
+    sync_folder(files, log.path.as_str())?;
+    // Is the file still empty, now that nobody else may write it? Is the gate brought to the disk,
+    // and a fault told?
+    if log.file.metadata()?.len() == 0 {
+        log.file.write_all_at(&[FIRST_GATE], 0)?;
+        log.file.sync_all()?;
     }
     Ok(Noted::new(log, left))
 }
@@ -76,6 +84,8 @@ fn open_or_make<R: Files<File = File>>(files: &R, path: &str) -> Result<File, Fi
     if let Some(file) = open_there(files, path)? {
         return Ok(file);
     }
+    // Is no file made in a folder that can't be read, and so can't be brought to the disk?
+    open_folder(files, path)?;
     // Is one made only where there is none, also if another is made meanwhile?
     match OpenOptions::new()
         .read(true)
@@ -96,7 +106,8 @@ fn open_or_make<R: Files<File = File>>(files: &R, path: &str) -> Result<File, Fi
 fn open_there<R: Files<File = File>>(files: &R, path: &str) -> Result<Option<File>, FileFault> {
     match fs::metadata(files, path) {
         // Is nothing but a regular file opened? (To open a pipe or a device may do something, or
-        // wait.)
+        // wait.) Is a folder told as one?
+        Ok(found) if found.is_dir() => Err(FileFault::Open(FileOpenFault::FolderName)),
         Ok(found) if !found.is_file() => Err(FileFault::Open(FileOpenFault::NotRegular)),
         // Is a file that is there opened to read and to write, and nothing of it cut?
         Ok(_) => Ok(Some(OpenOptions::new().read(true).write(true).open(files, path)?)),
@@ -106,14 +117,28 @@ fn open_there<R: Files<File = File>>(files: &R, path: &str) -> Result<Option<Fil
     }
 }
 
-fn sync_folder<R: Files<File = File>>(files: &R, path: &str) -> io::Result<()> {
+fn open_folder<R: Files<File = File>>(files: &R, path: &str) -> Result<File, FileFault> {
     // Is it the folder in which the name stands, also where the name has no folder?
     let folder = match Path::new(path).parent() {
         Some(folder) if !folder.as_str().is_empty() => folder,
         _ => Path::new("."),
     };
+    // Is want of leave for the folder told apart from that for the file?
+    match File::open(files, folder) {
+        Ok(folder) => Ok(folder),
+        Err(error) if error.kind() == io::ErrorKind::PermissionDenied => {
+            Err(FileFault::Open(FileOpenFault::FolderUnread))
+        }
+        Err(error) => Err(FileFault::from(error)),
+    }
+}
+
+fn sync_folder<R: Files<File = File>>(files: &R, path: &str) -> Result<(), FileFault> {
     // Is that folder brought to the disk, and a fault told?
-    File::open(files, folder)?.sync_all()
+    match open_folder(files, path)?.sync_all() {
+        Ok(()) => Ok(()),
+        Err(_) => Err(FileFault::Open(FileOpenFault::FolderUnsynced)),
+    }
 }
 
 impl<R: Files> LogFile<'_, R> {
