@@ -2,7 +2,7 @@
 -- fault (this profile). It reads the file as a run that listens does, with the same faults, which
 -- are those of all channels.
 use Rattle.std.specs.Prelude.{◌≡◌, ◌⊎◌, ℕ, ◌+◌, Bool, List, length, map}
-use Rattle.std.specs.Prelude.{Result, Ok, Err, ⊤}
+use Rattle.std.specs.Prelude.{Result, Ok, Err}
 use Rattle.std.specs.Io.KnownBytes.{Appends}
 use Rattle.nx_fec.specs.air_files.AirFile.{Line}
 use Rattle.nx_fec.specs.air_files.LineRuns.{HasReadFault}
@@ -67,14 +67,14 @@ pub record HasShownAll (contents : Contents) (file : List ℕ) (answer : LocksRe
       ≡ past_headers (elements_on_0 lines) report.report.locks
       + now_headers (elements_on_0 lines) report.report.now
 
--- What a fault of a run that shows locks says of bytes of this extent. Want of memory says nothing.
--- After a failed write the first bytes of a report are written: of some of the whole lines, from
--- the first on, or of the whole file, if it had ended. Before each other fault the report so far of
--- the whole lines before it was written. A failed read comes behind those lines and the beginning
--- of one more, and leaves what follows. Any further fault is the first of the file; `LineCut` comes
--- only where the bytes are all.
+-- What a fault of a run that shows locks says of bytes of this extent. It takes no memory, so want
+-- of memory never comes. After a failed write the first bytes of a report are written: of some of
+-- the whole lines, from the first on, or of the whole file, if it had ended. Before each other
+-- fault the report so far of the whole lines before it was written. A failed read comes behind
+-- those lines and the beginning of one more, and leaves what follows. Any further fault is the
+-- first of the file; `LineCut` comes only where the bytes are all.
 abbrev pub ExplainsShowing : Extent → Contents → List ℕ → ListenFault → Type 0
-ExplainsShowing extent contents bytes (Memory error) = ⊤
+ExplainsShowing extent contents bytes (Memory error) = ⊥
 ExplainsShowing extent contents bytes Read = HasReadFault extent (HasShown contents) bytes
 ExplainsShowing extent contents bytes (Write written) =
     StopsAt bytes (λ lines rest more.

@@ -1,15 +1,13 @@
 //! Showing the locks of an air file on channel 0: their report, written while the file is read.
 
-ghost use Rattle.std.specs.Prelude.{◌≡◌, Err};
+ghost use Rattle.std.specs.Prelude.{◌≡◌};
 ghost use Rattle.nx_fec.specs.Transfers.{devices};
 ghost use Rattle.nx_locks.specs.Run.{ShowsLocks};
 ghost use Rattle.nx_locks.specs.private.Reporting.{air_fault};
-ghost use Rattle.nx_receiver.specs.declared.air_file_runs.listen_fault.ListenFault.TheVariants.{Memory};
 
 use crate::report_writer::ReportWriter;
 use nx_fec::{AIR_LIMIT, AirFault, Batch, Counting, LineReader, LinesFault, NextLine, write_on};
 use nx_receiver::ListenFault;
-use std::alloc::{AllocError, Global};
 use std::io::{Read, Write};
 
 /// What a run that showed the locks of an air file read and counted.
@@ -36,18 +34,15 @@ pub struct LocksReport {
 /// that has it has no effect. After a fault of a line, `AirTooLong` and `Read`, what the whole
 /// lines before it show is written, and an open lock isn't closed. After `Write` the first
 /// `written` bytes of the report of the lines read whole by then are written, closed if the file
-/// had ended. After `Memory` nothing was read.
+/// had ended.
 pub fn locks<R: Read, W: Write>(
-    _alloc: Global,
     reader: &mut Counting<R>,
     writer: &mut Counting<W>,
 ) -> Result<LocksReport, ListenFault>
     requires reader { reader.old.failures ≡ 0 }
     requires writer { writer.old.failures ≡ 0 }
-    ensures shows { ShowsLocks
+    ensures { ShowsLocks
         (devices R.remaining W.contents reader.old reader.new writer.old writer.new) result }
-    ensures memory { (error : AllocError) → result ≡ Err (Memory error)
-        → (reader.new ≡ reader.old) × (writer.new ≡ writer.old) }
 {
     let mut report_writer = ReportWriter::new();
     let mut lines = LineReader::new(reader, AIR_LIMIT);

@@ -42,8 +42,8 @@ loop-kind-preserved-in-Continue-branch-2 g c =
           absurd (cc);
     }
 
-pub returns-in_err-give-in-Ok-Line-clause-shows : goal.returns-in_err-give-in-Ok-Line-clause-shows
-returns-in_err-give-in-Ok-Line-clause-shows g c =
+pub returns-in_err-give-in-Ok-Line : goal.returns-in_err-give-in-Ok-Line
+returns-in_err-give-in-Ok-Line g c =
     let r = c.loop-kind.invariant.shows in
     let next = c.in-Ok-Line.ensures in
     let is : c.in-Ok-Line.field-0 ≡ line.Line c.in-Ok-Line.kind = search rules in
@@ -63,8 +63,8 @@ returns-in_err-give-in-Ok-Line-clause-shows g c =
       lost.ensures.bytes _ r.2.given r.2.waits,
     ) (lost.ensures.counts.failed.0 refl)))
 
-pub returns-in_err-send-in-Ok-Line-clause-shows : goal.returns-in_err-send-in-Ok-Line-clause-shows
-returns-in_err-send-in-Ok-Line-clause-shows g c =
+pub returns-in_err-send-in-Ok-Line : goal.returns-in_err-send-in-Ok-Line
+returns-in_err-send-in-Ok-Line g c =
     let r = c.loop-kind.invariant.shows in
     let next = c.in-Ok-Line.ensures in
     let is : c.in-Ok-Line.field-0 ≡ line.Line c.in-Ok-Line.kind = search rules in
@@ -81,8 +81,8 @@ returns-in_err-send-in-Ok-Line-clause-shows g c =
       lost.ensures.bytes _ r.2.given r.2.waits,
     ) (lost.ensures.counts.failed.0 refl)))
 
-pub returns-in-Err-take-clause-shows : goal.returns-in-Err-take-clause-shows
-returns-in-Err-take-clause-shows g c =
+pub returns-in-Err-take : goal.returns-in-Err-take
+returns-in-Err-take g c =
     let r = c.loop-kind.invariant.shows in
     let next = c.in-Ok-Line.ensures in
     let is : c.in-Ok-Line.field-0 ≡ line.Line c.in-Ok-Line.kind = search rules in
@@ -126,9 +126,9 @@ loop-kind-preserved g c =
       sent = λ over. sent.empty;
     }
 
-pub returns-in_err-send-in-Ok-PieceOver-clause-shows :
-    goal.returns-in_err-send-in-Ok-PieceOver-clause-shows
-returns-in_err-send-in-Ok-PieceOver-clause-shows g c =
+pub returns-in_err-send-in-Ok-PieceOver :
+    goal.returns-in_err-send-in-Ok-PieceOver
+returns-in_err-send-in-Ok-PieceOver g c =
     let r = c.loop-kind.invariant.shows in
     let next = c.in-Ok-PieceOver.ensures in
     let is : c.in-Ok-PieceOver.field-0 ≡ line.PieceOver = search rules in
@@ -144,9 +144,9 @@ returns-in_err-send-in-Ok-PieceOver-clause-shows g c =
       lost.ensures.bytes _ r.2.given r.2.waits,
     ) (lost.ensures.counts.failed.0 refl)))
 
-pub returns-in_err-write_on-in-Ok-End-clause-shows :
-    goal.returns-in_err-write_on-in-Ok-End-clause-shows
-returns-in_err-write_on-in-Ok-End-clause-shows g c =
+pub returns-in_err-write_on-in-Ok-End :
+    goal.returns-in_err-write_on-in-Ok-End
+returns-in_err-write_on-in-Ok-End g c =
     let r = c.loop-kind.invariant.shows in
     let next = c.in-Ok-End.ensures in
     let is : c.in-Ok-End.field-0 ≡ line.End = search rules in
@@ -164,8 +164,8 @@ returns-in_err-write_on-in-Ok-End-clause-shows g c =
     (lost.ensures.bytes _ r.2.given (HasGiven-written _ _ c.loop-kind.batch r.2.given
     c.bytes_sent.result over c.bytes_sent.ensures r.2.waits)) (lost.ensures.counts.failed.0 refl)))
 
-pub returns-in-Ok-End-clause-shows : goal.returns-in-Ok-End-clause-shows
-returns-in-Ok-End-clause-shows g c =
+pub returns-in-Ok-End : goal.returns-in-Ok-End
+returns-in-Ok-End g c =
     let r = c.loop-kind.invariant.shows in
     let next = c.in-Ok-End.ensures in
     let is : c.in-Ok-End.field-0 ≡ line.End = search rules in
@@ -182,8 +182,8 @@ returns-in-Ok-End-clause-shows g c =
     (sent.bytes _ r.2.given (HasGiven-written _ _ c.loop-kind.batch r.2.given c.bytes_sent.result
     over c.bytes_sent.ensures r.2.waits)).appended sent.counts.none
 
-pub returns-in_err-send-in-Err-clause-shows : goal.returns-in_err-send-in-Err-clause-shows
-returns-in_err-send-in-Err-clause-shows g c =
+pub returns-in_err-send-in-Err : goal.returns-in_err-send-in-Err
+returns-in_err-send-in-Err g c =
     let r = c.loop-kind.invariant.shows in
     let next = c.in-Err.ensures in
     let lost = c.in_err-send-in-Err in
@@ -199,8 +199,8 @@ returns-in_err-send-in-Err-clause-shows g c =
       lost.ensures.bytes _ r.2.given r.2.waits,
     ) (lost.ensures.counts.failed.0 refl)))
 
-pub returns-in-Err-clause-shows : goal.returns-in-Err-clause-shows
-returns-in-Err-clause-shows g c =
+pub returns-in-Err : goal.returns-in-Err
+returns-in-Err g c =
     let r = c.loop-kind.invariant.shows in
     let next = c.in-Err.ensures in
     let sent = c.in_ok-send-in-Err.ensures in
