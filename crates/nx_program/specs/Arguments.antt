@@ -15,7 +15,8 @@ use Rattle.nx_envelope.specs.Moment.{last_moment}
 use Rattle.nx_envelope.specs.declared.letter.Letter.{Letter}
 use Rattle.nx_log.specs.declared.writing.form.Form.{Form}
 use Rattle.nx_log.specs.declared.queries.query.Query.{Query}
-use Rattle.nx_program.specs.LogArguments.{IsForm, IsQuery, IsReading, IsReported, flag_rule, has_flag}
+use Rattle.nx_program.specs.LogArguments.{IsForm, IsInOrder, IsQuery, IsReading, IsReported}
+use Rattle.nx_program.specs.LogArguments.{flag_rule, has_flag}
 use Rattle.nx_program.specs.LogArguments.{log_tree}
 use Rattle.nx_program.specs.declared.log_arguments.ReadAs.{ReadAs}
 use Rattle.nx_program.specs.declared.arguments.Call.{Call}
@@ -215,7 +216,7 @@ HasValues (Damage kind from count) values =
     IsKind values kind × IsNumber (codes "FROM") values from
     × IsNumber (codes "COUNT") values count
 HasValues (Log query form reading) values =
-    IsQuery values query × IsForm values form × IsReading values reading
+    IsQuery values query × IsInOrder query × IsForm values form × IsReading values reading
 HasValues _ values = ⊤
 
 -- the arguments, of which the first is the program's name, name the call: clap finds no fault in

@@ -199,5 +199,6 @@ open_reason file.OnlyRead = codes ": its disk can only be read"
 open_reason file.NotRegular = codes ": it is no regular file"
 open_reason file.NoLock = codes ": it can't be locked"
 open_reason file.Moved = codes ": it was moved while it was opened"
+open_reason file.FolderUnread = codes ": there is no leave to read its folder"
 open_reason file.FolderUnsynced = codes ": its folder can't be brought to the disk"
 open_reason file.Other = []

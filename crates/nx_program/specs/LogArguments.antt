@@ -1,5 +1,5 @@
 -- What the options of `navtex log` ask for, as clap reads them (this profile).
-use Rattle.std.specs.Prelude.{◌≡◌, ◌⊎◌, ◌∷◌, ◌+◌, ◌++◌, ⊤, ℕ, Bool, List, [], Option, Some, None, codes, true, false, unwrap_or}
+use Rattle.std.specs.Prelude.{◌≡◌, ◌⊎◌, ◌∷◌, ◌+◌, ◌++◌, ◌<◌, ◌≤◌, ⊤, ℕ, Bool, List, [], Option, Some, None, codes, true, false, unwrap_or}
 use Rattle.std.specs.FinSet as set
 use Rattle.std.specs.Option.{option_map_or}
 use Rattle.std.specs.Ordering.{nat_cmp}
@@ -18,7 +18,7 @@ use Rattle.nx_log.specs.declared.writing.form.Form.{Form}
 use Rattle.nx_log.specs.declared.writing.form.Form.TheVariants as form
 use Rattle.nx_log.specs.declared.queries.query.Query.{Query}
 use Rattle.nx_program.specs.declared.log_arguments.Clash.{Clash}
-use Rattle.nx_program.specs.declared.log_arguments.Clash.TheVariants.{FromWithoutKept, JsonAndKeep, KeptAndSalvage}
+use Rattle.nx_program.specs.declared.log_arguments.Clash.TheVariants.{FromWithoutKept, JsonAndKeep, KeptAndSalvage, SinceBehindUntil}
 use Rattle.nx_program.specs.declared.log_arguments.LogOption.{LogOption}
 use Rattle.nx_program.specs.declared.log_arguments.ReadAs.{ReadAs}
 use Rattle.nx_program.specs.declared.log_arguments.ReadAs.TheVariants.{Kept as AsKept, Log as AsLog}
@@ -129,6 +129,15 @@ pub record IsQuery (values : List Row) (query : Query) : Type 0 where
   pub good : query.good ≡ has_flag (codes "good") values
   pub last : query.last ≡ has_flag (codes "last") values
 
+-- the first of two moments, where both are named, isn't later than the last
+abbrev pub InOrder : Option ℕ → Option ℕ → Type 0
+InOrder (Some first) (Some last) = first ≤ last
+InOrder first last = ⊤
+
+-- the query could admit an entry by its moment
+abbrev pub IsInOrder : Query → Type 0
+IsInOrder query = InOrder query.since query.until
+
 -- the form that they ask for, of which one needs `json`, and one `keep`; there is none for both
 abbrev pub form_of : Bool → Bool → Option Form
 form_of false false = Some form.Log
@@ -190,6 +199,14 @@ pub record IsReportedValue (values : List Row) (report : Text) : Type 0 where
   pub unfit : IsUnfit values option text
   pub told : report ≡ value_report option text
 
+-- entries are asked for since a moment, and until one before it
+pub record IsSinceBehindUntil (values : List Row) : Type 0 where
+  pub first : ℕ
+  pub since : Asks IsSince (given_to Since values) (Some first)
+  pub last : ℕ
+  pub until : Asks IsUntil (given_to Until values) (Some last)
+  pub behind : last < first
+
 -- two options that exclude each other were given, or one without that which it needs
 abbrev pub HasClash : List Row → Clash → Type 0
 HasClash values JsonAndKeep =
@@ -198,12 +215,15 @@ HasClash values KeptAndSalvage =
     (has_flag (codes "kept") values ≡ true) × (has_flag (codes "salvage") values ≡ true)
 HasClash values FromWithoutKept = (has_flag (codes "kept") values ≡ false)
     × ((text : Text) × (given_to From values ≡ Some text))
+HasClash values SinceBehindUntil = IsSinceBehindUntil values
 
 -- what is wrong
 abbrev pub clash_told : Clash → Text
 clash_told JsonAndKeep = codes "error: the argument '--json' cannot be used with '--keep'"
 clash_told KeptAndSalvage = codes "error: the argument '--kept' cannot be used with '--salvage'"
 clash_told FromWithoutKept = codes "error: the argument '--from <N>' needs '--kept'"
+clash_told SinceBehindUntil =
+    codes "error: the time of '--since <TIME>' is later than that of '--until <TIME>'"
 
 -- the text that reports it, as clap reports one
 abbrev pub clash_report : Clash → Text

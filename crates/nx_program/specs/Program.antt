@@ -153,7 +153,7 @@ PerformsOnStreams Resume d outcome =
 PerformsOnStreams Save d outcome =
     Tells (λ why. call.Resume why) (λ own. Resumes State d own × ReadsStateBeforeWant d own) outcome
 PerformsOnStreams Locks d outcome =
-    Tells (λ why. call.Listen why) (λ own. ShowsLocks d own × IsUntouchedByWant d own) outcome
+    Tells (λ why. call.Listen why) (ShowsLocks d) outcome
 PerformsOnStreams (Send station moment) d outcome =
     Tells (λ why. call.Send why) (Sends d station.byte moment) outcome
 PerformsOnStreams (Slots station moment) d outcome =
@@ -288,23 +288,8 @@ pub record Exits {R W F D E : Type 0} (arguments : List Text) (d : Devices R W) 
   pub ends : EndsRun arguments d b outcome
   pub status_is : status ≡ status_of outcome
 
--- the call that the arguments name succeeded, or they ask for help or for the version, which was
--- written
+-- The call that the arguments name succeeded, or they ask for help or for the version, which was
+-- written. It says of each what stands on standard error: what a watch and a run over a log told
+-- there, and of any other call, of help and of the version nothing.
 abbrev pub Succeeds : {R W F D E : Type 0} → List Text → Devices R W → Beside F D W E → Type 0
 Succeeds arguments d b = EndsRun arguments d b (Ok tt)
-
--- the arguments name a watch
-abbrev pub NamesWatch : List Text → Type 0
-NamesWatch arguments =
-    (sendings : Sendings) × (name : Text) × (moment : ℕ)
-    × Names arguments (Watch sendings name moment)
-
--- the arguments name a run over a log
-abbrev pub NamesLog : List Text → Type 0
-NamesLog arguments =
-    (query : Query) × (form : Form) × (reading : ReadAs)
-    × Names arguments (LogCall query form reading)
-
--- the arguments name a call that tells on standard error more than a fault
-abbrev pub NamesTelling : List Text → Type 0
-NamesTelling arguments = NamesWatch arguments ⊎ NamesLog arguments

@@ -19,7 +19,7 @@ ghost use Rattle.nx_envelope.specs.declared.letter.Letter.{Letter};
 use crate::commands::navtex_command;
 use crate::file_name::FileName;
 use crate::log_arguments::{
-    ReadAs, form_in, from_in, is_flagged, query_in, reading_in, unfit_report,
+    ReadAs, check_order, form_in, from_in, is_flagged, query_in, reading_in, unfit_report,
 };
 use clap::ArgMatches;
 use clap::error::ErrorKind;
@@ -204,6 +204,9 @@ fn log_call<'a>(alloc: Global, values: &ArgMatches) -> Result<Call<'a>, Argument
         Ok(from) => from,
         Err(option) => return Err(ArgumentsFault::Value(unfit_report(alloc, values, option)?)),
     };
+    if let Err(clash) = check_order(values, &query) {
+        return Err(ArgumentsFault::Value(clash.report(alloc)?));
+    }
     let form = match form_in(values) {
         Ok(form) => form,
         Err(clash) => return Err(ArgumentsFault::Value(clash.report(alloc)?)),

@@ -403,6 +403,7 @@ pub(crate) fn open_reason(why: FileOpenFault) -> &'static [u8]
         FileOpenFault::NotRegular => b": it is no regular file",
         FileOpenFault::NoLock => b": it can't be locked",
         FileOpenFault::Moved => b": it was moved while it was opened",
+        FileOpenFault::FolderUnread => b": there is no leave to read its folder",
         FileOpenFault::FolderUnsynced => b": its folder can't be brought to the disk",
         FileOpenFault::Other => b"",
     }

@@ -4,7 +4,8 @@ ghost use Rattle.std.specs.Prelude.{◌≡◌, IfErr, IfNone, IfOk, IfSome, opti
 ghost use Rattle.clap.specs.Words.{found_of, rows_of};
 ghost use Rattle.nx_log.specs.Places.{SaysPlace};
 ghost use Rattle.nx_log.specs.Times.{IsSince, IsUntil};
-ghost use Rattle.nx_program.specs.LogArguments.{Asks, HasClash, IsForm, IsQuery, IsReading, IsReported, NamesChannel, NamesLetters};
+ghost use Rattle.nx_program.specs.LogArguments.{Asks, HasClash, IsForm, IsInOrder, IsQuery, IsReading, IsReported};
+ghost use Rattle.nx_program.specs.LogArguments.{NamesChannel, NamesLetters};
 ghost use Rattle.nx_program.specs.LogArguments.{clash_report as the_clash_report, given_to, has_flag, option_name};
 ghost use Rattle.nx_program.specs.LogArguments.{value_name as the_value_name, value_report as the_report};
 ghost use Rattle.nx_program.specs.LogArguments.{value_wanted as the_value_wanted};
@@ -34,7 +35,7 @@ pub enum LogOption {
     From,
 }
 
-/// Options of `log` that exclude each other, or one without that which it needs.
+/// Options of `log` that can't stand together, or one without that which it needs.
 #[derive(Clone, Copy, Debug, PartialEq, Eq)]
 pub enum Clash {
     /// `--json` and `--keep`: entries are written in one form.
@@ -43,6 +44,8 @@ pub enum Clash {
     KeptAndSalvage,
     /// `--from` without `--kept`: no other log has places.
     FromWithoutKept,
+    /// The time of `--since` is later than that of `--until`: no entry has both.
+    SinceBehindUntil,
 }
 
 /// As what the input of `log` is read.
@@ -148,6 +151,9 @@ impl Clash {
                 "error: the argument '--kept' cannot be used with '--salvage'"
             }
             Clash::FromWithoutKept => "error: the argument '--from <N>' needs '--kept'",
+            Clash::SinceBehindUntil => {
+                "error: the time of '--since <TIME>' is later than that of '--until <TIME>'"
+            }
         })?;
         report.push_str("\n\nFor more information, try '--help'.\n")?;
         Ok(report)
@@ -270,6 +276,18 @@ pub fn query_in(values: &ArgMatches) -> Result<Query, LogOption>
         good: is_flagged(values, "good"),
         last: is_flagged(values, "last"),
     })
+}
+
+/// Ok where the first moment of the query that the options name isn't later than its last one.
+pub fn check_order(values: &ArgMatches, query: &Query) -> Result<(), Clash>
+    requires { IsQuery (rows_of (found_of values.now)) query.now }
+    ensures in_order { IfOk result (λ checked. IsInOrder query.now) }
+    ensures clash { IfErr result (HasClash (rows_of (found_of values.now))) }
+{
+    match (query.since, query.until) {
+        (Some(first), Some(last)) if last < first => Err(Clash::SinceBehindUntil),
+        _ => Ok(()),
+    }
 }
 
 /// The form that the options ask for. `Err` where they ask for two.

@@ -39,7 +39,8 @@ where it is full, with less than 4 per cent of errors. A TIME is one of these:
   2025-01-01T00:40:00   a second of a date, in UTC
   1735692000            seconds since 1970-01-01 00:00:00 UTC; four or eight
                         digits alone are refused, as they could be a date
-A space may stand for the T, and a Z behind the time of day.
+A space may stand for the T, and a Z behind the time of day. The TIME of --since
+may not be later than that of --until.
 With --json each entry is one line, an object with the keys channel, characters,
 end (full, cut or long), errors, good, identity, moment, number, station,
 subject, text and time.

@@ -8,7 +8,7 @@ ghost use Rattle.nx_program.specs.declared.log_arguments.ReadAs.TheVariants.{Kep
 ghost use Rattle.nx_log.specs.declared.writing.form.Form.TheVariants as form;
 ghost use Rattle.nx_program.specs.LogArguments.{all_entries, clash_report, value_report};
 ghost use Rattle.nx_program.specs.Arguments.{IsRefusedByClap, LacksValue, Names};
-ghost use Rattle.nx_program.specs.declared.log_arguments.Clash.TheVariants.{FromWithoutKept, JsonAndKeep, KeptAndSalvage};
+ghost use Rattle.nx_program.specs.declared.log_arguments.Clash.TheVariants.{FromWithoutKept, JsonAndKeep, KeptAndSalvage, SinceBehindUntil};
 ghost use Rattle.nx_program.specs.declared.log_arguments.LogOption.TheVariants.{From, Since, Station};
 ghost use Rattle.nx_program.specs.declared.arguments.Call.TheVariants.{Log};
 
@@ -57,6 +57,13 @@ pub fn log_in_examples()
     ensures minute { (program : Text)
         → Names (program ∷ codes "log" ∷ codes "--until" ∷ codes "2025-01-01 00:40" ∷ [])
         (Log (record all_entries { until = Some 1735692059 }) form.Log (AsLog damage.Refused)) }
+    ensures one_second { (program : Text)
+        → Names (program ∷ codes "log" ∷ codes "--since=0" ∷ codes "--until=0" ∷ [])
+        (Log (record all_entries { since = Some 0; until = Some 0 }) form.Log
+        (AsLog damage.Refused)) }
+    ensures behind { (program : Text)
+        → LacksValue (program ∷ codes "log" ∷ codes "--since=2" ∷ codes "--until=1" ∷ [])
+        (clash_report SinceBehindUntil) }
     ensures no_year { (program : Text)
         → LacksValue (program ∷ codes "log" ∷ codes "--since" ∷ codes "2025" ∷ [])
         (value_report Since (codes "2025")) }

@@ -1,7 +1,7 @@
 //! The program without its process.
 
 ghost use Rattle.std.specs.Prelude.{◌≡◌, ◌≢◌, ◌⊎◌, ◌∷◌, [], Err, IfNone, IfOk, IfSome, List, MatchResult, None, Option, map, string_bytes, ℕ};
-ghost use Rattle.nx_program.specs.Program.{EndsLog, EndsRun, Exits, ListensTaking, NamesTelling, Performs, PerformsOnStreams, RunsOverInput};
+ghost use Rattle.nx_program.specs.Program.{EndsLog, EndsRun, Exits, ListensTaking, Performs, PerformsOnStreams, RunsOverInput};
 ghost use Rattle.nx_receiver.specs.declared.air_file_runs.listen_fault.ListenFault.TheVariants.{Memory as ListenMemory};
 ghost use Rattle.nx_program.specs.private.LogReading.{IsReadable};
 ghost use Rattle.nx_program.specs.Program.{Succeeds, WritesText, fresh_device, version_text};
@@ -112,7 +112,7 @@ fn perform<R: Read, W: Write>(
             resume(alloc, reader, writer, Want::State)?;
         }
         Call::Locks => {
-            locks(alloc, reader, writer)?;
+            locks(reader, writer)?;
         }
         Call::Send { station, moment } => {
             send(alloc, reader, writer, station, moment)?;
@@ -521,6 +521,15 @@ pub fn answer<R: Read, W: Write, E: Write, F: LogFiles + Drop>(
         result.status) }
     ensures status { IsStatus result.status }
 
+    // Success comes only from a call that succeeded, or from help or the version that was written.
+    // It says of each of them what stands on standard error.
+    ensures success { IfOk arguments (λ given. result.status ≡ 0
+        → Succeeds (as_read (map string_bytes given.items))
+        (devices R.remaining W.contents (counted_of input) (counted_of result.input) output.old
+        output.new)
+        (beside files F.gives result.file F.Disk.DiskFile E.contents faults.old faults.new
+        (stamps_of result.input))) }
+
     // A success of arguments that name a call is the success of that call.
     ensures called { IfOk arguments
         (λ given. (call : Call) → Names (as_read (map string_bytes given.items)) call
@@ -531,12 +540,8 @@ pub fn answer<R: Read, W: Write, E: Write, F: LogFiles + Drop>(
         (stamps_of result.input))
         (Ok tt)) }
 
-    // A success leaves nothing on standard error, but for a watch and a run over a log. A fault
-    // leaves one text, behind what these told there: `navtex: `, the fault, and a newline, but for
-    // a text of clap on the arguments.
-    ensures silent { IfOk arguments
-        (λ given. (NamesTelling (as_read (map string_bytes given.items)) → ⊥)
-        → result.status ≡ 0 → faults.new ≡ faults.old) }
+    // A fault leaves one text, behind what a watch and a run over a log told there: `navtex: `, the
+    // fault, and a newline, but for a text of clap on the arguments.
     ensures reported { result.status ≢ 0
         → WritesOne (λ text. result.status ≢ 64 → IsFaultLine text)
         E.contents faults.old faults.new }

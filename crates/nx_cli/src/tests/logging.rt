@@ -182,7 +182,7 @@ fn reads_a_kept_log(rt: HostRuntime) {
 
 #[test]
 fn refuses_values_and_bytes(rt: HostRuntime) {
-    static ROWS: [(&[&str], u8, &str); 12] = [
+    static ROWS: [(&[&str], u8, &str); 14] = [
         (
             &["navtex", "log", "--since", "now"],
             64,
@@ -232,6 +232,16 @@ fn refuses_values_and_bytes(rt: HostRuntime) {
             &["navtex", "log", "--kept", "--from=+5"],
             64,
             "error: invalid value '+5' for '--from <N>'\n\n  tip: N is digits, at most 9223372036854775807\n\nFor more information, try '--help'.\n",
+        ),
+        (
+            &["navtex", "log", "--since=2025-01-02", "--until=2025-01-01"],
+            64,
+            "error: the time of '--since <TIME>' is later than that of '--until <TIME>'\n\nFor more information, try '--help'.\n",
+        ),
+        (
+            &["navtex", "log", "--since=2025-01-01", "--until=2025-01-01"],
+            2,
+            "navtex: line 1 is not of a log\n",
         ),
         (&["navtex", "log"], 2, "navtex: line 1 is not of a log\n"),
         (

@@ -278,6 +278,10 @@ fn its_log_cannot_be_opened(rt: HostRuntime) {
             "navtex: the log x.log can't be opened: it was moved while it was opened\n",
         ),
         (
+            FileOpenFault::FolderUnread,
+            "navtex: the log x.log can't be opened: there is no leave to read its folder\n",
+        ),
+        (
             FileOpenFault::FolderUnsynced,
             "navtex: the log x.log can't be opened: its folder can't be brought to the disk\n",
         ),

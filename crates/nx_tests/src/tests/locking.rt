@@ -40,7 +40,7 @@ impl Read for Slow<'_> {
 /// What showing the locks of a file answers, and writes.
 fn shown<R: Read + Drop>(alloc: Global, reader: R) -> (Result<LocksReport, ListenFault>, Vec<u8>) {
     let mut writer = Counting::new(Vec::new(alloc));
-    let outcome = locks(alloc, &mut Counting::new(reader), &mut writer);
+    let outcome = locks(&mut Counting::new(reader), &mut writer);
     (outcome, writer.into_inner())
 }
 
@@ -177,7 +177,7 @@ fn locks_to_a_full_writer(rt: HostRuntime) {
     let file = air_file(&rt, rt.alloc(), AT_FIRST, &elements);
     let mut space = [0; 10];
     let mut writer = Counting::new(&mut space[..]);
-    let outcome = locks(rt.alloc(), &mut Counting::new(file.as_slice()), &mut writer);
+    let outcome = locks(&mut Counting::new(file.as_slice()), &mut writer);
     assert_eq!(rt; outcome, Err(ListenFault::Write { written: 10 }));
     expect_text(&rt, "written", &space, b"[2025-01-0");
 }

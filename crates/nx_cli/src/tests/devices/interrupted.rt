@@ -88,7 +88,7 @@ impl Call {
                 listen_from(alloc, &given.saved, reader, writer)?;
             }
             Call::Locks => {
-                locks(alloc, reader, writer)?;
+                locks(reader, writer)?;
             }
             Call::Resume(want) => {
                 resume(alloc, reader, writer, want)?;

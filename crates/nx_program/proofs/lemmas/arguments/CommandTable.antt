@@ -7,7 +7,7 @@ use Rattle.clap.specs.Words.{Row, Text}
 use Rattle.nx_envelope.specs.declared.letter.Letter.{Letter}
 use Rattle.nx_log.specs.declared.writing.form.Form.{Form}
 use Rattle.nx_log.specs.declared.queries.query.Query.{Query}
-use Rattle.nx_program.specs.LogArguments.{IsForm, IsQuery, IsReading}
+use Rattle.nx_program.specs.LogArguments.{IsForm, IsInOrder, IsQuery, IsReading}
 use Rattle.nx_program.specs.declared.log_arguments.ReadAs.{ReadAs}
 use Rattle.nx_station.specs.declared.damaging.DamageKind.{DamageKind}
 use Rattle.nx_program.specs.declared.arguments.Call.{Call}
@@ -64,7 +64,7 @@ Makes name (range make) =
     → HasCall name rows (make k f c))
 Makes name (options make) =
     (name ≡ codes "log") × ((rows : List Row) (q : Query) (f : Form) (d : ReadAs) → IsQuery rows q
-    → IsForm rows f → IsReading rows d → HasCall name rows (make q f d))
+    → IsInOrder q → IsForm rows f → IsReading rows d → HasCall name rows (make q f d))
 
 abbrev pub IsSound : CommandRow → Type 0
 IsSound c = Makes c.0 c.1
@@ -85,5 +85,5 @@ call_in-only (Watch sendings name moment) rows given =
 call_in-only (Damage kind from count) rows given =
     range_call-only _ rows kind from count given.0 given.1 given.2
 call_in-only (Log query form reading) rows given =
-    query_call-only (λ q f d. Log q f d) rows query form reading given.0 given.1 given.2
+    query_call-only (λ q f d. Log q f d) rows query form reading given.0 given.1 given.2 given.3
 call_in-only call rows given = refl

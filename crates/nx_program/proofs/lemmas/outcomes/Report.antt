@@ -34,7 +34,7 @@ use Rattle.nx_log.specs.declared.log_fault.LogFault.{LogFault}
 use Rattle.nx_log.specs.declared.log_fault.LogFault.TheVariants as log
 use Rattle.nx_log.specs.declared.queries.query.Query.{Query}
 use Rattle.nx_log.specs.declared.writing.form.Form.{Form}
-use Rattle.nx_program.specs.Program.{EndsRun, Exits, NamesTelling, Performs, ReadsLog, RunsOverInput}
+use Rattle.nx_program.specs.Program.{EndsRun, Exits, Performs, ReadsLog, RunsOverInput, Succeeds}
 use Rattle.nx_program.specs.declared.log_arguments.ReadAs.{ReadAs}
 use Rattle.nx_program.specs.declared.log_arguments.ReadAs.TheVariants.{Kept as AsKept, Log as AsLog}
 use Rattle.nx_program.specs.Report.{Answers, IsFaultLine, IsFaultText, Reports, WritesLast, WritesOne}
@@ -455,28 +455,6 @@ answers-reported arguments d b status none answers not_zero =
     (ends-told arguments d (with_faults b answers.behind_call) answers.outcome none answers.ends)
     answers.reported not_zero
 
--- and a success nothing, but for a watch and a run over a log
-silent-outcome : {R W F D E : Type 0} (arguments : List Text) (d : Devices R W) (b : Beside F D W E)
-    (behind_call : CountedDevice E) (outcome : Result (Unit {0}) Fault)
-    → EndsRun arguments d (with_faults b behind_call) outcome
-    → Reports b.contents behind_call b.faults_after outcome → status_of outcome ≡ 0
-    → (NamesTelling arguments → ⊥) → b.faults_after ≡ b.faults
-silent-outcome arguments d b behind_call (Err why) ends reports zero none = absurd (failed why zero)
-silent-outcome arguments d b behind_call (Ok done) (inl runs) reports zero none =
-    absurd (none (inl (runs.sendings, runs.name, runs.moment, runs.named)))
-silent-outcome arguments d b behind_call (Ok done) (inr (inl runs)) reports zero none =
-    absurd (none (inr (runs.query, runs.form, runs.reading, runs.named)))
-silent-outcome arguments d b behind_call (Ok done) (inr (inr ends)) reports zero none =
-    reports ∙ ends.0.untold
-
-pub answers-silent : {R W F D E : Type 0} (arguments : List Text) (d : Devices R W)
-    (b : Beside F D W E)
-    (status : ℕ) → Answers arguments d b status → (NamesTelling arguments → ⊥) → status ≡ 0
-    → b.faults_after ≡ b.faults
-answers-silent arguments d b status answers none zero =
-    silent-outcome arguments d b answers.behind_call answers.outcome answers.ends answers.reported
-    (sym answers.status_is ∙ zero) none
-
 -- ---- a success is the success of its call
 
 reported-nothing : {E : Type 0} (contents : E → Option (List ℕ)) (old new : CountedDevice E)
@@ -484,6 +462,16 @@ reported-nothing : {E : Type 0} (contents : E → Option (List ℕ)) (old new : 
     → new ≡ old
 reported-nothing contents old new (Ok done) reports zero = reports
 reported-nothing contents old new (Err why) reports zero = absurd (failed why zero)
+
+pub answers-success : {R W F D E : Type 0} (arguments : List Text) (d : Devices R W)
+    (b : Beside F D W E)
+    (status : ℕ) → Answers arguments d b status → status ≡ 0 → Succeeds arguments d b
+answers-success {R} {W} {F} {D} {E} arguments d b status answers zero =
+    let same = reported-nothing b.contents answers.behind_call b.faults_after answers.outcome
+    answers.reported (sym answers.status_is ∙ zero) in
+    subst (λ (e : CountedDevice E). Succeeds arguments d (with_faults b e)) (sym same)
+    (success-exits arguments d (with_faults b answers.behind_call) status
+    (answers-exits arguments d b status answers) zero)
 
 pub answers-called : {R W F D E : Type 0} (arguments : List Text) (d : Devices R W)
     (b : Beside F D W E)

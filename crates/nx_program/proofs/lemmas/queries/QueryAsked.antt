@@ -1,6 +1,7 @@
 -- What the options of `log` ask for: at most one query, and an option that names nothing where
 -- there is none.
-use Rattle.std.proofs.Common.{◌≡◌, ◌≢◌, ◌∙◌, ◌⊎◌, ◌+◌, ℕ, Bool, true, false, List, [], ◌∷◌, Option, Some, None}
+use Rattle.std.proofs.Math.Nat.{lt_of_not-le}
+use Rattle.std.proofs.Common.{◌≡◌, ◌≢◌, ◌∙◌, ◌⊎◌, ◌+◌, arith, ℕ, Bool, true, false, List, [], ◌∷◌, Option, Some, None}
 use Rattle.std.proofs.Common.{IfSome, ap, codes, inl, inr, length, refl, subst, sym, unwrap_or}
 use Rattle.std.specs.FinSet as set
 use Rattle.std.specs.Cmp.{nat_cmp_total}
@@ -18,10 +19,11 @@ use Rattle.nx_log.specs.declared.writing.form.Form.{Form}
 use Rattle.nx_log.specs.declared.queries.query.Query.{Query}
 use Rattle.nx_memory.proofs.lemmas.Letters.{contains-insert, contains-none}
 use Rattle.nx_program.specs.declared.log_arguments.Clash.{Clash}
-use Rattle.nx_program.specs.declared.log_arguments.Clash.TheVariants.{FromWithoutKept, JsonAndKeep, KeptAndSalvage}
+use Rattle.nx_program.specs.declared.log_arguments.Clash.TheVariants.{FromWithoutKept, JsonAndKeep, KeptAndSalvage, SinceBehindUntil}
 use Rattle.nx_program.specs.declared.log_arguments.LogOption.{LogOption}
 use Rattle.nx_program.specs.declared.log_arguments.LogOption.TheVariants as option
-use Rattle.nx_program.specs.LogArguments.{Asks, HasClash, IsForm, IsQuery, IsReading, IsUnfit}
+use Rattle.nx_program.specs.LogArguments.{Asks, HasClash, InOrder, IsForm, IsInOrder, IsQuery}
+use Rattle.nx_program.specs.LogArguments.{IsReading, IsSinceBehindUntil, IsUnfit}
 use Rattle.nx_program.specs.LogArguments.{NamesChannel, NamesLetters, damaged_of, form_asked}
 use Rattle.nx_program.specs.LogArguments.{form_of, given_to, has_flag, reading_of}
 use Rattle.nx_program.specs.declared.log_arguments.ReadAs.{ReadAs}
@@ -142,6 +144,14 @@ same_parts : (s t u v : Option (set.FinSet nat_cmp)) (c d : Option Channel) (f g
     → make_query s u c f l x p ≡ make_query t v d g m y q
 same_parts s t u v c d f g l m x y p q a b e h i j k = cc
 
+since_once : (given : Option Text) (a b : Option ℕ) → Asks IsSince given a → Asks IsSince given b
+    → a ≡ b
+since_once = asks-once IsSince (λ t. time_once (codes " 00:00:00") (codes ":00") t refl refl)
+
+until_once : (given : Option Text) (a b : Option ℕ) → Asks IsUntil given a → Asks IsUntil given b
+    → a ≡ b
+until_once = asks-once IsUntil (λ t. time_once (codes " 23:59:59") (codes ":59") t refl refl)
+
 query_once : (rows : List Row) (a b : Query) → IsQuery rows a → IsQuery rows b → a ≡ b
 query_once rows a b one other =
     same_parts a.stations b.stations a.subjects b.subjects a.channel b.channel a.since b.since
@@ -149,10 +159,7 @@ query_once rows a b one other =
     (asks-once NamesLetters letters_once _ _ _ one.stations other.stations)
     (asks-once NamesLetters letters_once _ _ _ one.subjects other.subjects)
     (asks-once NamesChannel channel_once _ _ _ one.channel other.channel)
-    (asks-once IsSince (λ t. time_once (codes " 00:00:00") (codes ":00") t refl refl) _ _ _
-    one.since other.since)
-    (asks-once IsUntil (λ t. time_once (codes " 23:59:59") (codes ":59") t refl refl) _ _ _
-    one.until other.until)
+    (since_once _ _ _ one.since other.since) (until_once _ _ _ one.until other.until)
     (one.good ∙ sym other.good) (one.last ∙ sym other.last)
 
 -- some option was given a text that names nothing
@@ -197,6 +204,33 @@ query_or_unfit rows = elim (asked NamesLetters letters_known (given_to option.St
 -- options that exclude each other were given
 abbrev pub IsAnyClash : List Row → Type 0
 IsAnyClash rows = (clash : Clash) × HasClash rows clash
+
+-- the moments of the query are in order, or they aren't
+order_or_clash : (rows : List Row) (query : Query) → IsQuery rows query
+    → IsInOrder query ⊎ IsAnyClash rows
+order_or_clash rows query is = of query.since query.until is.since is.until
+  where
+    of : (since until : Option ℕ) → Asks IsSince (given_to option.Since rows) since
+        → Asks IsUntil (given_to option.Until rows) until → InOrder since until ⊎ IsAnyClash rows
+    of None until s u = inl tt
+    of (Some first) None s u = inl tt
+    of (Some first) (Some last) s u = elim (at_most first last) [
+      | inl ordered ↦ inl ordered
+      | inr fails ↦ inr (
+        SinceBehindUntil,
+        record { first = first; since = s; last = last; until = u; behind = lt_of_not-le fails },
+      )
+    ]
+
+order_not_clash : (rows : List Row) (query : Query) → IsQuery rows query → IsInOrder query
+    → IsSinceBehindUntil rows → ⊥
+order_not_clash rows query is ordered clash =
+    let since = since_once _ query.since (Some clash.first) is.since clash.since in
+    let until = until_once _ query.until (Some clash.last) is.until clash.until in
+    let le : clash.first ≤ clash.last =
+    subst (InOrder (Some clash.first)) until
+    (subst (λ o. InOrder o query.until) since ordered) in
+    omega (arith, le, clash.behind)
 
 both-forms : (json keep : Bool) → form_of json keep ≡ None → (json ≡ true) × (keep ≡ true)
 both-forms true true e = (refl, refl)
@@ -290,6 +324,7 @@ pub record AreAsked (rows : List Row) : Type 0 where
   pub form : Form
   pub reading : ReadAs
   pub is_query : IsQuery rows query
+  pub in_order : IsInOrder query
   pub is_form : IsForm rows form
   pub is_reading : IsReading rows reading
 
@@ -300,18 +335,22 @@ IsNothingAsked rows = IsAnyUnfit rows ⊎ IsAnyClash rows
 pub asked_or_not : (rows : List Row) → AreAsked rows ⊎ IsNothingAsked rows
 asked_or_not rows = elim (query_or_unfit rows) [
   | inr unfit ↦ inr (inl unfit)
-  | inl query ↦ elim (form_or_clash rows) [
+  | inl query ↦ elim (order_or_clash rows query.0 query.1) [
     | inr clash ↦ inr (inr clash)
-    | inl form ↦ elim (reading_or_not rows) [
-      | inr nothing ↦ inr nothing
-      | inl reading ↦ inl (record {
-        query = query.0;
-        form = form.0;
-        reading = reading.0;
-        is_query = query.1;
-        is_form = form.1;
-        is_reading = reading.1;
-      })
+    | inl in_order ↦ elim (form_or_clash rows) [
+      | inr clash ↦ inr (inr clash)
+      | inl form ↦ elim (reading_or_not rows) [
+        | inr nothing ↦ inr nothing
+        | inl reading ↦ inl (record {
+          query = query.0;
+          form = form.0;
+          reading = reading.0;
+          is_query = query.1;
+          in_order = in_order;
+          is_form = form.1;
+          is_reading = reading.1;
+        })
+      ]
     ]
   ]
 ]
@@ -334,6 +373,8 @@ asked_not_unfit rows a option.From text unfit =
 
 pub asked_not_clash : (rows : List Row) → AreAsked rows → (clash : Clash) → HasClash rows clash
     → ⊥
+asked_not_clash rows a SinceBehindUntil clash =
+    order_not_clash rows a.query a.is_query a.in_order clash
 asked_not_clash rows a JsonAndKeep clash = form_not_clash rows a.form a.is_form clash
 asked_not_clash rows a KeptAndSalvage clash =
     let r = a.is_reading in
@@ -368,10 +409,11 @@ abbrev pub query_call : (Query → Form → ReadAs → Call) → List Row → Op
 query_call make rows = made_of make rows (asked_or_not rows)
 
 pub query_call-only : (make : Query → Form → ReadAs → Call) (rows : List Row) (query : Query)
-    (form : Form) (reading : ReadAs) → IsQuery rows query → IsForm rows form
+    (form : Form) (reading : ReadAs) → IsQuery rows query → IsInOrder query → IsForm rows form
     → IsReading rows reading
     → query_call make rows ≡ Some (make query form reading)
-query_call-only make rows query form reading is is_form is_reading = go (asked_or_not rows)
+query_call-only make rows query form reading is in_order is_form is_reading =
+    go (asked_or_not rows)
   where
     all : AreAsked rows
     all = record {
@@ -379,6 +421,7 @@ query_call-only make rows query form reading is is_form is_reading = go (asked_o
       form = form;
       reading = reading;
       is_query = is;
+      in_order = in_order;
       is_form = is_form;
       is_reading = is_reading;
     }
@@ -394,13 +437,13 @@ query_call-only make rows query form reading is is_form is_reading = go (asked_o
     go (inr (inr clash)) = absurd (asked_not_clash rows all clash.0 clash.1)
 
 pub query_call-is : (make : Query → Form → ReadAs → Call) (rows : List Row) (P : Call → Type 0)
-    → ((query : Query) (form : Form) (reading : ReadAs) → IsQuery rows query → IsForm rows form
-    → IsReading rows reading → P (make query form reading))
+    → ((query : Query) (form : Form) (reading : ReadAs) → IsQuery rows query → IsInOrder query
+    → IsForm rows form → IsReading rows reading → P (make query form reading))
     → IfSome (query_call make rows) P
 query_call-is make rows P has = go (asked_or_not rows)
   where
     go : (d : AreAsked rows ⊎ IsNothingAsked rows) → IfSome (made_of make rows d) P
-    go (inl a) = has a.query a.form a.reading a.is_query a.is_form a.is_reading
+    go (inl a) = has a.query a.form a.reading a.is_query a.in_order a.is_form a.is_reading
     go (inr nothing) = tt
 
 -- where there is such a call, all is asked for

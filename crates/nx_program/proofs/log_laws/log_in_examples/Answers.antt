@@ -10,13 +10,14 @@ use Rattle.jiff_core.proofs.CalendarLemmas.{days_from_civil-day_count}
 use Rattle.jiff_core.proofs.MarchLemmas.{day_count-early}
 use Rattle.jiff_core.proofs.SignedLemmas.{signed_arith}
 use Rattle.nx_code.specs.Reading.{IsCapital}
-use Rattle.nx_envelope.specs.Moment.{IsShownAs}
+use Rattle.nx_envelope.specs.Moment.{IsShownAs, last_moment}
 use Rattle.nx_log.proofs.lemmas.texts.TimeTexts.{shown-length, time-long}
-use Rattle.nx_log.specs.Times.{IsSince, WritesTime}
+use Rattle.nx_log.specs.Times.{CouldBeDate, IsSince, NamesMoment, WritesTime}
+use Rattle.std.specs.Str.Parse.{IsNumeral, digits_value}
 use Rattle.std.specs.Char.{digit_value}
 use Rattle.nx_log.specs.Places.{SaysPlace}
 use Rattle.nx_program.specs.LogArguments.{Asks, IsReading, NamesLetters, given_to, has_flag, reading_of}
-use Rattle.nx_program.specs.declared.log_arguments.Clash.TheVariants.{FromWithoutKept, JsonAndKeep, KeptAndSalvage}
+use Rattle.nx_program.specs.declared.log_arguments.Clash.TheVariants.{FromWithoutKept, JsonAndKeep, KeptAndSalvage, SinceBehindUntil}
 use Rattle.nx_program.specs.declared.log_arguments.LogOption.TheVariants.{From, Since, Station}
 use Rattle.nx_program.specs.declared.log_arguments.ReadAs.{ReadAs}
 use Rattle.nx_program.proofs.lemmas.arguments.GivenValues.{given, off}
@@ -93,6 +94,19 @@ the_minute = record {
   spelled = refl;
 }
 
+-- a text of one digit names the moment of its number
+digit_names : (of_day of_minute text : List ℕ) (moment : ℕ) → length text ≡ 1
+    → moment ≡ digits_value 10 text → IsNumeral 10 text → moment ≤ last_moment
+    → NamesMoment of_day of_minute text moment
+digit_names of_day of_minute text moment one value digits in_range = (
+  in_range,
+  inl (record { digits = digits; no_date = no_date; value = value }),
+)
+  where
+    no_date : CouldBeDate text → ⊥
+    no_date (inl year) = omega (arith, one, year)
+    no_date (inr date) = omega (arith, one, date)
+
 -- texts of a few bytes name no time of day and no date
 short_is_none : (text : List ℕ) (moment : ℕ) → length text ≤ 4
     → WritesTime [] text moment ⊎ WritesTime (codes ":00") text moment
@@ -148,6 +162,7 @@ returns c = record {
         good = refl;
         last = refl;
       },
+      tt,
       refl,
       as_log tt refl,
     );
@@ -168,6 +183,7 @@ returns c = record {
         good = refl;
         last = refl;
       },
+      tt,
       refl,
       as_log tt refl,
     );
@@ -187,6 +203,7 @@ returns c = record {
         good = refl;
         last = refl;
       },
+      tt,
       refl,
       as_log tt refl,
     );
@@ -206,6 +223,7 @@ returns c = record {
         good = refl;
         last = refl;
       },
+      tt,
       refl,
       as_log tt refl,
     );
@@ -233,6 +251,7 @@ returns c = record {
         good = refl;
         last = refl;
       },
+      tt,
       refl,
       as_log tt refl,
     );
@@ -253,6 +272,7 @@ returns c = record {
         good = refl;
         last = refl;
       },
+      tt,
       refl,
       record {
         from = Some 43;
@@ -306,6 +326,7 @@ returns c = record {
         good = refl;
         last = refl;
       },
+      tt,
       refl,
       as_log tt refl,
     );
@@ -324,6 +345,7 @@ returns c = record {
         good = refl;
         last = refl;
       },
+      tt,
       refl,
       as_log tt refl,
     );
@@ -342,6 +364,7 @@ returns c = record {
         good = refl;
         last = refl;
       },
+      tt,
       refl,
       as_log tt refl,
     );
@@ -360,6 +383,7 @@ returns c = record {
         good = refl;
         last = refl;
       },
+      tt,
       refl,
       as_log tt refl,
     );
@@ -378,9 +402,45 @@ returns c = record {
         good = refl;
         last = refl;
       },
+      tt,
       refl,
       as_log tt refl,
     );
+  };
+  one_second = λ program. record {
+    taken = refl;
+    values = given (codes "since") (codes "0") ∷ given (codes "until") (codes "0") ∷ all_off;
+    command = refl;
+    given = (
+      record {
+        stations = tt;
+        subjects = tt;
+        channel = tt;
+        since = digit_names _ _ _ _ refl refl (search rules) (search rules);
+        until = digit_names _ _ _ _ refl refl (search rules) (search rules);
+        good = refl;
+        last = refl;
+      },
+      search rules,
+      refl,
+      as_log tt refl,
+    );
+  };
+  behind = λ program. record {
+    taken = refl;
+    values = given (codes "since") (codes "2") ∷ given (codes "until") (codes "1") ∷ all_off;
+    entered = refl;
+    reported = inr (record {
+      clash = SinceBehindUntil;
+      given = record {
+        first = 2;
+        since = digit_names _ _ _ _ refl refl (search rules) (search rules);
+        last = 1;
+        until = digit_names _ _ _ _ refl refl (search rules) (search rules);
+        behind = search rules;
+      };
+      told = refl;
+    });
   };
   no_year = λ program. record {
     taken = refl;

@@ -1,5 +1,5 @@
 use Rattle.std.proofs.Common.{map, string_bytes}
-use Rattle.nx_program.proofs.lemmas.outcomes.Report.{answers-called, answers-reported, answers-silent}
+use Rattle.nx_program.proofs.lemmas.outcomes.Report.{answers-called, answers-reported, answers-success}
 use Rattle.nx_program.specs.Arguments.{as_read}
 use Rattle.nx_program.specs.WatchCommand.{beside}
 use Rattle.nx_fec.specs.Transfers.{devices}
@@ -22,8 +22,8 @@ returns-in-Ok-clause-called g c =
     call
     named is)
 
-pub returns-in-Ok-clause-silent : goal.returns-in-Ok-clause-silent
-returns-in-Ok-clause-silent g c =
+pub returns-in-Ok-clause-success : goal.returns-in-Ok-clause-success
+returns-in-Ok-clause-success g c =
     let arguments = as_read (map string_bytes c.as_slice.result.now) in
     let d = devices g.R.Read.remaining g.W.Write.contents (counted_of c.args.input)
     (counted_of c.exit_status.result.input) c.args.output.now c.exit_status.new.writer in
@@ -31,8 +31,7 @@ returns-in-Ok-clause-silent g c =
     g.E.Write.contents c.args.faults.now c.exit_status.new.faults
     (stamps_of c.exit_status.result.input) in
     rw (c.in-Ok.is, ← c.as_slice.ensures.value)
-    (λ none is. answers-silent arguments d b c.exit_status.result.status c.exit_status.ensures none
-    is)
+    (λ is. answers-success arguments d b c.exit_status.result.status c.exit_status.ensures is)
 
 pub returns-in-Ok-clause-reported : goal.returns-in-Ok-clause-reported
 returns-in-Ok-clause-reported g c =

@@ -101,9 +101,7 @@ returns-in_ok-locks-in-Locks g c =
     c.args.writer.now c.locks.new.writer in
     let P : Call → Type 0 = λ call. PerformsOnStreams call d (Ok tt) in
     subst P (sym c.in-Locks.is)
-    (tells-ok (λ why. call.Listen why) (λ own. ShowsLocks d own × IsUntouchedByWant d own)
-    own.field-0
-    (own.ensures.shows, untouched d (Ok own.field-0) own.ensures.memory))
+    (tells-ok (λ why. call.Listen why) (ShowsLocks d) own.field-0 own.ensures)
 
 pub returns-in_err-locks-in-Locks : goal.returns-in_err-locks-in-Locks
 returns-in_err-locks-in-Locks g c =
@@ -114,9 +112,8 @@ returns-in_err-locks-in-Locks g c =
     let p = err_from_is_err_and outcome c.from_residual-in_err-locks-in-Locks.ensures.1 in
     let P : Call → Type 0 = λ call. PerformsOnStreams call d outcome in
     subst P (sym c.in-Locks.is)
-    (tells-err (λ why. call.Listen why) (λ own. ShowsLocks d own × IsUntouchedByWant d own)
-    outcome own.field-0.0 p.0
-    (own.ensures.shows, untouched d (Err own.field-0.0) own.ensures.memory) p.1 p.2)
+    (tells-err (λ why. call.Listen why) (ShowsLocks d) outcome own.field-0.0 p.0 own.ensures p.1
+    p.2)
 
 pub returns-in_ok-resume-in-Resume : goal.returns-in_ok-resume-in-Resume
 returns-in_ok-resume-in-Resume g c =

@@ -48,7 +48,8 @@ fn a_file_that_cannot_be_opened_is_told_why(rt: HostRuntime) -> Result<(), Fail>
         long.push_str("x")?;
     }
     for (path, why) in [
-        (".", FileOpenFault::NotRegular),
+        (".", FileOpenFault::FolderName),
+        ("/dev/null", FileOpenFault::NotRegular),
         ("nx_disk_test_of_none/x.log", FileOpenFault::NoFolder),
         (link, FileOpenFault::DeadLink),
         ("nx_disk_test_of_none/", FileOpenFault::FolderName),

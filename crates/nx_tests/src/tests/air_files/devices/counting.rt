@@ -10,6 +10,8 @@ use std::io::{Error, ErrorKind, Read, Write};
 #[derive(Drop)]
 struct Recovering {
     fails: bool,
+    /// The most bytes that a read gives.
+    most: usize,
     calls: u64,
 }
 
@@ -27,7 +29,7 @@ impl Recovering {
 
 impl Read for Recovering {
     fn read(&mut self, buf: &mut [u8]) -> io::Result<usize> {
-        self.answer(buf.len())
+        self.answer(buf.len().min(self.most))
     }
 }
 
@@ -45,7 +47,11 @@ impl Write for Recovering {
 fn device(fails: bool) -> Counting<Recovering>
     ensures { result.failures ≡ 0 }
 {
-    Counting::new(Recovering { fails, calls: 0 })
+    Counting::new(Recovering {
+        fails,
+        most: usize::MAX,
+        calls: 0,
+    })
 }
 
 #[test]
@@ -82,6 +88,14 @@ fn each_call_is_made_once(rt: HostRuntime) {
     assert_eq!(rt; sound.read(&mut [0; 4]).ok(), Some(4));
     assert_eq!(rt; sound.failures(), 0);
     assert_eq!(rt; sound.into_inner().calls, 3);
+    // A read that leaves room is one call too.
+    let mut short = Counting::new(Recovering {
+        fails: false,
+        most: 3,
+        calls: 0,
+    });
+    assert_eq!(rt; short.read(&mut [0; 4]).ok(), Some(3));
+    assert_eq!(rt; short.into_inner().calls, 1);
 }
 
 /// After a failed read the writer isn't called either, and a failed write is made once.
