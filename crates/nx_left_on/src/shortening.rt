@@ -20,8 +20,9 @@ ghost use Rattle.nx_left_on.specs.Shortened.{AreInOrder, AsksSince, HearsFrom, L
 /// remembers on each channel is entries that are 66 hours old at some moment, or older, and then
 /// what the shorter one remembers; and nothing is heard before that moment. Then of any lines the
 /// same act, so as many have no effect, and they print the same, however the watch stops. Of any
-/// bytes it reads the same lines until it stops so. What is heard lies behind the newest moment that the whole log remembers. So
-/// where the entries left out lie 66 hours or more before that one, this holds of all bytes.
+/// bytes it reads the same lines until it stops so. What is heard lies behind the newest moment
+/// that the whole log remembers. So where the entries left out lie 66 hours or more before that
+/// one, this holds of all bytes.
 pub fn a_watch_over_a_shortened_log_does_the_same()
     ensures acts { (moment now : ℕ) (whole shorter : List MarkedCopy) (lines : List (Option Line))
         → LeavesOutOld moment whole shorter
