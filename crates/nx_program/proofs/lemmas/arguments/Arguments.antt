@@ -329,8 +329,8 @@ lacks_value arguments name values taken entered none =
               none (make kind from.0 count.0) has.0 has.1;
         })
     go (options make) makes gives = elim (asked_or_not values) [
-      | inl a ↦ absurd (let has = makes.1 values a.query a.form a.reading a.is_query a.is_form
-          a.is_reading in
+      | inl a ↦ absurd (let has = makes.1 values a.query a.form a.reading a.is_query a.in_order
+          a.is_form a.is_reading in
           none (make a.query a.form a.reading) has.0 has.1)
       | inr (inr clash) ↦ a_value makes.0 (clash_report clash.0) (record {
         taken = taken;
