@@ -1,4 +1,5 @@
 pub mod Awaiting
+pub mod LineStops
 pub mod Listener
 pub mod ListenerBegins
 pub mod PlainReceiver

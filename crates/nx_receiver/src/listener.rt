@@ -1,5 +1,5 @@
 //! Three receivers that hear elements as they come: the engine of `listen`. What runs for each line
-//! of elements, or of a command, is inlined always.
+//! of elements is inlined always.
 
 ghost use Rattle.std.specs.Prelude.{◌≡◌, ◌+◌, ◌<◌, ◌≤◌, ◌↔◌, ◌∷◌, ℕ, Bool, true, false, List, [], ◌++◌, length, map, take, drop, IfErr, IfOk, IfSome, IsErr, IsNone, IsSome, IsTrue, MatchOption, MatchResult, None, OnErr, OnOk, Some};
 ghost use Rattle.nx_envelope.specs.Moment.{last_moment};
@@ -192,7 +192,8 @@ impl<R: ChannelReceiver> Listener<R> {
 
     /// Does on a channel what the command says, from here on. `Vital` where it is to refuse subject
     /// A, B, D or L (ITU-R M.540); the listener then stays as it was.
-    #[inline(always)]
+    // A call, so that a line of elements, or a moment, doesn't pay for its registers.
+    #[inline(never)]
     pub fn command(&mut self, channel: Channel, command: Command) -> Result<(), Vital>
         ensures heard { OnOk result ((starts : Starts) (given : List Given)
             (copies : List MarkedCopy) → HearsBy R.kind starts self.old given copies

@@ -1,13 +1,13 @@
 //! Reading an air file line by line. Who asks gets the next line. More is read only where it is
-//! asked again after it said that all lines so far are given. What runs for each line is inlined
-//! always, so that no answer goes through memory; what reads never is.
-ghost use Rattle.std.specs.Prelude.{◌≡◌, ◌≢◌, ◌↔◌, ◌+◌, ◌*◌, ◌<◌, ◌≤◌, ◌++◌, ℕ, Bool, true, false, List, [], ◌∷◌, Option, Some, Ok, IfErr, IfOk, IsErrOf, MatchResult, OnOk, drop, length};
+//! asked again after it said that all lines so far are given. What runs for each short line is
+//! inlined always, so that its answer doesn't go through memory; what reads never is.
+ghost use Rattle.std.specs.Prelude.{◌≡◌, ◌≢◌, ◌↔◌, ◌+◌, ◌*◌, ◌<◌, ◌≤◌, ◌++◌, ℕ, Bool, true, false, List, [], ◌∷◌, Option, Some, Ok, IfErr, IfNone, IfOk, IfSome, IsErrOf, MatchResult, OnOk, drop, length};
 ghost use Rattle.std.specs.Io.KnownBytes.{Consumes, IsAtEnd, Keeps};
 ghost use Rattle.nx_fec.specs.Transfers.{CountedDevice};
 ghost use Rattle.nx_fec.specs.air_files.AirFile.{Line, spelling};
 ghost use Rattle.nx_fec.specs.air_files.LineReading.{EndsEarly, GivesNext, HasFirstFault, HasGivenLines, HasPassed, HoldsSame, LeavesFewer, SaysLatest, SaysOver, answers_left, counted_of, is_over, latest_of, lines_given};
 ghost use Rattle.nx_fec.specs.air_files.Scanner.{elements_kept};
-ghost use Rattle.nx_fec.specs.private.PieceReading.{HasReadOn, IsReadOn};
+ghost use Rattle.nx_fec.specs.private.PieceReading.{GivesShort, HasGivenNone, HasReadOn, IsReadOn};
 
 use crate::air_files::lines::{LineKind, MAX_ELEMENTS};
 use crate::air_files::packed_elements::PackedElements;
@@ -84,7 +84,44 @@ impl<'a, R: Read> LineReader<'a, R> {
             (answers_left self.new)) }
         ensures same { HoldsSame self.old self.new }
     {
-        // A line that waits is all that most answers need to know of.
+        // A short line that waits is all that most answers need to know of.
+        if let Some(kind) = self.next_short() {
+            return Ok(NextLine::Line(kind));
+        }
+        self.next_of_all()
+    }
+
+    /// Gives the next line where it waits, and the scanner takes it whole. `None` where it gave
+    /// none, as it may.
+    #[inline(always)]
+    fn next_short(&mut self) -> Option<LineKind>
+        ensures given { IfSome result (λ kind. GivesShort self.old self.new kind) }
+        ensures none { IfNone result (HasGivenNone self.old self.new) }
+    {
+        let (kind, count) = self.scanner.scan_whole(self.piece.rest())?;
+        self.piece.pass(count);
+        self.is_over = false;
+        Some(kind)
+    }
+
+    /// Gives what comes next, as `next` does, whatever it is. Never inlined: a line that waits
+    /// would pay for the place of its answer.
+    #[inline(never)]
+    fn next_of_all(&mut self) -> Result<NextLine, AirFault>
+        requires { (counted_of self.old).failures ≡ 0 }
+        ensures gives { (limit : ℕ) (first : Option (List ℕ)) (lines : List Line)
+            → HasGivenLines R.remaining limit first self.old lines → MatchResult result
+            (GivesNext R.remaining limit first self.new lines)
+            (EndsEarly R.remaining limit first self.new lines) }
+        ensures line { IfOk result (SaysLatest (latest_of self.new)) }
+        ensures over { IfOk result (SaysOver (is_over self.old) (is_over self.new)) }
+        ensures unread { is_over self.old ≡ false → counted_of self.new ≡ counted_of self.old }
+        ensures failed { IsErrOf result AirFault.Read ↔ ((counted_of self.new).failures ≡ 1) }
+        ensures once { (counted_of self.new).failures ≤ 1 }
+        ensures fewer { IfOk result (LeavesFewer (answers_left self.old)
+            (answers_left self.new)) }
+        ensures same { HoldsSame self.old self.new }
+    {
         if self.piece.is_empty() {
             if !self.is_over {
                 self.is_over = true;
@@ -101,7 +138,6 @@ impl<'a, R: Read> LineReader<'a, R> {
 
     /// Reads the next piece, where none is left of the last one. Answers whether there is one:
     /// false at the end of the file.
-    #[inline(never)]
     fn read(&mut self) -> Result<bool, AirFault>
         requires none { (counted_of self.old).failures ≡ 0 }
         requires passed { self.old.piece ≡ [] }
@@ -129,7 +165,6 @@ impl<'a, R: Read> LineReader<'a, R> {
 
     /// Gives the next line of the piece, of which some is left. Where none ends in it, says that
     /// the piece is used up.
-    #[inline(always)]
     fn next_of_piece(&mut self) -> Result<NextLine, LineFault>
         requires { 0 < length self.old.piece }
         ensures gives { (limit : ℕ) (first : Option (List ℕ)) (lines : List Line)
@@ -142,7 +177,7 @@ impl<'a, R: Read> LineReader<'a, R> {
         ensures unread { counted_of self.new ≡ counted_of self.old }
         ensures same { HoldsSame self.old self.new }
     {
-        let count = self.scanner.push_line(self.piece.rest())?;
+        let count = self.scanner.scan_part(self.piece.rest())?;
         self.piece.pass(count);
         match self.scanner.latest() {
             Some(kind) => {

@@ -1,7 +1,7 @@
 //! A scanner of the lines of an air file, which takes one piece after the other. What runs for each
 //! line is inlined always, so that no large answer goes through memory. Most lines are taken whole,
 //! and have few elements; what runs for other lines is never inlined.
-ghost use Rattle.std.specs.Prelude.{◌≡◌, ◌≢◌, ◌+◌, ◌^◌, ◌<◌, ◌≤◌, ℕ, List, [], ◌∷◌, ◌++◌, None, Some, codes, IfErr, IfSome, OnOk, length, take, slice_index, MatchResult};
+ghost use Rattle.std.specs.Prelude.{◌≡◌, ◌≢◌, ◌+◌, ◌^◌, ◌<◌, ◌≤◌, ℕ, List, [], ◌∷◌, ◌++◌, None, Some, codes, IfErr, IfNone, IfSome, OnOk, length, take, slice_index, MatchResult};
 ghost use Rattle.std.specs.List.{AllByRecursion};
 ghost use Rattle.std.specs.Option.{option_map};
 ghost use Rattle.nx_code.specs.Reading.{newline};
@@ -194,29 +194,15 @@ impl Scanner {
         requires { 0 < length piece.now }
         ensures { ScansPiece self.old self.new piece.now result }
     {
-        let count = self.scan_whole(piece);
-        if count > 0 {
+        if let Some((_, count)) = self.scan_whole(piece) {
             return Ok(count);
         }
-        self.scan_rest(piece)
-    }
-
-    /// Takes the bytes of a piece as `scan_part` does. The place in memory of its answer is made
-    /// here, so that a line that is taken whole pays nothing for it.
-    #[inline(always)]
-    fn scan_rest(&mut self, piece: &[u8]) -> Result<usize, LineFault>
-        requires { 0 < length piece.now }
-        ensures { ScansPiece self.old self.new piece.now result }
-    {
-        match self.scan_part(piece) {
-            Ok(count) => Ok(count),
-            Err(fault) => Err(fault),
-        }
+        self.scan_part(piece)
     }
 
     /// Takes the bytes of a piece as `push_line` does, whatever line they are of.
     #[inline(never)]
-    fn scan_part(&mut self, piece: &[u8]) -> Result<usize, LineFault>
+    pub(crate) fn scan_part(&mut self, piece: &[u8]) -> Result<usize, LineFault>
         requires { 0 < length piece.now }
         ensures { ScansPiece self.old self.new piece.now result }
     {
@@ -237,18 +223,19 @@ impl Scanner {
     }
 
     /// Takes the line that a piece begins with, where none is open and the line is one of elements,
-    /// a moment or a command, and answers how many bytes it has with its end. 0 where it took
-    /// nothing, as it may.
+    /// a moment or a command. Answers what it says, and how many bytes it has with its end. `None`
+    /// where it took nothing, as it may.
     #[inline(always)]
-    fn scan_whole(&mut self, piece: &[u8]) -> usize
-        ensures taken { 0 < result → TakesLine self.old self.new piece.now result }
-        ensures none { result ≡ 0 → Waits self.old self.new }
+    pub(crate) fn scan_whole(&mut self, piece: &[u8]) -> Option<(LineKind, usize)>
+        ensures taken { IfSome result (λ whole.
+            TakesLine self.old self.new piece.now whole.0 whole.1) }
+        ensures none { IfNone result (Waits self.old self.new) }
     {
         if self.progress.ended.is_none()
             || piece.len() < NEAR_BYTES
             || self.progress.room < NEAR_BYTES as u64
         {
-            return 0;
+            return None;
         }
         match piece {
             [b'B', b' ', digits @ ..] => self.scan_elements(piece, None, digits),
@@ -260,77 +247,88 @@ impl Scanner {
         }
     }
 
-    /// Takes the line that a piece begins with as `scan_whole` does, where it is a command. Never
-    /// inlined: a moment would pay for its registers.
-    #[inline(never)]
-    fn scan_command(&mut self, piece: &[u8]) -> usize
+    /// Takes the line that a piece begins with as `scan_whole` does, where it is a command.
+    #[inline(always)]
+    fn scan_command(&mut self, piece: &[u8]) -> Option<(LineKind, usize)>
         requires empty { self.old.part ≡ [] }
         requires long { NEAR_BYTES ≤ length piece.now }
         requires room { NEAR_BYTES ≤ self.old.room }
-        ensures taken { 0 < result → TakesLine self.old self.new piece.now result }
-        ensures none { result ≡ 0 → self.new ≡ self.old }
+        ensures taken { IfSome result (λ whole.
+            TakesLine self.old self.new piece.now whole.0 whole.1) }
+        ensures none { IfNone result (self.new ≡ self.old) }
     {
-        let Some((kind, end)) = command_front(piece) else {
-            return 0;
-        };
+        let (kind, end) = command_front(piece)?;
         self.kept.clear();
         self.kept.append_front(piece, end);
         self.elements.clear();
-        self.progress.end_line(kind, end)
+        Some((kind, self.progress.end_line(kind, end)))
     }
 
     /// Takes the line that a piece begins with as `scan_whole` does, where it has elements, by the
     /// channel that it names, if it names one, and what follows it and a space.
     #[inline(always)]
-    fn scan_elements(&mut self, piece: &[u8], mark: Option<Channel>, digits: &[u8]) -> usize
+    fn scan_elements(
+        &mut self,
+        piece: &[u8],
+        mark: Option<Channel>,
+        digits: &[u8],
+    ) -> Option<(LineKind, usize)>
         requires front { piece.now ≡ with_mark (codes "B") mark digits.now }
         requires empty { self.old.part ≡ [] }
         requires long { NEAR_BYTES ≤ length piece.now }
         requires room { NEAR_BYTES ≤ self.old.room }
-        ensures taken { 0 < result → TakesLine self.old self.new piece.now result }
-        ensures none { result ≡ 0 → Waits self.old self.new }
+        ensures taken { IfSome result (λ whole.
+            TakesLine self.old self.new piece.now whole.0 whole.1) }
+        ensures none { IfNone result (Waits self.old self.new) }
     {
+        let kind = LineKind::Elements(mark);
         let (number, count) = pack_near(digits);
         // The line has more elements, or is no line of elements.
         if count == 0 || count > NEAR_ELEMENTS || digits[count] != NEWLINE {
-            return self.scan_many(piece, mark, digits);
+            return match self.scan_many(piece, mark, digits) {
+                0 => None,
+                size => Some((kind, size)),
+            };
         }
         let end = piece.len() - digits.len() + count;
         self.kept.clear();
         self.kept.append_front(piece, end);
         self.elements.put(number, count);
-        self.progress.end_line(LineKind::Elements(mark), end)
+        Some((kind, self.progress.end_line(kind, end)))
     }
 
     /// Takes the line that a piece begins with as `scan_whole` does, where it is a moment; the
     /// digits are what follows `T` and a space.
     #[inline(always)]
-    fn scan_moment(&mut self, piece: &[u8], digits: &[u8]) -> usize
+    fn scan_moment(&mut self, piece: &[u8], digits: &[u8]) -> Option<(LineKind, usize)>
         requires front { piece.now ≡ codes "T " ++ digits.now }
         requires empty { self.old.part ≡ [] }
         requires long { NEAR_BYTES ≤ length piece.now }
         requires room { NEAR_BYTES ≤ self.old.room }
-        ensures taken { 0 < result → TakesLine self.old self.new piece.now result }
-        ensures none { result ≡ 0 → self.new ≡ self.old }
+        ensures taken { IfSome result (λ whole.
+            TakesLine self.old self.new piece.now whole.0 whole.1) }
+        ensures none { IfNone result (self.new ≡ self.old) }
     {
         let (moment, count) = moment_front(digits);
         let end = 2 + count;
         if count == 0 || piece[end] != NEWLINE {
-            return 0;
+            return None;
         }
         self.kept.clear();
         self.kept.append_front(piece, end);
         self.elements.clear();
-        self.progress.end_line(LineKind::Moment(moment), end)
+        let kind = LineKind::Moment(moment);
+        Some((kind, self.progress.end_line(kind, end)))
     }
 
     /// Takes the line that a piece begins with as `scan_elements` does, however many elements it
-    /// has.
+    /// has. Answers how many bytes it has with its end, 0 where it took nothing.
     #[inline(never)]
     fn scan_many(&mut self, piece: &[u8], mark: Option<Channel>, digits: &[u8]) -> usize
         requires front { piece.now ≡ with_mark (codes "B") mark digits.now }
         requires empty { self.old.part ≡ [] }
-        ensures taken { 0 < result → TakesLine self.old self.new piece.now result }
+        ensures taken { 0 < result
+            → TakesLine self.old self.new piece.now (LineKind.Elements mark) result }
         ensures none { result ≡ 0 → Waits self.old self.new }
     {
         if piece.len() < FAR_BYTES || self.progress.room < FAR_BYTES as u64 {
@@ -410,7 +408,8 @@ impl Scanner {
 }
 
 /// The command that a piece begins with, with its line feed, and how many bytes it has before that.
-#[inline(always)]
+/// Never inlined: other lines would pay for its registers.
+#[inline(never)]
 fn command_front(piece: &[u8]) -> Option<(LineKind, usize)>
     requires { NEAR_BYTES ≤ length piece.now }
     ensures command { IfSome result (λ found. SpellsLine found.0 [] (take found.1 piece.now)) }

@@ -9,6 +9,7 @@ use Rattle.nx_fec.specs.air_files.AirFile.{IsLine, Line}
 use Rattle.nx_fec.specs.air_files.Lines.{IsAtByte, IsBeginning, Scanning, Scans, StopsIn, file_of, line_bytes}
 use Rattle.nx_fec.specs.air_files.Scanner.{ScansPiece}
 use Rattle.nx_fec.specs.private.WholeLines.{TakesLine, Waits}
+use Rattle.nx_fec.specs.declared.air_files.lines.LineKind.{LineKind}
 use Rattle.nx_fec.specs.declared.fault.LineFault.{LineFault}
 
 -- it took so many bytes
@@ -43,9 +44,10 @@ piece-stopped old new piece why bytes at_byte = record {
 
 -- it took the bytes of the line with which the piece begins, and its line feed
 scans-whole : (limit : ℕ) (old new : Scanning) (before piece : List ℕ) (lines : List Line)
-    (count : ℕ) (h : TakesLine old new piece count) → Scans limit old before lines
+    (kind : LineKind) (count : ℕ) (h : TakesLine old new piece kind count)
+    → Scans limit old before lines
     → Scans limit new (before ++ take count piece) (lines ++ h.line ∷ [])
-scans-whole limit old new before piece lines count h s = record {
+scans-whole limit old new before piece lines kind count h s = record {
   splits = record {
     whole = ap (λ l. l ++ take count piece) (s.splits.whole
         ∙ ap (λ l. file_of lines ++ l) h.empty ∙ append-nil (file_of lines))
@@ -65,13 +67,13 @@ scans-whole limit old new before piece lines count h s = record {
   );
 }
 
-pub piece-whole : (old new : Scanning) (piece : List ℕ) (count : ℕ) → 0 < count
-    → TakesLine old new piece count → ScansPiece old new piece (Ok count)
-piece-whole old new piece count some h =
+pub piece-whole : (old new : Scanning) (piece : List ℕ) (kind : LineKind) (count : ℕ) → 0 < count
+    → TakesLine old new piece kind count → ScansPiece old new piece (Ok count)
+piece-whole old new piece kind count some h =
     piece-taken old new piece count
     (λ limit before lines s. subst
     (λ o. Scans limit new (before ++ take count piece) (lines ++ option_to_list o)) (sym h.latest)
-    (scans-whole limit old new before piece lines count h s))
+    (scans-whole limit old new before piece lines kind count h s))
     some h.within (subst (λ o. IfSome o IsLine) (sym h.latest) h.good)
     (λ none. let no : Some h.line ≡ None = sym h.latest ∙ none in absurd (cc)) h.room
 

@@ -116,9 +116,10 @@ pub takes-digits : (old new : Scanning) (piece : List ℕ) (mark : Option Channe
     → Digits piece mark digits start count bits → old.part ≡ []
     → new.latest ≡ Some (elements mark bits) → new.part ≡ [] → new.lines ≡ old.lines + 1
     → new.room + (start + count + 1) ≡ old.room
-    → TakesLine old new piece (start + count + 1)
+    → TakesLine old new piece (Elements mark) (start + count + 1)
 takes-digits old new piece mark digits start count bits h empty latest part lines room = record {
   line = elements mark bits;
+  says = refl;
   good = (digits-spell piece mark digits start count bits h).good;
   front = digits-line piece mark digits start count bits h;
   within = omega (
@@ -157,10 +158,12 @@ pub takes-moment : (old new : Scanning) (piece digits : List ℕ) (value count :
     → (value < 10 ^ 11) × (take count digits ≡ decimal value)
     → count < length digits → get_or digits count 0 ≡ 10 → old.part ≡ []
     → new.latest ≡ Some (moment value) → new.part ≡ [] → new.lines ≡ old.lines + 1
-    → new.room + (2 + count + 1) ≡ old.room → TakesLine old new piece (2 + count + 1)
+    → new.room + (2 + count + 1) ≡ old.room
+    → TakesLine old new piece (Moment value) (2 + count + 1)
 takes-moment old new piece digits value count whole found within feed empty latest part lines
     room = record {
       line = moment value;
+      says = refl;
       good = found.0;
       front = let next : 2 + count + 1 ≡ 2 + (count + 1) = omega arith in
           ap (λ n. take n piece) next ∙ two-first piece digits (count + 1) whole

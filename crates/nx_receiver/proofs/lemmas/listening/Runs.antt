@@ -1,7 +1,7 @@
 -- What a run over lines says, said of the log and in the faults of `listen`.
 use Rattle.std.proofs.Common.{◌≡◌, inl, inr, ℕ, ◌+◌, ◌≤◌, List, [], ◌∷◌, ◌++◌, length, map, Option}
 use Rattle.std.proofs.Common.{None, Some, IfSome, Result, Ok, Err, refl, ap, ap₂, ◌∙◌, arith}
-use Rattle.std.proofs.Common.{length-append, subst}
+use Rattle.std.proofs.Common.{length-append, subst, sym}
 use Rattle.std.specs.Prelude.{⊤}
 use Rattle.std.specs.List.{flat_map}
 use Rattle.std.specs.Io.KnownBytes.{Appends}
@@ -34,6 +34,9 @@ use Rattle.nx_receiver.specs.private.Listener.{HasClosedBy, HasClosedSomeBy, IsL
 use Rattle.nx_receiver.specs.Listener.{ListeningOver}
 use Rattle.nx_receiver.specs.private.Listener.{RefusesLine, StandsFromBy}
 use Rattle.nx_receiver.specs.private.ListenerBegins.{begins-listening}
+use Rattle.nx_receiver.specs.private.LineStops.{EndsAtLineBy, TellsStop}
+use Rattle.nx_receiver.specs.declared.air_file_runs.listening.logged.LineStop.{LineStop}
+use Rattle.nx_receiver.specs.declared.air_file_runs.listening.logged.LineStop.TheVariants as stop
 use Rattle.nx_receiver.specs.private.Runs.{ExplainsLogBy, HasTakenAllBy, StopsAtLineBy}
 use Rattle.nx_receiver.specs.private.Runs.{TakesLinesBy, TellsRefusal}
 use Rattle.nx_receiver.specs.Listener.{elements_given, elements_in}
@@ -115,6 +118,26 @@ refusal-stops {R} {kind} laws first now old mid new batch lines line number why 
       is = lost.is;
       explained = inl (some-logged laws first now old mid new batch lines lost.why h
           (lost.explained old));
+    })
+
+-- a run ends at a line, and that is told
+pub stop-told : {R : Type 0} {kind : ReceiverKind R} (laws : IsReceiver kind)
+    (first now : ListeningOver R) (old mid new : Option (List ℕ)) (batch : Waiting)
+    (lines : List Line) (line : Line) (number : ℕ) (stop : LineStop) (fault : ListenFault)
+    → EndsAtLineBy kind first now (record { before = old; after = mid }) batch lines line stop
+    → TellsStop number stop mid new batch fault
+    → StopsAtLineBy kind.printing (starts_by kind first) (record { before = old; after = new })
+    lines line number fault
+stop-told laws first now old mid new batch lines line number (stop.Refused why) fault ends told =
+    refusal-stops laws first now old mid new batch lines line number why fault ends.0 ends.1 told
+stop-told {R} {kind} laws first now old mid new batch lines line number (stop.Lost lost) fault ends
+    told =
+    inr (record {
+      why = lost.written;
+      is = told.0;
+      explained = inr (subst (λ after. HasLoggedSome
+          (IsLogOfLinesBy kind.printing (starts_by kind first) (lines ++ line ∷ []))
+          (record { before = old; after = after }) lost.written) (sym told.1) ends);
     })
 
 -- a line that is refused isn't taken, as its fault says

@@ -1,7 +1,7 @@
 //! Listening where the log is wanted: the lines of a file are taken as they are read, and what they
 //! print is written before each further read.
 
-ghost use Rattle.std.specs.Prelude.{◌≡◌, ℕ, List, [], ◌∷◌, ◌++◌, Option, Some, Err, MatchResult};
+ghost use Rattle.std.specs.Prelude.{◌≡◌, ℕ, List, [], ◌∷◌, ◌++◌, Option, Some, Err, IfErr, MatchResult, OnOk};
 ghost use Rattle.nx_fec.specs.air_files.AirFile.{Line};
 ghost use Rattle.nx_fec.specs.air_files.LineReading.{SaysLatest, latest_of, lines_given};
 ghost use Rattle.nx_fec.specs.air_files.LineRuns.{HasGiven, HasTaken};
@@ -9,13 +9,14 @@ ghost use Rattle.nx_fec.specs.declared.air_files.line_reader.NextLine.TheVariant
 ghost use Rattle.nx_fec.specs.Transfers.{Writes, devices};
 ghost use Rattle.nx_receiver.specs.Listener.{ListeningOver, starts_by};
 ghost use Rattle.nx_receiver.specs.private.Listener.{StandsFromBy};
-ghost use Rattle.nx_receiver.specs.private.Runs.{StopsAtLineBy, TakesLinesBy, TellsRefusal};
+ghost use Rattle.nx_receiver.specs.private.LineStops.{EndsAtLineBy, FailsBy, TellsStop};
+ghost use Rattle.nx_receiver.specs.private.Runs.{TakesLinesBy};
 
 use crate::air_file_runs::listen_fault::{LineRefusal, ListenFault};
 use crate::air_file_runs::listening::{take_elements, take_setting};
 use crate::channel_receiver::ChannelReceiver;
 use crate::listener::Listener;
-use nx_fec::{AIR_LIMIT, Batch, Counting, LineKind, LineReader, LinesRead, NextLine};
+use nx_fec::{AIR_LIMIT, Batch, Counting, LineKind, LineReader, LinesRead, NextLine, WriteFault};
 use std::io::{Read, Write};
 
 /// Reads an air file to its end, gives each of its lines to the listener, and writes what they
@@ -40,7 +41,11 @@ pub(super) fn listen_lines<C: ChannelReceiver, R: Read, W: Write>(
     loop {
         let count = lines.lines();
         match lines.next() {
-            Ok(NextLine::Line(kind)) => take_line(listener, kind, &lines, writer, &mut batch)?,
+            Ok(NextLine::Line(kind)) => {
+                if let Err(stop) = take_line(listener, kind, &lines, writer, &mut batch) {
+                    return Err(end_at_line(stop, lines.lines(), writer, &mut batch));
+                }
+            }
             Ok(NextLine::PieceOver) => batch.send(writer)?,
             Ok(NextLine::End) => {
                 let written = batch.bytes_sent();
@@ -57,15 +62,26 @@ pub(super) fn listen_lines<C: ChannelReceiver, R: Read, W: Write>(
     }
 }
 
+/// Why a run that listens ends at a line. It is small, so that it stays in registers: what ends a
+/// run is told behind its loop.
+#[derive(Clone, Copy, Debug)]
+enum LineStop {
+    /// The line is refused.
+    Refused(LineRefusal),
+    /// A write failed of what the lines print, the line among them.
+    Lost(WriteFault),
+}
+
 /// Takes the line that was given last, which says this, and gives the batch what it prints. A line
-/// that is refused changes nothing, and what the lines before it print is written.
+/// that is refused changes nothing.
+#[inline(always)]
 fn take_line<C: ChannelReceiver, R, W: Write>(
     listener: &mut Listener<C>,
     kind: LineKind,
     lines: &LineReader<R>,
     writer: &mut Counting<W>,
     batch: &mut Batch,
-) -> Result<(), ListenFault>
+) -> Result<(), LineStop>
     requires line { SaysLatest (latest_of lines.now) (next.Line kind) }
     requires writer { writer.old.failures ≡ 0 }
     ensures taken { (first : ListeningOver C) (old : Option (List ℕ)) (before : List Line)
@@ -74,41 +90,46 @@ fn take_line<C: ChannelReceiver, R, W: Write>(
         (HasGiven old (W.contents writer.old.inner) batch.old) → MatchResult result
         (λ _. HasTaken (StandsFromBy C.kind) first listener.new (before ++ line ∷ [])
         (HasGiven old (W.contents writer.new.inner) batch.new))
-        (StopsAtLineBy C.kind.printing (starts_by C.kind first)
-        record { before = old; after = W.contents writer.new.inner } before line
-        (lines_given lines.now)) }
-    ensures writes { Writes writer.new ListenFault.Write result }
+        (EndsAtLineBy C.kind first listener.new
+        record { before = old; after = W.contents writer.new.inner } batch.new before line) }
+    ensures counts { OnOk result (writer.new.failures ≡ 0) }
+    ensures stops { IfErr result (FailsBy writer.new) }
 {
     let LineKind::Elements(mark) = kind else {
         return match take_setting(listener, kind) {
             Ok(()) => Ok(()),
-            Err(why) => Err(refuse(lines.lines(), why, writer, batch)),
+            Err(why) => Err(LineStop::Refused(why)),
         };
     };
     if !listener.has_moment() {
-        return Err(refuse(lines.lines(), LineRefusal::NoMoment, writer, batch));
+        return Err(LineStop::Refused(LineRefusal::NoMoment));
     }
-    take_elements(listener, mark, lines.elements(), writer, batch)?;
-    Ok(())
+    match take_elements(listener, mark, lines.elements(), writer, batch) {
+        Ok(()) => Ok(()),
+        Err(lost) => Err(LineStop::Lost(lost)),
+    }
 }
 
-/// Writes what the lines before a refused one print. Answers the fault of the run: that of the
-/// line, or that of the write.
+/// Tells why a run ends at the line of this number. Before a refusal is told, what the lines before
+/// it print is written; where that fails, this is told instead.
 #[cold]
 #[inline(never)]
-fn refuse<W: Write>(
+fn end_at_line<W: Write>(
+    stop: LineStop,
     number: u64,
-    why: LineRefusal,
     writer: &mut Counting<W>,
     batch: &mut Batch,
 ) -> ListenFault
-    requires { writer.old.failures ≡ 0 }
-    ensures stops { TellsRefusal number why (W.contents writer.old.inner)
+    requires { FailsBy writer.old stop }
+    ensures tells { TellsStop number stop (W.contents writer.old.inner)
         (W.contents writer.new.inner) batch.old result }
     ensures writes { Writes {N = Unit {0}} writer.new ListenFault.Write (Err result) }
 {
-    match batch.send(writer) {
-        Ok(()) => ListenFault::of_refusal(number, why),
-        Err(lost) => ListenFault::from(lost),
+    match stop {
+        LineStop::Refused(why) => match batch.send(writer) {
+            Ok(()) => ListenFault::of_refusal(number, why),
+            Err(lost) => ListenFault::from(lost),
+        },
+        LineStop::Lost(lost) => ListenFault::from(lost),
     }
 }

@@ -13,7 +13,7 @@ returns-in_err-count-clause-gives g c = λ limit first lines h.
 
 pub returns-in-Some-clause-gives : goal.returns-in-Some-clause-gives
 returns-in-Some-clause-gives g c = λ limit first lines h.
-    let ended = ended-line limit _ _ lines c.push_line.new.self.latest c.in-Some.kind
+    let ended = ended-line limit _ _ lines c.scan_part.new.self.latest c.in-Some.kind
     (sym c.in-Some.is ∙ c.latest.ensures)
     (c.in_ok-count.ensures.bytes limit h.looked_at lines h.scans) in (
       ended.line,
@@ -28,7 +28,7 @@ returns-in-None-clause-gives g c = λ limit first lines h.
     let none = sym c.in-None.is ∙ c.latest.ensures in
     looked-on g.R.Read.remaining limit first _ _ lines _ c.rest.result.now c.in_ok-count.count refl
     c.rest.ensures.bytes c.pass.ensures h
-    (ended-none limit _ _ lines c.push_line.new.self.latest none
+    (ended-none limit _ _ lines c.scan_part.new.self.latest none
     (c.in_ok-count.ensures.bytes limit h.looked_at lines h.scans))
     (λ over. taken-all _ c.rest.result.now _ c.in_ok-count.count c.rest.ensures.bytes
     (c.in_ok-count.ensures.whole (no-latest _ none)) c.pass.ensures)

@@ -52,7 +52,7 @@ invariant_of-self c =
     )
 
 pub returns-clause-taken : goal.returns-clause-taken
-returns-clause-taken c = λ _.
+returns-clause-taken c =
     let piece = c.args.piece.now in
     let digits = c.args.digits.now in
     let count = c.pack_near-number.result.1 in
@@ -69,7 +69,8 @@ returns-clause-taken c = λ _.
       are = c.put.ensures ∙ c.pack_near-number.ensures.number;
     } in
     let ended = c.end_line.ensures in
-    subst (TakesLine c.args.self.now _ piece) (sym ended.count)
+    subst (TakesLine c.args.self.now _ piece (Elements c.args.mark))
+    (sym ended.count)
     (takes-digits c.args.self.now _ piece c.args.mark digits start count c.put.new.self found
     c.requires.empty (ap (λ k. line_ended k c.put.new.self) ended.ended)
     (ap (λ k. part_of k c.append_front.new.self) ended.ended)

@@ -68,7 +68,8 @@ returns-clause-taken c = λ _.
       are = c.read_front-count.ensures.elements;
     } in
     let ended = c.end_line.ensures in
-    subst (TakesLine c.args.self.now _ piece) (sym ended.count)
+    subst (TakesLine c.args.self.now _ piece (Elements mark))
+    (sym ended.count)
     (takes-digits c.args.self.now _ piece mark digits start count bits found c.requires.empty
     (ap (λ k. line_ended k bits) ended.ended)
     (ap (λ k. part_of k c.append_front.new.self) ended.ended)

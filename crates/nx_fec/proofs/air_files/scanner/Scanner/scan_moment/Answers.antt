@@ -35,14 +35,15 @@ invariant_of-self c =
     )
 
 pub returns-clause-taken : goal.returns-clause-taken
-returns-clause-taken c = λ _.
+returns-clause-taken c =
     let piece = c.args.piece.now in
     let count = c.moment_front-moment.result.1 in
     let digits = c.args.digits.now in
     let size : length piece ≡ 2 + length digits = omega (arith, ap length c.requires.front) in
     let found = c.moment_front-moment.ensures.found (omega (arith, c.if-count-eq0.false)) in
     let ended = c.end_line.ensures in
-    subst (TakesLine c.args.self.now _ piece) (sym ended.count)
+    subst (TakesLine c.args.self.now _ piece (Moment c.moment_front-moment.result.0))
+    (sym ended.count)
     (takes-moment c.args.self.now _ piece digits c.moment_front-moment.result.0 count
     c.requires.front found
     (omega (arith, size, c.requires.long, c.moment_front-moment.ensures.count))

@@ -8,13 +8,13 @@ use Rattle.nx_fec.proofs.lemmas.line_runs.LineRun.{HasGiven-written, HasTaken-ma
 use Rattle.nx_receiver.specs.Listener.{starts_by}
 use Rattle.nx_receiver.specs.private.Listener.{StandsFromBy}
 use Rattle.nx_receiver.specs.private.Runs.{StopsAtLineBy}
-use Rattle.nx_receiver.proofs.lemmas.listening.Runs.{all-logged, some-logged}
+use Rattle.nx_receiver.proofs.lemmas.listening.Runs.{all-logged, some-logged, stop-told}
 use Rattle.nx_receiver.proofs.lemmas.listening.Stops.{takes-all, takes-early, takes-lost, takes-lost-early}
 use Rattle.nx_receiver.proofs.lemmas.listening.Stops.{takes-to}
 use Rattle.nx_receiver.proofs.air_file_runs.listening.logged.listen_lines.Goals as goal
 
-pub loop-kind-preserved-in-Continue-1 : goal.loop-kind-preserved-in-Continue-1
-loop-kind-preserved-in-Continue-1 g c =
+pub loop-kind-preserved-in_default : goal.loop-kind-preserved-in_default
+loop-kind-preserved-in_default g c =
     let next = c.in-Ok-Line.ensures in
     let is : c.in-Ok-Line.field-0 ≡ line.Line c.in-Ok-Line.kind = search rules in
     record {
@@ -27,7 +27,7 @@ loop-kind-preserved-in-Continue-1 g c =
           c.in-Ok-Line.field-0 is (next.gives 268435456 _ r.0 r.1) next.line in (
             r.0 ++ n.line ∷ [],
             n.given,
-            c.in_ok-take_line-in-Ok-Line.ensures.taken first _ r.0 n.line n.latest r.2,
+            c.in_default.ensures.taken first _ r.0 n.line n.latest r.2,
           );
       sent = λ over.
           let no : false ≡ true = sym (subst (SaysOver _ _) is next.over) ∙ over in
@@ -55,25 +55,30 @@ loop-kind-preserved g c =
       sent = λ over. sent.empty;
     }
 
-pub returns-in_err-take_line-in-Ok-Line : goal.returns-in_err-take_line-in-Ok-Line
-returns-in_err-take_line-in-Ok-Line g c = λ first s.
+pub returns-in-Err-take_line : goal.returns-in-Err-take_line
+returns-in-Err-take_line g c = λ first s.
     let kind = g.C.ChannelReceiver.kind in
     let r = c.loop-kind.invariant.taken first s in
     let next = c.in-Ok-Line.ensures in
     let is : c.in-Ok-Line.field-0 ≡ line.Line c.in-Ok-Line.kind = search rules in
     let n = next-line g.R.Read.remaining 268435456 _ c.next.new.self r.0 c.in-Ok-Line.kind
     c.in-Ok-Line.field-0 is (next.gives 268435456 _ r.0 r.1) next.line in
-    let stopped = c.in_err-take_line-in-Ok-Line in
-    let p = err_from_is_err_and c.from_residual.result c.from_residual.ensures.1 in
     let old = g.W.Write.contents c.args.writer.now.inner in
+    let told = c.end_at_line.ensures in
+    let stops = stop-told g.met.C.ChannelReceiver.laws first c.take_line.new.listener old _
+    (g.W.Write.contents c.end_at_line.new.writer.inner) _ r.0 n.line c.lines.result
+    c.in-Err-take_line.stop c.end_at_line.result
+    (c.in-Err-take_line.ensures.taken first old r.0 n.line n.latest r.2) told.tells in
     let at : StopsAtLineBy kind.printing (starts_by kind first)
-    (record { before = old; after = g.W.Write.contents c.take_line.new.writer.inner }) r.0 n.line
-    c.next.new.self.scanner.lines stopped.field-0.0 =
-    stopped.ensures.taken first old r.0 n.line n.latest r.2 in
-    rw p.1 (rw p.2 (takes-to kind first c.take_line.new.listener
+    (record { before = old; after = g.W.Write.contents c.end_at_line.new.writer.inner }) r.0 n.line
+    c.next.new.self.scanner.lines c.end_at_line.result =
+    subst (λ number. StopsAtLineBy kind.printing (starts_by kind first)
+    (record { before = old; after = g.W.Write.contents c.end_at_line.new.writer.inner }) r.0 n.line
+    number c.end_at_line.result) c.lines.ensures stops in
+    takes-to kind first c.take_line.new.listener
     (devices g.R.Read.remaining g.W.Write.contents c.args.reader.now _ c.args.writer.now
-    c.take_line.new.writer) c.next.new.self (search rules) r.0 n.line stopped.field-0.0 n.good
-    n.given (unfailed _ _ (Given-not_read _) next.failed next.once) at stopped.ensures.writes))
+    c.end_at_line.new.writer) c.next.new.self (search rules) r.0 n.line c.end_at_line.result n.good
+    n.given (unfailed _ _ (Given-not_read _) next.failed next.once) at told.writes
 
 pub returns-in_err-send-in-Ok-PieceOver : goal.returns-in_err-send-in-Ok-PieceOver
 returns-in_err-send-in-Ok-PieceOver g c = λ first s.
@@ -82,8 +87,8 @@ returns-in_err-send-in-Ok-PieceOver g c = λ first s.
     let next = c.in-Ok-PieceOver.ensures in
     let is : c.in-Ok-PieceOver.field-0 ≡ line.PieceOver = search rules in
     let lost = c.in_err-send-in-Ok-PieceOver in
-    let p = err_from_is_err_and c.from_residual-in_err-send-in-Ok-PieceOver.result
-    c.from_residual-in_err-send-in-Ok-PieceOver.ensures.1 in
+    let p = err_from_is_err_and c.from_residual.result
+    c.from_residual.ensures.1 in
     rw p.1 (rw p.2 (takes-lost kind first c.loop-kind.listener _ c.next.new.self (search rules) r.0
     lost.field-0.0.written
     (subst (GivesNext g.R.Read.remaining 268435456 (g.R.Read.remaining c.args.reader.now.inner)

@@ -1,8 +1,8 @@
 use Rattle.std.proofs.Common.{subst}
 use Rattle.std.proofs.lemmas.Result.{err_from_is_err_and}
 use Rattle.nx_fec.specs.private.PieceReading.{HasReadOn}
-use Rattle.nx_fec.proofs.air_files.line_reader.LineReader.next.Goals as goal
-use Rattle.nx_fec.proofs.air_files.line_reader.LineReader.next.Goals.{then-is_empty+else-not-self+in_ok-has_more+else-not-has_more, else-is_empty}
+use Rattle.nx_fec.proofs.air_files.line_reader.LineReader.next_of_all.Goals as goal
+use Rattle.nx_fec.proofs.air_files.line_reader.LineReader.next_of_all.Goals.{then-is_empty+else-not-self+in_ok-has_more+else-not-has_more, else-is_empty}
 
 pub returns-in_err-has_more-clause-gives : goal.returns-in_err-has_more-clause-gives
 returns-in_err-has_more-clause-gives g c = λ limit first lines h.
