@@ -2,7 +2,6 @@
 pub mod AirFile
 pub mod BitLines
 pub mod Channels
-pub mod HearFault
 pub mod LineReading
 pub mod LineRuns
 pub mod Lines

@@ -1,6 +1,5 @@
 -- What only private contracts, models and proofs cite.
 pub mod CountedCode
-pub mod LineTaking
 pub mod Packing
 pub mod PieceReading
 pub mod ScannerFields

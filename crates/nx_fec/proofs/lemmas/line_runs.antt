@@ -1,6 +1,5 @@
 -- Runs over lines, step by step.
 pub mod ElementsRead
-pub mod Hearing
 pub mod LineReading
 pub mod LineRun
 pub mod LinesRead
