@@ -10,7 +10,8 @@ use Rattle.nx_log.specs.Logged.{remembered_on}
 use Rattle.nx_memory.specs.Memory.{newest_moment, seconds_known}
 use Rattle.nx_copies.specs.Events.{Event, Start, elements_among, first_setting}
 use Rattle.nx_copies.specs.copies.FoundCopies.{AreFoundIn, FoundCopy, TaggedCopy, ended_so_far, tagged_copies}
-use Rattle.nx_copies.specs.copies.InTurn.{PrintAllToEnd, PrintsInTurn}
+use Rattle.nx_copies.specs.copies.InTurn.{PrintAllToEndBy, PrintsInTurnBy}
+use Rattle.nx_copies.specs.copies.Log.{Printing, plain}
 use Rattle.nx_receiver.specs.air_file_runs.Listen.{events_on, given_by}
 use Rattle.nx_copies.specs.copies.Printing.{printed_copies}
 use Rattle.nx_copies.specs.copies.Shares.{Given, MarkedCopy, Starts, copies_on, start_on}
@@ -72,10 +73,14 @@ abbrev pub AreFoundOf : Ending → List Event → List FoundCopy → Type 0
 AreFoundOf stopped events copies = HadEnded events copies
 AreFoundOf ending events copies = AreFoundIn events copies
 
--- and what is printed of them
+-- and what is printed of them, by what a receiver prints
+abbrev pub PrintOfBy : Printing → Ending → Starts → List Given → List MarkedCopy → Type 0
+PrintOfBy printing stopped = PrintsInTurnBy printing
+PrintOfBy printing ending = PrintAllToEndBy printing
+
+-- the same where each copy is judged alone
 abbrev pub PrintOf : Ending → Starts → List Given → List MarkedCopy → Type 0
-PrintOf stopped starts given copies = PrintsInTurn starts given copies
-PrintOf ending starts given copies = PrintAllToEnd starts given copies
+PrintOf = PrintOfBy plain
 
 -- where it answered, it read on behind all lines, and put all that was printed
 abbrev pub PutAll : Ending → List Line → List MarkedCopy → List MarkedCopy → Type 0
@@ -87,18 +92,22 @@ PutAll ending more printed put = ⊤
 -- `printed`, what they print. It is at least `surely`, all that is printed of those behind which it
 -- read on, which surely stands in the log; and all, where the watch answered. Its log then stands
 -- for the entries from before and for these.
-pub record Puts (log : List MarkedCopy) (watch : Watch) : Type 0 where
+pub record PutsBy (printing : Printing) (log : List MarkedCopy) (watch : Watch) : Type 0 where
   pub begins : watch.starts ≡ starts_at watch.moment log
   pub said : List (Option Line)
   pub acted : lines_of watch ≡ acting_lines (moments_at watch.moment watch.starts) said
   pub printed : List MarkedCopy
-  pub prints : PrintOf watch.ending watch.starts (given_by (lines_of watch)) printed
+  pub prints : PrintOfBy printing watch.ending watch.starts (given_by (lines_of watch)) printed
   pub most : Begins watch.put printed
   pub surely : List MarkedCopy
-  pub in_turn : PrintsInTurn watch.starts (given_by watch.sure) surely
+  pub in_turn : PrintsInTurnBy printing watch.starts (given_by watch.sure) surely
   pub least : Begins surely watch.put
   pub all : PutAll watch.ending watch.more printed watch.put
   pub stands : StandsForEntries (log ++ watch.put) watch.file
+
+-- the same where each copy is judged alone
+abbrev pub Puts : List MarkedCopy → Watch → Type 0
+Puts = PutsBy plain
 
 -- those of these lines that act on a watch that started at this moment behind these entries
 abbrev pub acting_at : ℕ → List MarkedCopy → List (Option Line) → List Line
@@ -106,13 +115,18 @@ acting_at now log lines = acting_lines (moments_at now (starts_at now log)) line
 
 -- At some moment these were the lines, of all lines of a watch that started so, that had been read
 -- whole. All that is printed in turn of those of them that act is among so many copies.
-pub record HadRead (now : ℕ) (log : List MarkedCopy) (lines by_then : List (Option Line))
-    (count : ℕ)
+pub record HadReadBy (printing : Printing) (now : ℕ) (log : List MarkedCopy)
+    (lines by_then : List (Option Line)) (count : ℕ)
     : Type 0 where
   pub begins : Begins by_then lines
   pub surely : List MarkedCopy
-  pub in_turn : PrintsInTurn (starts_at now log) (given_by (acting_at now log by_then)) surely
+  pub in_turn : PrintsInTurnBy printing (starts_at now log)
+      (given_by (acting_at now log by_then)) surely
   pub least : length surely ≤ count
+
+-- the same where each copy is judged alone
+abbrev pub HadRead : ℕ → List MarkedCopy → List (Option Line) → List (Option Line) → ℕ → Type 0
+HadRead = HadReadBy plain
 
 -- how a watch ends that stops so, where it kept all that its lines print, and where it kept less
 abbrev pub kept_all_at : Stop → Ending
@@ -127,8 +141,8 @@ kept_some_at stop = stopped_closing
 
 -- A watch that started at this moment behind these entries of its log, and ended so, took these
 -- lines that act. It read on behind the sure ones of them, put these copies, and left these bytes.
-pub record IsLeftBy (now : ℕ) (log : List MarkedCopy) (ending : Ending) (lines sure : List Line)
-    (put : List MarkedCopy) (file : List ℕ)
+pub record IsLeftPrinting (printing : Printing) (now : ℕ) (log : List MarkedCopy) (ending : Ending)
+    (lines sure : List Line) (put : List MarkedCopy) (file : List ℕ)
     : Type 0 where
   pub watch : Watch
   pub started : watch.moment ≡ now
@@ -137,7 +151,12 @@ pub record IsLeftBy (now : ℕ) (log : List MarkedCopy) (ending : Ending) (lines
   pub read_on : watch.sure ≡ sure
   pub kept : watch.put ≡ put
   pub left : watch.file ≡ file
-  pub puts : Puts log watch
+  pub puts : PutsBy printing log watch
+
+-- the same where each copy is judged alone
+abbrev pub IsLeftBy : ℕ → List MarkedCopy → Ending → List Line → List Line → List MarkedCopy
+    → List ℕ → Type 0
+IsLeftBy = IsLeftPrinting plain
 
 -- The copies that it judged on a channel begin those that were found, and what is printed of them
 -- is what it put. Those that had ended in the lines behind which it read on are among them.
@@ -165,6 +184,12 @@ with_copies watch found judged = record watch { found = found; judged = judged }
 abbrev pub IsChain : List MarkedCopy → List Watch → Type 0
 IsChain log [] = ⊤
 IsChain log (watch ∷ watches) = GoesOn log watch × IsChain (log ++ watch.put) watches
+
+-- The same of what the watches put, by what their receivers print.
+abbrev pub IsChainBy : Printing → List MarkedCopy → List Watch → Type 0
+IsChainBy printing log [] = ⊤
+IsChainBy printing log (watch ∷ watches) =
+    PutsBy printing log watch × IsChainBy printing (log ++ watch.put) watches
 
 -- joined, in order: what all watches put, and the copies that they judged on a channel
 abbrev pub all_put : List Watch → List MarkedCopy

@@ -5,5 +5,6 @@ pub mod LeftOn
 pub mod ReadBack
 pub mod Example
 pub mod Bounds
+pub mod Together
 pub mod Written
 pub mod Shortened

@@ -17,6 +17,7 @@ ghost use Rattle.nx_left_on.specs.Example.{first_moment, one_entry, watches_apar
 ghost use Rattle.nx_left_on.specs.Bounds.{asks_since, copies_between, entry_then, newer_entry, silent_watch, watch_behind, watches_between};
 ghost use Rattle.nx_left_on.specs.LeftOn.{AreFewOver, IsHeardInTimeOver, IsUnknownOver};
 ghost use Rattle.nx_left_on.specs.Shortened.{HearsFrom, LeavesOutOld};
+ghost use Rattle.nx_left_on.specs.Together.{IsOver};
 
 /// The clock of a watch is near where its MOMENT lies 66 hours less a second before the newest
 /// entry of the channel, and not where it lies 66 hours before. Entries that an earlier watch of
@@ -91,4 +92,12 @@ pub fn a_log_out_of_order_is_not_shortened_so()
         ≡ remembered_on Zero one_entry }
     ensures shorter { (starts_at 1735929600 newer_entry).entries Zero
         ≡ remembered_on Zero newer_entry }
+{}
+
+/// A copy is over behind an entry where that is 66 hours old, and not a second before, unless 200
+/// entries stand behind it; 199 are too few.
+pub fn an_entry_is_over_after_66_hours_or_200_entries()
+    ensures old { IsOver (entry_then 1735454400) 0 first_copy }
+    ensures young { IsOver (entry_then 1735454401) 199 first_copy → ⊥ }
+    ensures many { IsOver (entry_then 1735454401) 200 first_copy }
 {}

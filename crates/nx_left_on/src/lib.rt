@@ -7,4 +7,5 @@ pub mod laws;
 pub mod places;
 pub mod reading;
 pub mod shortening;
+pub mod together;
 pub mod writing;

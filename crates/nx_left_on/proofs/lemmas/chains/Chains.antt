@@ -67,7 +67,7 @@ later-second (Some m) None = omega arith
 later-second (Some m) (Some n) = le-max_right m n
 
 -- the moment at which three receivers start isn't before the newest entry of any channel
-newest-before : (saved : SavedStates) (channel : Channel)
+pub newest-before : (saved : SavedStates) (channel : Channel)
     → newest_moment (saved_of saved channel).entries ≤ (starts_from saved).moment
 newest-before saved channel =
     let one = newest_of saved.on_0.entries in

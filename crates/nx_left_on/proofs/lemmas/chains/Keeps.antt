@@ -11,18 +11,20 @@ use Rattle.nx_envelope.specs.Moment.{last_moment}
 use Rattle.nx_fec.specs.declared.air_files.channel.Channel.{Channel}
 use Rattle.nx_receiver.specs.air_file_runs.Listen.{given_by, given_of}
 use Rattle.nx_copies.specs.copies.FoundCopies.{FoundCopy}
-use Rattle.nx_copies.specs.copies.InTurn.{PrintsInTurn}
+use Rattle.nx_copies.specs.copies.InTurn.{PrintsInTurn, PrintsInTurnBy}
+use Rattle.nx_copies.specs.copies.Log.{IsPrinting, Printing, plain}
 use Rattle.nx_copies.specs.copies.Shares.{MarkedCopy, Starts}
-use Rattle.nx_copies.proofs.lemmas.channels.Added.{nothing-given}
-use Rattle.nx_copies.proofs.lemmas.channels.One.{one-in_turn}
-use Rattle.nx_copies.proofs.lemmas.channels.Some.{later-some}
+use Rattle.nx_copies.proofs.lemmas.channels.Added.{nothing-given_by}
+use Rattle.nx_copies.proofs.lemmas.printing.Laws.{plain-laws}
+use Rattle.nx_copies.proofs.lemmas.channels.One.{one-in_turn_by}
+use Rattle.nx_copies.proofs.lemmas.channels.Some.{later-some_by}
 use Rattle.nx_watch.specs.Acting.{acting_behind, acting_lines, acts, moment_said, moments_said}
 use Rattle.nx_watch.specs.Acting.{with_start}
 use Rattle.nx_watch.specs.declared.lines.line_effects.StartMoments.{StartMoments}
-use Rattle.nx_watch.specs.Watch.{PrintsUntil, StandsForEntries, Stop, at_end, back, moments_at, starts_at}
+use Rattle.nx_watch.specs.Watch.{PrintsUntil, PrintsUntilBy, StandsForEntries, Stop, at_end, back, moments_at, starts_at}
 use Rattle.nx_watch.specs.Watch.{unread, unwritten}
-use Rattle.nx_left_on.specs.Chain.{Ending, HadRead, acting_at, IsLeftBy, PrintOf, PutAll, Watch, answered, kept_all_at}
-use Rattle.nx_left_on.specs.Chain.{kept_some_at, stopped, stopped_closing, with_copies}
+use Rattle.nx_left_on.specs.Chain.{Ending, HadRead, HadReadBy, acting_at, IsLeftBy, IsLeftPrinting, PrintOfBy, PutAll, Watch}
+use Rattle.nx_left_on.specs.Chain.{answered, kept_all_at, kept_some_at, stopped, stopped_closing, with_copies}
 use Rattle.nx_left_on.proofs.lemmas.chains.Found.{begins-itself, begins-more}
 
 -- ---- beginnings
@@ -85,33 +87,6 @@ acting-begins start by_then lines b =
           ∙ acting-append first [] (with_start start by_then) more.0,
     )
 
--- what lines print in turn begins what they and more print in turn
-pub turn-begins : (starts : Starts) (front more : List Line) (surely copies : List MarkedCopy)
-    → PrintsInTurn starts (given_by front) surely
-    → PrintsInTurn starts (given_by (front ++ more)) copies → Begins surely copies
-turn-begins starts front more surely copies h k =
-    let on = later-some starts (given_by front) (given_by more) surely h in (
-      on.more,
-      one-in_turn starts (given_by (front ++ more)) copies (surely ++ on.more) k
-          (subst (λ given. PrintsInTurn starts given (surely ++ on.more))
-          (sym (map-append given_of front more)) on.in_turn),
-    )
-
--- and until a watch stops
-until-begins : (stop : Stop) (starts : Starts) (front more : List Line)
-    (surely copies : List MarkedCopy) → PrintsInTurn starts (given_by front) surely
-    → PrintsUntil stop starts (given_by (front ++ more)) copies → Begins surely copies
-until-begins at_end starts front more surely copies h k =
-    begins-more surely k.ended copies (turn-begins starts front more surely k.ended h k.in_turn)
-    (_, k.whole)
-until-begins (back line last given) starts front more surely copies h k =
-    begins-more surely k.ended copies (turn-begins starts front more surely k.ended h k.in_turn)
-    (_, k.whole)
-until-begins unread starts front more surely copies h k =
-    turn-begins starts front more surely copies h k
-until-begins unwritten starts front more surely copies h k =
-    turn-begins starts front more surely copies h k
-
 begins-take : {A : Type 0} (front all : List A) (count : ℕ) → Begins front all
     → length front ≤ count → Begins front (take count all)
 begins-take front all count b le =
@@ -138,163 +113,273 @@ watch_with now entries sure more ending put file = record {
   file = file;
 }
 
-module _ (now : ℕ) (entries copies : List MarkedCopy) (lines : List (Option Line)) (file : List ℕ)
-  where
-    abbrev starts : Starts
-    starts = starts_at now entries
+module _ (printing : Printing) (laws : IsPrinting printing) where
+  -- what lines print in turn begins what they and more print in turn
+  pub turn-begins_by : (starts : Starts) (front more : List Line) (surely copies : List MarkedCopy)
+      → PrintsInTurnBy printing starts (given_by front) surely
+      → PrintsInTurnBy printing starts (given_by (front ++ more)) copies → Begins surely copies
+  turn-begins_by starts front more surely copies h k =
+      let on = later-some_by printing laws starts (given_by front) (given_by more) surely h in (
+        on.more,
+        one-in_turn_by printing laws starts (given_by (front ++ more)) copies (surely ++ on.more) k
+            (subst (λ given. PrintsInTurnBy printing starts given (surely ++ on.more))
+            (sym (map-append given_of front more)) on.in_turn),
+      )
 
-    abbrev acting : List Line
-    acting = acting_at now entries lines
+  -- and until a watch stops
+  until-begins : (stop : Stop) (starts : Starts) (front more : List Line)
+      (surely copies : List MarkedCopy) → PrintsInTurnBy printing starts (given_by front) surely
+      → PrintsUntilBy printing stop starts (given_by (front ++ more)) copies → Begins surely copies
+  until-begins at_end starts front more surely copies h k =
+      begins-more surely k.ended copies (turn-begins_by starts front more surely k.ended h
+      k.in_turn)
+      (_, k.whole)
+  until-begins (back line last given) starts front more surely copies h k =
+      begins-more surely k.ended copies (turn-begins_by starts front more surely k.ended h
+      k.in_turn)
+      (_, k.whole)
+  until-begins unread starts front more surely copies h k =
+      turn-begins_by starts front more surely copies h k
+  until-begins unwritten starts front more surely copies h k =
+      turn-begins_by starts front more surely copies h k
 
-    -- the lines with none behind them
-    print-all : (ending : Ending) → PrintOf ending starts (given_by acting) copies
-        → PrintOf ending starts (given_by (acting ++ [])) copies
-    print-all ending h =
-        subst (λ all. PrintOf ending starts (given_by all) copies) (sym (append-nil acting)) h
+  module _ (now : ℕ) (entries copies : List MarkedCopy) (lines : List (Option Line)) (file : List ℕ)
+    where
+      abbrev starts : Starts
+      starts = starts_at now entries
 
-    -- all copies are kept, and those that stood open were closed, or weren't
-    keeps-closed : PrintOf answered starts (given_by acting) copies
-        → StandsForEntries (entries ++ copies) file
-        → IsLeftBy now entries answered acting acting copies file
-    keeps-closed h stands = record {
-      watch = watch_with now entries acting [] answered copies file;
-      started = refl;
-      ended = refl;
-      took = append-nil acting;
-      read_on = refl;
-      kept = refl;
-      left = refl;
-      puts = record {
-        begins = refl;
-        said = lines;
-        acted = append-nil acting;
-        printed = copies;
-        prints = print-all answered h;
-        most = begins-itself copies;
-        surely = h.ended;
-        in_turn = h.in_turn;
-        least = (_, h.whole);
-        all = (refl, refl);
+      abbrev acting : List Line
+      acting = acting_at now entries lines
+
+      -- the lines with none behind them
+      print-all : (ending : Ending) → PrintOfBy printing ending starts (given_by acting) copies
+          → PrintOfBy printing ending starts (given_by (acting ++ [])) copies
+      print-all ending h =
+          subst (λ all. PrintOfBy printing ending starts (given_by all) copies) (sym (append-nil
+          acting)) h
+
+      -- all copies are kept, and those that stood open were closed, or weren't
+      keeps-closed : PrintOfBy printing answered starts (given_by acting) copies
+          → StandsForEntries (entries ++ copies) file
+          → IsLeftPrinting printing now entries answered acting acting copies file
+      keeps-closed h stands = record {
+        watch = watch_with now entries acting [] answered copies file;
+        started = refl;
+        ended = refl;
+        took = append-nil acting;
+        read_on = refl;
+        kept = refl;
+        left = refl;
+        puts = record {
+          begins = refl;
+          said = lines;
+          acted = append-nil acting;
+          printed = copies;
+          prints = print-all answered h;
+          most = begins-itself copies;
+          surely = h.ended;
+          in_turn = h.in_turn;
+          least = (_, h.whole);
+          all = (refl, refl);
+          stands = stands;
+        };
+      }
+
+      keeps-open : PrintOfBy printing stopped starts (given_by acting) copies
+          → StandsForEntries (entries ++ copies) file
+          → IsLeftPrinting printing now entries stopped acting acting copies file
+      keeps-open h stands = record {
+        watch = watch_with now entries acting [] stopped copies file;
+        started = refl;
+        ended = refl;
+        took = append-nil acting;
+        read_on = refl;
+        kept = refl;
+        left = refl;
+        puts = record {
+          begins = refl;
+          said = lines;
+          acted = append-nil acting;
+          printed = copies;
+          prints = print-all stopped h;
+          most = begins-itself copies;
+          surely = copies;
+          in_turn = h;
+          least = begins-itself copies;
+          all = tt;
+          stands = stands;
+        };
+      }
+
+      pub keeps-all_by : (stop : Stop) → PrintsUntilBy printing stop starts (given_by acting) copies
+          → StandsForEntries (entries ++ copies) file
+          → IsLeftPrinting printing now entries (kept_all_at stop) acting acting copies file
+      keeps-all_by at_end h stands = keeps-closed h stands
+      keeps-all_by (back line last given) h stands = keeps-closed h stands
+      keeps-all_by unread h stands = keeps-open h stands
+      keeps-all_by unwritten h stands = keeps-open h stands
+
+  -- So many copies are kept, and at least all that is printed in turn of the sure lines, which
+  -- begin those that act.
+  record KeepsSure (now : ℕ) (entries copies : List MarkedCopy) (lines : List (Option Line))
+      (sure more : List Line) (count : ℕ) (file : List ℕ)
+      : Type 0 where
+    all : sure ++ more ≡ acting_at now entries lines
+    surely : List MarkedCopy
+    in_turn : PrintsInTurnBy printing (starts_at now entries) (given_by sure) surely
+    least : length surely ≤ count
+    stands : StandsForEntries (entries ++ take count copies) file
+
+  module _ (now : ℕ) (entries copies : List MarkedCopy) (lines : List (Option Line))
+      (sure more : List Line) (count : ℕ) (file : List ℕ)
+      (k : KeepsSure now entries copies lines sure more count file)
+    where
+      abbrev starting : Starts
+      starting = starts_at now entries
+
+      -- it ended so, with copies closed or not
+      keeps-ending : (ending : Ending) → ((all put : List MarkedCopy) → PutAll ending more all put)
+          → PrintOfBy printing ending starting (given_by (sure ++ more)) copies → Begins k.surely
+          copies
+          → IsLeftPrinting printing now entries ending (acting_at now entries lines) sure (take
+          count copies) file
+      keeps-ending ending all h b = record {
+        watch = watch_with now entries sure more ending (take count copies) file;
+        started = refl;
+        ended = refl;
+        took = k.all;
+        read_on = refl;
+        kept = refl;
+        left = refl;
+        puts = record {
+          begins = refl;
+          said = lines;
+          acted = k.all;
+          printed = copies;
+          prints = h;
+          most = (drop count copies, sym (take-append-drop count copies));
+          surely = k.surely;
+          in_turn = k.in_turn;
+          least = begins-take k.surely copies count b k.least;
+          all = all copies (take count copies);
+          stands = k.stands;
+        };
+      }
+
+      keeps-until : (stop : Stop)
+          → PrintsUntilBy printing stop starting (given_by (sure ++ more)) copies
+          → Begins k.surely copies
+          → IsLeftPrinting printing now entries (kept_some_at stop)
+          (acting_at now entries lines) sure (take count copies) file
+      keeps-until at_end h b = keeps-ending stopped_closing (λ all put. tt) h b
+      keeps-until (back line last given) h b = keeps-ending stopped_closing (λ all put. tt) h b
+      keeps-until unread h b = keeps-ending stopped (λ all put. tt) h b
+      keeps-until unwritten h b = keeps-ending stopped (λ all put. tt) h b
+
+      keeps-sure : (stop : Stop)
+          → PrintsUntilBy printing stop starting (given_by (acting_at now entries lines)) copies
+          → IsLeftPrinting printing now entries (kept_some_at stop) (acting_at now entries lines)
+          sure
+          (take count copies) file
+      keeps-sure stop h =
+          let until = subst (λ all. PrintsUntilBy printing stop starting (given_by all) copies) (sym
+          k.all) h in
+          keeps-until stop until
+          (until-begins stop starting sure more k.surely copies k.in_turn until)
+
+  -- so many of them are kept, and it is sure of no line
+  pub keeps-some_by : (now : ℕ) (entries copies : List MarkedCopy) (lines : List (Option Line))
+      (file : List ℕ) (count : ℕ) (stop : Stop)
+      → PrintsUntilBy printing stop (starts_at now entries)
+      (given_by (acting_at now entries lines)) copies
+      → StandsForEntries (entries ++ take count copies) file
+      → IsLeftPrinting printing now entries (kept_some_at stop) (acting_at now entries lines) []
+      (take count copies) file
+  keeps-some_by now entries copies lines file count stop h stands =
+      keeps-sure now entries copies lines [] (acting_at now entries lines)
+      count file (record {
+        all = refl;
+        surely = [];
+        in_turn = nothing-given_by printing laws (starts_at now entries);
+        least = omega arith;
         stands = stands;
-      };
-    }
+      }) stop h
 
-    keeps-open : PrintOf stopped starts (given_by acting) copies
-        → StandsForEntries (entries ++ copies) file
-        → IsLeftBy now entries stopped acting acting copies file
-    keeps-open h stands = record {
-      watch = watch_with now entries acting [] stopped copies file;
-      started = refl;
-      ended = refl;
-      took = append-nil acting;
-      read_on = refl;
-      kept = refl;
-      left = refl;
-      puts = record {
-        begins = refl;
-        said = lines;
-        acted = append-nil acting;
-        printed = copies;
-        prints = print-all stopped h;
-        most = begins-itself copies;
-        surely = copies;
-        in_turn = h;
-        least = begins-itself copies;
-        all = tt;
+  -- it is sure of the lines that had been read whole
+  pub keeps-behind_by : (now : ℕ) (entries copies : List MarkedCopy)
+      (lines by_then : List (Option Line)) (file : List ℕ) (count : ℕ) (stop : Stop)
+      → PrintsUntilBy printing stop (starts_at now entries) (given_by (acting_at now entries lines))
+      copies
+      → HadReadBy printing now entries lines by_then count
+      → StandsForEntries (entries ++ take count copies) file
+      → IsLeftPrinting printing now entries (kept_some_at stop) (acting_at now entries lines)
+      (acting_at now entries by_then) (take count copies) file
+  keeps-behind_by now entries copies lines by_then file count stop h r stands =
+      let more = acting-begins (moments_at now (starts_at now entries)) by_then lines r.begins in
+      let sure = acting_at now entries by_then in
+      keeps-sure now entries copies lines sure more.0 count file (record {
+        all = sym more.1;
+        surely = r.surely;
+        in_turn = r.in_turn;
+        least = omega (arith, r.least);
         stands = stands;
-      };
-    }
+      }) stop h
 
-    pub keeps-all : (stop : Stop) → PrintsUntil stop starts (given_by acting) copies
-        → StandsForEntries (entries ++ copies) file
-        → IsLeftBy now entries (kept_all_at stop) acting acting copies file
-    keeps-all at_end h stands = keeps-closed h stands
-    keeps-all (back line last given) h stands = keeps-closed h stands
-    keeps-all unread h stands = keeps-open h stands
-    keeps-all unwritten h stands = keeps-open h stands
+  -- more copies than those are among one more
+  one-more : (now : ℕ) (entries : List MarkedCopy) (lines by_then : List (Option Line)) (count : ℕ)
+      → HadReadBy printing now entries lines by_then count → HadReadBy printing now entries lines
+      by_then (count + 1)
+  one-more now entries lines by_then count r = record {
+    begins = r.begins;
+    surely = r.surely;
+    in_turn = r.in_turn;
+    least = omega (arith, r.least);
+  }
 
--- So many copies are kept, and at least all that is printed in turn of the sure lines, which begin
--- those that act.
-record KeepsSure (now : ℕ) (entries copies : List MarkedCopy) (lines : List (Option Line))
-    (sure more : List Line) (count : ℕ) (file : List ℕ)
-    : Type 0 where
-  all : sure ++ more ≡ acting_at now entries lines
-  surely : List MarkedCopy
-  in_turn : PrintsInTurn (starts_at now entries) (given_by sure) surely
-  least : length surely ≤ count
-  stands : StandsForEntries (entries ++ take count copies) file
+  -- after a fault of the disk so many are kept, or one more
+  pub keeps-faulted_by : (now : ℕ) (entries copies : List MarkedCopy)
+      (lines by_then : List (Option Line)) (file : List ℕ) (count : ℕ) (stop : Stop)
+      → PrintsUntilBy printing stop (starts_at now entries)
+      (given_by (acting_at now entries lines)) copies
+      → HadReadBy printing now entries lines by_then count
+      → (StandsForEntries (entries ++ take count copies) file)
+      ⊎ (StandsForEntries (entries ++ take (count + 1) copies) file)
+      → (put : List MarkedCopy) × IsLeftPrinting printing now entries (kept_some_at stop)
+      (acting_at now entries lines)
+      (acting_at now entries by_then) put file
+  keeps-faulted_by now entries copies lines by_then file count stop h r (inl stands) = (
+    take count copies,
+    keeps-behind_by now entries copies lines by_then file count stop h r stands,
+  )
+  keeps-faulted_by now entries copies lines by_then file count stop h r (inr stands) = (
+    take (count + 1) copies,
+    keeps-behind_by now entries copies lines by_then file (count + 1) stop h
+        (one-more now entries lines by_then count r) stands,
+  )
 
-module _ (now : ℕ) (entries copies : List MarkedCopy) (lines : List (Option Line))
-    (sure more : List Line) (count : ℕ) (file : List ℕ)
-    (k : KeepsSure now entries copies lines sure more count file)
-  where
-    abbrev starting : Starts
-    starting = starts_at now entries
+-- ---- where each copy is judged alone
 
-    -- it ended so, with copies closed or not
-    keeps-ending : (ending : Ending) → ((all put : List MarkedCopy) → PutAll ending more all put)
-        → PrintOf ending starting (given_by (sure ++ more)) copies → Begins k.surely copies
-        → IsLeftBy now entries ending (acting_at now entries lines) sure (take count copies) file
-    keeps-ending ending all h b = record {
-      watch = watch_with now entries sure more ending (take count copies) file;
-      started = refl;
-      ended = refl;
-      took = k.all;
-      read_on = refl;
-      kept = refl;
-      left = refl;
-      puts = record {
-        begins = refl;
-        said = lines;
-        acted = k.all;
-        printed = copies;
-        prints = h;
-        most = (drop count copies, sym (take-append-drop count copies));
-        surely = k.surely;
-        in_turn = k.in_turn;
-        least = begins-take k.surely copies count b k.least;
-        all = all copies (take count copies);
-        stands = k.stands;
-      };
-    }
+pub turn-begins : (starts : Starts) (front more : List Line) (surely copies : List MarkedCopy)
+    → PrintsInTurn starts (given_by front) surely
+    → PrintsInTurn starts (given_by (front ++ more)) copies → Begins surely copies
+turn-begins = turn-begins_by plain plain-laws
 
-    keeps-until : (stop : Stop) → PrintsUntil stop starting (given_by (sure ++ more)) copies
-        → Begins k.surely copies
-        → IsLeftBy now entries (kept_some_at stop) (acting_at now entries lines) sure
-        (take count copies) file
-    keeps-until at_end h b = keeps-ending stopped_closing (λ all put. tt) h b
-    keeps-until (back line last given) h b = keeps-ending stopped_closing (λ all put. tt) h b
-    keeps-until unread h b = keeps-ending stopped (λ all put. tt) h b
-    keeps-until unwritten h b = keeps-ending stopped (λ all put. tt) h b
+pub keeps-all : (now : ℕ) (entries copies : List MarkedCopy) (lines : List (Option Line))
+    (file : List ℕ) (stop : Stop)
+    → PrintsUntil stop (starts_at now entries) (given_by (acting_at now entries lines)) copies
+    → StandsForEntries (entries ++ copies) file
+    → IsLeftBy now entries (kept_all_at stop) (acting_at now entries lines)
+    (acting_at now entries lines) copies file
+keeps-all = keeps-all_by plain plain-laws
 
-    keeps-sure : (stop : Stop)
-        → PrintsUntil stop starting (given_by (acting_at now entries lines)) copies
-        → IsLeftBy now entries (kept_some_at stop) (acting_at now entries lines) sure
-        (take count copies) file
-    keeps-sure stop h =
-        let until = subst (λ all. PrintsUntil stop starting (given_by all) copies) (sym k.all) h in
-        keeps-until stop until
-        (until-begins stop starting sure more k.surely copies k.in_turn until)
-
--- so many of them are kept, and it is sure of no line
 pub keeps-some : (now : ℕ) (entries copies : List MarkedCopy) (lines : List (Option Line))
     (file : List ℕ) (count : ℕ) (stop : Stop)
-    → PrintsUntil stop (starts_at now entries)
-    (given_by (acting_at now entries lines)) copies
+    → PrintsUntil stop (starts_at now entries) (given_by (acting_at now entries lines)) copies
     → StandsForEntries (entries ++ take count copies) file
     → IsLeftBy now entries (kept_some_at stop) (acting_at now entries lines) []
     (take count copies) file
-keeps-some now entries copies lines file count stop h stands =
-    keeps-sure now entries copies lines [] (acting_at now entries lines)
-    count file (record {
-      all = refl;
-      surely = [];
-      in_turn = nothing-given (starts_at now entries);
-      least = omega arith;
-      stands = stands;
-    }) stop h
+keeps-some = keeps-some_by plain plain-laws
 
--- it is sure of the lines that had been read whole
 pub keeps-behind : (now : ℕ) (entries copies : List MarkedCopy)
     (lines by_then : List (Option Line)) (file : List ℕ) (count : ℕ) (stop : Stop)
     → PrintsUntil stop (starts_at now entries) (given_by (acting_at now entries lines)) copies
@@ -302,46 +387,18 @@ pub keeps-behind : (now : ℕ) (entries copies : List MarkedCopy)
     → StandsForEntries (entries ++ take count copies) file
     → IsLeftBy now entries (kept_some_at stop) (acting_at now entries lines)
     (acting_at now entries by_then) (take count copies) file
-keeps-behind now entries copies lines by_then file count stop h r stands =
-    let more = acting-begins (moments_at now (starts_at now entries)) by_then lines r.begins in
-    keeps-sure now entries copies lines (acting_at now entries by_then) more.0 count file (record {
-      all = sym more.1;
-      surely = r.surely;
-      in_turn = r.in_turn;
-      least = omega (arith, r.least);
-      stands = stands;
-    }) stop h
+keeps-behind = keeps-behind_by plain plain-laws
 
--- more copies than those are among one more
-one-more : (now : ℕ) (entries : List MarkedCopy) (lines by_then : List (Option Line)) (count : ℕ)
-    → HadRead now entries lines by_then count → HadRead now entries lines by_then (count + 1)
-one-more now entries lines by_then count r = record {
-  begins = r.begins;
-  surely = r.surely;
-  in_turn = r.in_turn;
-  least = omega (arith, r.least);
-}
-
--- after a fault of the disk so many are kept, or one more
 pub keeps-faulted : (now : ℕ) (entries copies : List MarkedCopy)
     (lines by_then : List (Option Line)) (file : List ℕ) (count : ℕ) (stop : Stop)
-    → PrintsUntil stop (starts_at now entries)
-    (given_by (acting_at now entries lines)) copies
+    → PrintsUntil stop (starts_at now entries) (given_by (acting_at now entries lines)) copies
     → HadRead now entries lines by_then count
     → (StandsForEntries (entries ++ take count copies) file)
     ⊎ (StandsForEntries (entries ++ take (count + 1) copies) file)
     → (put : List MarkedCopy) × IsLeftBy now entries (kept_some_at stop)
     (acting_at now entries lines)
     (acting_at now entries by_then) put file
-keeps-faulted now entries copies lines by_then file count stop h r (inl stands) = (
-  take count copies,
-  keeps-behind now entries copies lines by_then file count stop h r stands,
-)
-keeps-faulted now entries copies lines by_then file count stop h r (inr stands) = (
-  take (count + 1) copies,
-  keeps-behind now entries copies lines by_then file (count + 1) stop h
-      (one-more now entries lines by_then count r) stands,
-)
+keeps-faulted = keeps-faulted_by plain plain-laws
 
 -- ---- what is told of a watch makes it one
 

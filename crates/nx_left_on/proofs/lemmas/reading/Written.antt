@@ -1,5 +1,5 @@
 -- A kept log that is written of entries stands for them.
-use Rattle.std.proofs.Common.{◌≡◌, ◌≢◌, ℕ, List, [], ◌∷◌, ◌++◌, ap, ap₂, sym, ◌∙◌, refl, subst, arith, append-nil, append_assoc}
+use Rattle.std.proofs.Common.{◌≡◌, ℕ, List, [], ◌∷◌, ◌++◌, ap, ap₂, sym, ◌∙◌, refl, subst, arith, append-nil}
 use Rattle.std.specs.Prelude.{map}
 use Rattle.std.specs.List.{AllZip, concat, flat_map}
 use Rattle.std.specs.Io.KnownBytes.{Appends}
