@@ -21,13 +21,13 @@ ghost use Rattle.nx_watch.specs.Watch.{PrintsUntilBy, StandsForEntries, Stop, st
 ghost use Rattle.nx_left_on.specs.Chain.{ClocksAreNear, HadReadBy, IsChainBy, IsLeftPrinting, Watch, acting_at, all_put, answered, events_in, kept_all_at, kept_some_at};
 ghost use Rattle.nx_left_on.specs.Together.{IsOver, StandsLast};
 
-/// What the clause `watched` of `nx_watch::watch_combined` says of its file makes it a watch of
-/// such a chain: the copies that its lines print together until it stopped, and the entries for
-/// which the file stands. Where all of these copies are kept, it read on behind all its lines.
-/// Where so many of them are, after a crash or a fault of the disk, it is at least a watch that is
-/// sure of no line. Behind a moment at which lines had been read whole, and all that they print in
-/// turn is kept, it is sure of those of them that act. Then a crash leaves so many copies, and a
-/// fault of the disk these, or one more.
+/// What the clause `watched` of `nx_watch::watch_combined` says of its file makes it a watch of a
+/// chain that takes sendings together: the copies that its lines print together until it stopped,
+/// and the entries for which the file stands. Where all of these copies are kept, it read on behind
+/// all its lines. Where so many of them are, after a crash or a fault of the disk, it is at least a
+/// watch that is sure of no line. Behind a moment at which lines had been read whole, and all that
+/// they print in turn is kept, it is sure of those of them that act. Then a crash leaves so many
+/// copies, and a fault of the disk these, or one more.
 pub fn what_a_watch_keeps_together_goes_on()
     ensures all { (now : ℕ) (log copies : List MarkedCopy) (lines : List (Option Line))
         (file : List ℕ) (stop : Stop)
@@ -109,9 +109,9 @@ pub fn a_message_heard_together_stands_in_the_log_whole()
         (heard.before ++ (came.up_to ++ came.one ∷ [])) came.rest surely }
 {}
 
-/// Nothing of a message is put again behind an entry of it, by no later watch, within 66 hours. The
-/// entry stands in the log, and behind it none of its identity and none with an earlier moment. No
-/// MOMENT of the watches behind it lies 66 hours or more before the newest entry. Then the first
+/// Nothing of a message is put again behind an entry of it, by any later watch, within 66 hours.
+/// The entry stands in the log, and behind it none of its identity and none with an earlier moment.
+/// No MOMENT of the watches behind it lies 66 hours or more before the newest entry. Then the first
 /// copy of the identity that is put comes 66 hours behind the entry, or later; or 200 entries have
 /// been made behind the entry by then.
 pub fn a_message_that_stands_there_is_not_put_again()
