@@ -287,14 +287,18 @@ class Sendings:
             self.doubts = -np.inf
             step = (int(best[0]) - self.slot + TURN // 2) % TURN - TURN // 2
             if step:
-                self.stretches = [(first, EVER, shift + step)]
+                self.go_on((first, EVER, shift + step))
         elif here < LOSE:
             self.lock, self.middle = None, None
 
     def forget(self, first):
         """What was heard before element `first` tells nothing of a lock."""
         self.lock, self.middle = None, None
-        self.stretches = [(first, EVER, self.stretches[0][2])]
+        self.go_on((first, EVER, self.stretches[0][2]))
+
+    def go_on(self, *stretches):
+        """Goes on in these stretches. What was decided of a header ahead doesn't hold in them."""
+        self.stretches, self.header = list(stretches), {}
 
     def find_jump(self, place):
         """Looks for a jump ahead: the last of the next positions speak for another place in a turn.
@@ -340,7 +344,7 @@ class Sendings:
         of which a likely place cuts a word, `joined` has what all places together tell."""
         likely = np.flatnonzero(shares > np.log(RARE))
         first, _, shift = self.stretches[0]
-        self.stretches = [(first, ends[likely[0]], shift), (begins[likely[-1]], EVER, shift + step)]
+        self.go_on((first, ends[likely[0]], shift), (begins[likely[-1]], EVER, shift + step))
         models = log_sum((models - log_sum(models)[..., None] + shares[:, None, None]).T).T
         self.joined = {told: model for told, model in zip(range(self.told - 2 * TURN, EVER, TURN), models)
                        if None in (self.heard(told), self.heard(told + GAP))}

@@ -217,7 +217,7 @@ export class Sendings {
         const step = modulo(turn - this.slot + TURN / 2, TURN) - TURN / 2;
         if (step) {
             const { first, shift } = this.stretches[0];
-            this.stretches = [{ first, last: Infinity, shift: shift + step }];
+            this.goOn([{ first, last: Infinity, shift: shift + step }]);
         }
     }
 
@@ -237,7 +237,13 @@ export class Sendings {
     forget(first) {
         this.lock = null;
         this.middle = null;
-        this.stretches = [{ first, last: Infinity, shift: this.stretches[0].shift }];
+        this.goOn([{ first, last: Infinity, shift: this.stretches[0].shift }]);
+    }
+
+    /** Goes on in these stretches. What was decided of a header ahead doesn't hold in them. */
+    goOn(stretches) {
+        this.stretches = stretches;
+        this.header = new Map();
     }
 
     /**
@@ -249,10 +255,10 @@ export class Sendings {
         const jump = findJump(this.state, proof, { place, moved: this.moved, isExchanged: this.exchanged });
         if (jump) {
             const { first, shift } = this.stretches[0];
-            this.stretches = [
+            this.goOn([
                 { first, last: jump.end, shift },
                 { first: jump.begin, last: Infinity, shift: shift + jump.step },
-            ];
+            ]);
             this.jumps += 1;
             const told = jump.models.map((models, position) => [this.told + position * TURN, models]);
             this.joined = new Map(told.filter(([at]) => this.heardWords(at).includes(null)));
