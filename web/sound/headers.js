@@ -18,7 +18,7 @@ const FORM = [
     ...Array.from('ZCZC', (letter) => [numberOf(letter)]), [SPACE], ALPHABET, ALPHABET,
     [FIGURE_SHIFT], DIGITS, DIGITS, [RETURN], [FEED],
 ];
-const NAMED = 0.999;         // the identity is written where it is so probable
+const NAMED = 0.995;         // the identity is written where it is so probable
 const OFTEN = 0.02;          // how often a header begins at a position where it may
 const WAITED = 14;           // positions that aren't sure at most, from phasing or an end to a header
 const END = 4;               // N of an end
