@@ -129,6 +129,7 @@ async function triesStop({ tab, room }) {
             const took = await timeOfStop(tab);
             const most = AT_ONCE * slowness();
             assert.ok(took < most, `${one}, stopped ${when}, after ${took} ms of ${most.toFixed(0)}`);
+            await tab.untilIdle();
             const [line] = await tab.hear(sounds.air.file);
             assert.match(line, /^number-00.air: 3 messages heard: 3 new/, `${one}, stopped ${when}`);
             await expectTracksEnded(tab, `${one}, stopped ${when}`);
