@@ -3,7 +3,8 @@
 import assert from 'node:assert/strict';
 import { spawn, spawnSync } from 'node:child_process';
 import { once } from 'node:events';
-import { appendFileSync, existsSync, readFileSync, renameSync, writeFileSync } from 'node:fs';
+import { appendFileSync, existsSync, readFileSync, readlinkSync, realpathSync, renameSync, writeFileSync }
+    from 'node:fs';
 import { setTimeout as pause } from 'node:timers/promises';
 import { readKept } from '../follow/kept.js';
 import { keptOf } from './kept.mjs';
@@ -21,6 +22,15 @@ const TAILS = ['[EA02 2025', 'a note\n', '[EA01 2025-01-01 00:40:00 full 0/5]\nT
 /** Whether a watch can be killed within a put. */
 export const hasStrace = spawnSync('strace', ['--version']).status === 0;
 
+/** The program that a process runs, or null where the system doesn't tell it. */
+function programOf(pid) {
+    try {
+        return readlinkSync(`/proc/${pid}/exe`);
+    } catch {
+        return null;
+    }
+}
+
 export class Watch {
     log;
     cut = 0;        // starts that cut what a killed watch or somebody left
@@ -32,7 +42,7 @@ export class Watch {
     #begun = null;  // a message of which half was heard, which is sent again
 
     constructor(program, log, chance) {
-        [this.#program, this.log, this.#chance] = [program, log, chance];
+        [this.#program, this.log, this.#chance] = [realpathSync(program), log, chance];
     }
 
     /** The entries that the log stands for, as the program says. */
@@ -49,11 +59,11 @@ export class Watch {
     /** A watch hears two to four messages, and is killed: at a random moment, or within a put. */
     async hearAndBeKilled() {
         const watch = this.#started(this.#chance() < 0.5 ? this.#withinPut() : []);
-        const late = setTimeout(() => watch.process.kill('SIGKILL'), 50 + this.#below(450));
+        const late = setInterval(() => this.#kill(watch.process), 50 + this.#below(450));
         for (let count = 2 + this.#below(3); count > 0; count--) await this.#feed(watch, this.#message());
         const isNoted = this.#chance() < 0.3 && this.#append('a note\n');
         const [, signal] = await watch.ended;
-        clearTimeout(late);
+        clearInterval(late);
         assert.equal(signal, 'SIGKILL', watch.said);
         this.cut += watch.said.includes(', and are cut');
         this.notes += isNoted;
@@ -85,6 +95,12 @@ export class Watch {
             readFileSync(`${this.log}.old`));
         writeFileSync(`${this.log}.new`, kept, 'latin1');
         renameSync(`${this.log}.new`, this.log);
+    }
+
+    /** Kills a watch, where strace made way for it: before that strace would go on alone. */
+    #kill(watch) {
+        const place = programOf(watch.pid);
+        if (place === null || place === this.#program) watch.kill('SIGKILL');
     }
 
     #below(most) {
