@@ -63,7 +63,7 @@ class Feed:
         # behind each line the bytes so far, and how many lines so far act
         self.ends = [*itertools.accumulate(map(len, lines))]
         self.acts = [0, *itertools.accumulate(it not in NOISE for it in lines)]
-        self.entries = read_log(trial.output(["listen"], b"".join(self.acting)))[0]
+        self.entries = read_log(trial.output(trial.listening, b"".join(self.acting)))[0]
         # how many entries the first acting lines print, none of them, one, and so on
         self.counts = [0] * (len(self.acting) + 1)
         if self.acting:
@@ -74,7 +74,7 @@ class Feed:
         """How many entries so many acting lines print. A line behind them that isn't understood
         ends `listen` there, so that nothing is closed."""
         given = b"".join(self.acting[:acts]) + b"X\n"
-        return len(read_log(self.trial.output(["listen"], given, status=2))[0])
+        return len(read_log(self.trial.output(self.trial.listening, given, status=2))[0])
 
     def count_between(self, low, high):
         """Counts what the lines between these two numbers print, of which the counts are known."""

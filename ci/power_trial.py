@@ -57,8 +57,9 @@ class Trial:
 
     def __init__(self, given, folder):
         self.program = os.path.realpath(given.program)
-        # what asks for a watch
-        self.watching = [self.program, "watch", *(["--combine"] if given.combine else [])]
+        # what asks for a watch, and what for the log of the same lines
+        together = ["--combine"] if getattr(given, "combine", False) else []
+        self.watching, self.listening = [self.program, "watch", *together], ["listen", *together]
         self.folder, self.all, self.short, self.kills = folder, given.all, given.short, given.kills
         self.days = 2 if given.short else 7
         self.chance = random.Random(given.seed)
