@@ -9,7 +9,8 @@ import { PATIENCE, Tab } from './tab.mjs';
 const ELEMENT = 'element-6066-11e4-a52e-4f735466cecf'; // how WebDriver names an element
 const [ASK, ANSWER] = [0, 1];
 
-/** What a Firefox of a trial does otherwise: a microphone that gives a tone, and no questions. */
+/** What a Firefox of a trial does otherwise: a microphone that gives a tone, no questions, and no window that is held
+ *  back since another one is before it. */
 const SETTINGS = {
     'marionette.port': 0,
     'media.navigator.streams.fake': true,
@@ -20,6 +21,9 @@ const SETTINGS = {
     'network.captive-portal-service.enabled': false,
     'network.connectivity-service.enabled': false,
     'toolkit.telemetry.reportingpolicy.firstRun': false,
+    'dom.min_background_timeout_value': 4,
+    'dom.min_background_timeout_value_without_budget_throttling': 4,
+    'dom.timeout.enable_budget_timer_throttling': false,
 };
 
 export class Firefox {
