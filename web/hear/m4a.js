@@ -1,6 +1,7 @@
 // An M4A file (MPEG-4) with one sound, of AAC, cut at its frames (ISO/IEC 14496-12 and 14496-3): each piece, its
 // frames behind heads of their own (ADTS), is a file that the browser decodes.
 import { bytesOf, cut, hasWord } from './bytes.js';
+import { breathe } from './sound.js';
 
 const HEAD = 8;           // bytes of a box's length and name
 const LONG_HEAD = 16;     // and where its length has 64 bits
@@ -49,13 +50,17 @@ function boxesIn(bytes, name) {
 const boxIn = (bytes, ...names) =>
     names.reduce((within, name) => boxesIn(within, name)[0] ?? new Uint8Array(), bytes);
 
-/** The rows of a table, each of so many bytes, behind their count at a place; fewer where it has no more. */
-function rowsOf(table, at, width) {
+/** What `read` makes of each row of a table, each of so many bytes, behind their count at a place; of fewer where it
+ *  has no more. */
+function rowsOf(table, at, width, read) {
     const most = Math.floor(Math.max(0, table.length - at - 4) / width);
-    const count = most === 0 ? 0 : Math.min(most, viewOf(table).getUint32(at));
-    const rows = table.subarray(at + 4);
-    return Array.from({ length: count }, (_, row) => viewOf(rows.subarray(width * row, width * (row + 1))));
+    const view = viewOf(table);
+    const rows = new Array(most === 0 ? 0 : Math.min(most, view.getUint32(at)));
+    for (let row = 0; row < rows.length; row++) rows[row] = read(view, at + 4 + width * row);
+    return rows;
 }
+
+const wordAt = (view, at) => view.getUint32(at);
 
 /** What is in a part of a description, which begins with a tag and its length; empty where it is another one. */
 function partIn(bytes, tag) {
@@ -83,55 +88,57 @@ function soundOf(track) {
 function silentIn(track, rate) {
     const [list, clock] = [boxIn(track, 'edts', 'elst'), boxIn(track, 'mdia', 'mdhd')];
     if (list.length === 0 || clock.length < 24) return 0;
-    const begins = list[0] === 1 ? rowsOf(list, 4, 20).map((row) => Number(row.getBigInt64(8)))
-        : rowsOf(list, 4, 12).map((row) => row.getInt32(4));
+    const begins = list[0] === 1 ? rowsOf(list, 4, 20, (view, at) => Number(view.getBigInt64(at + 8)))
+        : rowsOf(list, 4, 12, (view, at) => view.getInt32(at + 4));
     const begin = begins.find((one) => one >= 0) ?? 0;
     return Math.round((begin * rate) / viewOf(clock).getUint32(clock[0] === 1 ? 20 : 12));
 }
 
-/** The places of frames in the file, each with its bytes; null where the tables don't say that of each. */
+/** The `places` of frames in the file, and their `sizes`; null where the tables don't say that of each. */
 function framesOf(track) {
     const table = boxIn(track, 'mdia', 'minf', 'stbl');
-    const sizes = rowsOf(boxIn(table, 'stsz'), 8, 4).map((row) => row.getUint32(0));
-    const chunks = [...rowsOf(boxIn(table, 'stco'), 4, 4).map((row) => row.getUint32(0)),
-        ...rowsOf(boxIn(table, 'co64'), 4, 8).map((row) => Number(row.getBigUint64(0)))];
-    const runs = rowsOf(boxIn(table, 'stsc'), 4, 12).map((row) => [row.getUint32(0) - 1, row.getUint32(4)]);
-    const frames = [];
-    let run = 0;
-    for (const [chunk, begin] of chunks.entries()) {
+    const sizes = rowsOf(boxIn(table, 'stsz'), 8, 4, wordAt);
+    const chunks = rowsOf(boxIn(table, 'stco'), 4, 4, wordAt)
+        .concat(rowsOf(boxIn(table, 'co64'), 4, 8, (view, at) => Number(view.getBigUint64(at))));
+    const runs = rowsOf(boxIn(table, 'stsc'), 4, 12, (view, at) => [wordAt(view, at) - 1, wordAt(view, at + 4)]);
+    const places = new Float64Array(sizes.length);
+    let [run, frame] = [0, 0];
+    for (let chunk = 0; chunk < chunks.length; chunk++) {
         while (run + 1 < runs.length && runs[run + 1][0] <= chunk) run += 1;
-        const last = Math.min(sizes.length, frames.length + (runs[run]?.[1] ?? 0));
-        for (let at = begin; frames.length < last;) {
-            const size = sizes[frames.length];
-            frames.push({ at, size });
-            at += size;
+        const last = Math.min(sizes.length, frame + (runs[run]?.[1] ?? 0));
+        for (let at = chunks[chunk]; frame < last; frame++) {
+            places[frame] = at;
+            at += sizes[frame];
         }
     }
-    const isWhole = frames.length > 0 && frames.length === sizes.length
-        && frames.every(({ at, size }, one) => size + OWN_HEAD <= MOST_FRAME && at >= (frames[one - 1]?.at ?? 0));
-    return isWhole ? frames : null;
+    const isWhole = frame > 0 && frame === sizes.length && sizes.every((size) => size + OWN_HEAD <= MOST_FRAME)
+        && places.every((place, one) => one === 0 || place >= places[one - 1]);
+    return isWhole ? { places, sizes } : null;
 }
 
-/** The frames as parts of the sound, as `cut` takes them: their places are their numbers. */
-function* partsOf(count, silent) {
+/** The frames as parts of the sound, as `cut` takes them: their places are their numbers. The page may do something
+ *  else between some thousands and the next. */
+async function* partsOf(count, silent) {
     const samplesBefore = (frame) => Math.max(0, frame * SAMPLES - silent);
     for (let from = 0; from < count; from += AT_ONCE) {
+        await breathe();
         yield Array.from({ length: Math.min(AT_ONCE, count - from) }, (_, at) =>
             ({ at: from + at, first: samplesBefore(from + at), last: samplesBefore(from + at + 1) }));
     }
 }
 
 /** Frames as a file of their own. */
-async function ownFile(file, frames, { code, sides }) {
-    const begin = frames[0].at;
-    const end = frames.at(-1).at + frames.at(-1).size;
-    const bytes = await bytesOf(file, begin, end - begin);
-    return new Blob(frames.flatMap(({ at, size }) => {
-        const length = OWN_HEAD + size;
-        const head = [0xff, 0xf1, ((LOW - 1) << 6) | (code << 2), (sides << 6) | (length >> 11), (length >> 3) & 255,
-            ((length & 7) << 5) | 31, 0xfc];
-        return [Uint8Array.from(head), bytes.subarray(at - begin, at - begin + size)];
-    })).arrayBuffer();
+async function ownFile(file, { places, sizes }, { from, to }, { code, sides }) {
+    const begin = places[from];
+    const bytes = await bytesOf(file, begin, places[to - 1] + sizes[to - 1] - begin);
+    const parts = [];
+    for (let frame = from; frame < to; frame++) {
+        const length = OWN_HEAD + sizes[frame];
+        const place = places[frame] - begin;
+        parts.push(Uint8Array.of(0xff, 0xf1, ((LOW - 1) << 6) | (code << 2), (sides << 6) | (length >> 11),
+            (length >> 3) & 255, ((length & 7) << 5) | 31, 0xfc), bytes.subarray(place, place + sizes[frame]));
+    }
+    return new Blob(parts).arrayBuffer();
 }
 
 /** An M4A file in pieces of some `size` samples of all sides; null where it is none, or of another kind. */
@@ -141,7 +148,8 @@ export async function m4aOf(file, size) {
     const sound = tracks.length === 1 ? soundOf(tracks[0]) : null;
     const frames = sound && framesOf(tracks[0]);
     if (frames === null) return null;
-    const parts = partsOf(frames.length, silentIn(tracks[0], sound.rate));
-    const pieces = await cut({ size: frames.length }, parts, size / sound.sides, WARM);
-    return { rate: sound.rate, pieces, fileOf: ({ from, to }) => ownFile(file, frames.slice(from, to), sound) };
+    const count = frames.places.length;
+    const parts = partsOf(count, silentIn(tracks[0], sound.rate));
+    const pieces = await cut({ size: count }, parts, size / sound.sides, WARM);
+    return { rate: sound.rate, pieces, fileOf: (piece) => ownFile(file, frames, piece, sound) };
 }
