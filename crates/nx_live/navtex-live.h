@@ -29,9 +29,6 @@ enum nx_live_status {
     NX_LIVE_DONE = 0,
     NX_LIVE_NO_ROOM = 1,       /* nx_live_save, nx_live_log_entry: `written` is greater than the capacity;
                                 * else less than NX_LIVE_MAX_ENTRY of room was given, and nothing was done */
-    NX_LIVE_READ = 2,          /* a read failed: bytes in memory never do, but no proof says so */
-    NX_LIVE_WRITE = 3,         /* a state that is too long: none is, but no proof says so */
-    NX_LIVE_MEMORY = 4,        /* no memory: none is taken, but no proof says so */
     NX_LIVE_MOMENT_RANGE = 11, /* the moment is past the year 2999 */
     NX_LIVE_MOMENT_BACK = 12,  /* the moment is before the one in force */
     NX_LIVE_VITAL = 13,        /* the subject can't be refused */
@@ -52,12 +49,13 @@ enum nx_live_status {
 #ifdef NX_LIVE_BY_WASM2C
 #define NX_LIVE_ROOM 305152
 #else
-#define NX_LIVE_ROOM 26584
+#define NX_LIVE_ROOM 26576
 #endif
 #define NX_LIVE_ROOM_ALIGNMENT 8
 
-/* Room for this many bytes holds each entry. */
+/* Room for this many bytes holds each entry, and for this many each state. */
 #define NX_LIVE_MAX_ENTRY 4163
+#define NX_LIVE_MAX_STATE 11001
 
 /* A receiver: where the room lies that was lent to it. */
 struct nx_live {
@@ -70,10 +68,12 @@ void nx_live_lend(struct nx_live *receiver, void *room);
 /* Gives the room of a closed receiver back. No call may take the receiver any more. */
 void nx_live_return(struct nx_live *receiver);
 
-/* Opens a closed receiver at a moment, in seconds since 1970-01-01 00:00:00 UTC. */
+/* Opens a closed receiver at a moment, in seconds since 1970-01-01 00:00:00 UTC.
+ * NX_LIVE_ALREADY_OPEN or NX_LIVE_MOMENT_RANGE: it stays as it was. */
 uint32_t nx_live_open(struct nx_live *receiver, uint64_t moment);
 
-/* Opens a closed receiver from the text of a state, as nx_live_save writes it. */
+/* Opens a closed receiver from the text of a state, as nx_live_save writes it.
+ * NX_LIVE_ALREADY_OPEN, NX_LIVE_STATE_LINE or NX_LIVE_STATE_CUT: it stays as it was. */
 uint32_t nx_live_open_from(struct nx_live *receiver, const uint8_t *state, size_t length);
 
 /* Sets the moment from here on, of all channels. */
@@ -91,7 +91,8 @@ uint32_t nx_live_accept_station(struct nx_live *receiver, uint8_t channel, uint8
 uint32_t nx_live_refuse_subject(struct nx_live *receiver, uint8_t channel, uint8_t subject);
 uint32_t nx_live_accept_subject(struct nx_live *receiver, uint8_t channel, uint8_t subject);
 
-/* Writes the text of a state, with which nx_live_open_from goes on: at most 12,288 bytes. */
+/* Writes the text of a state, with which nx_live_open_from goes on: at most NX_LIVE_MAX_STATE bytes.
+ * NX_LIVE_NO_ROOM: there is no room for all of it; NX_LIVE_CLOSED. */
 uint32_t nx_live_save(struct nx_live *receiver, uint8_t *state, size_t capacity, size_t *written);
 
 /* Hands out what the end prints, one entry a call; `written` is 0 where none is left, and then the

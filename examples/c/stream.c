@@ -7,14 +7,15 @@
  *   stream entries                   reads a log on standard input entry by entry, and writes each
  *                                    again by what it says
  *   stream refusals                  what calls answer that are refused
- *   stream rooms                     opens from states of 0 to 600 entries, and saves each into
- *                                    rooms up to the one that it needs; none names want of memory
+ *   stream rooms                     opens from states of 0 to 600 entries, with 0 to 26 stations
+ *                                    and all the subjects that can be refused, and saves each into
+ *                                    rooms up to the one that it needs
  *   stream blocks                    closes one receiver that heard, and abandons two; how many
  *                                    blocks of memory are left of each
  *   stream days N                    hears three channels for so many days without a block of
  *                                    memory; how many entries
  *   stream fail                      opens while each block of memory is refused in turn, hears
- *                                    without any, and saves and opens from the state while each is
+ *                                    and saves without any, and opens from the state while each is
  *                                    refused
  *   stream speed PIECE TIMES         hears all elements so often, and says how many nanoseconds of
  *                                    the processor one took
@@ -205,24 +206,32 @@ static int refusals(void) {
 }
 
 /* Writes the state of so many entries, at most 200 a channel, of identities and moments of their
- * own; says how long it is. */
-static size_t state_of(char *text, unsigned entries) {
+ * own, with so many of the letters refused on each channel, as stations, and as subjects where they
+ * can be; says how long it is. */
+static size_t state_of(char *text, unsigned entries, unsigned letters) {
     unsigned at = 0;
     size_t length = (size_t)sprintf(text, "STATE 2\n");
     for (unsigned channel = 0; channel < 3; channel++) {
         length += (size_t)sprintf(text + length, "C%u\n", channel);
+        for (unsigned letter = 0; letter < letters; letter++)
+            length += (size_t)sprintf(text + length, "RS %c\n", 'A' + letter);
+        for (unsigned letter = 0; letter < letters; letter++)
+            if (strchr("ABDL", 'A' + (int)letter) == NULL)
+                length += (size_t)sprintf(text + length, "RJ %c\n", 'A' + letter);
         for (; at < entries && at < 200 * (channel + 1); at++)
-            length += (size_t)sprintf(text + length, "%cE%02u %u\n", 'A' + at % 24, 1 + at / 24, 1735692000 + 60 * at);
+            length += (size_t)sprintf(text + length, "%cE%02u %" PRIu64 "\n", 'A' + at % 24, 1 + at / 24,
+                                      UINT64_C(32500000000) + 60 * at);
     }
     return length + (size_t)sprintf(text + length, "END\n");
 }
 
-/* Opens from the state of so many entries, and saves it into rooms up to the one that it needs. */
-static void save_in_rooms(unsigned entries, size_t step) {
+/* Opens from such a state, and saves it into rooms up to the one that it needs; says how long it
+ * is. */
+static size_t save_in_rooms(unsigned entries, unsigned letters, size_t step) {
     static char state[1 << 15];
     static uint8_t saved[sizeof state];
     struct nx_receiver receiver = {0};
-    size_t length = state_of(state, entries), written;
+    size_t length = state_of(state, entries, letters), written;
     done("open from a state", nx_open_from(&receiver, (const uint8_t *)state, length));
     for (size_t size = 0; size < length; size += step) {
         is("save in a room that is too small", nx_save(&receiver, saved, size, &written), NX_NO_ROOM);
@@ -237,13 +246,18 @@ static void save_in_rooms(unsigned entries, size_t step) {
     nx_abandon(&receiver);
     if (receiver.kept != NULL)
         stop("a receiver that was abandoned is open", NX_DONE);
+    return length;
 }
 
-/* States of 0 to 600 entries, and of 600 each room. */
+/* States of 0 to 600 entries; of 600 with 0 to 26 letters refused, the last of which is the longest
+ * that there is; and of that each room. */
 static int rooms(void) {
     for (unsigned entries = 0; entries <= 600; entries++)
-        save_in_rooms(entries, 997);
-    save_in_rooms(600, 1);
+        save_in_rooms(entries, 0, 997);
+    for (unsigned letters = 0; letters <= 26; letters++)
+        save_in_rooms(600, letters, 997);
+    if (save_in_rooms(600, 26, 1) != 10941)
+        stop("the longest state has another length", NX_DONE);
     return 0;
 }
 
@@ -355,24 +369,16 @@ static int blocks(void) {
     return 0;
 }
 
-/* Saves with each block refused in turn, until it is saved, and opens another receiver from that
- * state so. */
+/* Saves without a block, and opens another receiver from that state with each block refused in
+ * turn, until it is opened. */
 static void fail_saving(struct nx_receiver *receiver) {
     static uint8_t state[1 << 14];
     size_t written;
     uint32_t status;
-    long block = 0;
-    do {
-        left = block++;
-        status = nx_save(receiver, state, sizeof state, &written);
-        if (status != NX_DONE) {
-            is("save without memory", status, NX_WRITE);
-            if (written != 0)
-                stop("something is saved without memory", status);
-        }
-    } while (status != NX_DONE);
+    left = 0;
+    done("save without memory", nx_save(receiver, state, sizeof state, &written));
     struct nx_receiver other = {0};
-    block = 0;
+    long block = 0;
     do {
         left = block++;
         status = nx_open_from(&other, state, written);

@@ -2,3 +2,4 @@ pub mod Told
 pub mod Faults
 pub mod Calls
 pub mod Handle
+pub mod Opening

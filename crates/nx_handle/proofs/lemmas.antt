@@ -1,8 +1,12 @@
 -- Lemmas that several proofs cite.
+pub mod Receivers
+pub mod Room
 pub mod Closing
 pub mod Hearing
 pub mod Life
+pub mod Numbers
 pub mod Opening
 pub mod Saving
 pub mod Selecting
+pub mod State
 pub mod Status

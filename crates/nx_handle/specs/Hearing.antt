@@ -4,10 +4,13 @@ use Rattle.std.specs.Prelude.{◌++◌, length, map, take, Option, Some, None}
 use Rattle.std.specs.List.{list_all}
 use Rattle.nx_fec.specs.air_files.Channels.{channel_number}
 use Rattle.nx_fec.specs.declared.air_files.channel.Channel.{Channel}
+use Rattle.nx_copies.specs.Events as events
+use Rattle.nx_copies.specs.Events.{Event, Start}
 use Rattle.nx_copies.specs.copies.FoundCopies.{TaggedCopy}
 use Rattle.nx_copies.specs.copies.InTurn.{PrintsInTurn}
 use Rattle.nx_receiver.specs.Listener.{then_elements}
-use Rattle.nx_handle.specs.Receivers.{HearsGiven, Listening}
+use Rattle.nx_receiver.specs.Receiver.{HandsOutNoneBefore, Stands}
+use Rattle.nx_handle.specs.Receivers.{HearsGiven, Listening, OneReceiver, content}
 use Rattle.nx_copies.specs.copies.Log.{IsLog}
 use Rattle.nx_copies.specs.copies.Shares.{Given, MarkedCopy, Starts, marked}
 use Rattle.nx_handle.specs.Life.{hearing}
@@ -44,6 +47,20 @@ request_status channel bytes capacity =
 abbrev pub hearing_status : Option Listening → ℕ → List ℕ → ℕ → Status
 hearing_status None channel bytes capacity = status.Closed
 hearing_status (Some listener) channel bytes capacity = request_status channel bytes capacity
+
+-- The receiver of a channel hears elements, whatever it was given before, and this is the log of
+-- the copies that they print: none, or one, which the last of them ends. No element before the last
+-- prints anything.
+pub record HearsOn (channel : Channel) (old new : OneReceiver) (bits : List Bool) (text : List ℕ)
+    : Type 0 where
+  pub next : List TaggedCopy
+  pub few : length next ≤ 1
+  pub behind : length next ≤ length bits
+  pub spelled : IsLog (map (marked channel) next) text
+  pub stands : (start : Start) (history : List Event) (log : List TaggedCopy)
+      → Stands content start old history log
+      → Stands content start new (history ++ events.elements bits) (log ++ next)
+  pub first : HandsOutNoneBefore content old bits (length bits)
 
 -- Elements of a channel are heard, and this is the log of the copies that they print: none, or one,
 -- which the last of them ends. Whatever was given before, and however much of these elements at

@@ -1,6 +1,5 @@
 pub mod Status
 pub mod CallerRoom
-pub mod StateFaults
 pub mod Receivers
 pub mod Life
 pub mod Opening

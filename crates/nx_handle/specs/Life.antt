@@ -1,31 +1,28 @@
--- The life of a receiver that is kept between calls: it is closed; it is opened, and hears; its end
--- begins, and hands out what it prints; then it is closed again (this profile).
-use Rattle.std.specs.Prelude.{◌≡◌, List, ◌++◌, Option, Some, None}
-use Rattle.nx_copies.specs.copies.InTurn.{PrintAllToEnd}
-use Rattle.nx_receiver.specs.Listener.{last_copies}
-use Rattle.nx_handle.specs.Receivers.{HearsGiven, Listening}
-use Rattle.nx_copies.specs.copies.Shares.{Given, MarkedCopy, Starts}
+-- The life of a receiver that is kept between calls: it is closed; it is opened, and hears; its
+-- channels end one by one, and what their ends print is handed out; then it is closed again (this
+-- profile).
+use Rattle.std.specs.Prelude.{◌≡◌, List, [], ◌++◌, map, Option, Some, None}
+use Rattle.nx_fec.specs.declared.air_files.channel.Channel.TheVariants.{Zero, One, Two}
+use Rattle.nx_copies.specs.Events.{Event, Start}
+use Rattle.nx_copies.specs.copies.FoundCopies.{TaggedCopy}
+use Rattle.nx_copies.specs.copies.Log.{PrintsToEnd}
+use Rattle.nx_copies.specs.copies.Shares.{Given, MarkedCopy, Starts, marked}
+use Rattle.nx_receiver.specs.Receiver.{Stands}
+use Rattle.nx_handle.specs.Receivers.{HearsGiven, Listening, OneReceiver, content, three}
 use Rattle.nx_handle.specs.declared.kept.Kept.{Kept}
-use Rattle.nx_handle.specs.declared.kept.LifeStage.{LifeStage}
-use Rattle.nx_handle.specs.declared.kept.LifeStage.TheVariants.{Hearing, Ending}
 
--- the three receivers that hear, where the receiver is open and its end has not begun
-abbrev pub hearing_at : LifeStage → Option Listening
-hearing_at (Hearing listener) = Some listener
-hearing_at (Ending ending) = None
+-- the three receivers, where no channel has ended
+abbrev pub all_three : Option OneReceiver → Option OneReceiver → Option OneReceiver
+    → Option Listening
+all_three None on_1 on_2 = None
+all_three (Some on_0) None on_2 = None
+all_three (Some on_0) (Some on_1) None = None
+all_three (Some on_0) (Some on_1) (Some on_2) = Some (three on_0 on_1 on_2)
 
+-- the receivers that hear, where the receiver is open and no channel has ended
 abbrev pub hearing : Option Kept → Option Listening
 hearing None = None
-hearing (Some kept) = hearing_at kept.stage
-
--- what is left of what the end prints, where it has begun
-abbrev pub ending_at : LifeStage → Option (List MarkedCopy)
-ending_at (Hearing listener) = None
-ending_at (Ending ending) = Some (last_copies ending.last)
-
-abbrev pub ending : Option Kept → Option (List MarkedCopy)
-ending None = None
-ending (Some kept) = ending_at kept.stage
+hearing (Some kept) = all_three kept.on_0 kept.on_1 kept.on_2
 
 -- The receiver hears, and stands after this was given to it, with what it started; these are the
 -- copies that it printed.
@@ -36,10 +33,21 @@ pub record HasHeard (starts : Starts) (receiver : Option Kept) (given : List Giv
   pub hears : hearing receiver ≡ Some listener
   pub heard : HearsGiven starts listener given copies
 
--- The end prints these copies, which were not handed out yet, behind all that was printed before:
--- what is left, where it has begun.
-abbrev pub EndsWith : LifeStage → List MarkedCopy → Type 0
-EndsWith (Hearing listener) left =
-    (starts : Starts) (given : List Given) (copies : List MarkedCopy)
-    → HearsGiven starts listener given copies → PrintAllToEnd starts given (copies ++ left)
-EndsWith (Ending ending) left = left ≡ last_copies ending.last
+-- The end of a channel prints these copies behind all that its receiver has printed, whatever that
+-- was given; it prints none where it has come already.
+abbrev pub EndPrints : Option OneReceiver → List TaggedCopy → Type 0
+EndPrints None last = last ≡ []
+EndPrints (Some receiver) last =
+    (start : Start) (history : List Event) (log : List TaggedCopy)
+    → Stands content start receiver history log → PrintsToEnd start history (log ++ last)
+
+-- the ends that are still to come print these copies, by channel
+pub record EndsWith (kept : Kept) (left : List MarkedCopy) : Type 0 where
+  pub on_0 : List TaggedCopy
+  pub on_1 : List TaggedCopy
+  pub on_2 : List TaggedCopy
+  pub prints_0 : EndPrints kept.on_0 on_0
+  pub prints_1 : EndPrints kept.on_1 on_1
+  pub prints_2 : EndPrints kept.on_2 on_2
+  pub by_channel :
+      left ≡ map (marked Zero) on_0 ++ (map (marked One) on_1 ++ map (marked Two) on_2)

@@ -1,5 +1,5 @@
 -- What opening a receiver answers, and setting its moment (this profile).
-use Rattle.std.specs.Prelude.{◌≡◌, ◌≢◌, ◌⊎◌, ℕ, nat_lt, if◌then◌else◌, List, [], ◌∷◌, Option, Some, None}
+use Rattle.std.specs.Prelude.{◌≡◌, ◌≢◌, ℕ, nat_lt, if◌then◌else◌, List, [], ◌∷◌, Option, Some, None}
 use Rattle.nx_envelope.specs.Moment.{last_moment}
 use Rattle.nx_receiver.specs.Listener.{moment_in_force, then_moment}
 use Rattle.nx_handle.specs.Receivers.{HearsGiven, Listening}
@@ -12,16 +12,15 @@ use Rattle.nx_handle.specs.declared.kept.Kept.{Kept}
 use Rattle.nx_handle.specs.declared.status.Status.{Status}
 use Rattle.nx_handle.specs.declared.status.Status.TheVariants as status
 
--- the status of opening a receiver at a moment, where there is memory
+-- the status of opening a receiver at a moment
 abbrev pub opening_status : Option Kept → ℕ → Status
 opening_status (Some kept) moment = status.AlreadyOpen
 opening_status None moment = if nat_lt last_moment moment then status.MomentRange else status.Done
 
 -- Opening a receiver at a moment: it has heard nothing but the moment, and starts with nothing.
--- Where it isn't done, the receiver stays as it was; a closed one also where there is no memory.
+-- The status has its cause; where it isn't done, the receiver stays as it was.
 pub record AnswersOpening (moment : ℕ) (old new : Option Kept) (answer : ℕ) : Type 0 where
-  pub cause : (answer ≡ number_of (opening_status old moment))
-      ⊎ ((answer ≡ number_of status.Memory) × (old ≡ None))
+  pub cause : answer ≡ number_of (opening_status old moment)
   pub done : answer ≡ 0 → HasHeard all_at_zero new (to_all moment ∷ []) []
   pub refused : answer ≢ 0 → new ≡ old
 

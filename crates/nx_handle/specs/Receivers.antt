@@ -1,7 +1,8 @@
 -- The three receivers that a handle keeps; their memories are plain lists (this profile).
-use Rattle.std.specs.Prelude.{List}
+use Rattle.std.specs.Prelude.{false, List, length}
+use Rattle.nx_fec.specs.Transfers.{count_of}
 use Rattle.nx_memory.specs.declared.memories.entry.MemoryEntry.{MemoryEntry}
-use Rattle.nx_receiver.specs.Listener.{HearsOver, ListeningOver}
+use Rattle.nx_receiver.specs.Listener.{HearsOver, ListeningOver, elements_given}
 use Rattle.nx_receiver.specs.Receiver.{Receiving}
 use Rattle.nx_copies.specs.copies.Shares.{Given, MarkedCopy, Starts}
 
@@ -9,10 +10,30 @@ use Rattle.nx_copies.specs.copies.Shares.{Given, MarkedCopy, Starts}
 abbrev pub content : List MemoryEntry → List MemoryEntry
 content entries = entries
 
--- what contracts see of the receivers
-abbrev pub Listening : Type 0
-Listening = ListeningOver (Receiving (List MemoryEntry))
+-- what contracts see of the receiver of a channel, and of the three
+abbrev pub OneReceiver : Type 0
+OneReceiver = Receiving (List MemoryEntry)
+
+pub record Listening : Type 0 where
+  pub on_0 : OneReceiver
+  pub on_1 : OneReceiver
+  pub on_2 : OneReceiver
+
+abbrev pub three : OneReceiver → OneReceiver → OneReceiver → Listening
+three on_0 on_1 on_2 = record { on_0 = on_0; on_1 = on_1; on_2 = on_2 }
+
+-- a listener of these receivers, which counted what was given and what was printed
+abbrev pub counted : Listening → List Given → List MarkedCopy → ListeningOver OneReceiver
+counted listening given copies = record {
+  on_0 = listening.on_0;
+  on_1 = listening.on_1;
+  on_2 = listening.on_2;
+  has_moment = false;
+  elements = count_of (length (elements_given given));
+  entries = count_of (length copies);
+}
 
 -- they stand after what was given, with what they started, and have printed these copies
 abbrev pub HearsGiven : Starts → Listening → List Given → List MarkedCopy → Type 0
-HearsGiven = HearsOver content
+HearsGiven starts listening given copies =
+    HearsOver content starts (counted listening given copies) given copies

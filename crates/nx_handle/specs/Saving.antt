@@ -1,19 +1,28 @@
 -- What saving a receiver answers, and opening one from what is saved (this profile).
-use Rattle.std.specs.Prelude.{◌≡◌, ◌⊎◌, ℕ, List, [], length, Option, Some, None}
+use Rattle.std.specs.Prelude.{◌≡◌, ◌≢◌, ◌⊎◌, ℕ, ◌+◌, ◌*◌, ◌<◌, ◌≤◌, List, [], ◌∷◌, ◌++◌, length, Option}
+use Rattle.std.specs.Prelude.{Some, None, Result, Ok, Err, take}
+use Rattle.nx_code.specs.Reading.{capitals, newline}
 use Rattle.nx_fec.specs.Transfers.{whole_input}
 use Rattle.nx_fec.specs.declared.air_files.channel.Channel.{Channel}
+use Rattle.nx_memory.specs.Memory.{most_entries}
 use Rattle.nx_memory.specs.Saved.{AreSavedStates, SavedStates}
+use Rattle.nx_memory.specs.StateText.{IsShortLine, longest_saved_line}
 use Rattle.nx_receiver.specs.air_file_runs.Chain.{Leaves}
 use Rattle.nx_handle.specs.Receivers.{HearsGiven, Listening}
 use Rattle.nx_copies.specs.copies.Shares.{Given, MarkedCopy, Starts, saved_of, share, start_on, starts_from}
 use Rattle.nx_receiver.specs.air_file_runs.State.{BeginsWith, ExplainsState, state_bytes}
-use Rattle.nx_receiver.specs.declared.air_file_runs.state_fault.StateFault.{StateFault}
-use Rattle.nx_handle.specs.StateFaults.{state_status}
+use Rattle.nx_receiver.specs.declared.air_file_runs.state_fault.StateFault.TheVariants as state
 use Rattle.nx_handle.specs.Life.{HasHeard, hearing}
 use Rattle.nx_handle.specs.Status.{number_of}
 use Rattle.nx_handle.specs.CallerRoom.{IsPut, Room, after_putting}
 use Rattle.nx_handle.specs.declared.kept.Kept.{Kept}
+use Rattle.nx_handle.specs.declared.status.Status.{Status}
 use Rattle.nx_handle.specs.declared.status.Status.TheVariants as status
+
+-- The most bytes of the text of a state. Its first line, the heads of the channels and its last
+-- line have 21; a letter that is refused has 5, an entry 17 at most.
+abbrev pub longest_state : ℕ
+longest_state = 21 + 3 * (capitals * 5 + capitals * 5 + most_entries * (longest_saved_line + 1))
 
 -- The text spells what these receivers leave of all channels, whatever they were given.
 pub record Saves (listener : Listening) (text : List ℕ) : Type 0 where
@@ -23,14 +32,14 @@ pub record Saves (listener : Listening) (text : List ℕ) : Type 0 where
       → HearsGiven starts listener given copies → (channel : Channel)
       → Leaves (start_on starts channel) (share channel given) (saved_of left channel)
   pub spelled : text ≡ state_bytes left
+  pub fits : length text ≤ longest_state
 
--- Saving. The text is that of what the receiver leaves that hears; the status says whether the room
--- held it, or there was no memory for it. Another receiver is told to be closed.
+-- Saving. The text is that of what the receiver leaves that hears, and the status says whether the
+-- room held it. Another receiver is told to be closed.
 abbrev pub SavesBy : Option Listening → List ℕ → ℕ → ℕ → Type 0
 SavesBy None text capacity answer = (answer ≡ number_of status.Closed) × (text ≡ [])
 SavesBy (Some listener) text capacity answer =
-    (Saves listener text × (answer ≡ number_of (after_putting (length text) capacity status.Done)))
-    ⊎ ((answer ≡ number_of status.Write) × (text ≡ []))
+    Saves listener text × (answer ≡ number_of (after_putting (length text) capacity status.Done))
 
 -- The receiver stays as it was, whatever the status.
 pub record AnswersSaving (old new : Option Kept) (state : Room) (answer : ℕ) : Type 0 where
@@ -39,14 +48,38 @@ pub record AnswersSaving (old new : Option Kept) (state : Room) (answer : ℕ) :
   pub saves : SavesBy (hearing old) text (length state.old) answer
   pub unchanged : new ≡ old
 
+-- So many bytes has the first line of these, without its line feed. Or they begin with no line of a
+-- state, and the status says why: it has a 17th byte, or no line feed.
+abbrev pub IsFirstLine : List ℕ → Result ℕ Status → Type 0
+IsFirstLine bytes (Ok count) =
+    (count < length bytes) × IsShortLine (take count bytes)
+    × ((more : List ℕ) × (bytes ≡ (take count bytes ++ newline ∷ []) ++ more))
+IsFirstLine bytes (Err why) =
+    ((why ≡ status.StateLine) × ((line : List ℕ) × (byte : ℕ) × (more : List ℕ)
+    × IsShortLine line × (length line ≡ longest_saved_line) × (byte ≢ newline)
+    × (bytes ≡ line ++ byte ∷ more)))
+    ⊎ ((why ≡ status.StateCut) × IsShortLine bytes)
+
+-- These bytes begin with a state, which stands for this; or they begin with none, and the status
+-- says why.
+abbrev pub ReadsText : List ℕ → Result SavedStates Status → Type 0
+ReadsText bytes (Ok states) = BeginsWith bytes (λ others more. states ≡ others)
+ReadsText bytes (Err why) =
+    ((line : ℕ) × ExplainsState whole_input bytes (state.StateLine line)
+    × (why ≡ status.StateLine))
+    ⊎ ((line : ℕ) × ExplainsState whole_input bytes (state.StateCut line)
+    × (why ≡ status.StateCut))
+
 -- These bytes begin with a state, and a receiver is opened that starts with it and has heard
--- nothing; or there is no memory for it. Or the bytes begin with no state, and the status says why.
+-- nothing. Or a line of theirs can't stand where it stands, or they end before the state: then the
+-- receiver stays closed.
 abbrev pub OpensFrom : List ℕ → Option Kept → ℕ → Type 0
 OpensFrom bytes new answer =
-    BeginsWith bytes (λ states more. ((answer ≡ 0) × HasHeard (starts_from states) new [] [])
-    ⊎ ((answer ≡ number_of status.Memory) × (new ≡ None)))
-    ⊎ ((fault : StateFault) × ExplainsState whole_input bytes fault
-    × (answer ≡ number_of (state_status fault)) × (new ≡ None))
+    BeginsWith bytes (λ states more. (answer ≡ 0) × HasHeard (starts_from states) new [] [])
+    ⊎ (((line : ℕ) × ExplainsState whole_input bytes (state.StateLine line)
+    × (answer ≡ number_of status.StateLine) × (new ≡ None))
+    ⊎ ((line : ℕ) × ExplainsState whole_input bytes (state.StateCut line)
+    × (answer ≡ number_of status.StateCut) × (new ≡ None)))
 
 -- Opening a closed receiver from what is saved; one that is open stays as it was.
 abbrev pub AnswersOpeningFrom : List ℕ → Option Kept → Option Kept → ℕ → Type 0

@@ -1,6 +1,6 @@
 //! Putting a text into the room of a caller.
 
-ghost use Rattle.std.specs.Prelude.{◌≡◌, ◌++◌, length, min};
+ghost use Rattle.std.specs.Prelude.{◌≡◌, ◌<◌, ◌+◌, ◌^◌, ℕ, List, ◌++◌, length};
 ghost use Rattle.nx_handle.specs.Status.{number_of};
 ghost use Rattle.nx_handle.specs.CallerRoom.{IsPut, after_putting, room};
 ghost use Rattle.nx_handle.specs.declared.status.Status.TheVariants.{Done};
@@ -15,6 +15,20 @@ pub fn put(text: &[u8], space: &mut [u8], written: &mut usize)
     let count = text.len().min(space.len());
     space[..count].copy_from_slice(&text[..count]);
     *written = text.len();
+}
+
+/// Puts more of a text into the caller's room, behind what was put of it. `written` is the length
+/// of all that was given so far.
+pub(crate) fn put_more(piece: &[u8], space: &mut [u8], written: &mut usize)
+    requires { written.old + length piece.now < 2 ^ 63 }
+    ensures put { (old text : List ℕ) → IsPut text (room old space.old written.old)
+        → IsPut (text ++ piece.now) (room old space.new written.new) }
+    ensures count { written.new ≡ written.old + length piece.now }
+{
+    let from = (*written).min(space.len());
+    let count = piece.len().min(space.len() - from);
+    space[from..from + count].copy_from_slice(&piece[..count]);
+    *written += piece.len();
 }
 
 /// A status, where a text of so many bytes is put into a room of so many.

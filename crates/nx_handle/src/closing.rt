@@ -1,28 +1,28 @@
 //! Closing a receiver.
 
-ghost use Rattle.std.specs.Prelude.{◌≡◌, ◌≤◌, ℕ, List, [], ◌∷◌, IfSome, None, Some, MatchOption, if◌then◌else◌};
-ghost use Rattle.nx_envelope.specs.Moment.{last_moment};
-ghost use Rattle.nx_copies.specs.copies.FoundCopies.{copy_of};
-ghost use Rattle.nx_receiver.specs.Listener.{AreInRange, last_copies};
+ghost use Rattle.std.specs.Prelude.{◌≡◌, ◌∷◌, List, [], true, false, Some, None, if◌then◌else◌};
+ghost use Rattle.nx_copies.specs.copies.FoundCopies.{TaggedCopy};
+ghost use Rattle.nx_copies.specs.copies.Log.{IsEntry};
 ghost use Rattle.nx_copies.specs.copies.Shares.{MarkedCopy, marked};
-ghost use Rattle.nx_handle.specs.Closing.{AnswersClosing, TakesLast};
-ghost use Rattle.nx_handle.specs.Life.{EndsWith};
+ghost use Rattle.nx_handle.specs.Closing.{AnswersClosing};
+ghost use Rattle.nx_handle.specs.Life.{EndPrints, EndsWith};
 ghost use Rattle.nx_handle.specs.CallerRoom.{room};
 
 use crate::caller_room::put;
-use crate::kept::{Ending, Kept, LifeStage};
+use crate::kept::Kept;
 use crate::status::Status;
-use nx_copies::{MAX_ENTRY, entry_bytes};
+use arrayvec::ArrayVec;
+use nx_copies::{MAX_ENTRY, spell_entry};
 use nx_fec::Channel;
-use nx_receiver::{Entry, LastEntries};
-use std::mem::replace;
+use nx_memory::PlainRecall;
+use nx_receiver::Receiver;
 
 /// Ends the elements of all channels, and hands out what their end prints, by channel: one entry a
 /// call, whose bytes are put into the caller's room. `written` is their number, and 0 where none is
 /// left: the receiver is closed then. From the first call on it hears nothing more.
 ///
-/// There has to be room for the largest entry, so that none is lost. Where the answer isn't `Done`,
-/// the receiver stays as it was.
+/// `Closed` where the receiver is closed; else `NoRoom` where there is no room for the largest
+/// entry, so that none is lost; else `Done`. Where it isn't `Done`, the receiver stays as it was.
 pub fn close(slot: &mut Option<Kept>, log: &mut [u8], written: &mut usize) -> u32
     ensures { AnswersClosing slot.old slot.new (room log.old log.new written.new) result }
 {
@@ -48,40 +48,53 @@ pub fn close_kept(kept: &mut Kept, log: &mut [u8], written: &mut usize) -> (u32,
         put(&[], log, written);
         return (Status::NoRoom.number(), true);
     }
-    let Some((channel, entry)) = take_last(kept) else {
+    if !end_next(kept) {
         put(&[], log, written);
         return (0, false);
-    };
-    put(&entry_bytes(&entry, channel), log, written);
+    }
+    put(&kept.entry, log, written);
     (0, true)
 }
 
-/// Takes the first of what is left of what the end prints; the end begins, where it has not.
-fn take_last(kept: &mut Kept) -> Option<(Channel, Entry)>
-    ensures taken { TakesLast kept.old.stage kept.new.stage result }
-    ensures moment { IfSome result (λ next. next.1.moment ≤ last_moment) }
+/// Ends the channels that have not ended, in order, up to and with the first whose end prints an
+/// entry: says whether there is one. Then `entry` has its bytes.
+fn end_next(kept: &mut Kept) -> bool
+    ensures printed { result ≡ true → (copy : MarkedCopy) × IsEntry copy kept.new.entry.items
+        × ((left : List MarkedCopy) → EndsWith kept.new left → EndsWith kept.old (copy ∷ left)) }
+    ensures silent { result ≡ false → EndsWith kept.old [] }
+    ensures ended { kept.new.on_0 ≡ None }
 {
-    let none = LastEntries {
-        on_0: None,
-        on_1: None,
-        on_2: None,
-    };
-    let stage = replace(&mut kept.stage, LifeStage::Ending(Ending { last: none }));
-    let mut last = last_of(stage);
-    let next = last.take_next();
-    kept.stage = LifeStage::Ending(Ending { last });
-    next
+    if end_on(&mut kept.on_0, Channel::Zero, &mut kept.entry) {
+        return true;
+    }
+    if end_on(&mut kept.on_1, Channel::One, &mut kept.entry) {
+        return true;
+    }
+    end_on(&mut kept.on_2, Channel::Two, &mut kept.entry)
 }
 
-/// What is left of what the end prints.
-fn last_of(stage: LifeStage) -> LastEntries
-    ensures ends { EndsWith stage (last_copies result) }
-    ensures range { AreInRange result }
+/// Ends a channel in its place, where it hasn't ended: says whether that prints an entry. Then
+/// `entry` has its bytes.
+fn end_on(
+    place: &mut Option<Receiver<PlainRecall>>,
+    channel: Channel,
+    entry: &mut ArrayVec<u8, MAX_ENTRY>,
+) -> bool
+    ensures printed { result ≡ true → (copy : TaggedCopy)
+        × IsEntry (marked channel copy) entry.new.items × EndPrints place.old (copy ∷ []) }
+    ensures silent { result ≡ false → EndPrints place.old [] }
+    ensures ended { place.new ≡ None }
 {
-    match stage {
-        LifeStage::Hearing(listener) => listener.close(),
-        LifeStage::Ending(ending) => ending.last,
-    }
+    let Some(receiver) = place else {
+        return false;
+    };
+    let Some(head) = receiver.end() else {
+        *place = None;
+        return false;
+    };
+    spell_entry(&head, receiver.text(), channel, entry);
+    *place = None;
+    true
 }
 
 /// Closes a receiver, and prints nothing. One that is closed stays so.

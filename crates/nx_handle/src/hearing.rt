@@ -1,28 +1,33 @@
 //! Hearing elements.
 
-ghost use Rattle.std.specs.Prelude.{◌≡◌, ◌≢◌, ◌≤◌, ℕ, [], false, true, IfErr, IfOk, OnOk, Option, Some, if◌then◌else◌, length, take};
+ghost use Rattle.std.specs.Prelude.{◌≡◌, ◌≢◌, ◌≤◌, [], false, true, IfErr, IfOk, OnOk, Some, if◌then◌else◌, length, take};
 ghost use Rattle.std.specs.List.{list_all};
 ghost use Rattle.nx_fec.specs.air_files.Channels.{channel_number};
-ghost use Rattle.nx_handle.specs.Receivers.{Listening};
-ghost use Rattle.nx_handle.specs.Hearing.{AnswersHearing, HearsBytes, hearing_status, is_element, request_status};
-ghost use Rattle.nx_handle.specs.Life.{hearing};
-ghost use Rattle.nx_handle.specs.CallerRoom.{room};
+ghost use Rattle.nx_handle.specs.Hearing.{AnswersHearing, HearsElements, elements_of, is_element, request_status};
+ghost use Rattle.nx_handle.specs.Receivers.{three};
+ghost use Rattle.nx_handle.specs.CallerRoom.{IsPut, room};
+ghost use Rattle.nx_handle.specs.Status.{number_of};
 ghost use Rattle.nx_handle.specs.declared.status.Status.TheVariants.{Done};
 
 use crate::caller_room::put;
-use crate::kept::{Kept, LifeStage};
+use crate::kept::Kept;
 use crate::pieces::hear_all;
 use crate::status::Status;
+use arrayvec::ArrayVec;
 use nx_copies::MAX_ENTRY;
 use nx_fec::Channel;
+use nx_memory::PlainRecall;
+use nx_receiver::Receiver;
 
 /// Hears elements of a channel, 0 to 2, each a byte, 1 for B and 0 for Y: up to and with the one
 /// that ends the first copy that is printed. `heard` is how many it heard; the bytes of the entry
 /// are put into the caller's room, and `written` is their number, 0 where nothing is printed: then
-/// it heard all. Takes no memory.
+/// it heard all.
 ///
-/// There has to be room for the largest entry, so that none is lost. Where the answer isn't `Done`,
-/// nothing is heard.
+/// `Closed` where the receiver is closed, or its end has begun; else `NoChannel` where there is no
+/// channel of this number; else `NoElement` where a byte is none of an element; else `NoRoom` where
+/// there is no room for the largest entry, so that none is lost; else `Done`. Where it isn't
+/// `Done`, nothing is heard, and nothing is put.
 pub fn hear(
     slot: &mut Option<Kept>,
     channel: u8,
@@ -55,18 +60,20 @@ pub fn hear_kept(
         (room log.old log.new written.new) result }
 {
     *heard = 0;
-    let LifeStage::Hearing(listener) = &mut kept.stage else {
-        put(&[], log, written);
-        return Status::Closed.number();
+    let Some(on_0) = &mut kept.on_0 else {
+        return refuse(Status::Closed, log, written);
+    };
+    let Some(on_1) = &mut kept.on_1 else {
+        return refuse(Status::Closed, log, written);
+    };
+    let Some(on_2) = &mut kept.on_2 else {
+        return refuse(Status::Closed, log, written);
     };
     let channel = match channel_asked(channel, elements, log.len()) {
         Ok(channel) => channel,
-        Err(status) => {
-            put(&[], log, written);
-            return status.number();
-        }
+        Err(status) => return refuse(status, log, written),
     };
-    let (count, is_printed) = hear_all(listener, channel, elements, &mut kept.entry);
+    let (count, is_printed) = hear_on(on_0, on_1, on_2, channel, elements, &mut kept.entry);
     *heard = count;
     if is_printed {
         put(&kept.entry, log, written);
@@ -74,6 +81,39 @@ pub fn hear_kept(
         put(&[], log, written);
     }
     0
+}
+
+/// Puts nothing into the caller's room, and answers the number of a status.
+fn refuse(status: Status, log: &mut [u8], written: &mut usize) -> u32
+    ensures put { IsPut [] (room log.old log.new written.new) }
+    ensures status { result ≡ number_of status }
+{
+    put(&[], log, written);
+    status.number()
+}
+
+/// Hears elements of a channel with its receiver, of the three; says how many, and whether `entry`
+/// has the bytes of an entry then.
+fn hear_on(
+    on_0: &mut Receiver<PlainRecall>,
+    on_1: &mut Receiver<PlainRecall>,
+    on_2: &mut Receiver<PlainRecall>,
+    channel: Channel,
+    elements: &[u8],
+    entry: &mut ArrayVec<u8, MAX_ENTRY>,
+) -> (usize, bool)
+    ensures hears { HearsElements channel (three on_0.old on_1.old on_2.old)
+        (three on_0.new on_1.new on_2.new) (elements_of (take result.0 elements.now))
+        (if result.1 then entry.new.items else []) }
+    ensures within { result.0 ≤ length elements.now }
+    ensures all { result.1 ≡ false → result.0 ≡ length elements.now }
+    ensures some { result.1 ≡ true → entry.new.items ≢ [] }
+{
+    match channel {
+        Channel::Zero => hear_all(on_0, channel, elements, entry),
+        Channel::One => hear_all(on_1, channel, elements, entry),
+        Channel::Two => hear_all(on_2, channel, elements, entry),
+    }
 }
 
 /// The channel of this number, on which these elements can be heard with room for so many bytes.

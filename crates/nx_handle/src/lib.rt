@@ -23,7 +23,7 @@ pub use caller_room::{after_putting, put, put_whole};
 pub use closing::{abandon, close, close_kept};
 pub use entries::{LogEntry, log_entry};
 pub use hearing::{hear, hear_kept};
-pub use kept::{Ending, Kept, LifeStage};
+pub use kept::Kept;
 pub use opening::{open, set_moment, set_moment_kept};
 pub use saving::{open_from, save, save_kept};
 pub use selecting::{select, select_kept};

@@ -2,26 +2,26 @@
 
 ghost use Rattle.std.specs.Prelude.{◌≡◌, ◌≢◌, ◌≤◌, [], false, true, if◌then◌else◌, length, take};
 ghost use Rattle.nx_fec.specs.air_files.AirFile.{element_digit};
-ghost use Rattle.nx_handle.specs.Hearing.{HearsElements, element_of, elements_of};
+ghost use Rattle.nx_handle.specs.Hearing.{HearsOn, element_of, elements_of};
 
 use arrayvec::ArrayVec;
-use nx_copies::MAX_ENTRY;
+use nx_copies::{MAX_ENTRY, spell_entry};
 use nx_fec::{Channel, PackedElements};
 use nx_memory::PlainRecall;
-use nx_receiver::{Listener, Receiver};
+use nx_receiver::Receiver;
 
 /// The most elements of a piece.
 const MAX_PIECE: usize = 512;
 
-/// Hears elements of a channel, up to and with the one that ends the first copy that is printed;
-/// says how many it heard, and whether `entry` has the bytes of an entry then.
+/// Hears elements of a channel with its receiver, up to and with the one that ends the first copy
+/// that is printed; says how many it heard, and whether `entry` has the bytes of an entry then.
 pub(crate) fn hear_all(
-    listener: &mut Listener<Receiver<PlainRecall>>,
+    receiver: &mut Receiver<PlainRecall>,
     channel: Channel,
     elements: &[u8],
     entry: &mut ArrayVec<u8, MAX_ENTRY>,
 ) -> (usize, bool)
-    ensures hears { HearsElements channel listener.old listener.new
+    ensures hears { HearsOn channel receiver.old receiver.new
         (elements_of (take result.0 elements.now)) (if result.1 then entry.new.items else []) }
     ensures within { result.0 ≤ length elements.now }
     ensures all { result.1 ≡ false → result.0 ≡ length elements.now }
@@ -31,9 +31,10 @@ pub(crate) fn hear_all(
     while heard < elements.len() {
         let end = elements.len().min(heard.saturating_add(MAX_PIECE));
         let packed = pack(&elements[heard..end]);
-        let (count, is_printed) = listener.hear_spelled(channel, &packed, 0, entry);
+        let (count, head) = receiver.next_printed(&packed, 0);
         heard += count;
-        if is_printed {
+        if let Some(head) = head {
+            spell_entry(&head, receiver.text(), channel, entry);
             return (heard, true);
         }
     }

@@ -1,7 +1,8 @@
 //! What a call tells its caller.
 
-ghost use Rattle.std.specs.Prelude.{◌≡◌};
+ghost use Rattle.std.specs.Prelude.{◌≡◌, ◌≢◌, MatchOption};
 ghost use Rattle.nx_handle.specs.Status.{number_of};
+ghost use Rattle.nx_handle.specs.declared.status.Status.{Status as TheStatus};
 
 /// How a call ended. `enum nx_status` of `navtex.h` has the same numbers.
 #[derive(Clone, Copy, Debug, Drop, PartialEq, Eq)]
@@ -10,11 +11,11 @@ pub enum Status {
     Done = 0,
     /// All succeeded, but what was written is longer than the caller's room for it.
     NoRoom = 1,
-    /// A read failed.
+    /// A read failed: of calls over whole files alone.
     Read = 2,
-    /// There was no memory for what is written.
+    /// There was no memory for what is written: of calls over whole files alone.
     Write = 3,
-    /// There was no memory for the run.
+    /// There was no memory for the run, or for the block of a receiver.
     Memory = 4,
     /// There is a byte past the limit of a file.
     FileTooLong = 5,
@@ -84,7 +85,57 @@ pub enum Status {
     NoEntry = 37,
 }
 
+/// All statuses, each at the place of its number.
+const STATUSES: [Status; 38] = [
+    Status::Done,
+    Status::NoRoom,
+    Status::Read,
+    Status::Write,
+    Status::Memory,
+    Status::FileTooLong,
+    Status::AirTooLong,
+    Status::LineLong,
+    Status::LineCut,
+    Status::BadLine,
+    Status::NoMoment,
+    Status::MomentRange,
+    Status::MomentBack,
+    Status::Vital,
+    Status::StateLine,
+    Status::StateCut,
+    Status::StateNoRoom,
+    Status::Ragged,
+    Status::NoSuchCharacter,
+    Status::LongLine,
+    Status::BadCharacter,
+    Status::Reserved,
+    Status::LongText,
+    Status::Open,
+    Status::NoMessages,
+    Status::MixedStations,
+    Status::NoSlot,
+    Status::SlotFull,
+    Status::NoStation,
+    Status::WrongWord,
+    Status::Unpaired,
+    Status::BadEnvelope,
+    Status::Closed,
+    Status::AlreadyOpen,
+    Status::NoChannel,
+    Status::NoElement,
+    Status::NoSubject,
+    Status::NoEntry,
+];
+
 impl Status {
+    /// The status of a number, as a call answers it; `None` where no status has the number.
+    pub fn of_number(number: u32) -> Option<Status>
+        ensures { MatchOption result ((status : TheStatus) → number_of status ≢ number)
+            (λ status. number_of status ≡ number) }
+    {
+        STATUSES.get(number as usize).copied()
+    }
+
     /// The number of a status.
     pub fn number(self) -> u32
         ensures { result ≡ number_of self }

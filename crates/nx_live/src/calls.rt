@@ -17,19 +17,18 @@ use crate::handle::NxLive;
 use crate::lending::{ROOM, ROOM_ALIGNMENT};
 use nx_handle::{Kept, LogEntry};
 use nx_receiver::Command;
-use std::alloc::Global;
 
 /// Opens a receiver at a moment, in whole seconds since 1970-01-01 00:00:00 UTC: it has heard
 /// nothing, remembers nothing, and everything is selected.
 ///
 /// Where the answer isn't 0, the receiver stays as it was.
 #[unsafe(no_mangle)]
-pub extern "C" fn nx_live_open(alloc: Global, receiver: &mut NxLive, moment: u64) -> u32
+pub extern "C" fn nx_live_open(receiver: &mut NxLive, moment: u64) -> u32
     ensures { AnswersOpening moment receiver.old.value receiver.new.value result }
 {
     prove!(size_of::<Option<Kept>>() == ROOM);
     prove!(align_of::<Option<Kept>>() == ROOM_ALIGNMENT);
-    nx_handle::open(alloc, receiver.slot(), moment)
+    nx_handle::open(receiver.slot(), moment)
 }
 
 /// Opens a receiver from the state with which these bytes begin: it remembers the state's entries,
@@ -38,10 +37,10 @@ pub extern "C" fn nx_live_open(alloc: Global, receiver: &mut NxLive, moment: u64
 ///
 /// Where the answer isn't 0, the receiver stays as it was.
 #[unsafe(no_mangle)]
-pub extern "C" fn nx_live_open_from(alloc: Global, receiver: &mut NxLive, state: &[u8]) -> u32
+pub extern "C" fn nx_live_open_from(receiver: &mut NxLive, state: &[u8]) -> u32
     ensures { AnswersOpeningFrom state.now receiver.old.value receiver.new.value result }
 {
-    nx_handle::open_from(alloc, receiver.slot(), state)
+    nx_handle::open_from(receiver.slot(), state)
 }
 
 /// Sets the moment from here on, of all channels. Refused where it is past the year 2999, or before

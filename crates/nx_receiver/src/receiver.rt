@@ -98,7 +98,7 @@ impl<M: Recall> Receiver<M> {
 
     /// A receiver that has heard nothing, with a memory, the first moment and the first selection.
     /// Fails as `new` does.
-    pub(crate) fn starting(
+    pub fn starting(
         memory: M,
         moment: u64,
         selection: Selection,
@@ -266,9 +266,20 @@ impl<M: Recall> Receiver<M> {
         ensures moment { IfSome result (λ entry. entry.moment ≤ last_moment) }
     {
         let mut receiver = self;
-        receiver.taker.reader.close();
-        let head = receiver.judge_ready()?;
+        let head = receiver.end()?;
         Some(Entry::of(&head, receiver.text()))
+    }
+
+    /// Ends the elements in place, and says the head of the entry that their end prints: that of
+    /// the open copy, where it is printed. Its text is `text`. Nothing is to be heard after it.
+    pub fn end(&mut self) -> Option<EntryHead>
+        ensures stands { (start : Start) (history : List Event) (log : List TaggedCopy) →
+            Stands M.content start self.old history log
+            → PrintsToEnd start history (log ++ headed_list result (text_of self.new)) }
+        ensures head { IfSome result (λ head. HeadsText head (text_of self.new)) }
+    {
+        self.taker.reader.close();
+        self.judge_ready()
     }
 
     /// Hears elements up to and with the first one with which something is over, all of them where

@@ -1,14 +1,15 @@
 //! The calls of a receiver. Each does with what is kept what `nx_handle` does.
 
 ghost use Rattle.std.specs.Prelude.{◌≡◌, None};
+ghost use Rattle.nx_c.specs.Opening.{OpensFromInBlock, OpensInBlock};
 ghost use Rattle.nx_copies.specs.Events as events;
 ghost use Rattle.nx_receiver.specs.declared.command.Command.TheVariants.{RefuseStation, AcceptStation, RefuseSubject, AcceptSubject};
 ghost use Rattle.nx_handle.specs.CallerRoom.{room};
 ghost use Rattle.nx_handle.specs.Closing.{AnswersClosing};
 ghost use Rattle.nx_handle.specs.Hearing.{AnswersHearing};
 ghost use Rattle.nx_handle.specs.Life.{hearing};
-ghost use Rattle.nx_handle.specs.Opening.{AnswersMoment, AnswersOpening};
-ghost use Rattle.nx_handle.specs.Saving.{AnswersOpeningFrom, AnswersSaving};
+ghost use Rattle.nx_handle.specs.Opening.{AnswersMoment};
+ghost use Rattle.nx_handle.specs.Saving.{AnswersSaving};
 ghost use Rattle.nx_handle.specs.Selecting.{AnswersSelecting, command_status};
 
 use crate::receiver::handle::NxReceiver;
@@ -19,16 +20,18 @@ use std::alloc::Global;
 /// Opens a receiver at a moment, in whole seconds since 1970-01-01 00:00:00 UTC: it has heard
 /// nothing, remembers nothing, and everything is selected. Takes all memory that it ever needs.
 ///
-/// Where the answer isn't `Done`, the receiver stays as it was.
+/// `AlreadyOpen` where it is open; else `MomentRange` where the moment is past the year 2999; else
+/// `Done`, or `Memory` where there is none for its block. Where it isn't `Done`, the receiver stays
+/// as it was.
 #[unsafe(no_mangle)]
 pub extern "C" fn nx_open(alloc: Global, receiver: &mut NxReceiver, moment: u64) -> u32
-    ensures { AnswersOpening moment receiver.old.value receiver.new.value result }
+    ensures { OpensInBlock moment receiver.old.value receiver.new.value result }
 {
     if receiver.is_open(alloc) {
         return Status::AlreadyOpen.number();
     }
     let mut slot = None;
-    let status = nx_handle::open(alloc, &mut slot, moment);
+    let status = nx_handle::open(&mut slot, moment);
     match slot {
         Some(kept) => receiver.open_with(kept, alloc),
         None => status,
@@ -39,16 +42,18 @@ pub extern "C" fn nx_open(alloc: Global, receiver: &mut NxReceiver, moment: u64)
 /// has its selection on each channel, and the greatest moment of an entry. What stands behind the
 /// state isn't read.
 ///
-/// Where the answer isn't `Done`, the receiver stays as it was.
+/// `AlreadyOpen` where it is open; else `StateLine` or `StateCut` where the bytes begin with no
+/// state; else `Done`, or `Memory` where there is none for its block. Where it isn't `Done`, the
+/// receiver stays as it was.
 #[unsafe(no_mangle)]
 pub extern "C" fn nx_open_from(alloc: Global, receiver: &mut NxReceiver, state: &[u8]) -> u32
-    ensures { AnswersOpeningFrom state.now receiver.old.value receiver.new.value result }
+    ensures { OpensFromInBlock state.now receiver.old.value receiver.new.value result }
 {
     if receiver.is_open(alloc) {
         return Status::AlreadyOpen.number();
     }
     let mut slot = None;
-    let status = nx_handle::open_from(alloc, &mut slot, state);
+    let status = nx_handle::open_from(&mut slot, state);
     match slot {
         Some(kept) => receiver.open_with(kept, alloc),
         None => status,

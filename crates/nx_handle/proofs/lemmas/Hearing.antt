@@ -1,106 +1,77 @@
--- Elements that are heard piece by piece.
-use Rattle.std.proofs.Common.{◌≡◌, ◌<◌, ◌≤◌, ◌+◌, ◌-◌, inl, inr, ℕ, Bool, true, false, List, [], ◌++◌, length, map, take, drop, min, arith, refl, sym, ap, ◌∙◌, subst}
+-- Elements that the receiver of a channel hears piece by piece.
+use Rattle.std.proofs.Common.{◌≡◌, ◌<◌, ◌≤◌, ◌+◌, ◌-◌, inl, inr, ℕ, Bool, List, [], ◌∷◌, ◌++◌, length, take, drop, min, true, arith, sym, ap, ◌∙◌, subst}
 use Rattle.std.proofs.lemmas.List.{append_assoc, append-nil, take-append-le, length-append}
 use Rattle.std.proofs.lemmas.Bool.{cases_lt}
 use Rattle.std.proofs.lemmas.List.{length-drop, length-map, length-take, length-take-le, map-append, take-append-drop, take-map}
 use Rattle.std.proofs.Math.Seq.{take-add, take-append-add}
 use Rattle.nx_fec.specs.declared.air_files.channel.Channel.{Channel}
-use Rattle.nx_copies.specs.copies.FoundCopies.{TaggedCopy}
-use Rattle.nx_copies.specs.copies.InTurn.{PrintsInTurn}
-use Rattle.nx_receiver.specs.Listener.{IsSpelled, then_elements}
-use Rattle.nx_handle.specs.Receivers.{HearsGiven, Listening}
-use Rattle.nx_copies.specs.copies.Log.{IsEntry, IsLog, entry_head}
-use Rattle.nx_copies.specs.copies.Shares.{Given, MarkedCopy, Starts, marked}
-use Rattle.nx_copies.proofs.lemmas.printing.Log.{one-log}
-use Rattle.nx_handle.specs.Hearing.{HearsElements, element_of, elements_of}
+use Rattle.nx_copies.specs.Events.{Event, Start, element, elements}
+use Rattle.nx_copies.specs.copies.FoundCopies.{TaggedCopy, headed_copy}
+use Rattle.nx_copies.specs.copies.Log.{IsEntry, entry_head, plain}
+use Rattle.nx_copies.specs.copies.Shares.{MarkedCopy, marked}
+use Rattle.nx_copies.specs.declared.entry.EntryHead.{EntryHead}
+use Rattle.nx_copies.proofs.lemmas.printing.Log.{no-log, one-log}
+use Rattle.nx_receiver.specs.Receiver.{HandsOutNoneBefore, Stands, headed_list}
+use Rattle.std.specs.Prelude.{Option, Some}
+use Rattle.nx_handle.specs.Hearing.{HearsOn, element_of, elements_of}
+use Rattle.nx_handle.specs.Receivers.{OneReceiver, content}
 
--- elements of a channel are heard, and print these copies
-abbrev pub Heard : Channel → Listening → Listening → List Bool → List TaggedCopy → Type 0
-Heard channel old new bits next =
-    (starts : Starts) (given : List Given) (part : List Bool) (copies : List MarkedCopy)
-    → HearsGiven starts old (then_elements given channel part) copies
-    → HearsGiven starts new (then_elements given channel (part ++ bits))
-    (copies ++ map (marked channel) next)
+-- a receiver hears elements, and hands out these copies
+abbrev pub Heard : OneReceiver → OneReceiver → List Bool → List TaggedCopy → Type 0
+Heard old new bits next =
+    (start : Start) (history : List Event) (log : List TaggedCopy)
+    → Stands content start old history log
+    → Stands content start new (history ++ elements bits) (log ++ next)
 
--- and none before the last of them prints anything
-abbrev pub NoneBefore : Channel → Listening → List Bool → Type 0
-NoneBefore channel old bits =
-    (starts : Starts) (given : List Given) (part : List Bool) (copies : List MarkedCopy)
-    → HearsGiven starts old (then_elements given channel part) copies
-    → (k : ℕ) → k < length bits
-    → PrintsInTurn starts (then_elements given channel (part ++ take k bits)) copies
+-- a receiver hears elements, and prints nothing
+pub record HearsSilently (old new : OneReceiver) (bits : List Bool) : Type 0 where
+  pub heard : (start : Start) (history : List Event) (log : List TaggedCopy)
+      → Stands content start old history log
+      → Stands content start new (history ++ elements bits) log
+  pub first : HandsOutNoneBefore content old bits (length bits)
 
--- elements of a channel are heard, and print nothing
-pub record HearsSilently (channel : Channel) (old new : Listening) (bits : List Bool) : Type 0 where
-  pub heard : (starts : Starts) (given : List Given) (part : List Bool) (copies : List MarkedCopy)
-      → HearsGiven starts old (then_elements given channel part) copies
-      → HearsGiven starts new (then_elements given channel (part ++ bits)) copies
-  pub first : NoneBefore channel old bits
-
-pub hears-nothing : (channel : Channel) (old : Listening) → HearsSilently channel old old []
-hears-nothing channel old = record {
-  heard = λ starts given part copies h. subst
-      (λ bits. HearsGiven starts old (then_elements given channel bits) copies)
-      (sym (append-nil part)) h;
-  first = λ starts given part copies h k lt. absurd (omega (arith, lt));
+pub hears-nothing : (old : OneReceiver) → HearsSilently old old []
+hears-nothing old = record {
+  heard = λ start history log s. subst (λ es. Stands content start old es log)
+      (sym (append-nil history)) s;
+  first = λ start history log s k lt. absurd (omega (arith, lt));
 }
 
--- more elements behind those that printed nothing
-pub heard-more : (channel : Channel) (old mid new : Listening) (one more bits : List Bool)
-    (next : List TaggedCopy) → bits ≡ one ++ more → HearsSilently channel old mid one
-    → Heard channel mid new more next → Heard channel old new bits next
-heard-more channel old mid new one more bits next e h heard starts given part copies stood =
-    subst (λ bs. HearsGiven starts new (then_elements given channel bs)
-    (copies ++ map (marked channel) next))
-    (append_assoc part one more ∙ ap (λ bs. part ++ bs) (sym e))
-    (heard starts given (part ++ one) copies (h.heard starts given part copies stood))
+-- more elements, behind others
+elements-more : (history : List Event) (one more bits : List Bool) → bits ≡ one ++ more
+    → (history ++ elements one) ++ elements more ≡ history ++ elements bits
+elements-more history one more bits e =
+    append_assoc history (elements one) (elements more)
+    ∙ ap (λ es. history ++ es) (sym (map-append element one more) ∙ ap elements (sym e))
 
-pub none-before-more : (channel : Channel) (old mid : Listening) (one more bits : List Bool)
-    → bits ≡ one ++ more → HearsSilently channel old mid one
-    → NoneBefore channel mid more → NoneBefore channel old bits
-none-before-more channel old mid one more bits e h first starts given part copies stood k lt =
-    let In : List Bool → Type 0 = λ bs. PrintsInTurn starts (then_elements given channel bs)
-    copies in
+-- more elements behind those that printed nothing
+heard-more : (old mid new : OneReceiver) (one more bits : List Bool) (next : List TaggedCopy)
+    → bits ≡ one ++ more → HearsSilently old mid one → Heard mid new more next
+    → Heard old new bits next
+heard-more old mid new one more bits next e h heard start history log s =
+    subst (λ es. Stands content start new es (log ++ next)) (elements-more history one more bits e)
+    (heard start (history ++ elements one) log (h.heard start history log s))
+
+none-before-more : (old mid : OneReceiver) (one more bits : List Bool)
+    → bits ≡ one ++ more → HearsSilently old mid one
+    → HandsOutNoneBefore content mid more (length more)
+    → HandsOutNoneBefore content old bits (length bits)
+none-before-more old mid one more bits e h first start history log s k lt =
     elim (cases_lt k (length one)) [
-      | inl before ↦ subst In
-          (ap (λ bs. part ++ bs)
-          (sym (ap (take k) e ∙ take-append-le k one more (omega (arith, before)))))
-          (h.first starts given part copies stood k before)
+      | inl before ↦ subst (λ bs. plain.so_far start (history ++ elements bs) log)
+          (sym (ap (take k) e ∙ take-append-le k one more (omega (arith, before))))
+          (h.first start history log s k before)
       | inr behind ↦
           let n : ℕ = k - length one in
           let is : length one + n ≡ k = omega (arith, behind) in
           let few : n < length more =
           omega (arith, lt, behind, ap length e ∙ length-append one more) in
-          subst In
-          (append_assoc part one (take n more) ∙ ap (λ bs. part ++ bs)
-          (sym (take-append-add one more n) ∙ ap (λ m. take m (one ++ more)) is
-          ∙ ap (take k) (sym e)))
-          (first starts given (part ++ one) copies (h.heard starts given part copies stood) n few)
+          let all : take k bits ≡ one ++ take n more =
+          ap (take k) e ∙ ap (λ m. take m (one ++ more)) (sym is) ∙ take-append-add one more n in
+          subst (λ es. plain.so_far start es log)
+          (elements-more history one (take n more) (take k bits) all)
+          (first start (history ++ elements one) log (h.heard start history log s) n few)
     ]
-
--- what is spelled of no copy, or of one
-pub is-log-of : (channel : Channel) (next : List TaggedCopy) (bytes : List ℕ)
-    → IsSpelled channel true next bytes → IsLog (map (marked channel) next) bytes
-is-log-of channel next bytes h = subst (λ copies. IsLog (map (marked channel) copies) bytes)
-    (sym h.1) (one-log (marked channel h.0) bytes h.2)
-
-pub no-log : IsLog [] []
-no-log = record { entries = []; each = tt; joined = refl }
-
-pub is-few : (channel : Channel) (is : Bool) (next : List TaggedCopy) (bytes : List ℕ)
-    → IsSpelled channel is next bytes → length next ≤ 1
-is-few channel false next bytes h = subst (λ copies. length copies ≤ 1) (sym h) (omega arith)
-is-few channel true next bytes h = subst (λ copies. length copies ≤ 1) (sym h.1) (omega arith)
-
--- an entry has bytes
-pub has-bytes : (one : MarkedCopy) (bytes : List ℕ) → IsEntry one bytes → bytes ≡ [] → ⊥
-unfolding entry_head
-has-bytes one bytes h e = omega (arith, ap length (sym h.spelled ∙ e))
-
-pub spelled-some : (channel : Channel) (is : Bool) (next : List TaggedCopy) (bytes : List ℕ)
-    → IsSpelled channel is next bytes → is ≡ true → bytes ≡ [] → ⊥
-spelled-some channel false next bytes h e = cc
-spelled-some channel true next bytes h e = has-bytes (marked channel h.0) bytes h.2
 
 -- ---- a piece of elements
 
@@ -132,58 +103,68 @@ piece-within xs h n m packed e few within =
     omega (arith, few, short, within)
 
 -- none of the first elements but the last prints anything
-pub none-before-piece : (channel : Channel) (mid : Listening) (packed : List Bool) (n : ℕ)
-    → n ≤ length packed
-    → ((starts : Starts) (given : List Given) (part : List Bool) (copies : List MarkedCopy)
-    → HearsGiven starts mid (then_elements given channel part) copies
-    → (k : ℕ) → k < n → PrintsInTurn starts
-    (then_elements given channel (part ++ take k (drop 0 packed))) copies)
-    → NoneBefore channel mid (take n (drop 0 packed))
-none-before-piece channel mid packed n few first starts given part copies stood k lt =
+pub none-before-piece : (mid : OneReceiver) (packed : List Bool) (n : ℕ) → n ≤ length packed
+    → HandsOutNoneBefore content mid (drop 0 packed) n
+    → HandsOutNoneBefore content mid (take n (drop 0 packed)) (length (take n (drop 0 packed)))
+none-before-piece mid packed n few first start history log s k lt =
     let long : length (take n packed) ≡ n = length-take-le n packed few in
     let before : k < n = subst (λ l. k < l) long lt in
-    subst (λ bs. PrintsInTurn starts (then_elements given channel (part ++ bs)) copies)
+    subst (λ bs. plain.so_far start (history ++ elements bs) log)
     (sym (taken-of-taken packed k n (omega (arith, before, long))))
-    (first starts given part copies stood k before)
+    (first start history log s k before)
 
 -- more elements, which print nothing either
-pub silent-more : (channel : Channel) (old mid new : Listening) (one more bits : List Bool)
-    (next : List TaggedCopy) → bits ≡ one ++ more → next ≡ [] → HearsSilently channel old mid one
-    → Heard channel mid new more next → NoneBefore channel mid more
-    → HearsSilently channel old new bits
-silent-more channel old mid new one more bits next e none h heard first = record {
-  heard = λ starts given part copies stood. subst
-      (λ all. HearsGiven starts new (then_elements given channel (part ++ bits)) all)
-      (ap (λ n. copies ++ map (marked channel) n) none ∙ append-nil copies)
-      (heard-more channel old mid new one more bits next e h heard starts given part copies stood);
-  first = none-before-more channel old mid one more bits e h first;
+pub silent-more : (old mid new : OneReceiver) (one more bits : List Bool)
+    (next : List TaggedCopy) → bits ≡ one ++ more → next ≡ [] → HearsSilently old mid one
+    → Heard mid new more next → HandsOutNoneBefore content mid more (length more)
+    → HearsSilently old new bits
+silent-more old mid new one more bits next e none h heard first = record {
+  heard = λ start history log s. subst
+      (λ all. Stands content start new (history ++ elements bits) all)
+      (ap (λ n. log ++ n) none ∙ append-nil log)
+      (heard-more old mid new one more bits next e h heard start history log s);
+  first = none-before-more old mid one more bits e h first;
 }
 
 -- what is heard silently is heard, and has no log
-pub hears-silent : (channel : Channel) (old new : Listening) (bits : List Bool)
-    → HearsSilently channel old new bits → HearsElements channel old new bits []
+pub hears-silent : (channel : Channel) (old new : OneReceiver) (bits : List Bool)
+    → HearsSilently old new bits → HearsOn channel old new bits []
 hears-silent channel old new bits h = record {
   next = [];
   few = omega arith;
+  behind = omega arith;
   spelled = no-log;
-  heard = λ starts given part copies stood. subst
-      (λ all. HearsGiven starts new (then_elements given channel (part ++ bits)) all)
-      (sym (append-nil copies)) (h.heard starts given part copies stood);
+  stands = λ start history log s. subst
+      (λ all. Stands content start new (history ++ elements bits) all)
+      (sym (append-nil log)) (h.heard start history log s);
   first = h.first;
 }
 
 -- what is spelled of a piece behind what was heard silently
-pub hears-spelled : (channel : Channel) (old mid new : Listening) (one more bits : List Bool)
-    (is : Bool) (next : List TaggedCopy) (bytes : List ℕ) → bits ≡ one ++ more → is ≡ true
-    → HearsSilently channel old mid one → IsSpelled channel is next bytes
-    → Heard channel mid new more next → NoneBefore channel mid more
-    → HearsElements channel old new bits bytes
-hears-spelled channel old mid new one more bits is next bytes e printed h spelled heard first =
-    let one_copy : IsSpelled channel true next bytes =
-    subst (λ b. IsSpelled channel b next bytes) printed spelled in record {
-      next = next;
-      few = is-few channel true next bytes one_copy;
-      spelled = is-log-of channel next bytes one_copy;
-      heard = heard-more channel old mid new one more bits next e h heard;
-      first = none-before-more channel old mid one more bits e h first;
+pub hears-spelled : (channel : Channel) (old mid new : OneReceiver) (one more bits : List Bool)
+    (head : Option EntryHead) (one_head : EntryHead) (text bytes : List ℕ) → bits ≡ one ++ more
+    → 0 < length more → head ≡ Some one_head → HearsSilently old mid one
+    → IsEntry (marked channel (headed_copy one_head text true)) bytes
+    → Heard mid new more (headed_list head text)
+    → HandsOutNoneBefore content mid more (length more)
+    → HearsOn channel old new bits bytes
+hears-spelled channel old mid new one more bits head one_head text bytes e some is h spelled heard
+    first =
+    let copy = headed_copy one_head text true in
+    let next : headed_list head text ≡ copy ∷ [] = ap (λ o. headed_list o text) is in
+    record {
+      next = copy ∷ [];
+      few = omega arith;
+      behind = omega (arith, some, ap length e ∙ length-append one more);
+      spelled = one-log (marked channel copy) bytes spelled;
+      stands = heard-more old mid new one more bits (copy ∷ []) e h
+          (λ start history log s. subst
+          (λ n. Stands content start new (history ++ elements more) (log ++ n)) next
+          (heard start history log s));
+      first = none-before-more old mid one more bits e h first;
     }
+
+-- an entry has bytes
+pub has-bytes : (one : MarkedCopy) (bytes : List ℕ) → IsEntry one bytes → bytes ≡ [] → ⊥
+unfolding entry_head
+has-bytes one bytes h e = omega (arith, ap length (sym h.spelled ∙ e))

@@ -1,5 +1,5 @@
 -- The steps of a receiver's life, and its closing.
-use Rattle.std.proofs.Common.{◌≡◌, ◌≤◌, ℕ, List, [], ◌∷◌, ◌++◌, length, map, take, drop, min, arith, refl, sym, ap, ◌∙◌, subst, Option, Some, None}
+use Rattle.std.proofs.Common.{◌≡◌, ◌≤◌, inl, inr, ℕ, List, [], ◌∷◌, ◌++◌, length, map, take, drop, min, arith, refl, sym, ap, ◌∙◌, subst, Option, Some, None}
 use Rattle.std.proofs.lemmas.List.{append_assoc, append-nil, take_all}
 use Rattle.std.proofs.Math.Seq.{take-append_seam}
 use Rattle.std.specs.List.{concat}
@@ -8,23 +8,21 @@ use Rattle.nx_fec.specs.declared.air_files.channel.Channel.{Channel}
 use Rattle.nx_copies.specs.Events as events
 use Rattle.nx_copies.specs.Events.{Command, command}
 use Rattle.nx_copies.specs.copies.InTurn.{PrintAllToEnd}
-use Rattle.nx_handle.specs.Receivers.{HearsGiven, Listening, content}
+use Rattle.nx_handle.specs.Receivers.{HearsGiven}
 use Rattle.nx_copies.specs.copies.Log.{IsLog}
 use Rattle.nx_copies.specs.copies.Shares.{Given, MarkedCopy, Starts, all_at_zero, marked, to_all, to_one}
-use Rattle.nx_receiver.specs.private.PlainReceiver.{plain-receiver}
-use Rattle.nx_receiver.proofs.lemmas.listening.Listener.{none-given}
 use Rattle.nx_copies.proofs.lemmas.printing.Log.{logs_join, no-log, one-log}
-use Rattle.nx_handle.specs.Closing.{HandsOut}
+use Rattle.nx_handle.specs.Closing.{HandsOut, HasEnded}
 use Rattle.nx_handle.specs.Hearing.{AnswersHearing, elements_of}
-use Rattle.nx_handle.specs.Life.{EndsWith, ending, ending_at, hearing, hearing_at}
+use Rattle.nx_handle.specs.Life.{EndsWith, hearing}
 use Rattle.nx_handle.specs.Opening.{AnswersMoment, AnswersOpening}
 use Rattle.nx_handle.specs.Selecting.{AnswersSelecting}
 use Rattle.nx_handle.specs.CallerRoom.{IsPut, Room}
 use Rattle.nx_handle.specs.WholeLife.{AreCloses, AreSteps, HasLogged, IsStep, LifeStep, given_in, step, texts_of}
 use Rattle.nx_handle.specs.declared.kept.Kept.{Kept}
-use Rattle.nx_handle.specs.declared.kept.LifeStage.{LifeStage}
-use Rattle.nx_handle.specs.declared.kept.LifeStage.TheVariants.{Ending, Hearing}
 use Rattle.nx_handle.specs.declared.status.Status.{Status}
+use Rattle.nx_handle.proofs.lemmas.Closing.{ends-all}
+use Rattle.nx_handle.proofs.lemmas.Receivers.{given-none}
 
 some-inj : {A : Type 0} {x y : A} → Some x ≡ Some y → x ≡ y
 some-inj e = cc
@@ -62,8 +60,7 @@ step-hears channel heard bytes old new log a =
       λ starts given before stood.
           let is : stood.heard.listener ≡ h.listener = some-inj (sym stood.heard.hears ∙ h.was) in
           let begun = subst (λ l. HearsGiven starts l given stood.copies) is stood.heard.heard in
-          let none =
-          none-given (plain-receiver content) starts h.listener given h.on stood.copies begun in
+          let none = given-none starts h.listener given h.on stood.copies begun in
           let next = map (marked h.on) h.hears.next in record {
             copies = stood.copies ++ next;
             heard = record {
@@ -128,58 +125,59 @@ steps-logged starts given before (one ∷ steps) first last stood h =
 
 -- ---- closing
 
-stage-ends : (stage : LifeStage) (these left : List MarkedCopy) → EndsWith stage these
-    → ending_at stage ≡ Some left → these ≡ left
-stage-ends (Hearing listener) these left ends is = absurd (none-some is)
-stage-ends (Ending last) these left ends is = ends ∙ some-inj is
-
-stage-hears : (starts : Starts) (given : List Given) (copies left : List MarkedCopy)
-    (listener : Listening) (stage : LifeStage) → EndsWith stage left
-    → hearing_at stage ≡ Some listener → HearsGiven starts listener given copies
-    → PrintAllToEnd starts given (copies ++ left)
-stage-hears starts given copies left listener (Hearing other) ends is h =
-    ends starts given copies
-    (subst (λ l. HearsGiven starts l given copies) (sym (some-inj is)) h)
-stage-hears starts given copies left listener (Ending last) ends is h = absurd (none-some is)
-
 closes-none : (texts : List (List ℕ)) → AreCloses None texts None → concat texts ≡ []
 closes-none [] h = refl
 closes-none (text ∷ texts) h = absurd (none-some h.1.was)
 
-hands-all : (left : List MarkedCopy) (mid : Option Kept) (text : List ℕ) (texts : List (List ℕ))
-    → ((rest : List MarkedCopy) → ending mid ≡ Some rest → IsLog rest (concat texts))
-    → HandsOut left mid text → AreCloses mid texts None → IsLog left (text ++ concat texts)
-hands-all [] mid text texts next out h =
-    subst (λ bytes. IsLog [] bytes)
-    (sym (ap (λ t. t ++ concat texts) out.0
-    ∙ closes-none texts (subst (λ r. AreCloses r texts None) out.1 h))) no-log
-hands-all (copy ∷ rest) mid text texts next out h =
-    logs_join (copy ∷ []) rest text (concat texts) (one-log copy text out.0) (next rest out.1)
+-- what the calls hand out that close a receiver is the log of what its ends print
+pub record HandOutAll (kept : Kept) (texts : List (List ℕ)) : Type 0 where
+  pub left : List MarkedCopy
+  pub ends : EndsWith kept left
+  pub spelled : IsLog left (concat texts)
 
-closes-all : (texts : List (List ℕ)) (receiver : Option Kept) (left : List MarkedCopy)
-    → ending receiver ≡ Some left → AreCloses receiver texts None → IsLog left (concat texts)
-closes-all [] receiver left is h = absurd (none-some (ap ending h ∙ is))
-closes-all (text ∷ texts) receiver left is h =
+hands-last : (kept : Kept) (mid : Option Kept) (text : List ℕ) (texts : List (List ℕ))
+    → HasEnded kept mid text → AreCloses mid texts None → HandOutAll kept (text ∷ texts)
+hands-last kept mid text texts ended h = record {
+  left = [];
+  ends = ended.none;
+  spelled = subst (λ bytes. IsLog [] bytes)
+      (sym (ap (λ t. t ++ concat texts) ended.nothing
+      ∙ closes-none texts (subst (λ r. AreCloses r texts None) ended.closed h))) no-log;
+}
+
+hands-one : (kept : Kept) (mid : Option Kept) (text : List ℕ) (texts : List (List ℕ))
+    (out : HandsOut kept mid text) → HandOutAll out.after texts → HandOutAll kept (text ∷ texts)
+hands-one kept mid text texts out h = record {
+  left = out.copy ∷ h.left;
+  ends = out.behind h.left h.ends;
+  spelled = logs_join (out.copy ∷ []) h.left text (concat texts)
+      (one-log out.copy text out.entry) h.spelled;
+}
+
+hands-all : (kept : Kept) (texts : List (List ℕ)) → AreCloses (Some kept) texts None
+    → HandOutAll kept texts
+hands-all kept [] h = absurd (none-some h)
+hands-all kept (text ∷ texts) h =
     let c = h.1 in
-    let these : c.left ≡ left =
-    stage-ends c.kept.stage c.left left c.ends (sym (ap ending c.was) ∙ is) in
-    subst (λ l. IsLog l (text ++ concat texts)) these
-    (hands-all c.left h.0 text texts (λ rest e. closes-all texts h.0 rest e h.2) c.hands_out h.2)
+    let is : c.kept ≡ kept = some-inj (sym c.was) in
+    subst (λ k. HandOutAll k (text ∷ texts)) is
+    (elim c.goes [
+      | inl out ↦ hands-one c.kept h.0 text texts out
+          (hands-all out.after texts (subst (λ r. AreCloses r texts None) out.now h.2))
+      | inr ended ↦ hands-last c.kept h.0 text texts ended h.2
+    ])
 
 pub closed-logged : (starts : Starts) (given : List Given) (log : List ℕ) (last : Option Kept)
     (texts : List (List ℕ)) → HasLogged starts last given log → AreCloses last texts None
     → (copies : List MarkedCopy) × PrintAllToEnd starts given copies
     × IsLog copies (log ++ concat texts)
-closed-logged starts given log last [] stood h =
-    absurd (none-some (ap hearing h ∙ stood.heard.hears))
-closed-logged starts given log last (text ∷ texts) stood h =
-    let c = h.1 in (
-      stood.copies ++ c.left,
-      stage-hears starts given stood.copies c.left stood.heard.listener c.kept.stage c.ends
-          (sym (ap hearing c.was) ∙ stood.heard.hears) stood.heard.heard,
-      logs_join stood.copies c.left log (text ++ concat texts) stood.spelled
-          (hands-all c.left h.0 text texts (λ rest e. closes-all texts h.0 rest e h.2) c.hands_out
-          h.2),
+closed-logged starts given log None texts stood h = absurd (none-some stood.heard.hears)
+closed-logged starts given log (Some kept) texts stood h =
+    let out = hands-all kept texts h in (
+      stood.copies ++ out.left,
+      ends-all starts stood.heard.listener kept given stood.copies out.left stood.heard.hears
+          stood.heard.heard out.ends,
+      logs_join stood.copies out.left log (concat texts) stood.spelled out.spelled,
     )
 
 pub life-from : (starts : Starts) (given : List Given) (first last : Option Kept)

@@ -1,5 +1,5 @@
 -- What opening answers, by the moment that is set where it has begun.
-use Rattle.std.proofs.Common.{◌≡◌, ◌≢◌, inl, ℕ, [], arith, refl, sym, subst, Option, None}
+use Rattle.std.proofs.Common.{◌≡◌, ◌≢◌, ℕ, [], arith, refl, sym, subst, Option, None}
 use Rattle.std.proofs.lemmas.Grind.{common_steps}
 use Rattle.nx_copies.specs.copies.Shares.{all_at_zero}
 use Rattle.nx_handle.specs.Life.{HasHeard, hearing}
@@ -23,8 +23,8 @@ pub opens : (moment : ℕ) (old begun new : Option Kept) → old ≡ None
     → AnswersOpening moment old new 0
 opens moment old begun new none h set =
     let done = sets moment 0 begun new h set in record {
-      cause = inl (subst (λ o. 0 ≡ number_of (opening_status o moment)) (sym none)
-          (first-moment moment 0 done.cause));
+      cause = subst (λ o. 0 ≡ number_of (opening_status o moment)) (sym none)
+          (first-moment moment 0 done.cause);
       done = λ e. done.done e;
       refused = λ no. absurd (no refl);
     }
@@ -35,8 +35,8 @@ pub opens-not : (moment answer : ℕ) (old begun new : Option Kept) → old ≡ 
     → AnswersOpening moment old None answer
 opens-not moment answer old begun new none h set fails =
     let done = sets moment answer begun new h set in record {
-      cause = inl (subst (λ o. answer ≡ number_of (opening_status o moment)) (sym none)
-          (first-moment moment answer done.cause));
+      cause = subst (λ o. answer ≡ number_of (opening_status o moment)) (sym none)
+          (first-moment moment answer done.cause);
       done = λ e. absurd (fails e);
       refused = λ _. sym none;
     }

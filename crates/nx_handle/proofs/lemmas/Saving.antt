@@ -1,13 +1,22 @@
--- What opening from what is saved answers.
-use Rattle.std.proofs.Common.{◌≡◌, ◌⊎◌, inl, inr, ℕ, Bool, false, List, [], is_some, refl, subst, Option, Some, None}
+-- What saving answers, and opening from what is saved.
+use Rattle.std.proofs.Common.{◌≡◌, ◌≢◌, ◌≤◌, ◌<◌, inl, inr, ℕ, ◌+◌, Bool, false, List, [], ◌∷◌, ◌++◌, length, take, drop, is_some, refl, sym, ap, ap₂, ◌-◌, ◌∙◌, subst, append_assoc, append-nil, arith, Option, Some, None}
+use Rattle.nx_code.specs.Reading.{newline}
 use Rattle.nx_memory.specs.Saved.{SavedStates}
+use Rattle.nx_memory.specs.StateText.{BeginsNoText, BeginsText, IsShortLine, IsStateText}
 use Rattle.nx_copies.specs.copies.Shares.{starts_from}
-use Rattle.nx_receiver.specs.air_file_runs.State.{BeginsWith}
+use Rattle.nx_receiver.specs.air_file_runs.State.{BeginsWith, ended_lines}
+use Rattle.nx_receiver.proofs.lemmas.state.Splits.{ended-one}
 use Rattle.nx_handle.specs.Life.{HasHeard}
-use Rattle.nx_handle.specs.Saving.{OpensFrom}
+use Rattle.nx_handle.specs.Saving.{IsFirstLine, OpensFrom, ReadsText}
 use Rattle.nx_handle.specs.Status.{number_of}
 use Rattle.nx_handle.specs.declared.kept.Kept.{Kept}
-use Rattle.nx_handle.specs.declared.status.Status.TheVariants.{Memory}
+use Rattle.nx_handle.specs.declared.status.Status.{Status}
+use Rattle.nx_handle.specs.declared.status.Status.TheVariants as status
+use Rattle.std.specs.Prelude.{Err, slice_index_or}
+use Rattle.std.specs.List.{AllByRecursion}
+use Rattle.std.proofs.lemmas.Bool.{cases_lt}
+use Rattle.std.proofs.lemmas.List.{drop-drop, drop_at, drop_more, length-append, length-drop, length-take, take_all, take-append-drop, take_more}
+use Rattle.nx_memory.proofs.lemmas.StateLines.{each_append}
 
 -- the same beginning, of which something else holds
 pub begins-as : (bytes : List ℕ) (P Q : SavedStates → List ℕ → Type 0)
@@ -29,19 +38,163 @@ is-none None is_open is closed = refl
 is-none (Some kept) is_open is closed = cc
 
 pub opens-from-it : (bytes : List ℕ) (states : SavedStates) (new : Option Kept)
-    → BeginsWith bytes (λ others more. (states ≡ others) × Unit {0})
+    → BeginsWith bytes (λ others more. states ≡ others)
     → HasHeard (starts_from states) new [] [] → OpensFrom bytes new 0
 opens-from-it bytes states new b h =
-    inl (begins-as bytes (λ others more. (states ≡ others) × Unit {0})
-    (λ others more. ((0 ≡ 0) × HasHeard (starts_from others) new [] [])
-    ⊎ ((0 ≡ number_of Memory) × (new ≡ None)))
-    (λ others more same. inl (refl, subst (λ s. HasHeard (starts_from s) new [] []) same.0 h)) b)
+    inl (begins-as bytes (λ others more. states ≡ others)
+    (λ others more. (0 ≡ 0) × HasHeard (starts_from others) new [] [])
+    (λ others more same. (refl, subst (λ s. HasHeard (starts_from s) new [] []) same h)) b)
 
-pub opens-without-memory : (bytes : List ℕ) (states : SavedStates) (new : Option Kept) (answer : ℕ)
-    → BeginsWith bytes (λ others more. (states ≡ others) × Unit {0})
-    → answer ≡ number_of Memory → new ≡ None → OpensFrom bytes new answer
-opens-without-memory bytes states new answer b e none =
-    inl (begins-as bytes (λ others more. (states ≡ others) × Unit {0})
-    (λ others more. ((answer ≡ 0) × HasHeard (starts_from others) new [] [])
-    ⊎ ((answer ≡ number_of Memory) × (new ≡ None)))
-    (λ others more same. inr (e, none)) b)
+pub opens-not : (bytes : List ℕ) (why : Status) (answer : ℕ) → ReadsText bytes (Err why)
+    → answer ≡ number_of why → OpensFrom bytes None answer
+opens-not bytes why answer reads e = elim reads [
+  | inl h ↦ inr (inl (h.0, h.1, e ∙ ap number_of h.2, refl))
+  | inr h ↦ inr (inr (h.0, h.1, e ∙ ap number_of h.2, refl))
+]
+
+-- ---- the lines of a text
+
+-- lines, the next one, and what follows
+one-more : (lines : List (List ℕ)) (line more : List ℕ)
+    → ended_lines lines ++ ((line ++ newline ∷ []) ++ more)
+    ≡ ended_lines (lines ++ line ∷ []) ++ more
+one-more lines line more =
+    sym (append_assoc (ended_lines lines) (line ++ newline ∷ []) more)
+    ∙ ap (λ l. l ++ more) (sym (ended-one lines line))
+
+pub text-is-read : (bytes rest line more : List ℕ) (lines : List (List ℕ)) (states : SavedStates)
+    → bytes ≡ ended_lines lines ++ rest → rest ≡ (line ++ newline ∷ []) ++ more
+    → IsStateText (lines ++ line ∷ []) states → BeginsWith bytes (λ others more. states ≡ others)
+text-is-read bytes rest line more lines states e f is = record {
+  text = ended_lines (lines ++ line ∷ []);
+  more = more;
+  states = states;
+  whole = e ∙ ap (λ r. ended_lines lines ++ r) f ∙ one-more lines line more;
+  stands_for = record { lines = lines ++ line ∷ []; text = is; spelled = refl };
+  here = refl;
+}
+
+-- a line can't stand there
+pub line-is-bad : (bytes rest line more : List ℕ) (lines : List (List ℕ)) (why : Status)
+    → bytes ≡ ended_lines lines ++ rest → rest ≡ (line ++ newline ∷ []) ++ more
+    → BeginsText lines → IsShortLine line → BeginsNoText (lines ++ line ∷ [])
+    → why ≡ status.StateLine → ReadsText bytes (Err why)
+line-is-bad bytes rest line more lines why e f begins part bad is = inl (
+  length lines + 1,
+  record {
+    lines = lines;
+    rest = line;
+    more = newline ∷ more;
+    whole = e ∙ ap (λ r. ended_lines lines ++ r) (f ∙ append_assoc line (newline ∷ []) more)
+        ∙ sym (append_assoc (ended_lines lines) line (newline ∷ more));
+    begins = begins;
+    part = part;
+    here = (refl, (tt, inl (refl, bad)));
+  },
+  is,
+)
+
+-- a line has a 17th byte
+pub line-is-long : (bytes rest line more : List ℕ) (byte : ℕ) (lines : List (List ℕ))
+    (why : Status) → bytes ≡ ended_lines lines ++ rest → rest ≡ line ++ byte ∷ more
+    → BeginsText lines → IsShortLine line → length line ≡ 16 → byte ≢ newline
+    → why ≡ status.StateLine → ReadsText bytes (Err why)
+line-is-long bytes rest line more byte lines why e f begins part full other is = inl (
+  length lines + 1,
+  record {
+    lines = lines;
+    rest = line;
+    more = byte ∷ more;
+    whole = e ∙ ap (λ r. ended_lines lines ++ r) f
+        ∙ sym (append_assoc (ended_lines lines) line (byte ∷ more));
+    begins = begins;
+    part = part;
+    here = (refl, (tt, inr (other, full)));
+  },
+  is,
+)
+
+-- the bytes end before the line does
+pub line-is-cut : (bytes rest : List ℕ) (lines : List (List ℕ)) (why : Status)
+    → bytes ≡ ended_lines lines ++ rest → BeginsText lines → IsShortLine rest
+    → why ≡ status.StateCut → ReadsText bytes (Err why)
+line-is-cut bytes rest lines why e begins part is = inr (
+  length lines + 1,
+  (
+    tt,
+    record {
+      lines = lines;
+      rest = rest;
+      more = [];
+      whole = e ∙ sym (append-nil (ended_lines lines ++ rest));
+      begins = begins;
+      part = part;
+      here = (refl, refl);
+    },
+  ),
+  is,
+)
+
+-- ---- the bytes of a line
+
+-- bytes, by one of them
+pub split-at : (bytes : List ℕ) (n byte : ℕ) → n < length bytes
+    → slice_index_or bytes n 0 ≡ byte → bytes ≡ take n bytes ++ byte ∷ drop (n + 1) bytes
+split-at bytes n byte lt e =
+    sym (take-append-drop n bytes)
+    ∙ ap (λ l. take n bytes ++ l)
+    (drop_more bytes n 0 lt ∙ ap (λ b. b ∷ drop (n + 1) bytes) e)
+
+-- one byte more that is no line feed
+pub short-more : (bytes : List ℕ) (n : ℕ) → n < length bytes → n + 1 ≤ 16
+    → (slice_index_or bytes n 0 ≡ newline → ⊥) → IsShortLine (take n bytes)
+    → IsShortLine (take (n + 1) bytes)
+short-more bytes n lt few other h = record {
+  short = omega (arith, length-take (n + 1) bytes, few);
+  one_line = subst (AllByRecursion (λ byte. byte ≢ newline)) (sym (take_more bytes n 0 lt))
+      (each_append (λ byte. byte ≢ newline) (take n bytes) (slice_index_or bytes n 0 ∷ [])
+      h.one_line (other, tt));
+}
+
+pub less-than : (n m : ℕ) → n ≤ m → (n ≡ m → ⊥) → n + 1 ≤ m
+less-than n m few other = elim (cases_lt n m) [
+  | inl less ↦ omega (arith, less)
+  | inr more ↦ absurd (other (omega (arith, few, more)))
+]
+
+-- the line that comes is none of a state
+pub first-fails : (bytes rest : List ℕ) (lines : List (List ℕ)) (why : Status)
+    → bytes ≡ ended_lines lines ++ rest → BeginsText lines → IsFirstLine rest (Err why)
+    → ReadsText bytes (Err why)
+first-fails bytes rest lines why e begins first = elim first [
+  | inl h ↦ line-is-long bytes rest h.1.0 h.1.2 h.1.1 lines why e h.1.6 begins h.1.3 h.1.4 h.1.5
+      h.0
+  | inr h ↦ line-is-cut bytes rest lines why e begins h.1 h.0
+]
+
+-- behind one line more
+pub next-whole : (bytes : List ℕ) (at count : ℕ) (line more : List ℕ) (lines : List (List ℕ))
+    → bytes ≡ ended_lines lines ++ drop at bytes
+    → drop at bytes ≡ (line ++ newline ∷ []) ++ more → length line ≡ count
+    → bytes ≡ ended_lines (lines ++ line ∷ []) ++ drop (at + (count + 1)) bytes
+next-whole bytes at count line more lines e f long =
+    let front : length (line ++ newline ∷ []) ≡ count + 1 =
+    omega (arith, length-append line (newline ∷ []), long) in
+    let rest : drop (at + (count + 1)) bytes ≡ more =
+    sym (drop-drop (count + 1) at bytes) ∙ ap (drop (count + 1)) f
+    ∙ drop_at (line ++ newline ∷ []) more (count + 1) front in
+    e ∙ ap (λ r. ended_lines lines ++ r) f ∙ one-more lines line more
+    ∙ ap (λ r. ended_lines (lines ++ line ∷ []) ++ r) (sym rest)
+
+-- what stands from a place on
+pub rest-is : (bytes : List ℕ) (at : ℕ)
+    → take (length bytes - at) (drop at bytes) ≡ drop at bytes
+rest-is bytes at =
+    take_all (length bytes - at) (drop at bytes) (omega (arith, length-drop at bytes))
+
+-- a line of it
+pub line-is : (bytes : List ℕ) (at count : ℕ)
+    → take (at + count - at) (drop at bytes)
+    ≡ take count (take (length bytes - at) (drop at bytes))
+line-is bytes at count =
+    let same : at + count - at ≡ count = omega arith in ap₂ take same (sym (rest-is bytes at))

@@ -8,12 +8,11 @@ use Rattle.nx_receiver.specs.Listener.{then_command}
 use Rattle.nx_handle.specs.Receivers.{HearsGiven, Listening}
 use Rattle.nx_receiver.specs.declared.command.Command.{Command as TheCommand}
 use Rattle.nx_copies.specs.copies.Shares.{Given, MarkedCopy, Starts}
-use Rattle.nx_handle.specs.Life.{hearing_at}
+use Rattle.nx_handle.specs.Life.{hearing}
 use Rattle.nx_handle.specs.Selecting.{AnswersSelecting, byte_status, command_status}
 use Rattle.nx_handle.specs.Selecting.{selecting_status}
 use Rattle.nx_handle.specs.Status.{number_of}
 use Rattle.nx_handle.specs.declared.kept.Kept.{Kept}
-use Rattle.nx_handle.specs.declared.kept.LifeStage.TheVariants.{Hearing}
 use Rattle.nx_handle.specs.declared.status.Status.{Status}
 use Rattle.nx_handle.specs.declared.status.Status.TheVariants.{Done, Vital}
 
@@ -25,19 +24,19 @@ Takes on listener after command =
     → HearsGiven starts after (then_command given on command) copies
 
 pub selecting-done : (asked : Status) (command : Command) (channel : ℕ) (on : Channel)
-    (old new : Kept) (listener after : Listening) → old.stage ≡ Hearing listener
-    → new.stage ≡ Hearing after → channel_number on ≡ channel → asked ≡ Done
+    (old new : Kept) (listener after : Listening) → hearing (Some old) ≡ Some listener
+    → hearing (Some new) ≡ Some after → channel_number on ≡ channel → asked ≡ Done
     → Takes on listener after command
     → AnswersSelecting asked command channel (Some old) (Some new) 0
 selecting-done asked command channel on old new listener after was now is done takes = record {
-  cause = sym (ap (λ s. number_of (selecting_status asked (hearing_at s))) was ∙ ap number_of done);
+  cause = sym (ap (λ l. number_of (selecting_status asked l)) was ∙ ap number_of done);
   done = λ _. record {
     on = on;
     is = is;
     listener = listener;
-    was = ap hearing_at was;
+    was = was;
     after = after;
-    now = ap hearing_at now;
+    now = now;
     heard = takes;
   };
   refused = λ no. absurd (no refl);

@@ -14,7 +14,7 @@ returns-then-status-number c =
     is-none c.args.slot.now c.is_some.result c.is_some.ensures c.if-is_some.false in
     let begun : HasHeard all_at_zero c.begin.new.slot [] [] =
     subst (λ s. HasHeard s c.begin.new.slot [] []) (ap starts_from c.new.ensures ∙ from-nothing)
-    c.in-Ok.ensures.heard in
+    c.begin.ensures in
     subst (AnswersOpening c.args.moment c.args.slot.now c.set_moment-status.new.slot) (sym done)
     (opens c.args.moment c.args.slot.now c.begin.new.slot c.set_moment-status.new.slot none begun
     (subst (λ n. AnswersMoment c.args.moment c.begin.new.slot c.set_moment-status.new.slot n
@@ -26,7 +26,7 @@ returns c =
     is-none c.args.slot.now c.is_some.result c.is_some.ensures c.if-is_some.false in
     let begun : HasHeard all_at_zero c.begin.new.slot [] [] =
     subst (λ s. HasHeard s c.begin.new.slot [] []) (ap starts_from c.new.ensures ∙ from-nothing)
-    c.in-Ok.ensures.heard in
+    c.begin.ensures in
     opens-not c.args.moment c.set_moment-status.result c.args.slot.now c.begin.new.slot
     c.set_moment-status.new.slot none begun c.set_moment-status.ensures
     (λ e. c.if-status-number.false (e ∙ sym c.number-2.ensures))

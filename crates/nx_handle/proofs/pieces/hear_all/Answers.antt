@@ -1,49 +1,57 @@
-use Rattle.std.proofs.Common.{◌≤◌, ◌-◌, arith, length, take, drop, subst}
-use Rattle.nx_receiver.specs.Listener.{IsSpelled}
+use Rattle.std.proofs.Common.{◌≤◌, ◌<◌, ◌-◌, arith, length, take, drop, subst}
+use Rattle.std.proofs.lemmas.List.{length-take-le}
+use Rattle.nx_copies.specs.copies.FoundCopies.{headed_copy}
+use Rattle.nx_copies.specs.copies.Log.{IsEntry}
+use Rattle.nx_copies.specs.copies.Shares.{marked}
+use Rattle.nx_receiver.specs.Receiver.{headed_list, text_of}
 use Rattle.nx_handle.specs.Hearing.{elements_of}
-use Rattle.nx_handle.proofs.lemmas.Hearing.{hears-silent, hears-spelled, next-piece, none-before-piece, piece-within, silent-more, spelled-some}
+use Rattle.nx_handle.proofs.lemmas.Hearing.{has-bytes, hears-silent, hears-spelled, next-piece, none-before-piece, piece-within, silent-more}
 use Rattle.nx_handle.proofs.pieces.hear_all.Goals as goal
+use Rattle.std.proofs.Common.{ap, is_some, true}
 
-pub returns-then-is_printed-clause-hears : goal.returns-then-is_printed-clause-hears
-returns-then-is_printed-clause-hears c =
-    let packed = c.pack-packed.result in let n = c.hear_spelled-count.result.0 in
-    let xs = c.args.elements.now in let h = c.loop-heard.heard in
-    let spelled = c.hear_spelled-count.ensures.heard in
-    let few : n ≤ length packed = omega (arith, c.hear_spelled-count.ensures.within) in
+pub returns-in-Some-clause-hears : goal.returns-in-Some-clause-hears
+returns-in-Some-clause-hears c =
+    let packed = c.pack-packed.result in let call = c.next_printed-count in
+    let n = call.result.0 in let xs = c.args.elements.now in let h = c.loop-heard.heard in
+    let few : n ≤ length packed = omega (arith, call.ensures.within) in
     let m = c.min-end.result - h in
-    hears-spelled c.args.channel c.args.listener.now c.loop-heard.listener
-    c.hear_spelled-count.new.self (elements_of (take h xs)) (take n (drop 0 packed)) _
-    c.hear_spelled-count.result.1 spelled.0 c.hear_spelled-count.new.entry.items
-    (next-piece xs h n m packed c.pack-packed.ensures few) c.if-is_printed.true
-    c.loop-heard.invariant.silent spelled.1 spelled.2
-    (none-before-piece c.args.channel c.loop-heard.listener packed n few
-    c.hear_spelled-count.ensures.first)
+    let head = c.in-Some.head in
+    let text = text_of call.new.self in
+    let some : 0 < length (take n (drop 0 packed)) =
+    omega (arith, length-take-le n packed few, call.ensures.some (ap is_some c.in-Some.is)) in
+    hears-spelled c.args.channel c.args.receiver.now c.loop-heard.receiver call.new.self
+    (elements_of (take h xs)) (take n (drop 0 packed)) _ call.result.1 head text
+    c.spell_entry.new.bytes.items (next-piece xs h n m packed c.pack-packed.ensures few) some
+    c.in-Some.is c.loop-heard.invariant.silent
+    (subst (λ t. IsEntry (marked c.args.channel (headed_copy head t true))
+    c.spell_entry.new.bytes.items) c.text.ensures.text c.spell_entry.ensures)
+    (λ start history log s. call.ensures.stands start history log s)
+    (none-before-piece c.loop-heard.receiver packed n few
+    (λ start history log s k lt. call.ensures.first start history log s k lt))
 
-pub returns-then-is_printed-clause-some : goal.returns-then-is_printed-clause-some
-returns-then-is_printed-clause-some c =
-    λ is. spelled-some c.args.channel c.hear_spelled-count.result.1
-    c.hear_spelled-count.ensures.heard.0 c.hear_spelled-count.new.entry.items
-    c.hear_spelled-count.ensures.heard.1 c.if-is_printed.true
+pub returns-in-Some-clause-some : goal.returns-in-Some-clause-some
+returns-in-Some-clause-some c =
+    λ is. has-bytes (marked c.args.channel (headed_copy c.in-Some.head c.text.result.now true))
+    c.spell_entry.new.bytes.items c.spell_entry.ensures
 
 pub loop-heard-preserved : goal.loop-heard-preserved
 loop-heard-preserved c =
-    let packed = c.pack-packed.result in let n = c.hear_spelled-count.result.0 in
-    let xs = c.args.elements.now in let h = c.loop-heard.heard in
-    let spelled = c.hear_spelled-count.ensures.heard in
-    let few : n ≤ length packed = omega (arith, c.hear_spelled-count.ensures.within) in
-    let m = c.min-end.result - h in record {
+    let packed = c.pack-packed.result in let call = c.next_printed-count in
+    let n = call.result.0 in let xs = c.args.elements.now in let h = c.loop-heard.heard in
+    let few : n ≤ length packed = omega (arith, call.ensures.within) in
+    let m = c.min-end.result - h in
+    let text = text_of call.new.self in record {
       within = piece-within xs h n m packed c.pack-packed.ensures few c.loop-heard.invariant.within;
-      silent = silent-more c.args.channel c.args.listener.now c.loop-heard.listener
-          c.hear_spelled-count.new.self (elements_of (take h xs)) (take n (drop 0 packed)) _
-          spelled.0 (next-piece xs h n m packed c.pack-packed.ensures few)
-          (subst (λ b. IsSpelled c.args.channel b spelled.0 c.hear_spelled-count.new.entry.items)
-          c.if-is_printed.false spelled.1)
-          c.loop-heard.invariant.silent spelled.2
-          (none-before-piece c.args.channel c.loop-heard.listener packed n few
-          c.hear_spelled-count.ensures.first);
+      silent = silent-more c.args.receiver.now c.loop-heard.receiver call.new.self
+          (elements_of (take h xs)) (take n (drop 0 packed)) _ (headed_list call.result.1 text)
+          (next-piece xs h n m packed c.pack-packed.ensures few)
+          (ap (λ o. headed_list o text) c.in_default.is) c.loop-heard.invariant.silent
+          (λ start history log s. call.ensures.stands start history log s)
+          (none-before-piece c.loop-heard.receiver packed n few
+          (λ start history log s k lt. call.ensures.first start history log s k lt));
     }
 
 pub returns-clause-hears : goal.returns-clause-hears
 returns-clause-hears c =
-    hears-silent c.args.channel c.args.listener.now c.loop-heard.listener _
+    hears-silent c.args.channel c.args.receiver.now c.loop-heard.receiver _
     c.loop-heard.invariant.silent

@@ -6,7 +6,7 @@ use Rattle.nx_handle.proofs.pieces.hear_all.Given as goal
 abbrev pub invariant-loop-heard : goal.invariant-loop-heard
 invariant-loop-heard l = record {
   within : l.heard ≤ length l.elements;
-  silent : HearsSilently l.channel l.fn.listener l.listener (elements_of (take l.heard l.elements));
+  silent : HearsSilently l.fn.receiver l.receiver (elements_of (take l.heard l.elements));
 }
 
 abbrev pub decreases-loop-heard : goal.decreases-loop-heard

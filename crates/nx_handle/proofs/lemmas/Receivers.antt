@@ -1,0 +1,240 @@
+-- What the three receivers stand after, by what each of them does.
+use Rattle.std.proofs.Common.{◌≡◌, ℕ, ◌+◌, false, List, [], ◌++◌, length, map, refl, sym, ap, ◌∙◌, subst, subst₂, Option, Some, None}
+use Rattle.std.proofs.lemmas.List.{take_all}
+use Rattle.std.proofs.Common.{arith, Bool}
+use Rattle.nx_fec.specs.Transfers.{count_of}
+use Rattle.nx_fec.specs.air_files.Channels.{same_channel}
+use Rattle.nx_fec.specs.declared.air_files.channel.Channel.{Channel}
+use Rattle.nx_fec.specs.declared.air_files.channel.Channel.TheVariants.{Zero, One, Two}
+use Rattle.nx_copies.specs.Events as events
+use Rattle.nx_copies.specs.Events.{Command, Event, Start, at_moment, command}
+use Rattle.nx_copies.specs.copies.FoundCopies.{TaggedCopy}
+use Rattle.nx_copies.specs.copies.Shares.{Given, MarkedCopy, Starts, marked, start_on}
+use Rattle.nx_receiver.specs.Listener.{HearsBy, ListeningOver, receiver_on, then_command}
+use Rattle.nx_receiver.specs.Listener.{then_elements, then_moment}
+use Rattle.nx_receiver.specs.Receiver.{HandsOutNoneBefore, Stands, TakesEvent, plain_kind}
+use Rattle.nx_receiver.specs.ChannelReceiver.{TakesEventBy}
+use Rattle.nx_receiver.specs.private.PlainReceiver.{plain-receiver}
+use Rattle.nx_receiver.proofs.lemmas.listening.Listener.{commanded, heard-first, hears-more}
+use Rattle.nx_receiver.proofs.lemmas.listening.Listener.{none-before, none-given, on-all, set-all}
+use Rattle.nx_handle.specs.Hearing.{HearsElements, HearsOn}
+use Rattle.nx_handle.specs.Life.{all_three, hearing}
+use Rattle.nx_handle.specs.Receivers.{HearsGiven, Listening, OneReceiver, content, counted, three}
+use Rattle.nx_handle.specs.declared.kept.Kept.{Kept}
+
+-- a listener of these receivers, which counted so many elements and entries
+abbrev pub with_counts : Listening → ℕ → ℕ → ListeningOver OneReceiver
+with_counts l n m = record {
+  on_0 = l.on_0;
+  on_1 = l.on_1;
+  on_2 = l.on_2;
+  has_moment = false;
+  elements = n;
+  entries = m;
+}
+
+-- the receiver of a channel, and the three with another in its place
+abbrev pub one_on : Listening → Channel → OneReceiver
+one_on l Zero = l.on_0
+one_on l One = l.on_1
+one_on l Two = l.on_2
+
+abbrev pub with_one : Listening → Channel → OneReceiver → Listening
+with_one l Zero r = record l { on_0 = r }
+with_one l One r = record l { on_1 = r }
+with_one l Two r = record l { on_2 = r }
+
+-- what such a listener hears it hears whatever it counted
+pub recounted : (starts : Starts) (l : Listening) (n m : ℕ) (given : List Given)
+    (copies : List MarkedCopy)
+    → HearsBy (plain_kind content) starts (with_counts l n m) given copies
+    → HearsGiven starts l given copies
+recounted starts l n m given copies h =
+    subst₂ (λ i j. HearsBy (plain_kind content) starts (with_counts l i j) given copies)
+    h.elements h.entries h
+
+-- no elements of a channel change nothing
+pub given-none : (starts : Starts) (l : Listening) (given : List Given) (channel : Channel)
+    (copies : List MarkedCopy) → HearsGiven starts l given copies
+    → HearsGiven starts l (then_elements given channel []) copies
+given-none starts l given channel copies h =
+    recounted starts l _ _ (then_elements given channel []) copies
+    (none-given (plain-receiver content) starts (counted l given copies) given channel copies h)
+
+-- ---- a moment
+
+pub moment-set : (starts : Starts) (old new : Listening) (given : List Given)
+    (copies : List MarkedCopy) (n : ℕ) → HearsGiven starts old given copies
+    → TakesEvent content old.on_0 new.on_0 (at_moment n)
+    → TakesEvent content old.on_1 new.on_1 (at_moment n)
+    → TakesEvent content old.on_2 new.on_2 (at_moment n)
+    → HearsGiven starts new (then_moment given n) copies
+moment-set starts old new given copies n h zero one two =
+    let was = counted old given copies in
+    let now = with_counts new was.elements was.entries in
+    recounted starts new was.elements was.entries (then_moment given n) copies
+    (set-all (plain-receiver content) starts was now given copies n h refl refl
+    (on-all (λ channel. TakesEventBy (plain_kind content) (receiver_on was channel)
+    (receiver_on now channel) (at_moment n)) zero one two))
+
+-- ---- a command
+
+pub command-given : (starts : Starts) (old : Listening) (channel : Channel) (r : OneReceiver)
+    (given : List Given) (copies : List MarkedCopy) (c : Command)
+    → TakesEvent content (one_on old channel) r (command c) → HearsGiven starts old given copies
+    → HearsGiven starts (with_one old channel r) (then_command given channel c) copies
+command-given starts old Zero r given copies c takes h =
+    let was = counted old given copies in
+    recounted starts (with_one old Zero r) was.elements was.entries (then_command given Zero c)
+    copies
+    (commanded (plain-receiver content) starts was
+    (with_counts (with_one old Zero r) was.elements was.entries) given copies Zero c h refl takes)
+command-given starts old One r given copies c takes h =
+    let was = counted old given copies in
+    recounted starts (with_one old One r) was.elements was.entries (then_command given One c)
+    copies
+    (commanded (plain-receiver content) starts was
+    (with_counts (with_one old One r) was.elements was.entries) given copies One c h refl takes)
+command-given starts old Two r given copies c takes h =
+    let was = counted old given copies in
+    recounted starts (with_one old Two r) was.elements was.entries (then_command given Two c)
+    copies
+    (commanded (plain-receiver content) starts was
+    (with_counts (with_one old Two r) was.elements was.entries) given copies Two c h refl takes)
+
+-- ---- elements
+
+-- the receivers of the other channels stay
+others-stay : (old : Listening) (channel : Channel) (r : OneReceiver) (n m p q : ℕ)
+    (other : Channel) → same_channel channel other ≡ false
+    → receiver_on (with_counts (with_one old channel r) p q) other
+    ≡ receiver_on (with_counts old n m) other
+others-stay old Zero r n m p q Zero h = cc
+others-stay old Zero r n m p q One h = refl
+others-stay old Zero r n m p q Two h = refl
+others-stay old One r n m p q Zero h = refl
+others-stay old One r n m p q One h = cc
+others-stay old One r n m p q Two h = refl
+others-stay old Two r n m p q Zero h = refl
+others-stay old Two r n m p q One h = refl
+others-stay old Two r n m p q Two h = cc
+
+at-channel : (l : Listening) (channel : Channel) (n m : ℕ)
+    → one_on l channel ≡ receiver_on (with_counts l n m) channel
+at-channel l Zero n m = refl
+at-channel l One n m = refl
+at-channel l Two n m = refl
+
+one-is : (l : Listening) (channel : Channel) (r : OneReceiver)
+    → r ≡ one_on (with_one l channel r) channel
+one-is l Zero r = refl
+one-is l One r = refl
+one-is l Two r = refl
+
+module _ (old : Listening) (channel : Channel) (r : OneReceiver) (bits : List Bool)
+    (text : List ℕ) (h : HearsOn channel (one_on old channel) r bits text) where
+  abbrev pub new : Listening
+  new = with_one old channel r
+
+  goes-on : (n m p q : ℕ) (start : Start) (history : List Event) (log : List TaggedCopy)
+      → Stands content start (receiver_on (with_counts old n m) channel) history log
+      → Stands content start (receiver_on (with_counts new p q) channel)
+      (history ++ events.elements bits) (log ++ h.next)
+  goes-on n m p q start history log s =
+      subst (λ x. Stands content start x (history ++ events.elements bits) (log ++ h.next))
+      (one-is old channel r ∙ at-channel new channel p q)
+      (h.stands start history log
+      (subst (λ x. Stands content start x history log) (sym (at-channel old channel n m)) s))
+
+  none-yet : (n m : ℕ)
+      → HandsOutNoneBefore content (receiver_on (with_counts old n m) channel) bits (length bits)
+  none-yet n m = subst (λ x. HandsOutNoneBefore content x bits (length bits))
+      (at-channel old channel n m) h.first
+
+  -- the receiver of a channel hears elements, and so do the three
+  pub elements-heard : HearsElements channel old new bits text
+  elements-heard = record {
+    next = h.next;
+    few = h.few;
+    spelled = h.spelled;
+    heard = λ starts given part copies stood.
+        let was = counted old (then_elements given channel part) copies in
+        let n = count_of (was.elements + length bits) in
+        let m = count_of (was.entries + length h.next) in
+        recounted starts new n m (then_elements given channel (part ++ bits))
+        (copies ++ map (marked channel) h.next)
+        (hears-more (plain-receiver content) starts was (with_counts new n m) given channel part
+        bits copies h.next stood h.behind
+        (λ start history log s. goes-on was.elements was.entries n m start history log s)
+        (λ other not. others-stay old channel r was.elements was.entries n m other not) refl refl);
+    first = λ starts given part copies stood k lt.
+        let was = counted old (then_elements given channel part) copies in
+        none-before starts was (with_counts new was.elements was.entries) given channel part bits
+        (length bits) copies h.next stood
+        (record {
+          stands = λ start history log s.
+              subst (λ bs. Stands content start
+              (receiver_on (with_counts new was.elements was.entries) channel)
+              (history ++ events.elements bs) (log ++ h.next))
+              (sym (take_all (length bits) bits (omega arith)))
+              (goes-on was.elements was.entries was.elements was.entries start history log s);
+          first = none-yet was.elements was.entries;
+        }) k lt;
+  }
+
+-- ---- the beginning
+
+pub begun : (starts : Starts) (on_0 on_1 on_2 : OneReceiver)
+    → Stands content (start_on starts Zero) on_0 [] []
+    → Stands content (start_on starts One) on_1 [] []
+    → Stands content (start_on starts Two) on_2 [] []
+    → HearsGiven starts (three on_0 on_1 on_2) [] []
+begun starts on_0 on_1 on_2 zero one two =
+    recounted starts (three on_0 on_1 on_2) 0 0 [] []
+    (heard-first (plain-receiver content) starts on_0 on_1 on_2 zero one two)
+
+-- ---- what is kept
+
+-- the three that hear, by the receivers that there are
+pub three-hear : (on_0 on_1 on_2 : Option OneReceiver) (a b c : OneReceiver) → on_0 ≡ Some a
+    → on_1 ≡ Some b → on_2 ≡ Some c → all_three on_0 on_1 on_2 ≡ Some (three a b c)
+three-hear on_0 on_1 on_2 a b c e f g =
+    ap (λ o. all_three o on_1 on_2) e ∙ ap (λ o. all_three (Some a) o on_2) f
+    ∙ ap (all_three (Some a) (Some b)) g
+
+pub kept-hears : (kept : Kept) (a b c : OneReceiver) → kept.on_0 ≡ Some a → kept.on_1 ≡ Some b
+    → kept.on_2 ≡ Some c → hearing (Some kept) ≡ Some (three a b c)
+kept-hears kept a b c e f g = three-hear kept.on_0 kept.on_1 kept.on_2 a b c e f g
+
+some-is : {A : Type 0} {x y : A} → Some x ≡ Some y → x ≡ y
+some-is e = cc
+
+IsOne : {A : Type 0} → Option A → Type 0
+IsOne None = ⊥
+IsOne (Some x) = Unit {0}
+
+none-is : {A : Type 0} {x : A} → None ≡ Some x → ⊥
+unfolding IsOne
+none-is {A} {x} e = subst (λ (o : Option A). IsOne o) (sym e) tt
+
+-- and each of them is there, where the three hear
+pub each-there : (on_0 on_1 on_2 : Option OneReceiver) (l : Listening)
+    → all_three on_0 on_1 on_2 ≡ Some l
+    → (on_0 ≡ Some l.on_0) × (on_1 ≡ Some l.on_1) × (on_2 ≡ Some l.on_2)
+each-there None on_1 on_2 l e = absurd (none-is e)
+each-there (Some a) None on_2 l e = absurd (none-is e)
+each-there (Some a) (Some b) None l e = absurd (none-is e)
+each-there (Some a) (Some b) (Some c) l e = let is : three a b c ≡ l = some-is e in (
+  ap (λ (t : Listening). Some t.on_0) is,
+  ap (λ (t : Listening). Some t.on_1) is,
+  ap (λ (t : Listening). Some t.on_2) is,
+)
+
+-- what is kept stays, where each receiver does
+pub same-kept : (kept : Kept) (on_0 on_1 on_2 : Option OneReceiver) → on_0 ≡ kept.on_0
+    → on_1 ≡ kept.on_1 → on_2 ≡ kept.on_2
+    → record kept { on_0 = on_0; on_1 = on_1; on_2 = on_2 } ≡ kept
+same-kept kept on_0 on_1 on_2 e f g =
+    ap (λ (o : Option OneReceiver). record kept { on_0 = o; on_1 = on_1; on_2 = on_2 }) e
+    ∙ ap (λ (o : Option OneReceiver). record kept { on_1 = o; on_2 = on_2 }) f
+    ∙ ap (λ (o : Option OneReceiver). record kept { on_2 = o }) g

@@ -1,0 +1,87 @@
+use Rattle.std.proofs.Common.{◌++◌, take, sym, ap, ◌∙◌, subst, arith}
+use Rattle.std.proofs.lemmas.Option.{slice_get_within}
+use Rattle.nx_memory.specs.StateText.{text_2}
+use Rattle.nx_receiver.specs.air_file_runs.State.{ended_lines}
+use Rattle.nx_receiver.proofs.lemmas.state.Bounds.{few_lines_2}
+use Rattle.nx_receiver.proofs.lemmas.state.Writing.{state_bytes-is, take-all}
+use Rattle.nx_handle.specs.CallerRoom.{IsPut, room}
+use Rattle.nx_handle.proofs.lemmas.State.{ended-next}
+use Rattle.nx_handle.proofs.saving.put_state.Goals as goal
+
+pub loop-line-init : goal.loop-line-init
+loop-line-init c = record {
+  within = omega arith;
+  few = omega (arith, c.put.ensures.counted);
+  put = c.put.ensures;
+}
+
+pub put_more-requires : goal.put_more-requires
+put_more-requires c =
+    omega (
+      arith,
+      c.loop-line.invariant.few,
+      few_lines_2 c.args.states.now c.state_line.ensures.sound,
+      slice_get_within (text_2 c.args.states.now) c.loop-line.place
+          c.in-Some.line.items (sym c.in-Some.ensures.line),
+      c.deref.ensures.1,
+    )
+
+pub put_more-requires-in-Some : goal.put_more-requires-in-Some
+put_more-requires-in-Some c =
+    omega (
+      arith,
+      c.loop-line.invariant.few,
+      few_lines_2 c.args.states.now c.state_line.ensures.sound,
+      slice_get_within (text_2 c.args.states.now) c.loop-line.place
+          c.in-Some.line.items (sym c.in-Some.ensures.line),
+      c.put_more.ensures.count,
+      c.deref.ensures.1,
+    )
+
+pub overflow_add-place : goal.overflow_add-place
+overflow_add-place c =
+    omega (
+      arith,
+      few_lines_2 c.args.states.now c.state_line.ensures.sound,
+      slice_get_within (text_2 c.args.states.now) c.loop-line.place
+          c.in-Some.line.items (sym c.in-Some.ensures.line),
+    )
+
+pub loop-line-smaller : goal.loop-line-smaller
+loop-line-smaller c =
+    omega (
+      arith,
+      slice_get_within (text_2 c.args.states.now) c.loop-line.place
+          c.in-Some.line.items (sym c.in-Some.ensures.line),
+    )
+
+pub loop-line-preserved : goal.loop-line-preserved
+loop-line-preserved c =
+    let lines = text_2 c.args.states.now in
+    let place = c.loop-line.place in
+    let line = c.in-Some.line.items in
+    let before = ended_lines (take place lines) in
+    record {
+      within = omega (arith, slice_get_within lines place line (sym c.in-Some.ensures.line));
+      few = omega (
+        arith,
+        c.loop-line.invariant.few,
+        c.put_more.ensures.count,
+        c.put_more-in-Some.ensures.count,
+        c.deref.ensures.1,
+      );
+      put = subst (λ t. IsPut t
+          (room c.args.space.now c.put_more-in-Some.new.space c.put_more-in-Some.new.written))
+          (ended-next lines place line (sym c.in-Some.ensures.line))
+          (c.put_more-in-Some.ensures.put c.args.space.now (before ++ line)
+          (subst (λ l. IsPut (before ++ l)
+          (room c.args.space.now c.put_more.new.space c.put_more.new.written)) c.deref.ensures.0
+          (c.put_more.ensures.put c.args.space.now before c.loop-line.invariant.put)));
+    }
+
+pub returns-clause-put : goal.returns-clause-put
+returns-clause-put c =
+    subst (λ t. IsPut t (room c.args.space.now c.loop-line.space c.loop-line.written))
+    (ap ended_lines (take-all (text_2 c.args.states.now) c.loop-line.place
+    (sym c.in_default.ensures.line)) ∙ sym (state_bytes-is c.args.states.now))
+    c.loop-line.invariant.put
