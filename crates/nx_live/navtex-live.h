@@ -46,10 +46,11 @@ enum nx_live_status {
 /* How many bytes of room a receiver needs, and how they are aligned. Over the C that wasm2c makes, the
  * memory of the whole module lies in the room, its stack too; all is then compiled with
  * -DNX_LIVE_BY_WASM2C. */
+#define NX_LIVE_KEPT 26576
 #ifdef NX_LIVE_BY_WASM2C
-#define NX_LIVE_ROOM 305152
+#define NX_LIVE_ROOM 112896
 #else
-#define NX_LIVE_ROOM 26576
+#define NX_LIVE_ROOM NX_LIVE_KEPT
 #endif
 #define NX_LIVE_ROOM_ALIGNMENT 8
 

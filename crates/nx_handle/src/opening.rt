@@ -41,6 +41,7 @@ pub fn open(slot: &mut Option<Kept>, moment: u64) -> u32
 
 /// Opens a receiver that starts with what is saved, and has heard nothing. It is built in its
 /// place, channel by channel: each move of it would take as much of the stack.
+#[inline(never)]
 pub(crate) fn begin(slot: &mut Option<Kept>, saved: &SavedSet)
     ensures { HasHeard (starts_from saved.now) slot.new [] [] }
 {

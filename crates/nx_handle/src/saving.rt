@@ -98,6 +98,8 @@ pub fn open_from(slot: &mut Option<Kept>, state: &[u8]) -> u32
 
 /// Reads the text of a state with which these bytes begin: what it stands for, or the status that
 /// says why they begin with none.
+// A call, so that its stack is free again before the receivers are made.
+#[inline(never)]
 fn read_text(bytes: &[u8]) -> Result<SavedSet, Status>
     ensures { ReadsText bytes.now result }
 {

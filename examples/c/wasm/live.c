@@ -13,13 +13,13 @@
 #endif
 
 #define PIECE 512u        /* so many elements go into the module at once */
-#define MOST_STATE 12288u /* no text of a state is longer */
+#define MOST_STATE 11008u /* no text of a state is longer; a multiple of 8 */
 #define MOST_TEXT 4100u   /* no text of an entry is longer */
 
 /* What the calls of the module write to, behind its own memory. */
 struct lent {
     uint64_t handle, heard, written;
-    uint8_t room[26584];
+    uint8_t room[NX_LIVE_KEPT];
     uint8_t elements[PIECE];
     uint8_t log[MOST_STATE];
 };
@@ -41,17 +41,19 @@ struct place {
 };
 
 /* Where the module's own memory ends, with its stack and its constants; and where a part of what is
- * lent stands, as the module counts. */
-#define OWN ((sizeof(((struct place *)0)->memory) - sizeof(struct lent)) / 8 * 8)
+ * lent stands, as the module counts. What has this address lies there in the room. */
+#define OWN ((NX_LIVE_LOWEST + sizeof(((struct place *)0)->memory) - sizeof(struct lent)) / 8 * 8)
 #define AT(part) (OWN + offsetof(struct lent, part))
+#define HERE(place, address) ((place)->memory + NX_LIVE_LENT(address))
 
 _Static_assert(sizeof(struct place) <= NX_LIVE_ROOM, "the room holds an instance");
+_Static_assert(NX_LIVE_MAX_STATE <= MOST_STATE, "a state has place");
 _Static_assert(NX_LIVE_MAX_ENTRY <= MOST_STATE, "an entry has place where a state has");
 _Static_assert(sizeof(struct seen) + MOST_TEXT + NX_LIVE_MAX_ENTRY <= MOST_STATE, "and so has one that is read");
 
 static size_t number_at(const struct place *place, size_t at) {
     uint64_t number;
-    memcpy(&number, place->memory + at, sizeof number);
+    memcpy(&number, HERE(place, at), sizeof number);
     return (size_t)number;
 }
 
@@ -101,7 +103,7 @@ uint32_t nx_live_open(struct nx_live *receiver, uint64_t moment) {
 uint32_t nx_live_open_from(struct nx_live *receiver, const uint8_t *state, size_t length) {
     struct place *place = place_of(receiver);
     length = least(length, MOST_STATE); /* what stands behind a state isn't read */
-    memcpy(place->memory + AT(log), state, length);
+    memcpy(HERE(place, AT(log)), state, length);
     return Z_navtex_liveZ_nx_live_open_from(&place->module, AT(handle), AT(log), length);
 }
 
@@ -112,7 +114,7 @@ uint32_t nx_live_set_moment(struct nx_live *receiver, uint64_t moment) {
 /* Hears a piece of elements, and adds how many were heard. */
 static uint32_t hear_piece(struct place *place, uint8_t channel, const uint8_t *elements, size_t count,
                            size_t *heard, size_t capacity, size_t *written) {
-    memcpy(place->memory + AT(elements), elements, count);
+    memcpy(HERE(place, AT(elements)), elements, count);
     uint32_t status = Z_navtex_liveZ_nx_live_hear(&place->module, AT(handle), channel, AT(elements), count, AT(heard),
                                                   AT(log), least(capacity, NX_LIVE_MAX_ENTRY), AT(written));
     *heard += number_at(place, AT(heard));
@@ -132,7 +134,7 @@ uint32_t nx_live_hear(struct nx_live *receiver, uint8_t channel, const uint8_t *
     do
         status = hear_piece(place, channel, elements + *heard, least(count - *heard, PIECE), heard, capacity, written);
     while (status == NX_LIVE_DONE && *written == 0 && *heard < count);
-    memcpy(log, place->memory + AT(log), *written);
+    memcpy(log, HERE(place, AT(log)), *written);
     return status;
 }
 
@@ -157,7 +159,7 @@ uint32_t nx_live_save(struct nx_live *receiver, uint8_t *state, size_t capacity,
     uint32_t status = Z_navtex_liveZ_nx_live_save(&place->module, AT(handle), AT(log), least(capacity, MOST_STATE),
                                                   AT(written));
     *written = number_at(place, AT(written));
-    memcpy(state, place->memory + AT(log), least(*written, capacity));
+    memcpy(state, HERE(place, AT(log)), least(*written, capacity));
     return status;
 }
 
@@ -166,7 +168,7 @@ uint32_t nx_live_close(struct nx_live *receiver, uint8_t *log, size_t capacity, 
     uint32_t status = Z_navtex_liveZ_nx_live_close(&place->module, AT(handle), AT(log),
                                                    least(capacity, NX_LIVE_MAX_ENTRY), AT(written));
     *written = number_at(place, AT(written));
-    memcpy(log, place->memory + AT(log), *written);
+    memcpy(log, HERE(place, AT(log)), *written);
     return status;
 }
 
@@ -179,12 +181,12 @@ uint32_t nx_live_log_entry(const struct nx_live *receiver, const uint8_t *bytes,
     struct place *place = receiver->room;
     struct seen seen;
     count = least(count, NX_LIVE_MAX_ENTRY); /* what stands behind an entry isn't read */
-    memcpy(place->memory + BYTES, bytes, count);
+    memcpy(HERE(place, BYTES), bytes, count);
     uint32_t status = Z_navtex_liveZ_nx_live_log_entry(&place->module, AT(handle), BYTES, count, AT(log), TEXT,
                                                        least(capacity, MOST_TEXT), AT(written));
     *written = number_at(place, AT(written));
-    memcpy(text, place->memory + TEXT, least(*written, capacity));
-    memcpy(&seen, place->memory + AT(log), sizeof seen);
+    memcpy(text, HERE(place, TEXT), least(*written, capacity));
+    memcpy(&seen, HERE(place, AT(log)), sizeof seen);
     if (status != NX_LIVE_NO_ENTRY)
         *entry = (struct nx_live_entry){seen.moment,  (size_t)seen.length, seen.errors, seen.channel,
                                         seen.station, seen.subject,        seen.number, seen.how};

@@ -73,6 +73,16 @@ static inline bool wasm_rt_is_initialized(void) { return true; }
 /* Called where the module can't go on; it doesn't return. */
 WASM_RT_NO_RETURN void wasm_rt_trap(wasm_rt_trap_t why);
 
+/* Of the module's memory no byte is lent below this address. The stack of the module lies in its
+ * first 131,072 bytes, and grows down; NX_LIVE_STACK of them are lent. An access below traps. */
+#define NX_LIVE_STACK 71680u
+#define NX_LIVE_LOWEST (131072u - NX_LIVE_STACK)
+#define NX_LIVE_LENT(address) ((uint64_t)(address) - NX_LIVE_LOWEST)
+/* whether any of so many bytes from an address on isn't lent */
+#define NX_LIVE_BEYOND(memory, address, count) \
+    (NX_LIVE_LENT(address) > (memory)->size || (uint64_t)(count) > (memory)->size - NX_LIVE_LENT(address))
+
+/* `size` bytes are lent, and the first has the lowest address. */
 typedef struct {
     uint8_t *data;
     uint32_t pages, max_pages, size;
