@@ -40,7 +40,7 @@ const MISSING: &str = "error: 'navtex' requires a subcommand but one was not pro
 
 #[test]
 fn reads_its_arguments(rt: HostRuntime) {
-    static ROWS: [(&[&str], u8, &str); 17] = [
+    static ROWS: [(&[&str], u8, &str); 18] = [
         (
             &["navtex", "frob"],
             64,
@@ -102,6 +102,11 @@ fn reads_its_arguments(rt: HostRuntime) {
             &["navtex", "damage", "tx", "0", "4294967296"],
             64,
             "error: invalid value '4294967296' for '<COUNT>'",
+        ),
+        (
+            &["navtex", "watch", "-h"],
+            0,
+            "Keep the log of a receiver that is left on\n\nUsage: navtex watch [--combine] <FILE> <MOMENT> < x.air\n",
         ),
         (
             &["navtex", "log", "-h"],

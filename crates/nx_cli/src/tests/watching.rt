@@ -1,6 +1,8 @@
 //! `watch` over a file in memory: what it leaves there, its exit statuses and the lines of its
 //! faults.
 
+mod combining;
+
 use super::air::{MOMENT_OF_EA01, join};
 use super::devices::{Sink, Source};
 use super::expect_text;
@@ -41,11 +43,14 @@ fn file_of(rt: &impl Abort, alloc: Global, bytes: &[u8], failing: u64) -> Given 
     }
 }
 
-// The arguments of a watch of `x.log` from 2025-01-01 00:40:00 on.
-fn arguments_of_watch(rt: &impl Abort, alloc: Global) -> Vec<String> {
+// What asks for a watch of `x.log` from 2025-01-01 00:40:00 on.
+const WATCH: &[&str] = &["navtex", "watch", "x.log", "1735692000"];
+
+// The arguments of these words.
+fn arguments_of(rt: &impl Abort, alloc: Global, words: &[&str]) -> Vec<String> {
     let mut arguments = Vec::new(alloc);
-    for argument in ["navtex", "watch", "x.log", "1735692000"] {
-        let argument = String::from_str(alloc, argument).expect(rt, "memory");
+    for word in words {
+        let argument = String::from_str(alloc, word).expect(rt, "memory");
         arguments.push(argument).expect(rt, "memory");
     }
     arguments
@@ -63,9 +68,22 @@ fn expect_watch(
     source: &mut Source,
     end: End,
 ) -> Option<TornFile> {
+    expect_run(rt, alloc, row, WATCH, files, source, end)
+}
+
+// Expects that a watch that these words ask for ends so, and gives its file back.
+fn expect_run(
+    rt: &impl Abort,
+    alloc: Global,
+    row: &str,
+    words: &[&str],
+    files: Given,
+    source: &mut Source,
+    end: End,
+) -> Option<TornFile> {
     let mut output = Counting::new(Sink::new(Vec::new(alloc)));
     let mut faults = Counting::new(Sink::new(Vec::new(alloc)));
-    let arguments = Ok(arguments_of_watch(rt, alloc));
+    let arguments = Ok(arguments_of(rt, alloc, words));
     let input = StampedReader::new(Counting::new(source));
     let ended = answer(alloc, arguments, input, &mut output, &mut faults, files);
     expect_text(rt, row, &faults.into_inner().taken, end.1.as_bytes());
