@@ -127,7 +127,7 @@ function triesStates() {
 /** The numbers of receiver.js are those of the header. */
 function triesHeader() {
     const header = readFileSync(new URL('../../crates/nx_live/navtex-live.h', import.meta.url), 'utf8');
-    assert.match(header, new RegExp(`#define NX_LIVE_ROOM ${ROOM}$`, 'm'));
+    assert.match(header, new RegExp(`#define NX_LIVE_KEPT ${ROOM}$`, 'm'));
     assert.match(header, new RegExp(`#define NX_LIVE_MAX_ENTRY ${MAX_ENTRY}$`, 'm'));
     for (const [name, number] of Object.entries(Status)) {
         assert.match(header, new RegExp(`\\bNX_LIVE_${name} = ${number}\\b`));
