@@ -23,8 +23,10 @@ ghost use Rattle.nx_receiver.specs.private.Awaiting.{Awaits, HearsUpTo};
 ghost use Rattle.nx_copies.specs.copies.FoundCopies.{TaggedCopy};
 ghost use Rattle.nx_copies.specs.hearing.CopyHearer.{ready_copies};
 
+use crate::channel_receiver::next_printed_of;
 use crate::command::Command;
 use crate::fault::{MomentFault, ReceiverFault, check_moment};
+use crate::fresh_recall::FreshRecall;
 use nx_copies::{CopyTag, CopyTaker, Entry, EntryHead, Over, hear_elements, judge};
 use nx_envelope::{Identity, LAST_MOMENT, Letter, MAX_FOUND};
 use nx_fec::{MAX_ELEMENTS, PackedElements};
@@ -387,6 +389,30 @@ impl<M: Recall> Receiver<M> {
             return None;
         }
         Some(head)
+    }
+}
+
+impl<M: FreshRecall> Receiver<M> {
+    /// Hears packed elements from a place on, up to and with the one that ends the first copy that
+    /// is printed; says how many it heard, and the head of the entry. Its text is `text`, until
+    /// more is heard. With `None` it heard all.
+    pub fn next_printed(
+        &mut self,
+        packed: &PackedElements,
+        from: usize,
+    ) -> (usize, Option<EntryHead>)
+        requires { from ≤ length packed.now }
+        ensures within { from + result.0 ≤ length packed.now }
+        ensures stands { (start : Start) (history : List Event) (log : List TaggedCopy) →
+            Stands M.content start self.old history log → Stands M.content start self.new
+            (history ++ elements (take result.0 (drop from packed.now)))
+            (log ++ headed_list result.1 (text_of self.new)) }
+        ensures first { HandsOutNoneBefore M.content self.old (drop from packed.now) result.0 }
+        ensures all { IsNone result.1 → from + result.0 ≡ length packed.now }
+        ensures some { IsSome result.1 → 0 < result.0 }
+        ensures head { IfSome result.1 (λ head. HeadsText head (text_of self.new)) }
+    {
+        next_printed_of(self, packed, from)
     }
 }
 
