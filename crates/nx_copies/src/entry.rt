@@ -57,7 +57,8 @@ impl Entry {
         }
     }
 
-    /// The entry of a copy that is printed, by its head and its text, which is copied.
+    /// The entry of a copy that is printed, by its head and its text, which is copied. The text has
+    /// at most 4,100 bytes, and the errors of the head are those of the text, its `*`.
     pub fn of(head: &EntryHead, text: &[u8]) -> Entry
         requires errors { head.now.errors ≡ errors_of text.now }
         requires short { length text.now ≤ MAX_FOUND }

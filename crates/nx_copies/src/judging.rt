@@ -18,9 +18,9 @@ use nx_memory::Recall;
 const GOOD_SHARE: usize = 25;
 
 /// Whether a copy that was found is printed, by its head, its text and whether it is selected. Its
-/// moment isn't before the newest of the memory. It is printed where it is selected, and is
-/// numbered 00 (ITU-R M.540) or unknown. A good copy that is printed and not numbered 00 is entered
-/// into the memory.
+/// moment isn't before the newest of the memory, and the errors of its head are those of its text,
+/// its `*`. It is printed where it is selected, and is numbered 00 (ITU-R M.540) or unknown. A good
+/// copy that is printed and not numbered 00 is entered into the memory.
 ///
 /// The memory holds the last 200 of all the entries made so far, whichever they are.
 pub fn judge<M: Recall>(head: &EntryHead, text: &[u8], selected: bool, memory: &mut M) -> bool

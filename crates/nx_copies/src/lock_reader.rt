@@ -98,8 +98,8 @@ impl LockReader {
         }
     }
 
-    /// Reads the next words of the lock at once, DX and RX by turns, where surely none of them
-    /// begins or ends a copy, and answers what they print. Else nothing changed.
+    /// Reads the next words of the lock at once, two to eight, DX and RX by turns, where surely
+    /// none of them begins or ends a copy, and answers what they print. Else nothing changed.
     #[inline(always)]
     pub fn read_words(&mut self, words: &[Word]) -> Option<FourPrinted>
         requires { ArePairs words.now }
@@ -156,10 +156,10 @@ impl LockReader {
         (position, self.take_word(word, role))
     }
 
-    /// Hears the first of the next words of the lock, DX and RX by turns: those up to and with the
-    /// first one that begins or ends a copy, all of them where none does. Says how many these are,
-    /// in whole pairs, and what the last one brings. A copy that it ends is ready until the
-    /// next word.
+    /// Hears the first of the next words of the lock, two to eight, DX and RX by turns: those up
+    /// to and with the first one that begins or ends a copy, all of them where none does. Says how
+    /// many these are, in whole pairs, and what the last one brings. A copy that it ends is ready
+    /// until the next word.
     #[inline(always)]
     pub fn hear_pairs(&mut self, words: &[Word]) -> (usize, TextEvent)
         requires { ArePairs words.now }
@@ -190,8 +190,8 @@ impl LockReader {
         self.take_word(rx, Role::Rx)
     }
 
-    /// Hears the next words of the lock at once, DX and RX by turns, where surely none of them
-    /// begins or ends a copy: `true` where it did. Else nothing changed.
+    /// Hears the next words of the lock at once, two to eight, DX and RX by turns, where surely
+    /// none of them begins or ends a copy: `true` where it did. Else nothing changed.
     #[inline(always)]
     pub fn hear_plain(&mut self, words: &[Word]) -> bool
         requires { ArePairs words.now }

@@ -68,7 +68,8 @@ pub fn entry_text_on<W: Write>(
 }
 
 /// Gives a batch the entry of a copy that is printed, by its head and its text, which isn't copied
-/// on the way, as `entry_text_on` writes it. The moment is at most the last one.
+/// on the way, as `entry_text_on` writes it. The moment is at most the last one, and the errors of
+/// the head are those of the text, its `*`. The writer hasn't failed yet.
 ///
 /// Where a write fails, `written` bytes were written of all that was given, the entry last.
 // A call, so that no loop over elements has a place for what it needs.
@@ -116,7 +117,8 @@ pub fn entry_bytes(entry: &Entry, channel: Channel) -> ArrayVec<u8, MAX_ENTRY>
 }
 
 /// Puts the bytes of the entry of a copy that is printed, by its head and its text, in place of
-/// those that were there. The moment is at most the last one.
+/// those that were there. The moment is at most the last one, the text has at most 4,100 bytes, and
+/// the errors of the head are those of the text, its `*`.
 // A call, so that no loop over elements has a place for what it needs.
 #[inline(never)]
 pub fn spell_entry(

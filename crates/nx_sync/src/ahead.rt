@@ -90,8 +90,9 @@ impl Synchroniser {
     }
 
     /// Whether surely none of the next words, if they are these, brings a change, so that `accept`
-    /// may hear them. It says no to some that bring none: where a lock is in phasing the other way
-    /// round, where a DX word is phasing signal 1, and in a lock that is nearly lost.
+    /// may hear them. They are two, four, six or eight, DX and RX by turns. It says no to some that
+    /// bring none: where a lock is in phasing the other way round, where a DX word is phasing
+    /// signal 1, and in a lock that is nearly lost.
     #[inline(always)]
     pub fn keeps_lock(&self, words: &[Word]) -> bool
         requires { ArePairs words.now }
@@ -103,7 +104,7 @@ impl Synchroniser {
         track.awaits_free_dx() & !has_dx_phasing_1(words) & self.marks.keeps_lock_for(words.len())
     }
 
-    /// Hears the packed element at a place, as `push` does.
+    /// Hears the packed element at a place, which is one of those that are there, as `push` does.
     #[inline(always)]
     pub fn push_at(&mut self, numbers: &[u64], place: usize) -> Step
         requires { place + 1 ≤ packed_elements * length numbers.now }
@@ -112,9 +113,10 @@ impl Synchroniser {
         self.push(element(numbers, place))
     }
 
-    /// Hears packed elements, so many from a place on, up to and with the first one that may bring
-    /// something, all where none may. In a lock these are of one word, else they are of a hunt.
-    /// Says how many, and what the last one brings; those before it bring nothing.
+    /// Hears packed elements, so many from a place on: at least one, and all of them there. It
+    /// hears those up to and with the first one that may bring something, all where none may. In a
+    /// lock these are of one word, else they are of a hunt. Says how many, and what the last one
+    /// brings; those before it bring nothing.
     #[inline(always)]
     pub fn push_some(&mut self, numbers: &[u64], from: usize, count: usize) -> (usize, Step)
         requires some { 0 < count }
