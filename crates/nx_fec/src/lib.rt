@@ -16,7 +16,7 @@ mod texts;
 pub use air_file_runs::{decode_run, encode_run, show_run};
 pub use air_files::channel::Channel;
 pub use air_files::line_reader::{LineReader, NextLine};
-pub use air_files::line_runs::{LinesFault, LinesRead};
+pub use air_files::line_runs::LinesRead;
 pub use air_files::lines::{AirLine, LineKind, MAX_ELEMENTS, air_line};
 pub use air_files::packed_elements::PackedElements;
 pub use air_files::reading::{read_bits, read_whole};

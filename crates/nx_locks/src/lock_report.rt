@@ -1,12 +1,10 @@
 //! Showing the locks of an air file on channel 0: their report, written while the file is read.
 
-ghost use Rattle.std.specs.Prelude.{◌≡◌};
 ghost use Rattle.nx_fec.specs.Transfers.{devices};
 ghost use Rattle.nx_locks.specs.Run.{ShowsLocks};
-ghost use Rattle.nx_locks.specs.private.Reporting.{air_fault};
 
 use crate::report_writer::ReportWriter;
-use nx_fec::{AIR_LIMIT, AirFault, Batch, Counting, LineReader, LinesFault, NextLine, write_on};
+use nx_fec::{AIR_LIMIT, Batch, Counting, LineReader, NextLine, write_on};
 use nx_receiver::ListenFault;
 use std::io::{Read, Write};
 
@@ -53,7 +51,7 @@ pub fn locks<R: Read, W: Write>(
                 if let Err(why) = report_writer.take(kind, lines.elements()) {
                     batch.send(writer)?;
                     let line = lines.lines();
-                    return Err(ListenFault::from(LinesFault::Refused { line, why }));
+                    return Err(ListenFault::of_refusal(line, why));
                 }
                 batch.give(writer, report_writer.shown())?;
             }
@@ -65,18 +63,8 @@ pub fn locks<R: Read, W: Write>(
             }
             Err(fault) => {
                 batch.send(writer)?;
-                return Err(run_fault(fault));
+                return Err(ListenFault::from(fault));
             }
         }
-    }
-}
-
-/// The fault of a run whose lines ended early.
-fn run_fault(fault: AirFault) -> ListenFault
-    ensures { result ≡ air_fault fault }
-{
-    match fault {
-        AirFault::Read => ListenFault::Read,
-        AirFault::Line(why) => ListenFault::from(why),
     }
 }

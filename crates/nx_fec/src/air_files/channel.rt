@@ -1,5 +1,6 @@
 //! The channels of an air file: the frequencies that a receiver hears at once.
-ghost use Rattle.std.specs.Prelude.{◌≡◌, ◌<◌, IfSome, IfNone};
+ghost use Rattle.std.specs.Prelude.{◌≡◌, ◌<◌, [], ◌∷◌, IfSome, IfNone, Some};
+ghost use Rattle.nx_fec.specs.air_files.AirFile.{mark_bytes};
 ghost use Rattle.nx_fec.specs.air_files.Channels.{channel_number, channel_of};
 
 /// One of the three frequencies that a receiver hears, each with its own elements and commands
@@ -24,6 +25,19 @@ impl Channel {
             0 => Some(Channel::Zero),
             1 => Some(Channel::One),
             2 => Some(Channel::Two),
+            _ => None,
+        }
+    }
+
+    /// The channel that a line names by this digit, 0 to 2; none by any other byte.
+    #[inline(always)]
+    pub(crate) fn of_digit(digit: u8) -> Option<Channel>
+        ensures found { IfSome result (λ channel. mark_bytes (Some channel) ≡ digit ∷ []) }
+    {
+        match digit {
+            b'0' => Some(Channel::Zero),
+            b'1' => Some(Channel::One),
+            b'2' => Some(Channel::Two),
             _ => None,
         }
     }

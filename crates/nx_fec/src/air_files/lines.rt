@@ -152,6 +152,25 @@ pub(crate) fn command(line: &[u8]) -> Option<LineKind>
     None
 }
 
+/// The command that these two letters and a letter A to Z spell, with the channel that the line
+/// names, if it names one.
+#[inline(always)]
+pub(crate) fn command_of(act: u8, what: u8, mark: Option<Channel>, letter: u8) -> Option<LineKind>
+    ensures { IfSome result (λ kind.
+        SpellsLine kind [] (with_mark (act ∷ what ∷ []) mark (letter ∷ []))) }
+{
+    if !letter.is_ascii_uppercase() {
+        return None;
+    }
+    match (act, what) {
+        (b'R', b'S') => Some(LineKind::RefuseStation(mark, letter)),
+        (b'A', b'S') => Some(LineKind::AcceptStation(mark, letter)),
+        (b'R', b'J') => Some(LineKind::RefuseSubject(mark, letter)),
+        (b'A', b'J') => Some(LineKind::AcceptSubject(mark, letter)),
+        _ => None,
+    }
+}
+
 /// Reads a line that names its channel, as `read_line` does.
 #[inline(never)]
 fn read_marked(line: &[u8], elements: &mut PackedElements) -> Option<LineKind>

@@ -15,7 +15,7 @@ use crate::air_files::bounded_bytes::BoundedBytes;
 use crate::air_files::channel::Channel;
 use crate::air_files::line_feeds::first_feed;
 use crate::air_files::lines::{
-    LineKind, MAX_ELEMENTS, command, digits_behind, marked_command, moment_front, read_line, unpack,
+    LineKind, MAX_ELEMENTS, command_of, digits_behind, moment_front, read_line, unpack,
 };
 use crate::air_files::packed_elements::{PackedElements, pack_near};
 use crate::fault::LineFault;
@@ -416,14 +416,17 @@ fn command_front(piece: &[u8]) -> Option<(LineKind, usize)>
     ensures ended { IfSome result (λ found. (found.1 < NEAR_BYTES)
         × (slice_index piece.now found.1 ≡ newline)) }
 {
-    if piece[COMMAND_BYTES] == NEWLINE {
-        return Some((command(&piece[..COMMAND_BYTES])?, COMMAND_BYTES));
+    match piece {
+        [act, what, b' ', letter, NEWLINE, ..] => {
+            Some((command_of(*act, *what, None, *letter)?, COMMAND_BYTES))
+        }
+        [act, what, digit, b' ', letter, NEWLINE, ..] => {
+            let mark = Some(Channel::of_digit(*digit)?);
+            Some((
+                command_of(*act, *what, mark, *letter)?,
+                MARKED_COMMAND_BYTES,
+            ))
+        }
+        _ => None,
     }
-    if piece[MARKED_COMMAND_BYTES] == NEWLINE {
-        return Some((
-            marked_command(&piece[..MARKED_COMMAND_BYTES])?,
-            MARKED_COMMAND_BYTES,
-        ));
-    }
-    None
 }

@@ -4,6 +4,7 @@ ghost use Rattle.std.specs.Io.{ReadsAtMost, WritesAtMost};
 ghost use Rattle.std.specs.Io.KnownBytes.{ReadConsumes, WriteAppends, Keeps};
 ghost use Rattle.nx_fec.specs.Transfers.{Counts};
 
+use crate::devices::input::read_once;
 use std::io;
 use std::io::{Error, ErrorKind, Read, Write};
 use std::marker::Model;
@@ -78,7 +79,7 @@ impl<R: Read> Read for Counting<R> {
         if self.failures > 0 {
             return Err(self.refuse());
         }
-        let outcome = self.inner.read(buf);
+        let outcome = read_once(&mut self.inner, buf);
         if outcome.is_err() {
             self.failures = 1;
         }

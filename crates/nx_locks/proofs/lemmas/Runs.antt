@@ -46,7 +46,7 @@ use Rattle.nx_receiver.proofs.lemmas.receiver.Events.{bits_of-more}
 use Rattle.nx_locks.specs.Run.{AnswersShowing, ExplainsShowing, HasShown, HasShownAll, IsReportOf}
 use Rattle.nx_locks.specs.Run.{IsReportOfLines, ShowsLocks}
 use Rattle.nx_locks.specs.private.ReportWriter.{HasClosed, HasFew}
-use Rattle.nx_locks.specs.private.Reporting.{air_fault}
+use Rattle.nx_receiver.specs.air_file_runs.Listen.{air_fault}
 use Rattle.nx_locks.specs.declared.lock_report.LocksReport.{LocksReport}
 
 -- lines have fewer elements of channel 0 than bytes

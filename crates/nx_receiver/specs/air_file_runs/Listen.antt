@@ -13,8 +13,6 @@ use Rattle.nx_fec.specs.Transfers.{Contents, Devices, Extent, WroteSome, as_read
 use Rattle.nx_fec.specs.Transfers.{whole_input}
 use Rattle.nx_fec.specs.air_files.LineRuns.{HasFaultAfter, HasReadFault}
 use Rattle.nx_fec.specs.air_files.Lines.{StopsAt, air_limit, IsAirFile, IsLineRefused, elements_of}
-use Rattle.nx_fec.specs.declared.air_files.line_runs.LinesFault.{LinesFault}
-use Rattle.nx_fec.specs.declared.air_files.line_runs.LinesFault.TheVariants as run
 use Rattle.nx_fec.specs.declared.fault.AirFault.{AirFault}
 use Rattle.nx_fec.specs.declared.fault.AirFault.TheVariants as air
 use Rattle.nx_fec.specs.declared.fault.LineFault.{LineFault}
@@ -173,13 +171,6 @@ abbrev pub refusal_fault : ℕ → LineRefusal → ListenFault
 refusal_fault number refusal.NoMoment = NoMoment number
 refusal_fault number (refusal.Moment why) = Moment number why
 refusal_fault number (refusal.Vital subject) = Vital number subject
-
--- the fault of a run that stands for that of its lines
-abbrev pub lines_fault : LinesFault LineRefusal → ListenFault
-lines_fault run.Read = Read
-lines_fault (run.Write written) = Write written
-lines_fault (run.Line why) = file_fault why
-lines_fault (run.Refused number why) = refusal_fault number why
 
 -- The first fault of an air file, by its bytes alone: a fault of the file, or the next line is
 -- refused. And `holds` holds of the whole lines before it. A failed read, a failed write or want of

@@ -2,7 +2,7 @@
 
 use crate::fault::MomentFault;
 use nx_envelope::Letter;
-use nx_fec::{AirFault, LineFault, LinesFault, WriteFault};
+use nx_fec::{AirFault, LineFault, WriteFault};
 use nx_memory::Vital;
 use std::alloc::AllocError;
 use thiserror::Error;
@@ -81,30 +81,14 @@ impl ListenFault {
     ghost use Rattle.std.specs.Prelude.{◌≡◌};
     ghost use Rattle.nx_receiver.specs.air_file_runs.Listen.{refusal_fault};
 
-    /// The fault of a line that isn't taken.
-    pub(crate) fn of_refusal(line: u64, why: LineRefusal) -> ListenFault
+    /// The fault of a run that ends at the line of this number, which isn't taken.
+    pub fn of_refusal(line: u64, why: LineRefusal) -> ListenFault
         ensures { result ≡ refusal_fault line why }
     {
         match why {
             LineRefusal::NoMoment => ListenFault::NoMoment { line },
             LineRefusal::Moment(fault) => ListenFault::Moment { line, fault },
             LineRefusal::Vital { subject } => ListenFault::Vital { line, subject },
-        }
-    }
-}
-
-impl From<LinesFault<LineRefusal>> for ListenFault {
-    ghost use Rattle.std.specs.Prelude.{◌≡◌};
-    ghost use Rattle.nx_receiver.specs.air_file_runs.Listen.{lines_fault};
-
-    ghost from_gives = { λ fault made. made ≡ lines_fault fault };
-
-    fn from(fault: LinesFault<LineRefusal>) -> ListenFault {
-        match fault {
-            LinesFault::Read => ListenFault::Read,
-            LinesFault::Write(written) => ListenFault::Write { written },
-            LinesFault::Line(fault) => ListenFault::from(fault),
-            LinesFault::Refused { line, why } => ListenFault::of_refusal(line, why),
         }
     }
 }

@@ -91,7 +91,7 @@ returns-in-Err-take g c =
     c.elements.ensures in
     let none = unfailed _ _ (Given-not_read _) next.failed next.once in
     let sent = c.in_ok-send-in-Ok-Line.ensures in
-    rw c.from.ensures (
+    rw c.of_refusal.ensures (
     shows-refused _ c.next.new.self (search rules) r.0 n.line c.lines-line.result
     c.in-Err-take.why n.good n.given none c.lines-line.ensures
     (subst (λ l. RefusesLine all_at_zero r.0 l c.in-Err-take.why) (sym n.is)
@@ -204,7 +204,7 @@ returns-in-Err g c =
     let r = c.loop-kind.invariant.shows in
     let next = c.in-Err.ensures in
     let sent = c.in_ok-send-in-Err.ensures in
-    rw c.run_fault.ensures (
+    rw c.from.ensures (
     shows-early _ c.next.new.self (search rules) r.0 c.in-Err.fault (next.gives 268435456 _ r.0 r.1)
     next.failed next.once (record {
       bytes = r.2.given;

@@ -11,8 +11,6 @@ use Rattle.nx_fec.specs.air_files.Lines.{IsLineRefused, StopsAt, air_limit, HasF
 use Rattle.nx_fec.specs.air_files.Lines.{file_of, line_bytes}
 use Rattle.nx_fec.specs.declared.fault.LineFault.{LineFault}
 use Rattle.nx_fec.specs.declared.fault.LineFault.TheVariants as file
-use Rattle.nx_fec.specs.declared.air_files.line_runs.LinesFault.{LinesFault}
-use Rattle.nx_fec.specs.declared.air_files.line_runs.LinesFault.TheVariants as run
 use Rattle.nx_fec.proofs.lemmas.lines.LineLaws.{HasFault-unique, IsAirFile-good, NoFeed, first_feed, no_feed-not}
 use Rattle.nx_fec.proofs.lemmas.lines.LineLaws.{reading-unique, regroup, spelling-IsBeginning}
 use Rattle.nx_fec.proofs.lemmas.lines.LineLaws.{spelling-injective, split}
@@ -24,7 +22,7 @@ use Rattle.nx_receiver.specs.private.Taken.{IsTakenAfter}
 use Rattle.nx_receiver.proofs.lemmas.listening.Taken.{taken-at, taken-each}
 use Rattle.nx_copies.specs.copies.Shares.{Starts}
 use Rattle.nx_receiver.specs.private.Listener.{RefusesLine}
-use Rattle.nx_receiver.specs.air_file_runs.Listen.{lines_fault, refusal_fault}
+use Rattle.nx_receiver.specs.air_file_runs.Listen.{file_fault, refusal_fault}
 use Rattle.nx_receiver.specs.declared.fault.MomentFault.{MomentFault}
 use Rattle.nx_receiver.specs.declared.fault.MomentFault.TheVariants.{Range, Back}
 use Rattle.nx_receiver.specs.declared.air_file_runs.listen_fault.ListenFault.{ListenFault}
@@ -34,6 +32,15 @@ use Rattle.nx_receiver.specs.declared.air_file_runs.listen_fault.ListenFault.The
 use Rattle.nx_receiver.specs.declared.air_file_runs.listen_fault.ListenFault.TheVariants.{NoMoment, Moment, Vital}
 use Rattle.nx_receiver.specs.declared.air_file_runs.listen_fault.LineRefusal.{LineRefusal}
 use Rattle.nx_receiver.specs.declared.air_file_runs.listen_fault.LineRefusal.TheVariants as refusal
+
+-- why a file stops by its bytes alone: its own fault, or the line of this number is refused
+data FirstStop : Type 0 where
+  by_file : LineFault → FirstStop
+  by_line : ℕ → LineRefusal → FirstStop
+
+stop_fault : FirstStop → ListenFault
+stop_fault (by_file why) = file_fault why
+stop_fault (by_line number why) = refusal_fault number why
 
 -- a line is refused for one reason
 one-moment : (last n : ℕ) (a b : MomentFault) → Refuses last n a → Refuses last n b → a ≡ b
@@ -205,16 +212,14 @@ module _ (starts : Starts) where
   -- ---- one outcome
 
   -- where a run stops, and why, of the bytes alone
-  StopsWith : List ℕ → LinesFault LineRefusal → Type 0
-  StopsWith bytes (run.Line why) =
+  StopsWith : List ℕ → FirstStop → Type 0
+  StopsWith bytes (by_file why) =
       StopsAt bytes (λ lines rest more. IsCause air_limit (length (file_of lines ++ rest)) lines
       rest more why × AreTaken starts lines)
-  StopsWith bytes (run.Refused number why) =
+  StopsWith bytes (by_line number why) =
       StopsAt bytes (λ lines rest more. IsLineRefused
       (λ before line. RefusesLine starts before line why) air_limit lines rest more number
       × AreTaken starts lines)
-  StopsWith bytes run.Read = ⊥
-  StopsWith bytes (run.Write written) = ⊥
 
   -- a line that isn't taken, as a fault says, is refused
   says : (number : ℕ) (lines : List Line) (line : Line) (why : LineRefusal)
@@ -243,7 +248,7 @@ module _ (starts : Starts) where
       → StopsAt bytes (λ lines rest more. IsLineRefused
       (RefusesAfter starts (refusal_fault number why)) air_limit lines rest more
       (length lines + 1) × AreTaken starts lines)
-      → StopsWith bytes (run.Refused number why)
+      → StopsWith bytes (by_line number why)
   unfolding StopsWith
   refused-stops bytes number why h =
       let r = h.here.0 in
@@ -272,8 +277,8 @@ module _ (starts : Starts) where
       }
 
   record HasStopped (bytes : List ℕ) (why : ListenFault) : Type 0 where
-    fault : LinesFault LineRefusal
-    is : why ≡ lines_fault fault
+    fault : FirstStop
+    is : why ≡ stop_fault fault
     stops : StopsWith bytes fault
 
   has-stopped : (bytes : List ℕ) (why : ListenFault)
@@ -282,36 +287,36 @@ module _ (starts : Starts) where
   has-stopped bytes Read h = absurd h.here.0.refused
   has-stopped bytes (Write written) h = absurd h.here.0.refused
   has-stopped bytes (Memory error) h = absurd h.here.0.refused
-  has-stopped bytes AirTooLong h = record { fault = run.Line file.TooLong; is = refl; stops = h }
+  has-stopped bytes AirTooLong h = record { fault = by_file file.TooLong; is = refl; stops = h }
   has-stopped bytes (LineLong line) h =
-      record { fault = run.Line (file.LineLong line); is = refl; stops = h }
+      record { fault = by_file (file.LineLong line); is = refl; stops = h }
   has-stopped bytes (LineCut line) h =
-      record { fault = run.Line (file.LineCut line); is = refl; stops = h }
+      record { fault = by_file (file.LineCut line); is = refl; stops = h }
   has-stopped bytes (BadLine line) h =
-      record { fault = run.Line (file.BadLine line); is = refl; stops = h }
+      record { fault = by_file (file.BadLine line); is = refl; stops = h }
   has-stopped bytes (NoMoment line) h =
       record {
-        fault = run.Refused line refusal.NoMoment;
+        fault = by_line line refusal.NoMoment;
         is = refl;
         stops =
             refused-stops bytes line refusal.NoMoment h;
       }
   has-stopped bytes (Moment line why) h =
       record {
-        fault = run.Refused line (refusal.Moment why);
+        fault = by_line line (refusal.Moment why);
         is = refl;
         stops =
             refused-stops bytes line (refusal.Moment why) h;
       }
   has-stopped bytes (Vital line subject) h =
       record {
-        fault = run.Refused line (refusal.Vital subject);
+        fault = by_line line (refusal.Vital subject);
         is = refl;
         stops =
             refused-stops bytes line (refusal.Vital subject) h;
       }
 
-  as-fault : (bytes : List ℕ) (why : LineFault) → StopsWith bytes (run.Line why)
+  as-fault : (bytes : List ℕ) (why : LineFault) → StopsWith bytes (by_file why)
       → HasFault air_limit bytes why
   unfolding StopsWith
   as-fault bytes why h = StopsAt-map bytes _ _ (λ lines rest more here. here.0) h
@@ -330,7 +335,7 @@ module _ (starts : Starts) where
     refused : RefusesLine starts lines line why
 
   at-line : (bytes : List ℕ) (number : ℕ) (why : LineRefusal)
-      → StopsWith bytes (run.Refused number why) → AtLine bytes number why
+      → StopsWith bytes (by_line number why) → AtLine bytes number why
   unfolding StopsWith
   at-line bytes number why h =
       let r = h.here.0 in
@@ -350,7 +355,7 @@ module _ (starts : Starts) where
 
   -- a refused line and a fault of the file exclude each other
   mixed : (bytes : List ℕ) (number : ℕ) (why : LineRefusal) (fault : LineFault)
-      → StopsWith bytes (run.Refused number why) → StopsWith bytes (run.Line fault) → ⊥
+      → StopsWith bytes (by_line number why) → StopsWith bytes (by_file fault) → ⊥
   unfolding StopsWith
   mixed bytes number why fault h k =
       let a = at-line bytes number why h in
@@ -411,21 +416,15 @@ module _ (starts : Starts) where
             (subst (λ l. RefusesLine starts l a.line v) read.0 a.refused)) b.refused,
       )
 
-  one-stop : (bytes : List ℕ) (f g : LinesFault LineRefusal) → StopsWith bytes f → StopsWith bytes g
+  one-stop : (bytes : List ℕ) (f g : FirstStop) → StopsWith bytes f → StopsWith bytes g
       → f ≡ g
   unfolding StopsWith
-  one-stop bytes (run.Line v) (run.Line w) h k =
-      ap run.Line (HasFault-unique air_limit bytes v w (as-fault bytes v h) (as-fault bytes w k))
-  one-stop bytes (run.Line v) (run.Refused m w) h k = absurd (mixed bytes m w v k h)
-  one-stop bytes (run.Refused n v) (run.Line w) h k = absurd (mixed bytes n v w h k)
-  one-stop bytes (run.Refused n v) (run.Refused m w) h k = let e =
+  one-stop bytes (by_file v) (by_file w) h k =
+      ap by_file (HasFault-unique air_limit bytes v w (as-fault bytes v h) (as-fault bytes w k))
+  one-stop bytes (by_file v) (by_line m w) h k = absurd (mixed bytes m w v k h)
+  one-stop bytes (by_line n v) (by_file w) h k = absurd (mixed bytes n v w h k)
+  one-stop bytes (by_line n v) (by_line m w) h k = let e =
       one-line bytes n m v w (at-line bytes n v h) (at-line bytes m w k) in cc (e.0, e.1)
-  one-stop bytes run.Read g h k = absurd h
-  one-stop bytes (run.Write written) g h k = absurd h
-  one-stop bytes (run.Line v) run.Read h k = absurd k
-  one-stop bytes (run.Line v) (run.Write written) h k = absurd k
-  one-stop bytes (run.Refused n v) run.Read h k = absurd k
-  one-stop bytes (run.Refused n v) (run.Write written) h k = absurd k
 
   pub one-first_fault : (bytes : List ℕ) (a b : ListenFault)
       → HasListenFault starts (AreTaken starts) bytes a
@@ -433,20 +432,18 @@ module _ (starts : Starts) where
   one-first_fault bytes a b h k =
       let s = has-stopped bytes a h in
       let t = has-stopped bytes b k in
-      s.is ∙ ap lines_fault (one-stop bytes s.fault t.fault s.stops t.stops) ∙ sym t.is
+      s.is ∙ ap stop_fault (one-stop bytes s.fault t.fault s.stops t.stops) ∙ sym t.is
 
   -- a file that has a log has no fault
-  no-stop : (bytes : List ℕ) (lines : List Line) (f : LinesFault LineRefusal)
+  no-stop : (bytes : List ℕ) (lines : List Line) (f : FirstStop)
       → IsAirFile air_limit bytes lines → AreTaken starts lines → StopsWith bytes f → ⊥
   unfolding StopsWith
-  no-stop bytes lines (run.Line v) good taken h =
+  no-stop bytes lines (by_file v) good taken h =
       IsAirFile-good air_limit bytes lines v good (as-fault bytes v h)
-  no-stop bytes lines (run.Refused n v) good taken h =
+  no-stop bytes lines (by_line n v) good taken h =
       let a = at-line bytes n v h in
       overlap a.lines a.line v lines [] a.after a.each a.good a.refused good.each tt taken
       (append-nil (file_of lines) ∙ sym good.whole ∙ a.whole ∙ ended a.lines a.line a.after)
-  no-stop bytes lines run.Read good taken h = h
-  no-stop bytes lines (run.Write written) good taken h = h
 
   pub no-first_fault : (bytes log : List ℕ) (why : ListenFault) → IsLogOf starts bytes log
       → HasListenFault starts (AreTaken starts) bytes why → ⊥

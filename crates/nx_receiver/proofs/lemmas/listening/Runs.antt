@@ -15,8 +15,6 @@ use Rattle.nx_fec.specs.Transfers.{WroteSome, as_read, contents_of, devices, inp
 use Rattle.nx_fec.specs.air_files.LineRuns.{HasGiven, HasHeardAll, HasTaken, Waiting}
 use Rattle.nx_fec.specs.air_files.Lines.{IsLineRefused, air_limit, elements_of, file_of, line_bytes}
 use Rattle.nx_fec.specs.declared.fault.LineFault.TheVariants as file
-use Rattle.nx_fec.specs.declared.air_files.line_runs.LinesFault.{LinesFault}
-use Rattle.nx_fec.specs.declared.air_files.line_runs.LinesFault.TheVariants as run
 use Rattle.nx_fec.specs.declared.air_files.line_runs.LinesRead.{LinesRead}
 use Rattle.nx_fec.proofs.lemmas.line_runs.LineRun.{HasGiven-empty, HasTaken-map}
 use Rattle.nx_fec.proofs.lemmas.devices.TransferLaws.{Ok-not_err, Reads-on, Writes-fault, Writes-none}
@@ -28,7 +26,7 @@ use Rattle.nx_receiver.specs.air_file_runs.Listen.{AnswersListeningBy, AreTaken,
 use Rattle.nx_receiver.specs.air_file_runs.Listen.{HasLoggedBy, HasLoggedSome, IsLogOfBy}
 use Rattle.nx_receiver.specs.air_file_runs.Listen.{IsLogOfLinesBy, ListensBy}
 use Rattle.nx_receiver.specs.air_file_runs.Listen.{RefusesAfter, given_by, given_of}
-use Rattle.nx_receiver.specs.air_file_runs.Listen.{lines_fault, refusal_fault}
+use Rattle.nx_receiver.specs.air_file_runs.Listen.{refusal_fault}
 use Rattle.nx_copies.specs.copies.Shares.{Starts}
 use Rattle.nx_receiver.specs.private.Listener.{HasClosedBy, HasClosedSomeBy, IsListeningBy}
 use Rattle.nx_receiver.specs.Listener.{ListeningOver}
@@ -181,37 +179,9 @@ next-refused starts number lines rest more why h = record {
   refused = fault-says starts number lines h.line why h.counted h.refused;
 }
 
--- the faults of devices are those of devices
-pub read-back : (fault : LinesFault LineRefusal) → lines_fault fault ≡ Read → fault ≡ run.Read
-read-back run.Read e = refl
-read-back (run.Write written) e = cc
-read-back (run.Line file.TooLong) e = cc
-read-back (run.Line (file.LineLong line)) e = cc
-read-back (run.Line (file.LineCut line)) e = cc
-read-back (run.Line (file.BadLine line)) e = cc
-read-back (run.Refused line refusal.NoMoment) e = cc
-read-back (run.Refused line (refusal.Moment why)) e = cc
-read-back (run.Refused line (refusal.Vital subject)) e = cc
-
-pub write-back : (fault : LinesFault LineRefusal) (written : ℕ) → lines_fault fault ≡ Write written
-    → fault ≡ run.Write written
-write-back run.Read written e = cc
-write-back (run.Write n) written e = cc
-write-back (run.Line file.TooLong) written e = cc
-write-back (run.Line (file.LineLong line)) written e = cc
-write-back (run.Line (file.LineCut line)) written e = cc
-write-back (run.Line (file.BadLine line)) written e = cc
-write-back (run.Refused line refusal.NoMoment) written e = cc
-write-back (run.Refused line (refusal.Moment why)) written e = cc
-write-back (run.Refused line (refusal.Vital subject)) written e = cc
-
 pub err-of : {N : Type 0} (a b : ListenFault)
     → ◌≡◌ {A = Result N ListenFault} (Err a) (Err b) → a ≡ b
 err-of a b e = cc
-
-pub run-err-of : {N R : Type 0} (a b : LinesFault R)
-    → ◌≡◌ {A = Result N (LinesFault R)} (Err a) (Err b) → a ≡ b
-run-err-of a b e = cc
 
 pub as-err : {N F : Type 0} (a b : F) → a ≡ b → ◌≡◌ {A = Result N F} (Err a) (Err b)
 as-err {N} {F} a b e = let out : F → Result N F = λ x. Err x in ap out e
