@@ -335,6 +335,12 @@ async function triesPlaces({ browser, room, pictures }) {
         assert.equal(await tab.textOf('counts'),
             '4 messages, 4 not read yet, 1 of them chosen. 1 more has no place that is read');
         await tab.set('within', '');
+        await tab.set('words', ' 001-54.8e  56-43.6n'); // a line ends between them
+        await untilShown(tab, 'New GL13');
+        await tab.set('words', '56.43');
+        await untilShown(tab);
+        await tab.set('words', '');
+        await untilShown(tab, 'New ED12', 'New GL13', 'New EB11', 'New EA10');
         await tab.set('ship', '54-10.5N');
         assert.match((await tab.faults())[0], /has to be written as 54-10.5N 007-53.2E/);
         await tab.forgetFaults();
