@@ -27,7 +27,8 @@ export class Queue {
     #over = Promise.resolve(); // when it is over
     #on;
 
-    /** `on` is told `changed`, where a sound comes, begins or goes; and `fault`. */
+    /** `on` is told `changed`, where a sound comes, begins or goes; `stopped`, of one that was stopped before it
+     *  was heard; and `fault`. */
     constructor(on) {
         this.#on = on;
     }
@@ -90,7 +91,8 @@ export class Queue {
         try {
             await sound.hear(signal);
         } catch (fault) {
-            if (!(fault instanceof Stopped)) this.#on.fault(fault);
+            if (fault instanceof Stopped) this.#on.stopped(sound);
+            else this.#on.fault(fault);
         }
         this.#next();
     }

@@ -22,6 +22,7 @@ export class ListenSection {
     #wake = null; // what keeps the screen on
     #queue = new Queue({
         changed: () => this.#showQueue(),
+        stopped: (sound) => this.#shown.stopped(sound),
         fault: (fault) => this.#shown.fault(fault, this.#queue.current),
     });
 

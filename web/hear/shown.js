@@ -94,6 +94,11 @@ export class Shown {
         this.#faults.show(words);
     }
 
+    /** A sound was stopped before anything of it was heard. */
+    stopped({ name }) {
+        this.line(`${name}, stopped: not heard.`);
+    }
+
     /** What went wrong with a sound. One that wasn't heard by that is named. */
     fault(fault, sound) {
         if (!sound.wasHeard) this.line(`${sound.name}: not heard.`);

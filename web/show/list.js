@@ -12,6 +12,13 @@ const DISTANCES = [25, 50, 100, 200, 400]; // miles
 
 const find = (id) => document.getElementById(id);
 
+/** What finds words in a log, in their order, also where a line ends between them; null where there are none. */
+function patternOf(words) {
+    const parts = words.trim().toUpperCase().split(/\s+/).filter((part) => part !== '');
+    const exact = parts.map((part) => part.replace(/[^\w ]/g, '\\$&'));
+    return parts.length === 0 ? null : new RegExp(exact.join('\\s+'));
+}
+
 function option(value, words) {
     const element = made('option', '', words);
     element.value = value;
@@ -159,12 +166,12 @@ export class MessageList {
     }
 
     #isChosen() {
-        const words = find('words').value.trim().toUpperCase();
+        const words = patternOf(find('words').value);
         const [station, subject, age] = ['station', 'subject', 'age'].map((id) => find(id).value);
         const since = age === '' ? -Infinity : Date.now() / 1000 - Number(age) * HOUR;
         return ({ copies }) => (station === '' || copies[0].station === station)
             && (subject === '' || copies[0].subject === subject) && copies.some(({ moment }) => moment >= since)
-            && (words === '' || copies.some(({ log }) => log.includes(words)));
+            && (words === null || copies.some(({ log }) => words.test(log)));
     }
 
     #isNear() {

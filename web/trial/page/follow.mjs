@@ -9,6 +9,7 @@ import { entryOf, keptOf, put, writeKept } from '../kept.mjs';
 import { folderOf, freePort, hasNginx, hasService, host, nginxServer, plainServer, serviceServer }
     from '../servers.mjs';
 import { example } from '../waves.mjs';
+import { expectNarrow } from './looks.mjs';
 
 const SOON = 20000; // milliseconds in which the page has read the log again, on a busy machine
 
@@ -317,6 +318,7 @@ async function triesPlaces({ browser, room, pictures }) {
         await untilShown(tab, 'New ED12', 'New GL13', 'New EB11', 'New EA10');
         assert.deepEqual(await tab.textsOf('#list mark.place'), ['55-12.0N 006-40.0E', '55-12.0N 006-40.0E',
             '57-11.7N 001-54.8E', '56-43.6N 002-12.7E', '54-00.3N 007-22.8E']);
+        await expectNarrow(tab);
         assert.deepEqual(await tab.textsOf('#list .copies summary'), ['2 other copies of it, 2 not read yet']);
         assert.match((await tab.textsOf('#list .facts'))[0], /06:00:00 UTC, 518 kHz, complete, none of/);
         assert.equal(await tab.value("document.querySelectorAll('#chart .point').length"), 4, 'a place of two copies is one');
@@ -333,6 +335,12 @@ async function triesPlaces({ browser, room, pictures }) {
         assert.equal(await tab.textOf('counts'),
             '4 messages, 4 not read yet, 1 of them chosen. 1 more has no place that is read');
         await tab.set('within', '');
+        await tab.set('words', ' 001-54.8e  56-43.6n'); // a line ends between them
+        await untilShown(tab, 'New GL13');
+        await tab.set('words', '56.43');
+        await untilShown(tab);
+        await tab.set('words', '');
+        await untilShown(tab, 'New ED12', 'New GL13', 'New EB11', 'New EA10');
         await tab.set('ship', '54-10.5N');
         assert.match((await tab.faults())[0], /has to be written as 54-10.5N 007-53.2E/);
         await tab.forgetFaults();

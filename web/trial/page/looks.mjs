@@ -1,5 +1,5 @@
-// Tries how the page looks: tones, names for a screen reader, contrast by day, dark and at night, the
-// clock, what is printed; and keeps pictures.
+// Tries how the page looks: tones, names for a screen reader, contrast by day, dark and at night, what stands
+// beside its frame on a narrow screen, the clock, what is printed; and keeps pictures.
 import assert from 'node:assert/strict';
 import { mkdirSync, writeFileSync } from 'node:fs';
 import { path, writeWave } from '../waves.mjs';
@@ -54,6 +54,43 @@ async function triesContrast({ tab, kind }) {
     await tab.press('#night');
     await tab.press('#stations input');
     await tab.value("document.querySelectorAll('details').forEach((one) => { one.open = false; })");
+    await tab.forgetFaults();
+}
+
+/** The parts of the page that go over the part around them, each with its pixels beyond it. What stands in a
+ *  line of text is broken with it. */
+const OVER = `[...document.querySelectorAll('main *, header *, #alarm *, #faults *')].filter((one) =>
+    one.offsetParent !== null && one.closest('.away, svg, #waterfall') === null
+    && getComputedStyle(one).display !== 'inline').flatMap((one) => {
+        const around = one.parentElement;
+        const { display, paddingLeft, paddingRight } = getComputedStyle(around);
+        const [inner, outer] = [one.getBoundingClientRect(), around.getBoundingClientRect()];
+        const beyond = Math.max(inner.right - outer.right + parseFloat(paddingRight),
+            outer.left + parseFloat(paddingLeft) - inner.left);
+        return ['inline', 'contents'].includes(display) || beyond < 2 ? [] : [one.tagName + ' ' + one.textContent + ' ' + beyond];
+    })`;
+
+/** On narrow screens nothing goes over its frame, in usual and in large type, and nobody scrolls sideways. */
+export async function expectNarrow(tab) {
+    await tab.value("document.querySelectorAll('details').forEach((one) => { one.open = true; })");
+    for (const type of ['usual', 'large']) {
+        for (const width of [320, 390, 800]) {
+            await tab.picture(width, 844, true);
+            assert.deepEqual(await tab.value(OVER), [], `${type} type, ${width} pixels`);
+            assert.equal(await tab.value('document.documentElement.scrollWidth'), width, `${type} type`);
+        }
+        await tab.press('#large');
+    }
+    await tab.call('Emulation.clearDeviceMetricsOverride', {});
+    await tab.value("document.querySelectorAll('details').forEach((one) => { one.open = false; })");
+}
+
+/** The receiver, with an alarm and a fault. */
+async function triesNarrow({ tab, room }) {
+    writeFileSync(`${room}/noise.txt`, 'Buoy 7 is unlit\n');
+    await tab.hear(`${room}/noise.txt`);
+    assert.equal(await tab.value("document.getElementById('alarm').hidden"), false);
+    await expectNarrow(tab);
     await tab.forgetFaults();
 }
 
@@ -142,4 +179,4 @@ async function keepsPictures({ tab, room, pictures }) {
 }
 
 export const trials = (kind) => (kind === 'chromium'
-    ? [triesContrast, triesTones, triesNames, triesClock, triesPrint, keepsPictures] : [triesContrast, triesClock]);
+    ? [triesContrast, triesNarrow, triesTones, triesNames, triesClock, triesPrint, keepsPictures] : [triesContrast, triesClock]);

@@ -130,6 +130,9 @@ async function triesStop({ tab, room }) {
             const most = AT_ONCE * slowness();
             assert.ok(took < most, `${one}, stopped ${when}, after ${took} ms of ${most.toFixed(0)}`);
             await tab.untilIdle();
+            const ended = await tab.ended();
+            assert.equal(ended.length, 1, `${one}, stopped ${when}: ${ended}`);
+            assert.match(ended[0], new RegExp(`^${first.name}(, stopped)?: `), `${one}, stopped ${when}`);
             const [line] = await tab.hear(sounds.air.file);
             assert.match(line, /^number-00.air: 3 messages heard: 3 new/, `${one}, stopped ${when}`);
             await expectTracksEnded(tab, `${one}, stopped ${when}`);

@@ -1,13 +1,14 @@
 // Tries the page that follows a real watch, the built program, which is killed and started again under it: by
-// http.server of Python, and by the server of navtex-page.service. Its log is torn meanwhile, notes are written
-// into it, and once it is replaced by a shortened one. NAVTEX is the program, KILLS how often it is killed.
+// http.server of Python, by the server of navtex-page.service, and by nginx with the settings of docs/PAGE.md. Its
+// log is torn meanwhile, notes are written into it, and once it is replaced by a shortened one. NAVTEX is the
+// program, KILLS how often it is killed under each server.
 import assert from 'node:assert/strict';
 import { existsSync } from 'node:fs';
 import { resolve } from 'node:path';
 import { setTimeout as pause } from 'node:timers/promises';
 import { isDeepStrictEqual } from 'node:util';
 import { chanceOf } from '../chance.mjs';
-import { folderOf, freePort, hasService, plainServer, serviceServer } from '../servers.mjs';
+import { folderOf, freePort, hasNginx, hasService, nginxServer, plainServer, serviceServer } from '../servers.mjs';
 import { hasStrace, Watch } from '../watch.mjs';
 
 const KILLS = Number(process.env.KILLS ?? 50);
@@ -171,5 +172,16 @@ async function triesService(given) {
     await tries(given, 'lighttpd', log, '/', (port) => serviceServer(share, log, port));
 }
 
+/** By nginx, which sends what is new too. */
+async function triesNginx(given) {
+    if (!hasNginx) {
+        console.error('ci/web: left out: a watch that is killed under nginx, which is not here (nginx-light)');
+        return;
+    }
+    const folder = folderOf(given.room, 'watched-nginx');
+    const log = `${folder}/other.log`;
+    await tries(given, 'nginx', log, '/navtex.html?log=navtex.log', (port) => nginxServer(folder, log, port));
+}
+
 /** In Chromium alone. */
-export const trials = (kind) => (kind === 'chromium' ? [triesPlain, triesService] : []);
+export const trials = (kind) => (kind === 'chromium' ? [triesPlain, triesService, triesNginx] : []);
