@@ -1,5 +1,6 @@
 //! Showing the locks of an air file on channel 0: their report, written while the file is read.
 
+ghost use Rattle.std.specs.Prelude.{◌≡◌};
 ghost use Rattle.nx_fec.specs.Transfers.{devices};
 ghost use Rattle.nx_locks.specs.Run.{ShowsLocks};
 
@@ -25,7 +26,7 @@ pub struct LocksReport {
 /// It has for each lock a line that opens it, its running text, a line that closes it, and an empty
 /// line; and one last line. They are the locks in the elements of channel 0: elements of other
 /// channels change nothing. What the lines so far show is written before each further read. All
-/// memory is taken before the first read.
+/// memory is taken before the first read. No call on reader or writer has failed before.
 ///
 /// It reads the file as `listen` does, with the same faults, on whichever channel they stand; what
 /// is selected changes nothing. The first fault in the order of the bytes ends the run; the line

@@ -99,7 +99,7 @@ impl CountingReader {
     }
 
     /// Hears the next word of the lock, which has that role, and appends the byte that it prints,
-    /// if it prints one.
+    /// if it prints one. There is room for one byte more in what is shown.
     #[inline(always)]
     pub(crate) fn hear_word(&mut self, word: Word, role: Role, shown: &mut Shown)
         requires room { array_vec_len shown.old + 1 ≤ 57856 }
@@ -115,7 +115,8 @@ impl CountingReader {
 
     /// Hears the next words of the lock at once, DX and RX by turns, where surely no header begins
     /// or ends in what they print, and appends that: `true` where it did. Else nothing changed, and
-    /// they have to be heard one by one.
+    /// they have to be heard one by one. They are two to eight, in whole pairs, and there is room
+    /// for four bytes more in what is shown.
     #[inline(always)]
     pub(crate) fn hear_words(&mut self, words: &[Word], shown: &mut Shown) -> bool
         requires pairs { ArePairs words.now }
@@ -200,8 +201,8 @@ fn one_if_wrong(word: Word) -> u64
     if check_bits(word) { 0 } else { 1 }
 }
 
-/// Whether the last line of a text is open once the first `count` of these bytes follow it, by
-/// whether it was before.
+/// Whether the last line of a text is open once the first `count` of these four bytes, at most all,
+/// follow it, by whether it was before.
 #[inline(always)]
 fn is_open_after(is_open: bool, bytes: &[u8; 4], count: usize) -> bool
     requires { count ≤ 4 }

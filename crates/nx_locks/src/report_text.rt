@@ -25,6 +25,7 @@ pub(crate) const MAX_SHOWN: usize = MAX_ELEMENTS * MAX_STEP;
 pub(crate) type Shown = ArrayVec<u8, MAX_SHOWN>;
 
 /// Appends the line that opens a lock after so many elements. The moment is at most the last one.
+/// There is room for 113 bytes more.
 #[inline(never)]
 pub(crate) fn open_lock(shown: &mut Shown, moment: u64, elements: u64)
     requires moment { moment ≤ last_moment }
@@ -55,6 +56,7 @@ pub(crate) struct Counts {
 }
 
 /// Appends the lines that close a lock, of which this came. The moment is at most the last one.
+/// There is room for 111 bytes more.
 #[inline(never)]
 pub(crate) fn close_lock(shown: &mut Shown, moment: u64, how: Change, counts: Counts)
     requires moment { moment ≤ last_moment }
@@ -80,7 +82,7 @@ pub(crate) fn close_lock(shown: &mut Shown, moment: u64, how: Change, counts: Co
     append(shown, b"]\n\n");
 }
 
-/// Appends the last line.
+/// Appends the last line. There is room for 87 bytes more.
 pub(crate) fn end_report(shown: &mut Shown, elements: u64, locks: u64, copies: u64)
     requires room { array_vec_len shown.old + 87 ≤ 57856 }
     ensures line { shown.new.items ≡ shown.old.items ++ last_line elements locks copies }
@@ -106,7 +108,7 @@ fn how_text(how: Change) -> &'static str
     }
 }
 
-/// Appends the first `count` of these bytes.
+/// Appends the first `count` of these bytes. They are four at most, for which there is room.
 #[inline(always)]
 pub(crate) fn append_some(shown: &mut Shown, bytes: [u8; 4], count: usize)
     requires room { array_vec_len shown.old + 4 ≤ 57856 }

@@ -68,8 +68,8 @@ impl ReportWriter {
         self.taker.shown()
     }
 
-    /// Takes a line that says this and has these elements, and shows what it brings, in place of
-    /// what was shown before. A line that is refused brings nothing.
+    /// Takes a line of an air file that says this and has these elements, and shows what it brings,
+    /// in place of what was shown before. A line that is refused brings nothing.
     pub(crate) fn take(
         &mut self,
         kind: LineKind,
@@ -94,7 +94,7 @@ impl ReportWriter {
         }
     }
 
-    /// Takes a moment, which shows nothing.
+    /// Takes a moment, which shows nothing. What was shown before is cleared.
     fn take_moment(&mut self, given: u64) -> Result<(), LineRefusal>
         requires { self.old.taker.shown ≡ [] }
         ensures shown { self.new.taker.shown ≡ [] }
@@ -110,7 +110,7 @@ impl ReportWriter {
     }
 
     /// Takes the elements of a line that names this channel, or none. Shows what they bring where
-    /// they are of channel 0, and skips those of other channels.
+    /// they are of channel 0, and skips those of other channels. What was shown before is cleared.
     fn take_elements(
         &mut self,
         mark: Option<Channel>,
@@ -133,7 +133,7 @@ impl ReportWriter {
         Ok(())
     }
 
-    /// Hears elements, and shows what they bring.
+    /// Hears elements, and shows what they bring. What was shown before is cleared.
     fn hear(&mut self, elements: &PackedElements)
         requires { self.old.taker.shown ≡ [] }
         ensures hears { HearsAll self.old self.new elements.now }

@@ -119,7 +119,7 @@ impl LockTaker {
         self.shown.clear();
     }
 
-    /// Shows what a step of the synchroniser brings.
+    /// Shows what a step of the synchroniser brings. There is room for what one element may show.
     #[inline(always)]
     fn show(&mut self, step: Step)
         requires room { HasRoom self.old 1 }
@@ -138,7 +138,7 @@ impl LockTaker {
         }
     }
 
-    /// Opens a lock that was found.
+    /// Opens a lock that was found. There is room for what one element may show.
     #[inline(never)]
     fn open(&mut self)
         requires room { HasRoom self.old 1 }
@@ -149,7 +149,7 @@ impl LockTaker {
         open_lock(&mut self.shown, self.moment, self.elements);
     }
 
-    /// Reads a word of the lock, which may end it.
+    /// Reads a word of the lock, which may end it. There is room for what one element may show.
     #[inline(always)]
     fn read(&mut self, word: Word, role: Role, change: Option<Change>)
         requires room { HasRoom self.old 1 }
@@ -162,7 +162,8 @@ impl LockTaker {
         }
     }
 
-    /// Closes the text of the lock, of which this came, and begins anew for the next one.
+    /// Closes the text of the lock, of which this came, and begins anew for the next one. There is
+    /// room for 112 bytes more.
     #[inline(never)]
     pub(crate) fn close(&mut self, how: Change)
         requires room { length self.old.shown + 112 ≤ 57856 }
@@ -183,7 +184,7 @@ impl LockTaker {
     }
 
     /// Ends the report, all locks of which are closed: shows the last line. Answers how many locks
-    /// there are, and how many headers stand in their texts.
+    /// there are, and how many headers stand in their texts. There is room for 87 bytes more.
     pub(crate) fn end(&mut self) -> (u64, u64)
         requires room { length self.old.shown + 87 ≤ 57856 }
         ensures line { self.new.shown
@@ -196,7 +197,8 @@ impl LockTaker {
 }
 
 impl LockTaker {
-    /// Hears packed elements by this synchroniser, and shows their locks.
+    /// Hears the first `count` packed elements of these numbers by this synchroniser, and shows
+    /// their locks. So many are in them, and there is room for what they may show.
     #[inline(always)]
     pub(crate) fn hear(&mut self, synchroniser: &mut Synchroniser, numbers: &[u64], count: usize)
         requires part { count ≤ packed_elements * length numbers.now }
@@ -207,9 +209,10 @@ impl LockTaker {
         let (_all, None) = hear_elements(self, synchroniser, numbers, 0, count);
     }
 
-    /// Takes two words of a lock that bring no change, a DX word and an RX word. Never inlined: few
-    /// words go this way, and a loop over words has the registers to itself. They are handed over
-    /// by value, so that the words at once needn't stand in memory for it.
+    /// Takes two words of a lock that bring no change, a DX word and an RX word. There is room for
+    /// what their 14 elements may show. Never inlined: few words go this way, and a loop over words
+    /// has the registers to itself. They are handed over by value, so that the words at once
+    /// needn't stand in memory for it.
     #[inline(never)]
     fn take_pair(&mut self, dx: Word, rx: Word)
         requires room { HasRoom self.old 14 }

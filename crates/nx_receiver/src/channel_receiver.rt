@@ -71,8 +71,8 @@ pub trait ChannelReceiver: Drop {
         ensures unchanged { OnErr result (self.new ≡ self.old) };
 
     /// Hears elements from a place on, up to and with the first one with which something is over,
-    /// all of them where nothing is. Says how many, and what is over. `finish` is due then, before
-    /// anything else is heard.
+    /// all of them where nothing is. The place is at most behind the last one. Says how many, and
+    /// what is over. `finish` is due then, before anything else is heard.
     fn hear(&mut self, packed: &PackedElements, from: usize) -> (usize, Option<Self::Over>)
         requires { from ≤ length packed.now }
         ensures within { from + result.0 ≤ length packed.now }
@@ -173,7 +173,7 @@ impl<M: FreshRecall> ChannelReceiver for Receiver<M> {
 
 /// Hears packed elements from a place on, up to and with the one that ends the first copy that is
 /// printed; says how many it heard, and the head of the entry. Its text is that of the receiver,
-/// until more is heard. With `None` it heard all.
+/// until more is heard. With `None` it heard all. The place is at most behind the last one.
 pub(crate) fn next_printed_of<R: ChannelReceiver>(
     receiver: &mut R,
     packed: &PackedElements,
@@ -206,7 +206,7 @@ pub(crate) fn next_printed_of<R: ChannelReceiver>(
 }
 
 /// Finishes what is over. Where that isn't printed it hears on, from a place on, as
-/// `next_printed_of` does.
+/// `next_printed_of` does. The place is at most behind the last one.
 // A call, as few elements end anything.
 #[inline(never)]
 pub(crate) fn finish_next<R: ChannelReceiver>(

@@ -238,7 +238,8 @@ impl<R: ChannelReceiver> Listener<R> {
 
     /// Hears elements of a channel, from a place on, up to and with the one that ends the first
     /// copy that is printed; says how many it heard, and the head of the entry. Its text is `text`
-    /// of the channel, until more is heard there. With `None` it heard all.
+    /// of the channel, until more is heard there. With `None` it heard all. The place is at most
+    /// behind the last one.
     #[inline(always)]
     pub fn next_printed(
         &mut self,
@@ -280,8 +281,9 @@ impl<R: ChannelReceiver> Listener<R> {
         (count + more, head)
     }
 
-    /// Hears elements of a channel up to and with the first one with which something is over that
-    /// may bring an entry; says how many, and what is over.
+    /// Hears elements of a channel, from a place on, up to and with the first one with which
+    /// something is over that may bring an entry; says how many, and what is over. The place is at
+    /// most behind the last one.
     #[inline(always)]
     fn hear_on(
         &mut self,
@@ -307,7 +309,7 @@ impl<R: ChannelReceiver> Listener<R> {
     }
 
     /// Finishes what is over on a channel. Where that isn't printed it hears on there, from a place
-    /// on, as `next_printed` does, but counts nothing.
+    /// on, as `next_printed` does, but counts nothing. The place is at most behind the last one.
     #[inline(always)]
     fn finish_next_on(
         &mut self,
@@ -349,7 +351,8 @@ impl<R: ChannelReceiver> Listener<R> {
 
     /// Hears elements of a channel as `next_printed` does; says how many it heard, and whether a
     /// copy is printed. Then `entry` has the bytes of its entry, with the mark of the channel, in
-    /// place of what it had. With false it heard all, and `entry` is as it was.
+    /// place of what it had. With false it heard all, and `entry` is as it was. The place is at
+    /// most behind the last one.
     #[inline(always)]
     pub fn hear_spelled(
         &mut self,

@@ -284,9 +284,9 @@ impl<M: Recall> Receiver<M> {
         self.judge_ready()
     }
 
-    /// Hears elements up to and with the first one with which something is over, all of them where
-    /// nothing is. Says how many, and what is over. `finish` is due then, before anything else is
-    /// heard.
+    /// Hears elements, from a place on, up to and with the first one with which something is over,
+    /// all of them where nothing is. The place is at most behind the last one. Says how many, and
+    /// what is over. `finish` is due then, before anything else is heard.
     #[inline(always)]
     pub(crate) fn hear(&mut self, packed: &PackedElements, from: usize) -> (usize, Option<Over>)
         requires { from ≤ length packed.now }
@@ -395,7 +395,7 @@ impl<M: Recall> Receiver<M> {
 impl<M: FreshRecall> Receiver<M> {
     /// Hears packed elements from a place on, up to and with the one that ends the first copy that
     /// is printed; says how many it heard, and the head of the entry. Its text is `text`, until
-    /// more is heard. With `None` it heard all.
+    /// more is heard. With `None` it heard all. The place is at most behind the last one.
     pub fn next_printed(
         &mut self,
         packed: &PackedElements,

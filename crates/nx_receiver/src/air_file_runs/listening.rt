@@ -51,7 +51,7 @@ pub struct Report {
 /// further read. Three receivers hear it, one for each channel; each starts with an empty memory,
 /// at moment 0, and everything is selected. Their entries stand in the log in the order in which
 /// their copies end; the end of the file closes the channels 0, 1 and 2 in order. All memory is
-/// taken before the first read.
+/// taken before the first read. No call on reader or writer has failed before.
 ///
 /// Where it answers Ok, each message that is heard in time on a channel of the file has exactly one
 /// entry of that channel in the log. The entry is full, and has 0 errors and the message's text
@@ -85,7 +85,7 @@ pub fn listen<R: Read, W: Write>(
 /// moment of an entry, or 0 where there is none. Answers also what it leaves of each channel: the
 /// last 200 of all entries, the saved ones and those that the run made, and what is selected after
 /// the file. A copy that stands open at its end is no part of it. All memory is taken before the
-/// first read.
+/// first read. No call on reader or writer has failed before.
 ///
 /// Where it answers Ok, each message that is heard in time on a channel of the file has exactly one
 /// entry of that channel in the log, as with `listen`. For this, no saved entry of its identity on
@@ -114,7 +114,7 @@ pub fn listen_from<R: Read, W: Write>(
     Ok((report, left))
 }
 
-/// Takes a line that sets what is in force: a moment, or a command of selection.
+/// Takes a line of an air file that sets what is in force: a moment, or a command of selection.
 #[inline(always)]
 fn take_setting<C: ChannelReceiver>(
     listener: &mut Listener<C>,
@@ -154,7 +154,7 @@ fn take_moment<C: ChannelReceiver>(
 }
 
 /// Takes the elements of a line, for the channel that it names: hears them, and gives the entries
-/// of the copies that they end. There was a moment before them.
+/// of the copies that they end. There was a moment before them. No write has failed before.
 fn take_elements<C: ChannelReceiver, W: Write>(
     listener: &mut Listener<C>,
     mark: Option<Channel>,
@@ -183,8 +183,9 @@ fn take_elements<C: ChannelReceiver, W: Write>(
     Ok(())
 }
 
-/// Hears elements of a channel up to and with the one that ends the first copy that is printed, and
-/// gives its entry. Answers how many it heard.
+/// Hears elements of a channel, of which one at least stands from this place on, up to and with the
+/// one that ends the first copy that is printed, and gives its entry. Answers how many it heard. No
+/// write has failed before.
 fn hear_next<C: ChannelReceiver, W: Write>(
     listener: &mut Listener<C>,
     channel: Channel,
@@ -219,7 +220,7 @@ fn hear_next<C: ChannelReceiver, W: Write>(
 }
 
 /// Ends the file: writes, channel by channel, the entry of the copy that its end closes, where that
-/// is printed, and counts.
+/// is printed, and counts. No write has failed before.
 fn close_log<C: ChannelReceiver, W: Write>(
     listener: Listener<C>,
     writer: &mut Counting<W>,
@@ -260,7 +261,8 @@ struct Ending {
 }
 
 impl Ending {
-    /// Writes the entry that the end prints on a channel, where it prints one, and counts.
+    /// Writes the entry that the end prints on a channel, where it prints one, and counts. Its
+    /// moment is at most the last one, and no write has failed before.
     fn with<W: Write>(
         self,
         entry: &Option<Entry>,

@@ -20,7 +20,7 @@ use std::io::{Read, Write};
 /// `listen_from` does. With `Want::Log` the log is written, as `listen_from` writes it. With
 /// `Want::State` no log is written, and the text of what the run leaves is, and nothing before all
 /// else succeeded. Lines and bytes of the air file are counted from its start. All memory is taken
-/// before the first read of the air file.
+/// before the first read of the air file. No call on reader or writer has failed before.
 ///
 /// Where it answers Ok to `Want::Log`, each message that is heard in time in the air file has
 /// exactly one entry in the log, as with `listen_from`.
@@ -45,7 +45,8 @@ pub fn resume<R: Read, W: Write>(
     }
 }
 
-/// Listens to an air file, going on from what is saved, and writes its log.
+/// Listens to an air file, going on from what is saved, and writes its log. No call on reader or
+/// writer has failed before.
 fn log_from<R: Read, W: Write>(
     alloc: Global,
     saved: &SavedSet,
@@ -65,7 +66,8 @@ fn log_from<R: Read, W: Write>(
     }
 }
 
-/// Listens to an air file, going on from what is saved, and writes the text of what it leaves.
+/// Listens to an air file, going on from what is saved, and writes the text of what it leaves. No
+/// call on reader or writer has failed before.
 fn save_from<R: Read, W: Write>(
     alloc: Global,
     saved: &SavedSet,

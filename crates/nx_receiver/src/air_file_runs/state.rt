@@ -22,7 +22,8 @@ const MAX_LINES: u64 = 1_000;
 const ENDED_LINE: usize = MAX_STATE_LINE + 1;
 
 /// Reads the text of a state, of version 1 or 2, byte by byte, up to and with the line feed of its
-/// last line: what stands behind it is left in the reader. Takes no memory.
+/// last line: what stands behind it is left in the reader. Takes no memory. No read has failed
+/// before.
 ///
 /// The fault is the first of the input: `StateLine` at the line feed of a line that can't stand
 /// there, or at the 17th byte of a line. It is `StateCut` where the input ends before the line feed
@@ -67,7 +68,7 @@ enum LineRead {
     Failed,
 }
 
-/// Reads the next line, up to and with its line feed, or its 17th byte.
+/// Reads the next line, up to and with its line feed, or its 17th byte. No read has failed before.
 fn read_line<R: Read>(reader: &mut Counting<R>) -> LineRead
     requires { reader.old.failures ≡ 0 }
     ensures { IsNextLine R.remaining reader.old reader.new result }
@@ -99,7 +100,7 @@ enum NextByte {
     Failed,
 }
 
-/// Reads the next byte.
+/// Reads the next byte. No read has failed before.
 fn next_byte<R: Read>(reader: &mut Counting<R>) -> NextByte
     requires { reader.old.failures ≡ 0 }
     ensures { IsNextByte R.remaining reader.old reader.new result }
@@ -112,7 +113,7 @@ fn next_byte<R: Read>(reader: &mut Counting<R>) -> NextByte
     }
 }
 
-/// Writes the text of a state, which is of version 2. Takes no memory.
+/// Writes the text of a state, which is of version 2. Takes no memory. No write has failed before.
 ///
 /// Where a write fails, the first `written` bytes of the text were written.
 pub fn write_state<W: Write>(states: &SavedSet, writer: &mut Counting<W>) -> Result<(), WriteFault>
@@ -135,7 +136,7 @@ pub fn write_state<W: Write>(states: &SavedSet, writer: &mut Counting<W>) -> Res
     batch.send(writer)
 }
 
-/// A line with the line feed that ends it.
+/// A line of at most 16 bytes, with the line feed that ends it.
 fn ended(line: &[u8]) -> ArrayVec<u8, ENDED_LINE>
     requires { length line.now ≤ 16 }
     ensures { result.items ≡ line.now ++ newline ∷ [] }

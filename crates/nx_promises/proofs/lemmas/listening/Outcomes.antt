@@ -283,7 +283,7 @@ module _ (starts : Starts) where
 
   has-stopped : (bytes : List ℕ) (why : ListenFault)
       → HasListenFault starts (AreTaken starts) bytes why → HasStopped bytes why
-  unfolding StopsWith
+  unfolding StopsWith stop_fault
   has-stopped bytes Read h = absurd h.here.0.refused
   has-stopped bytes (Write written) h = absurd h.here.0.refused
   has-stopped bytes (Memory error) h = absurd h.here.0.refused

@@ -14,7 +14,6 @@ use Rattle.nx_fec.specs.Transfers.{Contents, CountedDevice, Devices, Extent, Has
 use Rattle.nx_fec.specs.Transfers.{WroteSome, as_read, contents_of, devices, input, input_of}
 use Rattle.nx_fec.specs.air_files.LineRuns.{HasGiven, HasHeardAll, HasTaken, Waiting}
 use Rattle.nx_fec.specs.air_files.Lines.{IsLineRefused, air_limit, elements_of, file_of, line_bytes}
-use Rattle.nx_fec.specs.declared.fault.LineFault.TheVariants as file
 use Rattle.nx_fec.specs.declared.air_files.line_runs.LinesRead.{LinesRead}
 use Rattle.nx_fec.proofs.lemmas.line_runs.LineRun.{HasGiven-empty, HasTaken-map}
 use Rattle.nx_fec.proofs.lemmas.devices.TransferLaws.{Ok-not_err, Reads-on, Writes-fault, Writes-none}

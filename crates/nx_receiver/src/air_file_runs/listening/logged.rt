@@ -20,7 +20,8 @@ use nx_fec::{AIR_LIMIT, Batch, Counting, LineKind, LineReader, LinesRead, NextLi
 use std::io::{Read, Write};
 
 /// Reads an air file to its end, gives each of its lines to the listener, and writes what they
-/// print, all of it before each further read. It takes no memory.
+/// print, all of it before each further read. It takes no memory. No call on reader or writer has
+/// failed before.
 ///
 /// The first fault in the order of the bytes ends the run. After a fault of a line, `AirTooLong`
 /// and `Read` what the whole lines before it print was written, and nothing more. After `Write` no
@@ -72,8 +73,8 @@ enum LineStop {
     Lost(WriteFault),
 }
 
-/// Takes the line that was given last, which says this, and gives the batch what it prints. A line
-/// that is refused changes nothing.
+/// Takes the line that was given last, which says this, and gives the batch what it prints. No
+/// write has failed before. A line that is refused changes nothing.
 #[inline(always)]
 fn take_line<C: ChannelReceiver, R, W: Write>(
     listener: &mut Listener<C>,
@@ -110,8 +111,9 @@ fn take_line<C: ChannelReceiver, R, W: Write>(
     }
 }
 
-/// Tells why a run ends at the line of this number. Before a refusal is told, what the lines before
-/// it print is written; where that fails, this is told instead.
+/// Tells why a run ends at the line of this number. A write has failed before, once, exactly where
+/// this says so. Before a refusal is told, what the lines before it print is written; where that
+/// fails, this is told instead.
 #[cold]
 #[inline(never)]
 fn end_at_line<W: Write>(

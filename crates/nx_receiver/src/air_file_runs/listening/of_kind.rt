@@ -20,7 +20,8 @@ use std::io::{Read, Write};
 /// Each starts with an empty memory, at moment 0, and everything is selected. The log has an entry
 /// for each copy that is printed. All that the lines so far print is written before each further
 /// read. Entries stand in the log in the order in which their copies end; the end of the file
-/// closes the channels 0, 1 and 2 in order. All memory is taken before the first read.
+/// closes the channels 0, 1 and 2 in order. All memory is taken before the first read. No call on
+/// reader or writer has failed before.
 ///
 /// Faults are those of `listen`, and leave the same of the log.
 pub fn listen_with<C: ChannelReceiver, R: Read, W: Write>(

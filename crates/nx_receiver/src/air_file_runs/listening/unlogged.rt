@@ -20,7 +20,7 @@ use std::io::Read;
 
 /// Listens as `listen_from` does, and writes nothing: answers the report of the log that it would
 /// have written, and what the run leaves. There is no writer, so no write fails. All memory is
-/// taken before the first read.
+/// taken before the first read. No read has failed before.
 pub(crate) fn listen_unlogged<R: Read>(
     alloc: Global,
     saved: &SavedSet,
@@ -39,7 +39,7 @@ pub(crate) fn listen_unlogged<R: Read>(
 }
 
 /// Reads an air file to its end, and gives each of its lines to the listener. Answers how many
-/// there were. It has no writer, and takes no memory.
+/// there were. It has no writer, and takes no memory. No read has failed before.
 ///
 /// The first fault in the order of the bytes ends the run; the whole lines before it were taken.
 fn hear_lines<R: Read>(
@@ -66,7 +66,8 @@ fn hear_lines<R: Read>(
     }
 }
 
-/// Takes a line that says this and has these elements. A line that is refused changes nothing.
+/// Takes a line of an air file that says this and has these elements. A line that is refused
+/// changes nothing.
 fn take_unlogged(
     listener: &mut Listener,
     kind: LineKind,
