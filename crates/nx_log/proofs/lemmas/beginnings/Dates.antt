@@ -224,16 +224,26 @@ module _ (year month day hour minute second : ℕ) (low : 1970 ≤ year) (high :
 
     completed_at : (k : ℕ) → k ≤ 19 → Completed k whole
     completed_at zero small = inl first_shown
-    completed_at (suc zero) small = inl (year_shown (year / 100 / 10 * 1000 + 970) (year / 100 / 10) 9 7 0 (omega arith)
+    completed_at
+        (suc zero) small =
+        inl (year_shown (year / 100 / 10 * 1000 + 970) (year / 100 / 10) 9 7 0 (omega arith)
         (omega arith) (omega arith))
-    completed_at (suc (suc zero)) small = inl (year_shown (year / 100 * 100 + 70) (year / 100 / 10) (year / 100 % 10) 7 0
+    completed_at
+        (suc (suc zero)) small =
+        inl (year_shown (year / 100 * 100 + 70) (year / 100 / 10) (year / 100 % 10) 7 0
         (omega arith) (omega arith) (omega arith))
-    completed_at (suc (suc (suc zero))) small = inl (year_shown (year / 100 * 100 + year % 100 / 10 * 10) (year / 100 / 10)
+    completed_at
+        (suc (suc (suc zero))) small =
+        inl (year_shown (year / 100 * 100 + year % 100 / 10 * 10) (year / 100 / 10)
         (year / 100 % 10) (year % 100 / 10) 0 (omega arith) (omega arith) (omega arith))
-    completed_at (suc (suc (suc (suc zero)))) small = inl (year_shown year (year / 100 / 10) (year / 100 % 10) (year % 100 / 10) (year % 100 % 10)
-        low high (refl, refl, refl, refl))
-    completed_at (suc (suc (suc (suc (suc zero))))) small = inl (year_shown year (year / 100 / 10) (year / 100 % 10) (year % 100 / 10) (year % 100 % 10)
-        low high (refl, refl, refl, refl))
+    completed_at
+        (suc (suc (suc (suc zero)))) small =
+        inl (year_shown year (year / 100 / 10) (year / 100 % 10) (year % 100 / 10)
+        (year % 100 % 10) low high (refl, refl, refl, refl))
+    completed_at
+        (suc (suc (suc (suc (suc zero))))) small =
+        inl (year_shown year (year / 100 / 10) (year / 100 % 10) (year % 100 / 10)
+        (year % 100 % 10) low high (refl, refl, refl, refl))
     completed_at (suc (suc (suc (suc (suc (suc zero)))))) small =
         let months = date.1 in
         inl (day_shown (month / 10 * 10 + 1) 1 (month / 10) 1 0 1 (
@@ -244,26 +254,55 @@ module _ (year month day hour minute second : ℕ) (low : 1970 ≤ year) (high :
     completed_at (suc (suc (suc (suc (suc (suc (suc zero))))))) small = inl month_shown
     completed_at (suc (suc (suc (suc (suc (suc (suc (suc zero)))))))) small = inl month_shown
     completed_at (suc (suc (suc (suc (suc (suc (suc (suc (suc zero))))))))) small = tens_shown
-    completed_at (suc (suc (suc (suc (suc (suc (suc (suc (suc (suc zero)))))))))) small = inl date_shown
-    completed_at (suc (suc (suc (suc (suc (suc (suc (suc (suc (suc (suc zero))))))))))) small = inl date_shown
-    completed_at (suc (suc (suc (suc (suc (suc (suc (suc (suc (suc (suc (suc zero)))))))))))) small = inl (time_shown (hour / 10 * 10) 0 0 (hour / 10) 0 0 0 0 0 (omega arith)
+    completed_at
+        (suc (suc (suc (suc (suc (suc (suc (suc (suc (suc zero)))))))))) small =
+        inl date_shown
+    completed_at
+        (suc (suc (suc (suc (suc (suc (suc (suc (suc (suc (suc zero))))))))))) small =
+        inl date_shown
+    completed_at
+        (suc (suc (suc (suc (suc (suc (suc (suc (suc (suc (suc (suc zero)))))))))))) small =
+        inl (time_shown (hour / 10 * 10) 0 0 (hour / 10) 0 0 0 0 0 (omega arith)
         (lit< tt) (lit< tt) (omega arith, omega arith, refl, refl, refl, refl))
-    completed_at (suc (suc (suc (suc (suc (suc (suc (suc (suc (suc (suc (suc (suc zero))))))))))))) small = inl (time_shown hour 0 0 (hour / 10) (hour % 10) 0 0 0 0 hours (lit< tt)
+    completed_at
+        (suc (suc (suc (suc (suc (suc (suc (suc (suc (suc (suc (suc (suc zero))))))))))))) small =
+        inl (time_shown hour 0 0 (hour / 10) (hour % 10) 0 0 0 0 hours (lit< tt)
         (lit< tt) (refl, refl, refl, refl, refl, refl))
-    completed_at (suc (suc (suc (suc (suc (suc (suc (suc (suc (suc (suc (suc (suc (suc zero)))))))))))))) small = inl (time_shown hour 0 0 (hour / 10) (hour % 10) 0 0 0 0 hours (lit< tt)
+    completed_at
+        (suc (suc (suc (suc (suc (suc (suc (suc (suc (suc (suc (suc (suc (suc zero))))))))))))))
+        small =
+        inl (time_shown hour 0 0 (hour / 10) (hour % 10) 0 0 0 0 hours (lit< tt)
         (lit< tt) (refl, refl, refl, refl, refl, refl))
-    completed_at (suc (suc (suc (suc (suc (suc (suc (suc (suc (suc (suc (suc (suc (suc (suc zero))))))))))))))) small = inl (time_shown hour (minute / 10 * 10) 0 (hour / 10) (hour % 10) (minute / 10) 0 0 0
+    completed_at
+        (suc (suc (suc (suc (suc (suc (suc (suc (suc (suc (suc (suc (suc (suc (suc
+        zero))))))))))))))) small =
+        inl (time_shown hour (minute / 10 * 10) 0 (hour / 10) (hour % 10) (minute / 10) 0 0 0
         hours (omega arith) (lit< tt) (refl, refl, omega arith, omega arith, refl, refl))
-    completed_at (suc (suc (suc (suc (suc (suc (suc (suc (suc (suc (suc (suc (suc (suc (suc (suc zero)))))))))))))))) small = inl (time_shown hour minute 0 (hour / 10) (hour % 10) (minute / 10) (minute % 10) 0 0
+    completed_at
+        (suc (suc (suc (suc (suc (suc (suc (suc (suc (suc (suc (suc (suc (suc (suc (suc
+        zero)))))))))))))))) small =
+        inl (time_shown hour minute 0 (hour / 10) (hour % 10) (minute / 10) (minute % 10) 0 0
         hours minutes (lit< tt) (refl, refl, refl, refl, refl, refl))
-    completed_at (suc (suc (suc (suc (suc (suc (suc (suc (suc (suc (suc (suc (suc (suc (suc (suc (suc zero))))))))))))))))) small = inl (time_shown hour minute 0 (hour / 10) (hour % 10) (minute / 10) (minute % 10) 0 0
+    completed_at
+        (suc (suc (suc (suc (suc (suc (suc (suc (suc (suc (suc (suc (suc (suc (suc (suc (suc
+        zero))))))))))))))))) small =
+        inl (time_shown hour minute 0 (hour / 10) (hour % 10) (minute / 10) (minute % 10) 0 0
         hours minutes (lit< tt) (refl, refl, refl, refl, refl, refl))
-    completed_at (suc (suc (suc (suc (suc (suc (suc (suc (suc (suc (suc (suc (suc (suc (suc (suc (suc (suc zero)))))))))))))))))) small = inl (time_shown hour minute (second / 10 * 10) (hour / 10) (hour % 10) (minute / 10)
+    completed_at
+        (suc (suc (suc (suc (suc (suc (suc (suc (suc (suc (suc (suc (suc (suc (suc (suc (suc (suc
+        zero)))))))))))))))))) small =
+        inl (time_shown hour minute (second / 10 * 10) (hour / 10) (hour % 10) (minute / 10)
         (minute % 10) (second / 10) 0 hours minutes (omega arith)
         (refl, refl, refl, refl, omega arith, omega arith))
-    completed_at (suc (suc (suc (suc (suc (suc (suc (suc (suc (suc (suc (suc (suc (suc (suc (suc (suc (suc (suc zero))))))))))))))))))) small = inl (time_shown hour minute second (hour / 10) (hour % 10) (minute / 10) (minute % 10)
+    completed_at
+        (suc (suc (suc (suc (suc (suc (suc (suc (suc (suc (suc (suc (suc (suc (suc (suc (suc (suc
+        (suc zero))))))))))))))))))) small =
+        inl (time_shown hour minute second (hour / 10) (hour % 10) (minute / 10) (minute % 10)
         (second / 10) (second % 10) hours minutes seconds (refl, refl, refl, refl, refl, refl))
-    completed_at (suc (suc (suc (suc (suc (suc (suc (suc (suc (suc (suc (suc (suc (suc (suc (suc (suc (suc (suc (suc k)))))))))))))))))))) small = absurd (omega arith)
+    completed_at
+        (suc (suc (suc (suc (suc (suc (suc (suc (suc (suc (suc (suc (suc (suc (suc (suc (suc (suc
+        (suc (suc k)))))))))))))))))))) small =
+        absurd (omega arith)
 
 -- what begins the civil time of a moment in range is completed by the end of one of the two
 pub completed_time : (moment : ℕ) (text : List ℕ) → moment ≤ last_moment → IsShownAs moment text
