@@ -28,8 +28,8 @@ use std::io::{Read, Write};
 /// nothing. It stops after 2^63 - 1 bytes, as at an end.
 ///
 /// So many bytes, `from`, stand before those that are read, at most 2^63 - 1. In JSON each entry
-/// has
-/// its places too: how many bytes stand before the gate before it, and before the gate behind it.
+/// has its places too: how many bytes stand before the gate before it, and before the gate behind
+/// it. No call on the reader or the writer failed before.
 ///
 /// `BadLog` at the line from which on the bytes stand for no entries, counted from their first;
 /// where they end too early, the line whose line feed is missing. It and `Read` come after the
@@ -79,7 +79,9 @@ impl KeptRun {
         }
     }
 
-    /// Reads the input to its end or its limit, or until the run is over.
+    /// Reads the input to its end or its limit, or until the run is over. No call on the reader or
+    /// the writer failed before, and the buffer has 65,536 bytes (`room`). The log's reader is of
+    /// use still (`sound`).
     fn read_log<R: Read, W: Write>(
         &mut self,
         reader: &mut Counting<R>,
@@ -122,7 +124,8 @@ impl KeptRun {
         Ok(())
     }
 
-    /// Takes a piece, and gives the entries that end in it.
+    /// Takes a piece, and gives the entries that end in it. No call on the writer failed before,
+    /// and the log's reader is of use still (`sound`).
     fn take_piece<W: Write>(
         &mut self,
         piece: &[u8],
@@ -153,7 +156,8 @@ impl KeptRun {
     }
 
     /// Takes some first bytes of a piece, at most up to the end of the first entry that ends in it,
-    /// and gives this entry. Answers how many bytes it took.
+    /// and gives this entry. Answers how many bytes it took. The piece isn't empty (`some`); the
+    /// other conditions are those of `take_piece`.
     fn take_part<W: Write>(
         &mut self,
         piece: &[u8],
@@ -200,7 +204,8 @@ impl KeptRun {
     }
 
     /// Ends the input: writes what waits or is held and what stands behind it in this form, and
-    /// answers how many entries were written, or at which line the bytes end too early.
+    /// answers how many entries were written, or at which line the bytes end too early. No call on
+    /// the writer failed before.
     fn end<W: Write>(&mut self, writer: &mut Counting<W>, form: Form) -> Result<u64, LogFault>
         requires writer { writer.old.failures ≡ 0 }
         ensures ended { (query : TheQuery) (from : ℕ) (old : Option (List ℕ)) (bytes : List ℕ)

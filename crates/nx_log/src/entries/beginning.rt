@@ -77,7 +77,7 @@ fn can_be_from_errors(bytes: &[u8]) -> bool
     }
 }
 
-/// The same of an entry from its characters on.
+/// The same of an entry from its characters on, behind so many errors, at most 4,100.
 fn can_be_from_characters(bytes: &[u8], errors: u16) -> bool
     requires { errors ≤ most_found }
     ensures { IsTrue result ↔ CanBe (FromCharacters errors) bytes.now }
@@ -93,7 +93,7 @@ fn can_be_from_characters(bytes: &[u8], errors: u16) -> bool
     }
 }
 
-/// The same of an entry from the newline behind its head on.
+/// The same of an entry from the newline behind its head on. Its errors are at most its characters.
 fn can_be_from_newline(bytes: &[u8], errors: u16, characters: u16) -> bool
     requires { errors ≤ characters }
     ensures { IsTrue result ↔ CanBe (FromNewline errors characters) bytes.now }
@@ -104,7 +104,7 @@ fn can_be_from_newline(bytes: &[u8], errors: u16, characters: u16) -> bool
     }
 }
 
-/// The same of an entry from its text on.
+/// The same of an entry from its text on. Its errors are at most its characters.
 fn can_be_from_text(bytes: &[u8], errors: u16, characters: u16) -> bool
     requires { errors ≤ characters }
     ensures { IsTrue result ↔ CanBe (FromText errors characters) bytes.now }
@@ -164,7 +164,8 @@ fn is_part_of_time(bytes: &[u8]) -> bool
     is_civil(&first) || is_civil(&second)
 }
 
-/// Puts the bytes in the place of as many at the beginning of what they are completed to.
+/// Puts the bytes in the place of as many at the beginning of what they are completed to, which is
+/// no shorter.
 fn complete(bytes: &[u8], whole: &mut [u8])
     requires { length bytes.now ≤ length whole.old }
     ensures { whole.new ≡ bytes.now ++ drop (length bytes.now) whole.old }
@@ -214,8 +215,8 @@ fn is_beginning_of(bytes: &[u8], all: &[u8]) -> bool
     all.starts_with(bytes)
 }
 
-/// Whether the bytes are the beginning of a text with so many errors and characters, which lacks
-/// its end.
+/// Whether the bytes are the beginning of a text with so many errors, and no fewer characters,
+/// which lacks its end.
 fn is_part_of_text(bytes: &[u8], errors: usize, characters: usize) -> bool
     requires { errors ≤ characters }
     ensures { IsTrue result ↔ IsPartOf (IsTextOf errors characters) bytes.now }
@@ -226,7 +227,8 @@ fn is_part_of_text(bytes: &[u8], errors: usize, characters: usize) -> bool
     lacks_asterisks(bytes, errors, characters)
 }
 
-/// Whether the asterisks that a text lacks may stand in the characters that it lacks.
+/// Whether the asterisks that a text lacks may stand in the characters that it lacks. The bytes are
+/// no more than these characters.
 fn lacks_asterisks(bytes: &[u8], errors: usize, characters: usize) -> bool
     requires { length bytes.now ≤ characters }
     ensures { IsTrue result ↔ ((errors_of bytes.now ≤ errors)

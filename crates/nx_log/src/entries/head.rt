@@ -123,8 +123,8 @@ pub(crate) fn how_at(bytes: &[u8]) -> Option<(How, &[u8])>
     }
 }
 
-/// The number to 4,100 with which the bytes begin, and the byte behind it, which is no digit; and
-/// what stands behind.
+/// The number to 4,100 with which the bytes begin, and the byte `end` behind it, which is no digit;
+/// and what stands behind.
 pub(crate) fn count_at(bytes: &[u8], end: u8) -> Option<(u16, &[u8])>
     requires { (end < 48) ⊎ (57 < end) }
     ensures found { IfSome result (λ found.

@@ -78,7 +78,8 @@ impl KeptReader {
     }
 
     /// Takes the bytes of the piece up to the end of the first entry that ends in it, or some of
-    /// its first bytes in which none ends.
+    /// its first bytes in which none ends. The piece isn't empty (`some`), and nothing that was
+    /// given before was bad (`sound`).
     pub(crate) fn push(&mut self, piece: &[u8]) -> KeptPushed
         requires some { 0 < length piece.now }
         requires sound { IsSound self.old }
@@ -126,7 +127,7 @@ impl KeptReader {
         Some(BadLine { line: self.line })
     }
 
-    /// Takes a gate.
+    /// Takes a gate, the first byte of a piece, where one comes next (`stage`).
     fn take_gate(&mut self, piece: &[u8]) -> KeptPushed
         requires some { 0 < length piece.now }
         requires stage { self.old.stage ≡ stages.Gate }
@@ -145,7 +146,8 @@ impl KeptReader {
         KeptPushed::Part { taken: 1 }
     }
 
-    /// Takes bytes of an entry behind an open gate.
+    /// Takes bytes, one or more, of an entry behind an open gate. What is held is the beginning of
+    /// one, or nothing (`begun`).
     fn go_on(&mut self, bytes: &[u8]) -> KeptPushed
         requires some { 0 < length bytes.now }
         requires stage { self.old.stage ≡ stages.Open }
@@ -184,7 +186,7 @@ impl KeptReader {
         }
     }
 
-    /// Takes bytes behind a closed gate, behind which so many stand.
+    /// Takes bytes, one or more, behind a closed gate, behind which so many stand, at most 4,147.
     fn pass_tail(&mut self, count: usize, bytes: &[u8]) -> KeptPushed
         requires some { 0 < length bytes.now }
         requires stage { self.old.stage ≡ stages.Closed count }

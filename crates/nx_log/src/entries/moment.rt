@@ -36,7 +36,7 @@ pub fn moment_of(text: &[u8]) -> Option<u64>
     }
 }
 
-/// The day number of the date in a civil time, 0 for 1970-01-01.
+/// The day number of the date in a text of 19 bytes, as a civil time has, 0 for 1970-01-01.
 fn day_in(text: &[u8]) -> Option<u64>
     requires { length text.now ≡ 19 }
     ensures found { (moment : ℕ) → moment ≤ last_moment → IsShownAs moment text.now
@@ -51,7 +51,8 @@ fn day_in(text: &[u8]) -> Option<u64>
 }
 
 /// The day number of a date, 0 for 1970-01-01: of the first two digits of its year, the last two,
-/// its month and its day. `None` where the calendar has no such date, and before 1970.
+/// its month and its day, each below 100. `None` where the calendar has no such date, and before
+/// 1970.
 fn day_number(century: u8, year: u8, month: u8, day: u8) -> Option<u64>
     requires year { (century < 100) × (year < 100) }
     requires day { (month < 100) × (day < 100) }
@@ -66,7 +67,7 @@ fn day_number(century: u8, year: u8, month: u8, day: u8) -> Option<u64>
     u64::try_from(date.to_plain().to_unix_epoch_day()).ok()
 }
 
-/// The seconds of the time of day in a civil time.
+/// The seconds of the time of day in a text of 19 bytes, as a civil time has.
 fn second_in(text: &[u8]) -> Option<u64>
     requires { length text.now ≡ 19 }
     ensures found { (moment : ℕ) → IsShownAs moment text.now → result ≡ Some (moment % 86400) }
@@ -78,7 +79,8 @@ fn second_in(text: &[u8]) -> Option<u64>
     Some(u64::from(hour) * HOUR + u64::from(minute) * MINUTE + u64::from(second))
 }
 
-/// The number below 100 whose two digits stand at that place, if two digits stand there.
+/// The number below 100 whose two digits stand at that place, if two digits stand there. The text
+/// has two bytes from there on.
 fn number_at(text: &[u8], at: usize) -> Option<u8>
     requires { at + 2 ≤ length text.now }
     ensures found { (n : ℕ) → n < 100 → slice_index text.now at ≡ 48 + n / 10

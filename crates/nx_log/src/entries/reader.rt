@@ -238,7 +238,8 @@ impl LogReader {
 impl Pushed {
     ghost use Rattle.nx_log.specs.private.Steps.{TakesWithin, passed_and};
 
-    /// The same where so many more bytes were passed over before.
+    /// The same where so many more bytes were passed over before. All of them are no more than a
+    /// `usize` counts.
     fn behind(self, passed: usize) -> Pushed
         requires { TakesWithin (usize.MAX - passed) self }
         ensures { result ≡ passed_and passed self }
@@ -289,7 +290,7 @@ fn held_part(start: EntryStart, count: usize) -> usize
     }
 }
 
-/// Holds these bytes too.
+/// Holds these bytes too, for which there is room.
 fn hold(held: &mut ArrayVec<u8, MAX_LOGGED>, bytes: &[u8])
     requires { length held.old.items + length bytes.now ≤ MAX_LOGGED }
     ensures { held.new.items ≡ held.old.items ++ bytes.now }

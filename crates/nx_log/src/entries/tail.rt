@@ -123,7 +123,8 @@ impl Tail {
         None
     }
 
-    /// The tail with one byte more, which stands on this line. `None` exactly where there is none.
+    /// The tail with one byte more, which stands on this line and is no bracket. `None` exactly
+    /// where there is none.
     fn with(self, byte: u8, line: u64) -> Option<Tail>
         requires { byte ≢ bracket }
         ensures goes_on { (before front tail : List ℕ) (reach : ℕ)
@@ -156,7 +157,7 @@ impl Tail {
         }
     }
 
-    /// The tail with one byte more of a gap.
+    /// The tail with one byte more, which goes on with the gap and is no bracket.
     fn with_gap(self, byte: u8) -> Tail
         requires gap { StaysGap self.shape byte }
         requires other { byte ≢ bracket }

@@ -106,7 +106,7 @@ fn written_moment(text: &str) -> Option<u64>
     }
 }
 
-/// The moment of a date at this second of its day.
+/// The moment of a date, a text of ten bytes, at this second of its day.
 fn moment_of_day(date: &[u8], second: &[u8; TIME_LEN]) -> Option<u64>
     requires { length date.now ≡ 10 }
     ensures shown { IfSome result (λ moment. IsShownAs moment (date.now ++ second.now)) }
@@ -165,6 +165,7 @@ fn is_between(byte: u8) -> bool
 }
 
 /// The moment of a date and a time of day that a `T` or a space joins, with the rest of it behind.
+/// The text has 16 bytes or more (`long`), and 19 with the rest (`all`).
 fn moment_joined(text: &[u8], rest: &[u8]) -> Option<u64>
     requires long { 16 ≤ length text.now }
     requires all { length text.now + length rest.now ≡ 19 }

@@ -45,7 +45,7 @@ const BETWEEN: usize = 10;
 /// `characters`, `end`, `errors`, `good`, `identity`, `moment`, `number`, `station`, `subject`,
 /// `text` and `time` in this order. `end` is `full`, `cut` or `long`, `good` is `true` or `false`,
 /// and `time` is the civil time of the moment in UTC, as `2025-01-01T00:40:00Z`. It takes no
-/// memory.
+/// memory. The view is that of an entry with which some bytes begin, as `entry_at` gives it.
 pub fn json_line(view: &EntryView) -> ArrayVec<u8, MAX_LINE>
     requires { IsSeen view.now }
     ensures { IsJsonLine (copy_said view.now.head view.now.text.now) result.items }
@@ -53,7 +53,8 @@ pub fn json_line(view: &EntryView) -> ArrayVec<u8, MAX_LINE>
     placed_line(view, None)
 }
 
-/// The same with the keys `next` and `place` in their order, where its places are told.
+/// The same with the keys `next` and `place` in their order, where its places are told. The view is
+/// one of an entry here too.
 pub(crate) fn placed_line(view: &EntryView, places: Option<Places>) -> ArrayVec<u8, MAX_LINE>
     requires { IsSeen view.now }
     ensures { IsPlacedLine (copy_said view.now.head view.now.text.now) places result.items }
@@ -117,7 +118,7 @@ fn json_middle(head: &LoggedHead, places: Option<Places>) -> ArrayVec<u8, MAX_MI
     line
 }
 
-/// Appends a key and its number, where there is one.
+/// Appends a key and its number, where there is one. There is room for both.
 fn append_count(line: &mut ArrayVec<u8, MAX_MIDDLE>, key: &[u8], count: Option<u64>)
     requires { length line.old.items + length key.now + MAX_NUMBER ≤ MAX_MIDDLE }
     ensures items { line.new.items ≡ line.old.items ++ counted key.now count }
@@ -129,7 +130,7 @@ fn append_count(line: &mut ArrayVec<u8, MAX_MIDDLE>, key: &[u8], count: Option<u
     }
 }
 
-/// The line behind the text of its entry.
+/// The line behind the text of its entry, whose moment is in range.
 fn json_tail(moment: u64) -> ArrayVec<u8, TAIL_LEN>
     requires { moment ≤ last_moment }
     ensures { (civil : List ℕ) × IsShownAs moment civil
@@ -143,7 +144,8 @@ fn json_tail(moment: u64) -> ArrayVec<u8, TAIL_LEN>
 }
 
 /// Appends a text as it stands in a string of JSON, where each newline is `\n`. No other byte of a
-/// text is escaped.
+/// text is escaped. Each byte is one of a text (`text`), and there is room for two of each
+/// (`room`).
 fn append_escaped(line: &mut ArrayVec<u8, MAX_LINE>, text: &[u8])
     requires room { length line.old.items + 2 * length text.now ≤ MAX_LINE }
     requires text { All (λ byte. IsTrue (is_text_byte byte)) text.now }
@@ -159,7 +161,7 @@ fn append_escaped(line: &mut ArrayVec<u8, MAX_LINE>, text: &[u8])
     append(line, &text[at..]);
 }
 
-/// The civil time of a moment, as ISO 8601 writes it in UTC.
+/// The civil time of a moment in range, as ISO 8601 writes it in UTC.
 fn utc_time(moment: u64) -> [u8; UTC_LEN]
     requires { moment ≤ last_moment }
     ensures { (civil : List ℕ) × IsShownAs moment civil × (result ≡ joined civil ++ codes "Z") }

@@ -16,7 +16,7 @@ pub(crate) const GATE_BEHIND: &[u8] = b" ";
 /// The most bytes of a logged entry and its gate.
 const MAX_GATED: usize = MAX_LOGGED + 1;
 
-/// The bytes of an entry behind an open gate.
+/// The bytes of an entry, at most 4,146, behind an open gate.
 pub(crate) fn kept_text(bytes: &[u8]) -> ArrayVec<u8, MAX_GATED>
     requires { length bytes.now ≤ MAX_LOGGED }
     ensures { result.items ≡ open_gate ∷ bytes.now }

@@ -72,7 +72,7 @@ impl LastEntries {
         self.entries.retain(|held| !head.replaces(&held.head));
     }
 
-    /// Gives the texts of all of them.
+    /// Gives the texts of all of them, to a writer of which no call failed before.
     pub(crate) fn give_to<W: Write>(
         &self,
         batch: &mut Batch,

@@ -35,7 +35,7 @@ pub(crate) fn tell_damage<N: Write>(line: u64, notices: &mut Counting<N>)
     tell_line(line, b" is not of a log, and was passed over\n", notices);
 }
 
-/// Tells this of a line.
+/// Tells this of a line, of which at most 38 bytes stand behind its number.
 fn tell_line<N: Write>(line: u64, behind: &[u8], notices: &mut Counting<N>)
     requires { length behind.now ≤ MOST_BEHIND }
     ensures { (old : Option (List ℕ)) (before : List ℕ)

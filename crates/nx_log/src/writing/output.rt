@@ -59,7 +59,8 @@ impl Output {
     }
 
     /// Gives the entry that these bytes are, in this form, where the query admits it, or holds it.
-    /// In JSON its places stand too, where they are told.
+    /// In JSON its places stand too, where they are told. The bytes are those of a logged entry,
+    /// all of them (`whole`), and no call on the writer failed before (`unused`).
     pub(crate) fn give<W: Write>(
         &mut self,
         alloc: Global,
@@ -97,7 +98,8 @@ impl Output {
         }
     }
 
-    /// Gives an entry that the query admits, which has this head and this text, or holds it.
+    /// Gives an entry that the query admits, which has this head and this text, or holds it. No
+    /// call on the writer failed before.
     fn take<W: Write>(
         &mut self,
         alloc: Global,
@@ -129,7 +131,7 @@ impl Output {
         Ok(())
     }
 
-    /// Writes what waits.
+    /// Writes what waits. No call on the writer failed before.
     pub(crate) fn send<W: Write>(&mut self, writer: &mut Counting<W>) -> Result<(), WriteFault>
         requires unused { writer.old.failures ≡ 0 }
         ensures given { (query : TheQuery) (form : TheForm) (old : Option (List ℕ))
@@ -148,7 +150,7 @@ impl Output {
     }
 
     /// What is answered where a read failed: that, after all that was held was written, or that a
-    /// write of this failed.
+    /// write of this failed. No call on the writer failed before.
     pub(crate) fn unread<W: Write>(&mut self, writer: &mut Counting<W>, query: &Query) -> LogFault
         requires unused { writer.old.failures ≡ 0 }
         ensures ended { (form : TheForm) (old : Option (List ℕ)) (entries : List PlacedCopy)
@@ -172,7 +174,7 @@ impl Output {
         }
     }
 
-    /// Writes all that waits or is held, where a read failed.
+    /// Writes all that waits or is held, where a read failed, and no call on the writer before.
     fn finish<W: Write>(&mut self, writer: &mut Counting<W>) -> Result<(), WriteFault>
         requires unused { writer.old.failures ≡ 0 }
         ensures written { (query : TheQuery) (form : TheForm) (old : Option (List ℕ))
@@ -197,7 +199,7 @@ impl Output {
     }
 
     /// Writes all that waits or is held, where no entry comes any more, and what stands behind the
-    /// last one in this form.
+    /// last one in this form. No call on the writer failed before.
     pub(crate) fn close<W: Write>(
         &mut self,
         writer: &mut Counting<W>,

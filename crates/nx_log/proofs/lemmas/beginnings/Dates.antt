@@ -141,407 +141,168 @@ second_ending = codes "1970-01-00 00:00:00"
 year_within : (year : ℕ) → year ≤ 9999 → IsYear (pos year)
 year_within year small = (omega (arith, signed_arith), omega (arith, signed_arith))
 
--- what shows a moment in range, by its parts
-record IsTimeOf (year month day hour minute second : ℕ) : Type 0 where
-  low : 1970 ≤ year
-  high : year ≤ 2999
-  date : IsCivilDate (pos year) month day
-  hours : hour < 24
-  minutes : minute < 60
-  seconds : second < 60
+-- the first second of a year, by the digits of the year
+year_shown : (year a b c d : ℕ) → 1970 ≤ year → year ≤ 2999
+    → (a ≡ year / 100 / 10) × (b ≡ year / 100 % 10) × (c ≡ year % 100 / 10) × (d ≡ year % 100 % 10)
+    → ShowsSome (digits_time a b c d 0 1 0 1 0 0 0 0 0 0)
+year_shown year a b c d low high digits = shown_at year 1 1 0 0 0 low high (
+  year_within year (omega arith),
+  (lit≤ tt, lit≤ tt),
+  (lit≤ tt, omega (arith, days_in_month_bounds (pos year) 1)),
+)
+    (lit< tt) (lit< tt) (lit< tt) a b c d 0 1 0 1 0 0 0 0 0 0
+    digits (refl, refl, refl, refl) (refl, refl, refl, refl, refl, refl)
 
 -- the first of the endings shows a moment itself
 pub first_shown : ShowsSome first_ending
-first_shown = shown_at 1970 1 1 0 0 0 (lit≤ tt) (lit≤ tt) (
-  year_within 1970 (lit≤ tt),
-  (lit≤ tt, lit≤ tt),
-  (lit≤ tt, omega (arith, days_in_month_bounds (pos 1970) 1)),
-)
-    (lit< tt) (lit< tt) (lit< tt) 1 9 7 0 0 1 0 1 0 0 0 0 0 0
-    (refl, refl, refl, refl) (refl, refl, refl, refl) (refl, refl, refl, refl, refl, refl)
+first_shown = year_shown 1970 1 9 7 0 (lit≤ tt) (lit≤ tt) (refl, refl, refl, refl)
 
 -- the digits of a civil time, up to one place, and then those of an ending
 abbrev pub Completed : ℕ → List ℕ → Type 0
 Completed k text =
     ShowsSome (take k text ++ drop k first_ending) ⊎ ShowsSome (take k text ++ drop k second_ending)
 
-module _ (year month day hour minute second : ℕ) (t : IsTimeOf year month day hour minute second)
+-- a moment in range, by its parts
+module _ (year month day hour minute second : ℕ) (low : 1970 ≤ year) (high : year ≤ 2999)
+    (date : IsCivilDate (pos year) month day) (hours : hour < 24) (minutes : minute < 60)
+    (seconds : second < 60)
   where
     abbrev whole : List ℕ
     whole = digits_time (year / 100 / 10) (year / 100 % 10) (year % 100 / 10) (year % 100 % 10)
         (month / 10) (month % 10) (day / 10) (day % 10) (hour / 10) (hour % 10) (minute / 10)
         (minute % 10) (second / 10) (second % 10)
 
-    completed_at : (k : ℕ) → k ≤ 19 → Completed k whole
-    completed_at zero small =
-        let low = t.low in
-        let high = t.high in
-        let year_is = t.date.0 in
-        let months = t.date.1 in
-        let days = t.date.2 in
-        let bounds = days_in_month_bounds (pos year) month in
-        let hours = t.hours in
-        let minutes = t.minutes in
-        let seconds = t.seconds in
-        inl (shown_at 1970 1 1 0 0 0 (omega arith) (omega arith) (
-          year_within 1970 (omega arith),
-          (lit≤ tt, lit≤ tt),
-          (lit≤ tt, omega (arith, days_in_month_bounds (pos 1970) 1)),
-        ) (omega arith) (omega arith)
-        (omega arith)
-        1 9 7 0 0 1 0 1 0 0 0 0 0 0
-        (omega arith) (omega arith) (omega arith))
-    completed_at (suc zero) small =
-        let low = t.low in
-        let high = t.high in
-        let year_is = t.date.0 in
-        let months = t.date.1 in
-        let days = t.date.2 in
-        let bounds = days_in_month_bounds (pos year) month in
-        let hours = t.hours in
-        let minutes = t.minutes in
-        let seconds = t.seconds in
-        inl (shown_at (year / 100 / 10 * 1000 + 970) 1 1 0 0 0 (omega arith) (omega arith) (
-          year_within (year / 100 / 10 * 1000 + 970) (omega arith),
-          (lit≤ tt, lit≤ tt),
-          (lit≤ tt, omega (arith, days_in_month_bounds (pos (year / 100 / 10 * 1000 + 970)) 1)),
-        )
-        (omega arith) (omega arith) (omega arith)
-        (year / 100 / 10) 9 7 0 0 1 0 1 0 0 0 0 0 0
-        (omega arith) (omega arith) (omega arith))
-    completed_at (suc (suc zero)) small =
-        let low = t.low in
-        let high = t.high in
-        let year_is = t.date.0 in
-        let months = t.date.1 in
-        let days = t.date.2 in
-        let bounds = days_in_month_bounds (pos year) month in
-        let hours = t.hours in
-        let minutes = t.minutes in
-        let seconds = t.seconds in
-        inl (shown_at (year / 100 * 100 + 70) 1 1 0 0 0 (omega arith) (omega arith) (
-          year_within (year / 100 * 100 + 70) (omega arith),
-          (lit≤ tt, lit≤ tt),
-          (lit≤ tt, omega (arith, days_in_month_bounds (pos (year / 100 * 100 + 70)) 1)),
-        )
-        (omega arith) (omega arith) (omega arith)
-        (year / 100 / 10) (year / 100 % 10) 7 0 0 1 0 1 0 0 0 0 0 0
-        (omega arith) (omega arith) (omega arith))
-    completed_at (suc (suc (suc zero))) small =
-        let low = t.low in
-        let high = t.high in
-        let year_is = t.date.0 in
-        let months = t.date.1 in
-        let days = t.date.2 in
-        let bounds = days_in_month_bounds (pos year) month in
-        let hours = t.hours in
-        let minutes = t.minutes in
-        let seconds = t.seconds in
-        inl (shown_at (year / 100 * 100 + year % 100 / 10 * 10) 1 1 0 0 0 (omega arith)
-        (omega arith) (
-          year_within (year / 100 * 100 + year % 100 / 10 * 10) (omega arith),
-          (lit≤ tt, lit≤ tt),
-          (
-            lit≤ tt,
-            omega
-                (arith, days_in_month_bounds (pos (year / 100 * 100 + year % 100 / 10 * 10)) 1),
-          ),
-        )
-        (omega arith) (omega arith) (omega arith)
-        (year / 100 / 10) (year / 100 % 10) (year % 100 / 10) 0 0 1 0 1 0 0 0 0 0 0
-        (omega arith) (omega arith) (omega arith))
-    completed_at (suc (suc (suc (suc zero)))) small =
-        let low = t.low in
-        let high = t.high in
-        let year_is = t.date.0 in
-        let months = t.date.1 in
-        let days = t.date.2 in
-        let bounds = days_in_month_bounds (pos year) month in
-        let hours = t.hours in
-        let minutes = t.minutes in
-        let seconds = t.seconds in
-        inl (shown_at year 1 1 0 0 0 (omega arith) (omega arith)
-        (year_is, (lit≤ tt, lit≤ tt), (lit≤ tt, omega (arith, days_in_month_bounds (pos year) 1)))
-        (omega arith) (omega arith) (omega arith)
-        (year / 100 / 10) (year / 100 % 10) (year % 100 / 10) (year % 100 % 10) 0 1 0 1 0 0 0 0 0 0
-        (omega arith) (omega arith) (omega arith))
-    completed_at (suc (suc (suc (suc (suc zero))))) small =
-        let low = t.low in
-        let high = t.high in
-        let year_is = t.date.0 in
-        let months = t.date.1 in
-        let days = t.date.2 in
-        let bounds = days_in_month_bounds (pos year) month in
-        let hours = t.hours in
-        let minutes = t.minutes in
-        let seconds = t.seconds in
-        inl (shown_at year 1 1 0 0 0 (omega arith) (omega arith)
-        (year_is, (lit≤ tt, lit≤ tt), (lit≤ tt, omega (arith, days_in_month_bounds (pos year) 1)))
-        (omega arith) (omega arith) (omega arith)
-        (year / 100 / 10) (year / 100 % 10) (year % 100 / 10) (year % 100 % 10) 0 1 0 1 0 0 0 0 0 0
-        (omega arith) (omega arith) (omega arith))
-    completed_at (suc (suc (suc (suc (suc (suc zero)))))) small =
-        let low = t.low in
-        let high = t.high in
-        let year_is = t.date.0 in
-        let months = t.date.1 in
-        let days = t.date.2 in
-        let bounds = days_in_month_bounds (pos year) month in
-        let hours = t.hours in
-        let minutes = t.minutes in
-        let seconds = t.seconds in
-        inl (shown_at year (month / 10 * 10 + 1) 1 0 0 0 (omega arith) (omega arith) (
-          year_is,
-          (omega arith, omega arith),
-          (lit≤ tt, omega (arith, days_in_month_bounds (pos year) (month / 10 * 10 + 1))),
-        )
-        (omega arith) (omega arith) (omega arith)
-        (year / 100 / 10) (year / 100 % 10) (year % 100 / 10) (year % 100 % 10) (month / 10) 1 0 1 0
-        0 0 0 0 0
-        (omega arith) (omega arith) (omega arith))
-    completed_at (suc (suc (suc (suc (suc (suc (suc zero))))))) small =
-        let low = t.low in
-        let high = t.high in
-        let year_is = t.date.0 in
-        let months = t.date.1 in
-        let days = t.date.2 in
-        let bounds = days_in_month_bounds (pos year) month in
-        let hours = t.hours in
-        let minutes = t.minutes in
-        let seconds = t.seconds in
-        inl (shown_at year month 1 0 0 0 (omega arith) (omega arith)
-        (year_is, t.date.1, (lit≤ tt, omega (arith, days_in_month_bounds (pos year) month)))
-        (omega arith) (omega arith) (omega arith)
+    -- the first second of a day of that year, by the digits of its month and its day
+    day_shown : (m d e f g h : ℕ) → IsCivilDate (pos year) m d
+        → (e ≡ m / 10) × (f ≡ m % 10) × (g ≡ d / 10) × (h ≡ d % 10)
+        → ShowsSome (digits_time (year / 100 / 10) (year / 100 % 10) (year % 100 / 10)
+        (year % 100 % 10) e f g h 0 0 0 0 0 0)
+    day_shown m d e f g h is digits =
+        shown_at year m d 0 0 0 low high is (lit< tt) (lit< tt) (lit< tt)
+        (year / 100 / 10) (year / 100 % 10) (year % 100 / 10) (year % 100 % 10) e f g h 0 0 0 0 0 0
+        (refl, refl, refl, refl) digits (refl, refl, refl, refl, refl, refl)
+
+    -- a second of that day, by the digits of its time
+    time_shown : (h m s i j k l n o : ℕ) → h < 24 → m < 60 → s < 60
+        → (i ≡ h / 10) × (j ≡ h % 10) × (k ≡ m / 10) × (l ≡ m % 10) × (n ≡ s / 10) × (o ≡ s % 10)
+        → ShowsSome (digits_time (year / 100 / 10) (year / 100 % 10) (year % 100 / 10)
+        (year % 100 % 10) (month / 10) (month % 10) (day / 10) (day % 10) i j k l n o)
+    time_shown h m s i j k l n o hs ms ss digits =
+        shown_at year month day h m s low high date hs ms ss
         (year / 100 / 10) (year / 100 % 10) (year % 100 / 10) (year % 100 % 10) (month / 10)
-        (month % 10) 0 1 0 0 0 0 0 0
-        (omega arith) (omega arith) (omega arith))
-    completed_at (suc (suc (suc (suc (suc (suc (suc (suc zero)))))))) small =
-        let low = t.low in
-        let high = t.high in
-        let year_is = t.date.0 in
-        let months = t.date.1 in
-        let days = t.date.2 in
+        (month % 10) (day / 10) (day % 10) i j k l n o
+        (refl, refl, refl, refl) (refl, refl, refl, refl) digits
+
+    -- the first day of that month, and that day
+    month_shown : ShowsSome (digits_time (year / 100 / 10) (year / 100 % 10) (year % 100 / 10)
+        (year % 100 % 10) (month / 10) (month % 10) 0 1 0 0 0 0 0 0)
+    month_shown = day_shown month 1 (month / 10) (month % 10) 0 1
+        (date.0, date.1, (lit≤ tt, omega (arith, days_in_month_bounds (pos year) month)))
+        (refl, refl, refl, refl)
+
+    date_shown : ShowsSome (digits_time (year / 100 / 10) (year / 100 % 10) (year % 100 / 10)
+        (year % 100 % 10) (month / 10) (month % 10) (day / 10) (day % 10) 0 0 0 0 0 0)
+    date_shown = day_shown month day (month / 10) (month % 10) (day / 10) (day % 10) date
+        (refl, refl, refl, refl)
+
+    -- where one digit of the day is known: a month has its 1st, 11th and 21st, and its 31st or 30th
+    tens_shown : Completed 9 whole
+    tens_shown =
         let bounds = days_in_month_bounds (pos year) month in
-        let hours = t.hours in
-        let minutes = t.minutes in
-        let seconds = t.seconds in
-        inl (shown_at year month 1 0 0 0 (omega arith) (omega arith)
-        (year_is, t.date.1, (lit≤ tt, omega (arith, days_in_month_bounds (pos year) month)))
-        (omega arith) (omega arith) (omega arith)
-        (year / 100 / 10) (year / 100 % 10) (year % 100 / 10) (year % 100 % 10) (month / 10)
-        (month % 10) 0 1 0 0 0 0 0 0
-        (omega arith) (omega arith) (omega arith))
-    completed_at (suc (suc (suc (suc (suc (suc (suc (suc (suc zero))))))))) small =
-        let low = t.low in
-        let high = t.high in
-        let year_is = t.date.0 in
-        let months = t.date.1 in
-        let days = t.date.2 in
-        let bounds = days_in_month_bounds (pos year) month in
-        let hours = t.hours in
-        let minutes = t.minutes in
-        let seconds = t.seconds in
+        let days = date.2 in
         elim (cases_lt day 30) [
-          | inl less ↦ inl (shown_at year month (day / 10 * 10 + 1) 0 0 0 (omega arith)
-              (omega arith)
-              (year_is, t.date.1, (omega arith, omega (arith, bounds)))
-              (omega arith) (omega arith) (omega arith)
-              (year / 100 / 10) (year / 100 % 10) (year % 100 / 10) (year % 100 % 10) (month / 10)
-              (month % 10) (day / 10) 1 0 0 0 0 0 0
-              (omega arith) (omega arith) (omega arith))
+          | inl less ↦ inl (day_shown month (day / 10 * 10 + 1) (month / 10) (month % 10)
+              (day / 10) 1 (date.0, date.1, (omega arith, omega (arith, bounds)))
+              (refl, refl, omega arith, omega arith))
           | inr more ↦ elim (cases_lt day 31) [
-            | inl thirty ↦
-                let same : day ≡ 30 = omega arith in
-                inr (shown_at year month day 0 0 0 (omega arith) (omega arith) t.date
-                (omega arith) (omega arith) (omega arith)
-                (year / 100 / 10) (year / 100 % 10) (year % 100 / 10) (year % 100 % 10) (month / 10)
-                (month % 10) (day / 10) 0 0 0 0 0 0 0
-                (omega arith) (omega arith) (omega arith))
-            | inr last ↦
-                inl (shown_at year month day 0 0 0 (omega arith) (omega arith) t.date
-                (omega arith) (omega arith) (omega arith)
-                (year / 100 / 10) (year / 100 % 10) (year % 100 / 10) (year % 100 % 10) (month / 10)
-                (month % 10) (day / 10) 1 0 0 0 0 0 0
-                (omega arith) (omega (arith, bounds)) (omega arith))
+            | inl thirty ↦ inr (day_shown month day (month / 10) (month % 10) (day / 10) 0 date
+                (refl, refl, refl, omega arith))
+            | inr last ↦ inl (day_shown month day (month / 10) (month % 10) (day / 10) 1 date
+                (refl, refl, refl, omega (arith, bounds)))
           ]
         ]
-    completed_at (suc (suc (suc (suc (suc (suc (suc (suc (suc (suc zero)))))))))) small =
-        let low = t.low in
-        let high = t.high in
-        let year_is = t.date.0 in
-        let months = t.date.1 in
-        let days = t.date.2 in
-        let bounds = days_in_month_bounds (pos year) month in
-        let hours = t.hours in
-        let minutes = t.minutes in
-        let seconds = t.seconds in
-        inl (shown_at year month day 0 0 0 (omega arith) (omega arith)
-        t.date (omega arith) (omega arith) (omega arith)
-        (year / 100 / 10) (year / 100 % 10) (year % 100 / 10) (year % 100 % 10) (month / 10)
-        (month % 10) (day / 10) (day % 10) 0 0 0 0 0 0
+
+    completed_at : (k : ℕ) → k ≤ 19 → Completed k whole
+    completed_at zero small = inl first_shown
+    completed_at
+        (suc zero) small =
+        inl (year_shown (year / 100 / 10 * 1000 + 970) (year / 100 / 10) 9 7 0 (omega arith)
+        (omega arith) (omega arith))
+    completed_at
+        (suc (suc zero)) small =
+        inl (year_shown (year / 100 * 100 + 70) (year / 100 / 10) (year / 100 % 10) 7 0
         (omega arith) (omega arith) (omega arith))
-    completed_at (suc (suc (suc (suc (suc (suc (suc (suc (suc (suc (suc zero))))))))))) small =
-        let low = t.low in
-        let high = t.high in
-        let year_is = t.date.0 in
-        let months = t.date.1 in
-        let days = t.date.2 in
-        let bounds = days_in_month_bounds (pos year) month in
-        let hours = t.hours in
-        let minutes = t.minutes in
-        let seconds = t.seconds in
-        inl (shown_at year month day 0 0 0 (omega arith) (omega arith)
-        t.date (omega arith) (omega arith) (omega arith)
-        (year / 100 / 10) (year / 100 % 10) (year % 100 / 10) (year % 100 % 10) (month / 10)
-        (month % 10) (day / 10) (day % 10) 0 0 0 0 0 0
-        (omega arith) (omega arith) (omega arith))
-    completed_at (suc (suc (suc (suc (suc (suc (suc (suc (suc (suc (suc (suc zero))))))))))))
-        small =
-        let low = t.low in
-        let high = t.high in
-        let year_is = t.date.0 in
-        let months = t.date.1 in
-        let days = t.date.2 in
-        let bounds = days_in_month_bounds (pos year) month in
-        let hours = t.hours in
-        let minutes = t.minutes in
-        let seconds = t.seconds in
-        inl (shown_at year month day (hour / 10 * 10) 0 0 (omega arith) (omega arith)
-        t.date (omega arith) (omega arith) (omega arith)
-        (year / 100 / 10) (year / 100 % 10) (year % 100 / 10) (year % 100 % 10) (month / 10)
-        (month % 10) (day / 10) (day % 10) (hour / 10) 0 0 0 0 0
-        (omega arith) (omega arith) (omega arith))
-    completed_at (suc (suc (suc (suc (suc (suc (suc (suc (suc (suc (suc (suc (suc zero)))))))))))))
-        small =
-        let low = t.low in
-        let high = t.high in
-        let year_is = t.date.0 in
-        let months = t.date.1 in
-        let days = t.date.2 in
-        let bounds = days_in_month_bounds (pos year) month in
-        let hours = t.hours in
-        let minutes = t.minutes in
-        let seconds = t.seconds in
-        inl (shown_at year month day hour 0 0 (omega arith) (omega arith)
-        t.date (omega arith) (omega arith) (omega arith)
-        (year / 100 / 10) (year / 100 % 10) (year % 100 / 10) (year % 100 % 10) (month / 10)
-        (month % 10) (day / 10) (day % 10) (hour / 10) (hour % 10) 0 0 0 0
-        (omega arith) (omega arith) (omega arith))
+    completed_at
+        (suc (suc (suc zero))) small =
+        inl (year_shown (year / 100 * 100 + year % 100 / 10 * 10) (year / 100 / 10)
+        (year / 100 % 10) (year % 100 / 10) 0 (omega arith) (omega arith) (omega arith))
+    completed_at
+        (suc (suc (suc (suc zero)))) small =
+        inl (year_shown year (year / 100 / 10) (year / 100 % 10) (year % 100 / 10)
+        (year % 100 % 10) low high (refl, refl, refl, refl))
+    completed_at
+        (suc (suc (suc (suc (suc zero))))) small =
+        inl (year_shown year (year / 100 / 10) (year / 100 % 10) (year % 100 / 10)
+        (year % 100 % 10) low high (refl, refl, refl, refl))
+    completed_at (suc (suc (suc (suc (suc (suc zero)))))) small =
+        let months = date.1 in
+        inl (day_shown (month / 10 * 10 + 1) 1 (month / 10) 1 0 1 (
+          date.0,
+          (omega arith, omega arith),
+          (lit≤ tt, omega (arith, days_in_month_bounds (pos year) (month / 10 * 10 + 1))),
+        ) (omega arith, omega arith, refl, refl))
+    completed_at (suc (suc (suc (suc (suc (suc (suc zero))))))) small = inl month_shown
+    completed_at (suc (suc (suc (suc (suc (suc (suc (suc zero)))))))) small = inl month_shown
+    completed_at (suc (suc (suc (suc (suc (suc (suc (suc (suc zero))))))))) small = tens_shown
+    completed_at
+        (suc (suc (suc (suc (suc (suc (suc (suc (suc (suc zero)))))))))) small =
+        inl date_shown
+    completed_at
+        (suc (suc (suc (suc (suc (suc (suc (suc (suc (suc (suc zero))))))))))) small =
+        inl date_shown
+    completed_at
+        (suc (suc (suc (suc (suc (suc (suc (suc (suc (suc (suc (suc zero)))))))))))) small =
+        inl (time_shown (hour / 10 * 10) 0 0 (hour / 10) 0 0 0 0 0 (omega arith)
+        (lit< tt) (lit< tt) (omega arith, omega arith, refl, refl, refl, refl))
+    completed_at
+        (suc (suc (suc (suc (suc (suc (suc (suc (suc (suc (suc (suc (suc zero))))))))))))) small =
+        inl (time_shown hour 0 0 (hour / 10) (hour % 10) 0 0 0 0 hours (lit< tt)
+        (lit< tt) (refl, refl, refl, refl, refl, refl))
     completed_at
         (suc (suc (suc (suc (suc (suc (suc (suc (suc (suc (suc (suc (suc (suc zero))))))))))))))
         small =
-        let low = t.low in
-        let high = t.high in
-        let year_is = t.date.0 in
-        let months = t.date.1 in
-        let days = t.date.2 in
-        let bounds = days_in_month_bounds (pos year) month in
-        let hours = t.hours in
-        let minutes = t.minutes in
-        let seconds = t.seconds in
-        inl (shown_at year month day hour 0 0 (omega arith) (omega arith)
-        t.date (omega arith) (omega arith) (omega arith)
-        (year / 100 / 10) (year / 100 % 10) (year % 100 / 10) (year % 100 % 10) (month / 10)
-        (month % 10) (day / 10) (day % 10) (hour / 10) (hour % 10) 0 0 0 0
-        (omega arith) (omega arith) (omega arith))
+        inl (time_shown hour 0 0 (hour / 10) (hour % 10) 0 0 0 0 hours (lit< tt)
+        (lit< tt) (refl, refl, refl, refl, refl, refl))
     completed_at
-        (suc (suc (suc
-        (suc (suc (suc (suc (suc (suc (suc (suc (suc (suc (suc (suc zero)))))))))))))))
-        small =
-        let low = t.low in
-        let high = t.high in
-        let year_is = t.date.0 in
-        let months = t.date.1 in
-        let days = t.date.2 in
-        let bounds = days_in_month_bounds (pos year) month in
-        let hours = t.hours in
-        let minutes = t.minutes in
-        let seconds = t.seconds in
-        inl (shown_at year month day hour (minute / 10 * 10) 0 (omega arith) (omega arith)
-        t.date (omega arith) (omega arith) (omega arith)
-        (year / 100 / 10) (year / 100 % 10) (year % 100 / 10) (year % 100 % 10) (month / 10)
-        (month % 10) (day / 10) (day % 10) (hour / 10) (hour % 10) (minute / 10) 0 0 0
-        (omega arith) (omega arith) (omega arith))
+        (suc (suc (suc (suc (suc (suc (suc (suc (suc (suc (suc (suc (suc (suc (suc
+        zero))))))))))))))) small =
+        inl (time_shown hour (minute / 10 * 10) 0 (hour / 10) (hour % 10) (minute / 10) 0 0 0
+        hours (omega arith) (lit< tt) (refl, refl, omega arith, omega arith, refl, refl))
     completed_at
-        (suc (suc (suc
-        (suc (suc (suc (suc (suc (suc (suc (suc (suc (suc (suc (suc (suc zero))))))))))))))))
-        small =
-        let low = t.low in
-        let high = t.high in
-        let year_is = t.date.0 in
-        let months = t.date.1 in
-        let days = t.date.2 in
-        let bounds = days_in_month_bounds (pos year) month in
-        let hours = t.hours in
-        let minutes = t.minutes in
-        let seconds = t.seconds in
-        inl (shown_at year month day hour minute 0 (omega arith) (omega arith)
-        t.date (omega arith) (omega arith) (omega arith)
-        (year / 100 / 10) (year / 100 % 10) (year % 100 / 10) (year % 100 % 10) (month / 10)
-        (month % 10) (day / 10) (day % 10) (hour / 10) (hour % 10) (minute / 10) (minute % 10) 0 0
-        (omega arith) (omega arith) (omega arith))
+        (suc (suc (suc (suc (suc (suc (suc (suc (suc (suc (suc (suc (suc (suc (suc (suc
+        zero)))))))))))))))) small =
+        inl (time_shown hour minute 0 (hour / 10) (hour % 10) (minute / 10) (minute % 10) 0 0
+        hours minutes (lit< tt) (refl, refl, refl, refl, refl, refl))
     completed_at
-        (suc (suc (suc
-        (suc (suc (suc (suc (suc (suc (suc (suc (suc (suc (suc (suc (suc (suc zero)))))))))))))))))
-        small =
-        let low = t.low in
-        let high = t.high in
-        let year_is = t.date.0 in
-        let months = t.date.1 in
-        let days = t.date.2 in
-        let bounds = days_in_month_bounds (pos year) month in
-        let hours = t.hours in
-        let minutes = t.minutes in
-        let seconds = t.seconds in
-        inl (shown_at year month day hour minute 0 (omega arith) (omega arith)
-        t.date (omega arith) (omega arith) (omega arith)
-        (year / 100 / 10) (year / 100 % 10) (year % 100 / 10) (year % 100 % 10) (month / 10)
-        (month % 10) (day / 10) (day % 10) (hour / 10) (hour % 10) (minute / 10) (minute % 10) 0 0
-        (omega arith) (omega arith) (omega arith))
+        (suc (suc (suc (suc (suc (suc (suc (suc (suc (suc (suc (suc (suc (suc (suc (suc (suc
+        zero))))))))))))))))) small =
+        inl (time_shown hour minute 0 (hour / 10) (hour % 10) (minute / 10) (minute % 10) 0 0
+        hours minutes (lit< tt) (refl, refl, refl, refl, refl, refl))
     completed_at
-        (suc (suc (suc
-        (suc (suc (suc
-        (suc (suc (suc (suc (suc (suc (suc (suc (suc (suc (suc (suc zero)))))))))))))))))) small =
-        let low = t.low in
-        let high = t.high in
-        let year_is = t.date.0 in
-        let months = t.date.1 in
-        let days = t.date.2 in
-        let bounds = days_in_month_bounds (pos year) month in
-        let hours = t.hours in
-        let minutes = t.minutes in
-        let seconds = t.seconds in
-        inl (shown_at year month day hour minute (second / 10 * 10) (omega arith) (omega arith)
-        t.date (omega arith) (omega arith) (omega arith)
-        (year / 100 / 10) (year / 100 % 10) (year % 100 / 10) (year % 100 % 10) (month / 10)
-        (month % 10) (day / 10) (day % 10) (hour / 10) (hour % 10) (minute / 10) (minute % 10)
-        (second / 10) 0
-        (omega arith) (omega arith) (omega arith))
+        (suc (suc (suc (suc (suc (suc (suc (suc (suc (suc (suc (suc (suc (suc (suc (suc (suc (suc
+        zero)))))))))))))))))) small =
+        inl (time_shown hour minute (second / 10 * 10) (hour / 10) (hour % 10) (minute / 10)
+        (minute % 10) (second / 10) 0 hours minutes (omega arith)
+        (refl, refl, refl, refl, omega arith, omega arith))
     completed_at
-        (suc (suc (suc
-        (suc (suc (suc
-        (suc (suc (suc (suc (suc (suc (suc (suc (suc (suc (suc (suc (suc zero)))))))))))))))))))
-        small =
-        let low = t.low in
-        let high = t.high in
-        let year_is = t.date.0 in
-        let months = t.date.1 in
-        let days = t.date.2 in
-        let bounds = days_in_month_bounds (pos year) month in
-        let hours = t.hours in
-        let minutes = t.minutes in
-        let seconds = t.seconds in
-        inl (shown_at year month day hour minute second (omega arith) (omega arith)
-        t.date (omega arith) (omega arith) (omega arith)
-        (year / 100 / 10) (year / 100 % 10) (year % 100 / 10) (year % 100 % 10) (month / 10)
-        (month % 10) (day / 10) (day % 10) (hour / 10) (hour % 10) (minute / 10) (minute % 10)
-        (second / 10) (second % 10)
-        (omega arith) (omega arith) (omega arith))
+        (suc (suc (suc (suc (suc (suc (suc (suc (suc (suc (suc (suc (suc (suc (suc (suc (suc (suc
+        (suc zero))))))))))))))))))) small =
+        inl (time_shown hour minute second (hour / 10) (hour % 10) (minute / 10) (minute % 10)
+        (second / 10) (second % 10) hours minutes seconds (refl, refl, refl, refl, refl, refl))
     completed_at
-        (suc (suc (suc
-        (suc (suc (suc
-        (suc (suc (suc (suc (suc (suc (suc (suc (suc (suc (suc (suc (suc (suc k))))))))))))))))))))
-        small = absurd (omega arith)
+        (suc (suc (suc (suc (suc (suc (suc (suc (suc (suc (suc (suc (suc (suc (suc (suc (suc (suc
+        (suc (suc k)))))))))))))))))))) small =
+        absurd (omega arith)
 
 -- what begins the civil time of a moment in range is completed by the end of one of the two
 pub completed_time : (moment : ℕ) (text : List ℕ) → moment ≤ last_moment → IsShownAs moment text
@@ -549,11 +310,4 @@ pub completed_time : (moment : ℕ) (text : List ℕ) → moment ≤ last_moment
 completed_time moment text small s k few =
     let years = year_in_range moment text small s in
     rw s.is_text (completed_at s.year s.month s.day (moment % 86400 / 3600) (moment % 3600 / 60)
-    (moment % 60) (record {
-      low = years.0;
-      high = years.1;
-      date = s.date;
-      hours = omega arith;
-      minutes = omega arith;
-      seconds = omega arith;
-    }) k few)
+    (moment % 60) years.0 years.1 s.date (omega arith) (omega arith) (omega arith) k few)
