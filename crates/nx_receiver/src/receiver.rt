@@ -100,6 +100,8 @@ impl<M: Recall> Receiver<M> {
 
     /// A receiver that has heard nothing, with a memory, the first moment and the first selection.
     /// Fails as `new` does.
+    // In its place, as it has 7 kB or more: a call would move it twice over the stack.
+    #[inline(always)]
     pub fn starting(
         memory: M,
         moment: u64,

@@ -18,7 +18,7 @@ use Rattle.nx_memory.specs.Saved.{SavedState, SavedStates, IsSavedState, AreSave
 use Rattle.nx_memory.specs.Saved.{nothing_saved, on_channel_0}
 use Rattle.nx_memory.specs.StateText.{spelling, said, section, last_line, text_1, text_2}
 use Rattle.nx_memory.specs.StateText.{IsStateText, BeginsText, BeginsNoText}
-use Rattle.nx_memory.specs.private.StateReading.{IsRefusedAt, IsReading, IsAhead, lines_read}
+use Rattle.nx_memory.specs.private.StateReading.{IsRefused, IsRefusedAt, IsReading, IsAhead, lines_read}
 use Rattle.nx_memory.specs.private.StateReading.{opened, may_end}
 use Rattle.nx_memory.proofs.lemmas.Content.{content-nil}
 use Rattle.nx_memory.proofs.lemmas.Rising.{rising-empty}
@@ -392,6 +392,30 @@ no_text stage states line unopened not_end refused more all is = elim is [
       one.spelled
   | inr two ↦ no_text_2 stage states line more all two.sound unopened not_end refused two.spelled
 ]
+
+-- a short line is none of a channel
+short_refused : (saved : SavedState) (line : List ℕ) → length line ≤ 3 → IsRefused saved line
+short_refused saved line short later more sound e =
+    let long = subst (AllByRecursion IsLong) e (section_long later) in
+    absurd (omega (arith, short, (each_right IsLong (section saved) (line ∷ more) long).0))
+
+-- the last line begins no text where it may not stand
+end_refused : (stage : StateStage) (states : SavedStates) → may_end stage ≡ false
+    → (opened stage (codes "END") ≡ None) × IsRefusedAt stage states (codes "END")
+end_refused Start states may = (refl, tt)
+end_refused Version1 states may = absurd (true≢false may)
+end_refused Version2 states may = (refl, tt)
+end_refused Channel0 states may = (refl, short_refused states.on_0 (codes "END") (omega arith))
+end_refused Channel1 states may = (refl, short_refused states.on_1 (codes "END") (omega arith))
+end_refused Channel2 states may = absurd (true≢false may)
+
+pub no_end : (stage : StateStage) (states : SavedStates) (line : List ℕ) → may_end stage ≡ false
+    → line ≡ codes "END" → BeginsNoText (lines_read stage states ++ line ∷ [])
+no_end stage states line may end =
+    let refused = end_refused stage states may in
+    subst (λ (l : List ℕ). BeginsNoText (lines_read stage states ++ l ∷ [])) (sym end)
+    (no_text stage states (codes "END") refused.0
+    (λ may_not. absurd (true≢false (sym may_not ∙ may))) refused.1)
 
 -- a reader that is new
 pub new_reading : IsReading Start (on_channel_0 nothing_saved)

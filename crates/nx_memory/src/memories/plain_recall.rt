@@ -31,6 +31,7 @@ impl Model for PlainRecall {
 
 impl PlainRecall {
     /// A memory with no entry.
+    #[inline(always)]
     pub fn new() -> Self
         ensures { result ≡ [] }
     {

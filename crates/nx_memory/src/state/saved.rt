@@ -48,6 +48,7 @@ impl Model for Saved {
 
 impl Saved {
     /// Everything is selected, and there is no entry.
+    #[inline(always)]
     pub fn new() -> Self
         ensures stations { result.refused.stations ≡ set.empty }
         ensures subjects { result.refused.subjects ≡ set.empty }

@@ -35,6 +35,7 @@ impl Model for SavedSet {
 
 impl SavedSet {
     /// Everything is selected on each channel, and there is no entry.
+    #[inline(always)]
     pub fn new() -> Self
         ensures { result ≡ on_channel_0 nothing_saved }
     {
@@ -47,6 +48,7 @@ impl SavedSet {
     }
 
     /// What is saved of the channels 0, 1 and 2.
+    #[inline(always)]
     pub fn of(on_0: Saved, on_1: Saved, on_2: Saved) -> Self
         ensures on_0 { result.on_0 ≡ on_0 }
         ensures on_1 { result.on_1 ≡ on_1 }

@@ -1,6 +1,6 @@
 //! The text of a state as it is read.
 
-ghost use Rattle.std.specs.Prelude.{◌≡◌, true, false, [], ◌∷◌, ◌++◌};
+ghost use Rattle.std.specs.Prelude.{◌≡◌, ◌≢◌, true, false, [], ◌∷◌, ◌++◌, codes, MatchOption};
 ghost use Rattle.nx_memory.specs.StateText.{BeginsText, BeginsNoText, IsStateText, OnMore, IfDone, OnBad};
 ghost use Rattle.nx_memory.specs.private.StateReading.{IsReading, IsRefusedAt, lines_read};
 ghost use Rattle.nx_memory.specs.private.StateReading.{opened as the_opened, may_end as the_may_end};
@@ -59,6 +59,7 @@ impl Model for StateReader {
 
 impl StateReader {
     /// A reader that took no line.
+    #[inline(always)]
     pub fn new() -> Self
         ensures { result ≡ [] }
     {
@@ -92,6 +93,36 @@ impl StateReader {
             return StateStep::More;
         }
         StateStep::Bad
+    }
+
+    /// Takes the next line of the text, given without its line feed, where more lines have to come
+    /// behind it: says whether it did. Where it didn't, the reader stays as it was, and no text of
+    /// a state goes on so, but for what `ended` says of the line `END`.
+    pub fn take(&mut self, line: &[u8]) -> bool
+        ensures taken { result ≡ true → self.new ≡ self.old ++ line.now ∷ [] }
+        ensures begins { BeginsText self.new }
+        ensures unchanged { result ≡ false → self.new ≡ self.old }
+        ensures refused { result ≡ false → line.now ≢ codes "END"
+            → BeginsNoText (self.old ++ line.now ∷ []) }
+    {
+        if let Some(stage) = opened(self.stage, line) {
+            self.stage = stage;
+            return true;
+        }
+        take_line(&mut self.states, self.stage, line)
+    }
+
+    /// What the text stands for in its place, where this is its last line, given without its line
+    /// feed. `None` where it isn't; where it is the line `END`, no text of a state goes on so.
+    pub fn ended(&self, line: &[u8]) -> Option<&SavedSet>
+        ensures { MatchOption result
+            (line.now ≡ codes "END" → BeginsNoText (self.now ++ line.now ∷ []))
+            (λ states. IsStateText (self.now ++ line.now ∷ []) states.now) }
+    {
+        if may_end(self.stage) && line == b"END".as_slice() {
+            return Some(&self.states);
+        }
+        None
     }
 }
 
