@@ -1,16 +1,16 @@
 -- What saving a receiver answers, and opening one from what is saved (this profile).
 use Rattle.std.specs.Prelude.{◌≡◌, ◌≢◌, ◌⊎◌, ℕ, ◌+◌, ◌*◌, ◌<◌, ◌≤◌, List, [], ◌∷◌, ◌++◌, length, Option}
-use Rattle.std.specs.Prelude.{Some, None, Result, Ok, Err, take}
+use Rattle.std.specs.Prelude.{Some, None, Result, Ok, Err, codes, take}
 use Rattle.nx_code.specs.Reading.{capitals, newline}
 use Rattle.nx_fec.specs.Transfers.{whole_input}
 use Rattle.nx_fec.specs.declared.air_files.channel.Channel.{Channel}
 use Rattle.nx_memory.specs.Memory.{most_entries}
 use Rattle.nx_memory.specs.Saved.{AreSavedStates, SavedStates}
-use Rattle.nx_memory.specs.StateText.{IsShortLine, longest_saved_line}
+use Rattle.nx_memory.specs.StateText.{BeginsNoText, BeginsText, IsShortLine, longest_saved_line}
 use Rattle.nx_receiver.specs.air_file_runs.Chain.{Leaves}
 use Rattle.nx_handle.specs.Receivers.{HearsGiven, Listening}
 use Rattle.nx_copies.specs.copies.Shares.{Given, MarkedCopy, Starts, saved_of, share, start_on, starts_from}
-use Rattle.nx_receiver.specs.air_file_runs.State.{BeginsWith, ExplainsState, state_bytes}
+use Rattle.nx_receiver.specs.air_file_runs.State.{BeginsWith, ExplainsState, ended_lines, state_bytes}
 use Rattle.nx_receiver.specs.declared.air_file_runs.state_fault.StateFault.TheVariants as state
 use Rattle.nx_handle.specs.Life.{HasHeard, hearing}
 use Rattle.nx_handle.specs.Status.{number_of}
@@ -60,11 +60,18 @@ IsFirstLine bytes (Err why) =
     × (bytes ≡ line ++ byte ∷ more)))
     ⊎ ((why ≡ status.StateCut) × IsShortLine bytes)
 
--- These bytes begin with a state, which stands for this; or they begin with none, and the status
--- says why.
-abbrev pub ReadsText : List ℕ → Result SavedStates Status → Type 0
-ReadsText bytes (Ok states) = BeginsWith bytes (λ others more. states ≡ others)
-ReadsText bytes (Err why) =
+-- The bytes are these lines, with which a text of a state begins, this line, and what follows; and
+-- no text goes on with the line, unless it is the last one of all texts.
+pub record StandsNext (lines : List (List ℕ)) (line bytes : List ℕ) : Type 0 where
+  pub more : List ℕ
+  pub begins : BeginsText lines
+  pub short : IsShortLine line
+  pub whole : bytes ≡ ended_lines lines ++ ((line ++ newline ∷ []) ++ more)
+  pub refused : line ≢ codes "END" → BeginsNoText (lines ++ line ∷ [])
+
+-- These bytes begin with no state, and the status says why.
+abbrev pub RefusesText : List ℕ → Status → Type 0
+RefusesText bytes why =
     ((line : ℕ) × ExplainsState whole_input bytes (state.StateLine line)
     × (why ≡ status.StateLine))
     ⊎ ((line : ℕ) × ExplainsState whole_input bytes (state.StateCut line)

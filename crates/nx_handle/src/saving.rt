@@ -1,12 +1,12 @@
 //! Saving a receiver, and opening one from what is saved.
 
-ghost use Rattle.std.specs.Prelude.{◌≡◌, List, Some};
+ghost use Rattle.std.specs.Prelude.{◌≡◌, [], IfErr, IfOk, List, Some};
 ghost use Rattle.nx_fec.specs.declared.air_files.channel.Channel.{Channel};
 ghost use Rattle.nx_copies.specs.copies.Shares.{Given, MarkedCopy, Starts, saved_of, share, start_on};
 ghost use Rattle.nx_memory.specs.Saved.{AreSavedStates};
 ghost use Rattle.nx_receiver.specs.air_file_runs.Chain.{Leaves};
 ghost use Rattle.nx_receiver.specs.air_file_runs.State.{state_bytes};
-ghost use Rattle.nx_handle.specs.Saving.{AnswersOpeningFrom, AnswersSaving, IsFirstLine, ReadsText};
+ghost use Rattle.nx_handle.specs.Saving.{AnswersOpeningFrom, AnswersSaving, IsFirstLine, RefusesText, StandsNext};
 ghost use Rattle.nx_handle.specs.CallerRoom.{IsPut, room};
 ghost use Rattle.nx_handle.specs.Receivers.{HearsGiven, three};
 
@@ -14,7 +14,7 @@ use crate::caller_room::{after_putting, put, put_more};
 use crate::kept::Kept;
 use crate::opening::begin;
 use crate::status::Status;
-use nx_memory::{MAX_STATE_LINE, PlainRecall, SavedSet, StateReader, StateStep, state_line};
+use nx_memory::{MAX_STATE_LINE, PlainRecall, SavedSet, StateReader, state_line};
 use nx_receiver::Receiver;
 
 /// Puts the text of a state into the caller's room, with which `open_from` goes on: of each
@@ -48,6 +48,8 @@ pub fn save_kept(kept: &Kept, state: &mut [u8], written: &mut usize) -> u32
 }
 
 /// What the receivers of the three channels leave.
+// Built in the place of its caller.
+#[inline(always)]
 fn left_by(
     on_0: &Receiver<PlainRecall>,
     on_1: &Receiver<PlainRecall>,
@@ -87,34 +89,39 @@ pub fn open_from(slot: &mut Option<Kept>, state: &[u8]) -> u32
     if slot.is_some() {
         return Status::AlreadyOpen.number();
     }
-    match read_text(state) {
-        Ok(states) => {
-            begin(slot, &states);
-            0
-        }
-        Err(status) => status.number(),
-    }
+    let mut text = StateReader::new();
+    let last = match read_lines(state, &mut text) {
+        Ok(last) => last,
+        Err(status) => return status.number(),
+    };
+    let Some(states) = text.ended(last) else {
+        return Status::StateLine.number();
+    };
+    begin(slot, states);
+    0
 }
 
-/// Reads the text of a state with which these bytes begin: what it stands for, or the status that
-/// says why they begin with none.
+/// Reads the lines of the text of a state with which these bytes begin, up to one that the reader,
+/// which has taken none, doesn't take: that line. Or the status that says why these bytes begin
+/// with no state.
 // A call, so that its stack is free again before the receivers are made.
 #[inline(never)]
-fn read_text(bytes: &[u8]) -> Result<SavedSet, Status>
-    ensures { ReadsText bytes.now result }
+fn read_lines<'a>(bytes: &'a [u8], text: &mut StateReader) -> Result<&'a [u8], Status>
+    requires { text.old ≡ [] }
+    ensures ok { IfOk result (λ line. StandsNext text.new line.now bytes.now) }
+    ensures err { IfErr result (RefusesText bytes.now) }
 {
-    let mut text = StateReader::new();
     let mut at = 0;
     loop {
         let count = match first_line(&bytes[at..]) {
             Ok(count) => count,
             Err(status) => return Err(status),
         };
-        match text.line(&bytes[at..at + count]) {
-            StateStep::More => at += count + 1,
-            StateStep::Done(states) => return Ok(states),
-            StateStep::Bad => return Err(Status::StateLine),
+        let line = &bytes[at..at + count];
+        if !text.take(line) {
+            return Ok(line);
         }
+        at += count + 1;
     }
 }
 

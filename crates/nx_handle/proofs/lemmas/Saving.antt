@@ -1,5 +1,5 @@
 -- What saving answers, and opening from what is saved.
-use Rattle.std.proofs.Common.{◌≡◌, ◌≢◌, ◌≤◌, ◌<◌, inl, inr, ℕ, ◌+◌, Bool, false, List, [], ◌∷◌, ◌++◌, length, take, drop, is_some, refl, sym, ap, ap₂, ◌-◌, ◌∙◌, subst, append_assoc, append-nil, arith, Option, Some, None}
+use Rattle.std.proofs.Common.{◌≡◌, ◌≢◌, ◌≤◌, ◌<◌, inl, inr, ℕ, ◌+◌, Bool, false, true, codes, List, [], ◌∷◌, ◌++◌, length, take, drop, is_some, refl, sym, ap, ap₂, ◌-◌, ◌∙◌, subst, append_assoc, append-nil, arith, Option, Some, None}
 use Rattle.nx_code.specs.Reading.{newline}
 use Rattle.nx_memory.specs.Saved.{SavedStates}
 use Rattle.nx_memory.specs.StateText.{BeginsNoText, BeginsText, IsShortLine, IsStateText}
@@ -7,14 +7,16 @@ use Rattle.nx_copies.specs.copies.Shares.{starts_from}
 use Rattle.nx_receiver.specs.air_file_runs.State.{BeginsWith, ended_lines}
 use Rattle.nx_receiver.proofs.lemmas.state.Splits.{ended-one}
 use Rattle.nx_handle.specs.Life.{HasHeard}
-use Rattle.nx_handle.specs.Saving.{IsFirstLine, OpensFrom, ReadsText}
+use Rattle.nx_handle.specs.Saving.{IsFirstLine, OpensFrom, RefusesText, StandsNext}
 use Rattle.nx_handle.specs.Status.{number_of}
 use Rattle.nx_handle.specs.declared.kept.Kept.{Kept}
 use Rattle.nx_handle.specs.declared.status.Status.{Status}
 use Rattle.nx_handle.specs.declared.status.Status.TheVariants as status
 use Rattle.std.specs.Prelude.{Err, slice_index_or}
 use Rattle.std.specs.List.{AllByRecursion}
-use Rattle.std.proofs.lemmas.Bool.{cases_lt}
+use Rattle.std.specs.Str.{bytes_eq}
+use Rattle.std.proofs.lemmas.Bool.{cases_lt, true≢false}
+use Rattle.std.proofs.lemmas.Slice.Eq.{bytes_eq-Decides}
 use Rattle.std.proofs.lemmas.List.{drop-drop, drop_at, drop_more, length-append, length-drop, length-take, take_all, take-append-drop, take_more}
 use Rattle.nx_memory.proofs.lemmas.StateLines.{each_append}
 
@@ -45,7 +47,7 @@ opens-from-it bytes states new b h =
     (λ others more. (0 ≡ 0) × HasHeard (starts_from others) new [] [])
     (λ others more same. (refl, subst (λ s. HasHeard (starts_from s) new [] []) same h)) b)
 
-pub opens-not : (bytes : List ℕ) (why : Status) (answer : ℕ) → ReadsText bytes (Err why)
+pub opens-not : (bytes : List ℕ) (why : Status) (answer : ℕ) → RefusesText bytes why
     → answer ≡ number_of why → OpensFrom bytes None answer
 opens-not bytes why answer reads e = elim reads [
   | inl h ↦ inr (inl (h.0, h.1, e ∙ ap number_of h.2, refl))
@@ -62,7 +64,7 @@ one-more lines line more =
     sym (append_assoc (ended_lines lines) (line ++ newline ∷ []) more)
     ∙ ap (λ l. l ++ more) (sym (ended-one lines line))
 
-pub text-is-read : (bytes rest line more : List ℕ) (lines : List (List ℕ)) (states : SavedStates)
+text-is-read : (bytes rest line more : List ℕ) (lines : List (List ℕ)) (states : SavedStates)
     → bytes ≡ ended_lines lines ++ rest → rest ≡ (line ++ newline ∷ []) ++ more
     → IsStateText (lines ++ line ∷ []) states → BeginsWith bytes (λ others more. states ≡ others)
 text-is-read bytes rest line more lines states e f is = record {
@@ -74,11 +76,19 @@ text-is-read bytes rest line more lines states e f is = record {
   here = refl;
 }
 
+-- the line that stands next is the last one of a text
+pub next-is-last : (bytes line : List ℕ) (lines : List (List ℕ)) (states : SavedStates)
+    → StandsNext lines line bytes → IsStateText (lines ++ line ∷ []) states
+    → BeginsWith bytes (λ others more. states ≡ others)
+next-is-last bytes line lines states next is =
+    text-is-read bytes ((line ++ newline ∷ []) ++ next.more) line next.more lines states
+    next.whole refl is
+
 -- a line can't stand there
-pub line-is-bad : (bytes rest line more : List ℕ) (lines : List (List ℕ)) (why : Status)
+line-is-bad : (bytes rest line more : List ℕ) (lines : List (List ℕ)) (why : Status)
     → bytes ≡ ended_lines lines ++ rest → rest ≡ (line ++ newline ∷ []) ++ more
     → BeginsText lines → IsShortLine line → BeginsNoText (lines ++ line ∷ [])
-    → why ≡ status.StateLine → ReadsText bytes (Err why)
+    → why ≡ status.StateLine → RefusesText bytes why
 line-is-bad bytes rest line more lines why e f begins part bad is = inl (
   length lines + 1,
   record {
@@ -94,11 +104,28 @@ line-is-bad bytes rest line more lines why e f begins part bad is = inl (
   is,
 )
 
+-- a line is the last one of texts or it isn't
+by-end : (line : List ℕ) (b : Bool) → bytes_eq line (codes "END") ≡ b → (P : Type 0)
+    → (line ≡ codes "END" → P) → (line ≢ codes "END" → P) → P
+by-end line true is P last other = last ((bytes_eq-Decides line (codes "END")).0 is)
+by-end line false is P last other =
+    other (λ same. true≢false (sym ((bytes_eq-Decides line (codes "END")).1 same) ∙ is))
+
+-- the line that stands next is no last one either
+pub next-is-bad : (bytes line : List ℕ) (lines : List (List ℕ)) → StandsNext lines line bytes
+    → (line ≡ codes "END" → BeginsNoText (lines ++ line ∷ [])) → RefusesText bytes status.StateLine
+next-is-bad bytes line lines next end =
+    let bad : BeginsNoText (lines ++ line ∷ []) =
+    by-end line (bytes_eq line (codes "END")) refl (BeginsNoText (lines ++ line ∷ [])) end
+    next.refused in
+    line-is-bad bytes ((line ++ newline ∷ []) ++ next.more) line next.more lines
+    status.StateLine next.whole refl next.begins next.short bad refl
+
 -- a line has a 17th byte
 pub line-is-long : (bytes rest line more : List ℕ) (byte : ℕ) (lines : List (List ℕ))
     (why : Status) → bytes ≡ ended_lines lines ++ rest → rest ≡ line ++ byte ∷ more
     → BeginsText lines → IsShortLine line → length line ≡ 16 → byte ≢ newline
-    → why ≡ status.StateLine → ReadsText bytes (Err why)
+    → why ≡ status.StateLine → RefusesText bytes why
 line-is-long bytes rest line more byte lines why e f begins part full other is = inl (
   length lines + 1,
   record {
@@ -117,7 +144,7 @@ line-is-long bytes rest line more byte lines why e f begins part full other is =
 -- the bytes end before the line does
 pub line-is-cut : (bytes rest : List ℕ) (lines : List (List ℕ)) (why : Status)
     → bytes ≡ ended_lines lines ++ rest → BeginsText lines → IsShortLine rest
-    → why ≡ status.StateCut → ReadsText bytes (Err why)
+    → why ≡ status.StateCut → RefusesText bytes why
 line-is-cut bytes rest lines why e begins part is = inr (
   length lines + 1,
   (
@@ -165,7 +192,7 @@ less-than n m few other = elim (cases_lt n m) [
 -- the line that comes is none of a state
 pub first-fails : (bytes rest : List ℕ) (lines : List (List ℕ)) (why : Status)
     → bytes ≡ ended_lines lines ++ rest → BeginsText lines → IsFirstLine rest (Err why)
-    → ReadsText bytes (Err why)
+    → RefusesText bytes why
 first-fails bytes rest lines why e begins first = elim first [
   | inl h ↦ line-is-long bytes rest h.1.0 h.1.2 h.1.1 lines why e h.1.6 begins h.1.3 h.1.4 h.1.5
       h.0

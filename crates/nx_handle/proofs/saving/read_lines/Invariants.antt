@@ -1,7 +1,7 @@
 use Rattle.std.proofs.Common.{◌≡◌, ◌≤◌, ◌-◌, ◌++◌, drop, length}
 use Rattle.nx_memory.specs.StateText.{BeginsText}
 use Rattle.nx_receiver.specs.air_file_runs.State.{ended_lines}
-use Rattle.nx_handle.proofs.saving.read_text.Given as goal
+use Rattle.nx_handle.proofs.saving.read_lines.Given as goal
 
 -- the lines that were read begin a text of a state
 abbrev pub invariant-loop-count : goal.invariant-loop-count
