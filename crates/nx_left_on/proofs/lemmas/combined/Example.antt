@@ -1,10 +1,10 @@
 -- The worked chain of two watches that take sendings together: it is one, and a message is heard
 -- together in each.
-use Rattle.std.proofs.Common.{◌≡◌, ℕ, zero, suc, ◌+◌, ◌-◌, ◌<◌, ◌≤◌, Bool, true, false, List, [], ◌∷◌}
+use Rattle.std.proofs.Common.{◌≡◌, ℕ, ◌+◌, ◌-◌, ◌<◌, ◌≤◌, Bool, true, false, List, [], ◌∷◌}
 use Rattle.std.proofs.Common.{◌++◌, length, map, refl, sym, ap, ap₂, ◌∙◌, subst, arith, append-nil}
 use Rattle.std.proofs.Common.{if◌then◌else◌, lit≤, Option, Some, None}
 use Rattle.std.specs.Prelude.{unwrap_or, option_map}
-use Rattle.std.specs.List.{All, AllZip, Contains, flat_map}
+use Rattle.std.specs.List.{All, AllZip, flat_map}
 use Rattle.std.proofs.lemmas.List.Elements.{All-cons, All-contains, All-drop, All-filter, All-head}
 use Rattle.std.proofs.lemmas.List.Elements.{All-append, All-nil, All-tail, All-weaker}
 use Rattle.std.proofs.lemmas.Option.{slice_get-get_or}
@@ -14,10 +14,9 @@ use Rattle.nx_combine.specs.private.laws.CombinedLaws.{combined-laws}
 use Rattle.nx_combine.proofs.lemmas.Closing.{found-end}
 use Rattle.nx_copies.specs.Events.{Event, Setting, Start, at_moment, element, elements_among}
 use Rattle.nx_copies.specs.Events.{first_setting, none_refused, setting_at, settings}
-use Rattle.nx_copies.specs.copies.FoundCopies.{FoundCopy, TaggedCopy, found_to_end, tag}
+use Rattle.nx_copies.specs.copies.FoundCopies.{TaggedCopy, tag}
 use Rattle.nx_copies.specs.copies.InTurn.{PrintAllToEndBy}
 use Rattle.nx_copies.specs.copies.Log.{IsEntry, IsUpTo}
-use Rattle.nx_copies.specs.copies.Printing.{entry_of}
 use Rattle.nx_copies.specs.copies.Shares.{Given, MarkedCopy, Starts, copies_on, start_on}
 use Rattle.nx_copies.proofs.lemmas.channels.Shares.{to_end-on}
 use Rattle.nx_copies.proofs.lemmas.channels.Some.{some-to_end_by}
@@ -29,7 +28,7 @@ use Rattle.nx_fec.specs.declared.air_files.channel.Channel.{Channel}
 use Rattle.nx_fec.specs.declared.air_files.channel.Channel.TheVariants.{One, Two, Zero}
 use Rattle.nx_fec.specs.emissions.Emission.{bits_of}
 use Rattle.nx_log.specs.Logged.{IsLogged, IsLoggedAs, kept_entries, remembered_on}
-use Rattle.nx_memory.specs.Memory.{newest_moment, newest_of, seconds_known}
+use Rattle.nx_memory.specs.Memory.{newest_moment, newest_of}
 use Rattle.nx_memory.specs.Saved.{later_of}
 use Rattle.nx_memory.specs.Selection.{admits}
 use Rattle.nx_memory.specs.declared.memories.entry.MemoryEntry.{MemoryEntry}
@@ -47,7 +46,7 @@ use Rattle.nx_watch.specs.Start.{is_in_order, is_last_known, is_near, passing, r
 use Rattle.nx_watch.specs.Watch.{StandsForEntries, moments_at, starts_at}
 use Rattle.nx_watch.proofs.lemmas.log.CombinedLoggable.{combined-loggable}
 use Rattle.nx_watch.proofs.lemmas.log.Loggable.{end-logged}
-use Rattle.nx_left_on.specs.Chain.{ClocksAreNear, PutsBy, Watch, answered, events_in}
+use Rattle.nx_left_on.specs.Chain.{PutsBy, Watch, answered}
 use Rattle.nx_left_on.specs.Example.{IsWorkedTogether, first_moment, twice_lines_at}
 use Rattle.nx_left_on.proofs.lemmas.Example.{bits-act}
 use Rattle.nx_left_on.proofs.lemmas.chains.Chains.{none-remembered}
