@@ -45,9 +45,10 @@ AreSure left_at_any_moment bytes lines sure = sure ≡ []
 
 -- The watch of a chain is that of a call with these streams, which started at this moment behind
 -- these entries, ended so, and left this file. It took the lines that act of those of the bytes
--- that the call read, and read on behind the sure ones. It goes on behind the entries.
-pub record IsOfCall {R W : Type 0} (d : Devices R W) (now : ℕ) (log : List MarkedCopy)
-    (end : CallEnd) (file : List ℕ) (watch : Watch)
+-- that the call read, and read on behind the sure ones. It goes on behind the entries, by what
+-- that is for a watch of its kind.
+pub record IsOfCallBy {R W : Type 0} (Goes : List MarkedCopy → Watch → Type 0) (d : Devices R W)
+    (now : ℕ) (log : List MarkedCopy) (end : CallEnd) (file : List ℕ) (watch : Watch)
     : Type 0 where
   pub bytes : List ℕ
   pub consumed : Consumes (d.remaining d.reader.inner) (d.remaining d.reader_after.inner) bytes
@@ -62,4 +63,9 @@ pub record IsOfCall {R W : Type 0} (d : Devices R W) (now : ℕ) (log : List Mar
   pub read_on : watch.sure ≡ acting_at now log sure
   pub ended : watch.ending ≡ ending_by end stop
   pub left : watch.file ≡ file
-  pub goes_on : GoesOn log watch
+  pub goes_on : Goes log watch
+
+-- the same where each copy is judged alone
+abbrev pub IsOfCall : {R W : Type 0} → Devices R W → ℕ → List MarkedCopy → CallEnd → List ℕ → Watch
+    → Type 0
+IsOfCall = IsOfCallBy GoesOn

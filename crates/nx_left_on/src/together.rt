@@ -19,6 +19,7 @@ ghost use Rattle.nx_receiver.specs.air_file_runs.Listen.{events_on, given_by};
 ghost use Rattle.nx_station.specs.reception.Sendings.{Part};
 ghost use Rattle.nx_watch.specs.Watch.{PrintsUntilBy, StandsForEntries, Stop, starts_at};
 ghost use Rattle.nx_left_on.specs.Chain.{ClocksAreNear, HadReadBy, IsChainBy, IsLeftPrinting, Watch, acting_at, all_put, answered, events_in, kept_all_at, kept_some_at};
+ghost use Rattle.nx_left_on.specs.Example.{IsWorkedTogether};
 ghost use Rattle.nx_left_on.specs.Together.{IsOver, StandsLast};
 
 /// What the clause `watched` of `nx_watch::watch_combined` says of its file makes it a watch of a
@@ -123,4 +124,11 @@ pub fn a_message_that_stands_there_is_not_put_again()
         → copies_on channel (all_put watches) ≡ earlier ++ copy ∷ later
         → copy.identity ≡ identity → copies_of identity earlier ≡ []
         → IsOver entry (length stands.behind + length (kept_entries earlier)) copy }
+{}
+
+/// There is such a chain, of two watches of a log that was empty at first. The first hears EA01
+/// with the line TEST twice on channel 0, each time without another letter, so no copy is whole;
+/// and its input ends. A watch that starts four hours later hears the same.
+pub fn there_is_a_chain_of_watches_with_a_message_heard_together()
+    ensures { (first second : Watch) × IsWorkedTogether first second }
 {}

@@ -4,6 +4,7 @@ pub mod Program
 pub mod Report
 pub mod WatchCommand
 pub mod WatchRuns
+pub mod KnownStreams
 pub mod Arguments
 pub mod FaultText
 pub mod private

@@ -1,24 +1,28 @@
--- Runs of `navtex watch FILE MOMENT`, without `--combine`, over one log, one after another, and
--- what the log holds then (this profile).
+-- Runs of `navtex watch FILE MOMENT` over one log, one after another, and what the log holds then:
+-- without `--combine` and with it (this profile).
 use Rattle.std.specs.Prelude.{◌≡◌, ◌⊎◌, ⊤, ℕ, List, [], ◌∷◌, ◌++◌, Contains, Option, Some}
 use Rattle.std.specs.Prelude.{Result, Ok, Err}
 use Rattle.clap.specs.Words.{Text}
 use Rattle.nx_disk.specs.Fresh.{IsFresh}
 use Rattle.nx_disk.specs.declared.file.FileFault.{FileFault}
+use Rattle.nx_combine.specs.CombinedPrinting.{combined}
 use Rattle.nx_envelope.specs.Message.{MessageView}
 use Rattle.nx_fec.specs.Transfers.{CountedDevice, Devices, devices}
 use Rattle.nx_fec.specs.declared.air_files.channel.Channel.{Channel}
 use Rattle.nx_kept.specs.declared.disk.DiskFile.{Ghosts as TellsOfDisk}
-use Rattle.nx_left_on.specs.Call.{CallEnd, IsOfCall, TellsAllKept, all_kept, left_at_any_moment}
+use Rattle.nx_left_on.specs.Call.{CallEnd, IsOfCallBy, TellsAllKept, all_kept, left_at_any_moment}
 use Rattle.nx_left_on.specs.Call.{left_behind}
-use Rattle.nx_left_on.specs.Chain.{ClocksAreNear, IsChain, Watch, all_put}
+use Rattle.nx_left_on.specs.Chain.{ClocksAreNear, GoesOn, IsChain, IsChainBy, PutsBy, Watch, all_put}
 use Rattle.nx_left_on.specs.LeftOn.{IsHeardInTimeOver}
+use Rattle.nx_left_on.specs.Together.{IsKeptWhole}
 use Rattle.nx_copies.specs.copies.Shares.{MarkedCopy, copies_on}
 use Rattle.nx_copies.specs.laws.Once.{IsPrintedOnce}
+use Rattle.nx_station.specs.reception.Sendings.{Part}
 use Rattle.nx_watch.specs.Stamp.{Stamp}
 use Rattle.nx_watch.specs.Watch.{StandsForEntries}
 use Rattle.nx_program.specs.WatchCommand.{Beside, WatchesLog, beside}
-use Rattle.nx_program.specs.declared.arguments.Sendings.TheVariants.{Alone}
+use Rattle.nx_program.specs.declared.arguments.Sendings.{Sendings}
+use Rattle.nx_program.specs.declared.arguments.Sendings.TheVariants.{Alone, Together}
 use Rattle.nx_program.specs.declared.fault.Fault.{Fault}
 use Rattle.nx_program.specs.declared.fault.Fault.TheVariants as fault
 use Rattle.nx_program.specs.declared.watch_command.WatchFailure.TheVariants.{Ended}
@@ -86,6 +90,11 @@ call_end kept_all = all_kept
 call_end (cut_behind at) = left_behind at.read
 call_end cut_at_any_moment = left_at_any_moment
 
+-- what it is for a watch to go on behind entries, by how it takes the sendings of a message
+abbrev pub GoesOnTaking : Sendings → List MarkedCopy → Watch → Type 0
+GoesOnTaking Alone = GoesOn
+GoesOnTaking Together = PutsBy combined
+
 module _ {F D R W E : Type 0} (gives : F → List ℕ → Result D FileFault → Type 0)
     (tells : TellsOfDisk D) (remaining : R → Option (List ℕ)) (contents : W → Option (List ℕ))
     (told : E → Option (List ℕ)) where
@@ -115,11 +124,11 @@ module _ {F D R W E : Type 0} (gives : F → List ℕ → Result D FileFault →
   CouldLeave run left =
       (disk : D) × (run.disk_after ≡ Some disk) × Leaves run disk run.ended left
 
-  -- The run did what the program says of a watch that judges each copy by itself. What it found
-  -- explains what its file answered, and it left what it could leave.
-  pub record WasRun (run : WatchRun F D R W E) : Type 0 where
+  -- The run did what the program says of a watch that takes the sendings of a message so. What it
+  -- found explains what its file answered, and it left what it could leave.
+  pub record WasRun (sendings : Sendings) (run : WatchRun F D R W E) : Type 0 where
     pub watched :
-        WatchesLog (streams_of run) (beside_of run) Alone run.name run.moment run.outcome
+        WatchesLog (streams_of run) (beside_of run) sendings run.name run.moment run.outcome
     pub disk : D
     pub handed_back : run.disk_after ≡ Some disk
     pub explained : tells.explains run.found disk
@@ -138,16 +147,16 @@ module _ {F D R W E : Type 0} (gives : F → List ℕ → Result D FileFault →
   -- The runs follow one another over a log that has these bytes, and could have been left as these.
   -- Each found what the one before left, or what stands for the same entries. What a crash could
   -- leave before it is what the one before could leave.
-  abbrev pub FollowOn : List ℕ → (List ℕ → Type 0) → List (WatchRun F D R W E) → Type 0
-  FollowOn file Could [] = ⊤
-  FollowOn file Could (run ∷ runs) =
-      StandsAlike file run.found × WasRun run × ComesBehind Could run run.ended
-      × FollowOn run.left (CouldLeave run) runs
+  abbrev pub FollowOn : Sendings → List ℕ → (List ℕ → Type 0) → List (WatchRun F D R W E) → Type 0
+  FollowOn sendings file Could [] = ⊤
+  FollowOn sendings file Could (run ∷ runs) =
+      StandsAlike file run.found × WasRun sendings run × ComesBehind Could run run.ended
+      × FollowOn sendings run.left (CouldLeave run) runs
 
-  -- The runs, one after another, are of one log that had these bytes at first, and could have been
-  -- left as no others.
-  abbrev pub AreOfOneLog : List ℕ → List (WatchRun F D R W E) → Type 0
-  AreOfOneLog file runs = FollowOn file (λ other. other ≡ file) runs
+  -- The runs, one after another, take the sendings of a message so. They are of one log that had
+  -- these bytes at first, and could have been left as no others.
+  abbrev pub AreOfOneLog : Sendings → List ℕ → List (WatchRun F D R W E) → Type 0
+  AreOfOneLog sendings file runs = FollowOn sendings file (λ other. other ≡ file) runs
 
   -- A run that left these bytes left this file: the same, or what the next one left in turn, which
   -- was cut off at any moment.
@@ -156,25 +165,30 @@ module _ {F D R W E : Type 0} (gives : F → List ℕ → Result D FileFault →
   IsLeftOver left (next ∷ runs) file =
       (file ≡ left) ⊎ ((next.ended ≡ cut_at_any_moment) × IsLeftOver next.left runs file)
 
-  -- the watch is that of the run behind these entries, which left this, with these runs behind it
-  pub record IsWatchOf (log : List MarkedCopy) (run : WatchRun F D R W E)
+  -- The watch is that of the run behind these entries, which left this, with these runs behind it.
+  -- It goes on as watches do that take the sendings of a message so.
+  pub record IsWatchOf (sendings : Sendings) (log : List MarkedCopy) (run : WatchRun F D R W E)
       (runs : List (WatchRun F D R W E)) (watch : Watch)
       : Type 0 where
     pub file : List ℕ
     pub could : CouldLeave run file
     pub left_over : IsLeftOver run.left runs file
-    pub called : IsOfCall (streams_of run) run.moment log (call_end run.ended) file watch
+    pub called : IsOfCallBy (GoesOnTaking sendings) (streams_of run) run.moment log
+        (call_end run.ended) file watch
 
   -- Each is the watch of a run, in order, behind these entries and all put before. A run that was
   -- cut off at any moment may have none: then it left what the one before could leave, or what
   -- stands for the same entries.
-  abbrev pub AreWatchesOf : List MarkedCopy → List (WatchRun F D R W E) → List Watch → Type 0
-  AreWatchesOf log [] [] = ⊤
-  AreWatchesOf log [] (watch ∷ watches) = ⊥
-  AreWatchesOf log (run ∷ runs) [] = (run.ended ≡ cut_at_any_moment) × AreWatchesOf log runs []
-  AreWatchesOf log (run ∷ runs) (watch ∷ watches) =
-      (IsWatchOf log run runs watch × AreWatchesOf (log ++ watch.put) runs watches)
-      ⊎ ((run.ended ≡ cut_at_any_moment) × AreWatchesOf log runs (watch ∷ watches))
+  abbrev pub AreWatchesOf : Sendings → List MarkedCopy → List (WatchRun F D R W E) → List Watch
+      → Type 0
+  AreWatchesOf sendings log [] [] = ⊤
+  AreWatchesOf sendings log [] (watch ∷ watches) = ⊥
+  AreWatchesOf sendings log (run ∷ runs) [] =
+      (run.ended ≡ cut_at_any_moment) × AreWatchesOf sendings log runs []
+  AreWatchesOf sendings log (run ∷ runs) (watch ∷ watches) =
+      (IsWatchOf sendings log run runs watch
+      × AreWatchesOf sendings (log ++ watch.put) runs watches)
+      ⊎ ((run.ended ≡ cut_at_any_moment) × AreWatchesOf sendings log runs (watch ∷ watches))
 
   -- The runs are a chain of watches behind these entries. What the last of them left stands for the
   -- entries, and then for the joined entries of what each put. Where no clock is 66 hours behind, a
@@ -183,9 +197,21 @@ module _ {F D R W E : Type 0} (gives : F → List ℕ → Result D FileFault →
   pub record KeepsOnce (log : List MarkedCopy) (file : List ℕ) (runs : List (WatchRun F D R W E))
       : Type 0 where
     pub watches : List Watch
-    pub of_runs : AreWatchesOf log runs watches
+    pub of_runs : AreWatchesOf Alone log runs watches
     pub chain : IsChain log watches
     pub stands : StandsForEntries (log ++ all_put watches) (left_last file runs)
     pub once : (channel : Channel) (message : MessageView) → ClocksAreNear channel log watches
         → IsHeardInTimeOver channel watches message
         → IsPrintedOnce message (copies_on channel (all_put watches))
+
+  -- The same of runs that take sendings together. What a watch of them heard together stands in the
+  -- log whole, and isn't put again.
+  pub record KeepsWhole (log : List MarkedCopy) (file : List ℕ) (runs : List (WatchRun F D R W E))
+      : Type 0 where
+    pub watches : List Watch
+    pub of_runs : AreWatchesOf Together log runs watches
+    pub chain : IsChainBy combined log watches
+    pub stands : StandsForEntries (log ++ all_put watches) (left_last file runs)
+    pub whole : (before after : List Watch) (watch : Watch) → watches ≡ before ++ watch ∷ after
+        → (channel : Channel) (parts : List Part) (message : MessageView) (numbers : List ℕ)
+        → IsKeptWhole (log ++ all_put before) watch after channel parts message numbers

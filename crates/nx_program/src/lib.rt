@@ -7,6 +7,7 @@ mod commands;
 mod fault;
 mod fault_text;
 mod file_name;
+pub mod known_streams;
 pub mod laws;
 mod log_arguments;
 mod log_command;

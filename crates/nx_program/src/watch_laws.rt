@@ -8,9 +8,10 @@ ghost use Rattle.nx_fec.specs.Transfers.{CountedDevice};
 ghost use Rattle.nx_program.specs.Arguments.{Names};
 ghost use Rattle.nx_program.specs.Report.{Answers};
 ghost use Rattle.nx_program.specs.WatchCommand.{WatchesLog, with_faults};
-ghost use Rattle.nx_program.specs.WatchRuns.{AreOfOneLog, ComesBehind, CouldLeave, KeepsOnce, Leaves, MayBeLeftAsFound, OpensFresh, StandsAlike, WatchRun, beside_of, cut_at_any_moment, streams_of};
+ghost use Rattle.nx_program.specs.WatchRuns.{AreOfOneLog, ComesBehind, CouldLeave, KeepsOnce, KeepsWhole, Leaves, MayBeLeftAsFound, OpensFresh, StandsAlike, WatchRun, beside_of, cut_at_any_moment, streams_of};
 ghost use Rattle.nx_program.specs.declared.arguments.Call.TheVariants.{Watch};
-ghost use Rattle.nx_program.specs.declared.arguments.Sendings.TheVariants.{Alone};
+ghost use Rattle.nx_program.specs.declared.arguments.Sendings.{Sendings};
+ghost use Rattle.nx_program.specs.declared.arguments.Sendings.TheVariants.{Alone, Together};
 ghost use Rattle.nx_program.specs.declared.fault.Fault.{Fault};
 ghost use Rattle.nx_copies.specs.copies.Shares.{MarkedCopy};
 ghost use Rattle.nx_watch.specs.Watch.{StandsForEntries};
@@ -35,9 +36,24 @@ use std::io::{Read, Write};
 pub fn a_message_stands_once_in_the_log_of_runs<F: LogFiles, R: Read, W: Write, E: Write>()
     ensures once { (log : List MarkedCopy) (file : List ℕ) (runs : List (WatchRun F F.Disk R W E))
         → OpensFresh F.gives F.Disk.DiskFile → StandsForEntries log file
-        → AreOfOneLog F.gives F.Disk.DiskFile R.remaining W.contents E.contents file runs
+        → AreOfOneLog F.gives F.Disk.DiskFile R.remaining W.contents E.contents Alone file runs
         → KeepsOnce F.gives F.Disk.DiskFile R.remaining W.contents E.contents log file runs }
     ensures from_nothing { StandsForEntries [] [] }
+{}
+
+/// The same of runs with `--combine`, `navtex watch --combine FILE MOMENT`, of each of which holds
+/// what `answer` says of it. They are a chain of watches that take sendings together, and what the
+/// last one left stands for the entries from before, and then for what each put. A message that is
+/// heard together within one of them, which answered, stands whole once among what it put on the
+/// channel, letter for letter, though each sending may have lost other letters. Its entry stands
+/// last of its identity in the log then, and no later one puts the message again before that is 66
+/// hours old, or 200 entries have been made behind it. Where a run was cut off, the first is said
+/// of a beginning of what it put, by the lines behind which it read on.
+pub fn a_message_stands_whole_in_the_log_of_runs<F: LogFiles, R: Read, W: Write, E: Write>()
+    ensures { (log : List MarkedCopy) (file : List ℕ) (runs : List (WatchRun F F.Disk R W E))
+        → OpensFresh F.gives F.Disk.DiskFile → StandsForEntries log file
+        → AreOfOneLog F.gives F.Disk.DiskFile R.remaining W.contents E.contents Together file runs
+        → KeepsWhole F.gives F.Disk.DiskFile R.remaining W.contents E.contents log file runs }
 {}
 
 /// What a crash could leave before a run is what the run found, or a file of the list that was
@@ -70,12 +86,14 @@ pub fn what_is_found_after_a_fault_is_left<F: LogFiles, R: Read, W: Write, E: Wr
         cut_at_any_moment (F.Disk.seen run.found disk) }
 {}
 
-/// Where a run with the arguments `watch FILE MOMENT`, without `--combine`, hands a file back, the
-/// clause `exits` of `answer` says that it did what a watch does. Standard error is told of as it
-/// stood behind the watch, before a fault was reported there.
+/// Where a run with the arguments `watch FILE MOMENT`, with `--combine` or without it, hands a file
+/// back, the clause `exits` of `answer` says that it did what a watch does that takes the sendings
+/// of a message so. Standard error is told of as it stood behind the watch, before a fault was
+/// reported there.
 pub fn a_run_that_hands_its_log_back_watched_it<F: LogFiles, R: Read, W: Write, E: Write>()
-    ensures { (arguments : List Text) (run : WatchRun F F.Disk R W E) (reported : CountedDevice E)
-        (disk : F.Disk) (status : ℕ) → Names arguments (Watch Alone run.name run.moment)
+    ensures { (arguments : List Text) (sendings : Sendings) (run : WatchRun F F.Disk R W E)
+        (reported : CountedDevice E) (disk : F.Disk) (status : ℕ)
+        → Names arguments (Watch sendings run.name run.moment)
         → run.disk_after ≡ Some disk
         → Answers arguments
         (streams_of F.gives F.Disk.DiskFile R.remaining W.contents E.contents run)
@@ -86,7 +104,7 @@ pub fn a_run_that_hands_its_log_back_watched_it<F: LogFiles, R: Read, W: Write, 
         × WatchesLog (streams_of F.gives F.Disk.DiskFile R.remaining W.contents E.contents run)
         (with_faults (beside_of F.gives F.Disk.DiskFile R.remaining W.contents E.contents run)
         behind)
-        Alone run.name run.moment outcome }
+        sendings run.name run.moment outcome }
 {}
 
 /// Opening a log in the files of the system gives a file of which no call was made.

@@ -89,28 +89,33 @@ none-among channel h n =
     ap elements_among (ap (λ es. at_moment n ∷ es) (events-others channel h bits))
 
 -- lines of elements act
-elements-act : (first : ℕ) (moments indices : List ℕ)
-    → acting_behind first moments (map Some (map (bit_line bits) indices))
-    ≡ map (bit_line bits) indices
-elements-act first moments [] = refl
-elements-act first moments (i ∷ indices) =
-    ap (λ l. bit_line bits i ∷ l) (elements-act first (moments ++ []) indices)
+elements-act : (heard : List Bool) (first : ℕ) (moments indices : List ℕ)
+    → acting_behind first moments (map Some (map (bit_line heard) indices))
+    ≡ map (bit_line heard) indices
+elements-act heard first moments [] = refl
+elements-act heard first moments (i ∷ indices) =
+    ap (λ l. bit_line heard i ∷ l) (elements-act heard first (moments ++ []) indices)
 
 abbrev said_on : ℕ → List (Option Line)
 said_on n = map Some (lines_at n)
 
-lines-act : (start : StartMoments) (n : ℕ) → start.newest ≤ n → n ≤ last_moment
-    → lines_at n ≡ acting_lines start (said_on n)
-lines-act start n low high =
+pub bits-act : (heard : List Bool) (start : StartMoments) (n : ℕ) → start.newest ≤ n
+    → n ≤ last_moment
+    → moment n ∷ bit_lines heard ≡ acting_lines start (map Some (moment n ∷ bit_lines heard))
+bits-act heard start n low high =
     let first = start.newest in
     let range : nat_le n last_moment ≡ true = le-leb n last_moment high in
     let moments = moment_said (Some (moment n)) in
-    let rest = map Some (bit_lines bits) in
+    let rest = map Some (bit_lines heard) in
     sym (ap (λ b. acting_behind first [] (Some (moment n) ∷ cond b rest (with_start start rest)))
     range
     ∙ ap (λ b. cond b (moment n ∷ []) [] ++ acting_behind first moments rest)
     (and_from (nat_le n last_moment) (nat_le first n) range (le-leb first n low))
-    ∙ ap (λ l. moment n ∷ l) (elements-act first moments _))
+    ∙ ap (λ l. moment n ∷ l) (elements-act heard first moments _))
+
+lines-act : (start : StartMoments) (n : ℕ) → start.newest ≤ n → n ≤ last_moment
+    → lines_at n ≡ acting_lines start (said_on n)
+lines-act start n low high = bits-act bits start n low high
 
 -- ---- the copy in them
 

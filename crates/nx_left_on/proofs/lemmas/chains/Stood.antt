@@ -16,33 +16,41 @@ use Rattle.nx_fec.specs.air_files.AirFile.{Line, accept_station, accept_subject,
 use Rattle.nx_fec.specs.air_files.AirFile.{refuse_station, refuse_subject}
 use Rattle.nx_fec.specs.Transfers.{CountedDevice, IsReadOut}
 use Rattle.nx_receiver.specs.air_file_runs.Listen.{given_by}
-use Rattle.nx_copies.specs.copies.InTurn.{PrintsInTurn}
+use Rattle.nx_combine.specs.CombinedPrinting.{combined}
+use Rattle.nx_combine.specs.private.laws.CombinedLaws.{combined-laws}
+use Rattle.nx_copies.specs.copies.FoundCopies.{FoundCopy}
+use Rattle.nx_copies.specs.copies.InTurn.{PrintsInTurnBy}
+use Rattle.nx_copies.specs.copies.Log.{IsPrinting, Printing, plain}
 use Rattle.nx_copies.specs.copies.Shares.{MarkedCopy}
-use Rattle.nx_copies.proofs.lemmas.channels.Added.{nothing-given}
+use Rattle.nx_copies.proofs.lemmas.channels.Added.{nothing-given_by}
+use Rattle.nx_copies.proofs.lemmas.printing.Laws.{plain-laws}
+use Rattle.nx_fec.specs.declared.air_files.channel.Channel.{Channel}
 use Rattle.nx_watch.specs.Acting.{ends_watch, goes_on, goes_on_behind, moment_said, moments_behind}
 use Rattle.nx_watch.specs.Acting.{moments_said, with_start}
 use Rattle.nx_watch.specs.AnyLines.{AreLines, cut_line, ended}
 use Rattle.nx_watch.specs.LineRun.{StopsBehind}
 use Rattle.nx_watch.specs.Stamp.{Stamp}
-use Rattle.nx_watch.specs.Watch.{HasRead, HasWatched, HadKept, KeepsAll}
-use Rattle.nx_watch.specs.Watch.{PrintsUntil, StandsForEntries, StoodAt}
+use Rattle.nx_watch.specs.Watch.{HasRead, HasWatchedBy, HadKept, KeepsAll}
+use Rattle.nx_watch.specs.Watch.{PrintsUntilBy, StandsForEntries, StoodAtBy}
 use Rattle.nx_watch.specs.Watch.{Stop, WatchDevices, at_end, back, moments_at, starts_at, unread}
 use Rattle.nx_watch.specs.Watch.{unwritten}
 use Rattle.nx_watch.specs.declared.lines.line_effects.StartMoments.{StartMoments}
 use Rattle.nx_watch.proofs.lemmas.lines.AnyLine.{AreLines-append}
 use Rattle.nx_watch.proofs.lemmas.lines.Law.{AreLines-one}
 use Rattle.nx_watch.proofs.lemmas.lines.Reading.{AreLines-some}
-use Rattle.nx_watch.specs.Watch.{AnswersStarted, AnswersWatch, HasOpened}
+use Rattle.nx_watch.specs.Watch.{AnswersStartedBy, AnswersWatchBy, HasOpened}
 use Rattle.nx_watch.specs.declared.watch_report.WatchReport.{WatchReport}
 use Rattle.nx_watch.specs.declared.watch_fault.WatchFault.{WatchFault}
 use Rattle.nx_watch.specs.declared.watch_fault.WatchFault.TheVariants.{Open, Damaged, Disk, Memory}
 use Rattle.nx_watch.specs.declared.watch_fault.WatchFault.TheVariants.{Read, Back}
-use Rattle.nx_left_on.specs.Call.{CallEnd, AreSure, IsOfCall, TellsAllKept, all_kept, ending_by}
+use Rattle.nx_left_on.specs.Call.{CallEnd, AreSure, IsOfCallBy, TellsAllKept, all_kept, ending_by}
 use Rattle.nx_left_on.specs.Call.{left_at_any_moment, left_behind}
-use Rattle.nx_left_on.specs.Chain.{IsLeftBy, Watch, acting_at, kept_some_at, with_copies}
+use Rattle.nx_left_on.specs.Chain.{GoesOn, IsLeftPrinting, PutsBy, Watch, acting_at, kept_some_at}
+use Rattle.nx_left_on.specs.Chain.{with_copies}
 use Rattle.nx_left_on.proofs.lemmas.chains.Found.{begins-itself, begins-more}
-use Rattle.nx_left_on.proofs.lemmas.chains.Keeps.{acting-begins, keeps-all, keeps-behind, keeps-some, turn-begins}
-use Rattle.nx_left_on.proofs.lemmas.entries.Judging.{goes-on}
+use Rattle.nx_left_on.proofs.lemmas.chains.Keeps.{acting-begins, keeps-all_by, keeps-behind_by}
+use Rattle.nx_left_on.proofs.lemmas.chains.Keeps.{keeps-some_by, turn-begins_by}
+use Rattle.nx_left_on.proofs.lemmas.entries.Judging.{goes-on, puts-with_by}
 
 -- ---- the lines of a beginning of some bytes
 
@@ -205,253 +213,289 @@ whole-before AtEnd first unwritten bytes lines by_then count rest h are on =
       | inr b ↦ inr (subst (λ l. Begins l by_then) (sym h.2) b, refl)
     ]
 
--- ---- what a crash leaves
+-- How a watch goes on whose receivers print so, which is known by what it puts: some copies are
+-- found and judged.
+pub record GoesSo (printing : Printing) (Goes : List MarkedCopy → Watch → Type 0) : Type 0 where
+  pub laws : IsPrinting printing
+  pub goes : (log : List MarkedCopy) (watch : Watch) → PutsBy printing log watch
+      → (found judged : Channel → List FoundCopy) × Goes log (with_copies watch found judged)
 
-module _ (now : ℕ) (entries copies printed : List MarkedCopy) (lines by_then : List (Option Line))
-    (file : List ℕ) (count : ℕ)
-    (prints : PrintsInTurn (starts_at now entries) (given_by (acting_at now entries by_then))
-    printed) (least : length printed ≤ count) (most : count ≤ length copies)
-    (stands : StandsForEntries (entries ++ take count copies) file)
-  where
-    -- the sure lines: those that were whole, or all
-    abbrev IsSureOf : Stop → List (Option Line) → Type 0
-    IsSureOf stop sure =
-        IsLeftBy now entries (kept_some_at stop) (acting_at now entries lines)
-        (acting_at now entries sure) (take count copies) file
+-- where each copy is judged alone
+pub goes-alone : GoesSo plain GoesOn
+goes-alone = record { laws = plain-laws; goes = goes-on }
 
-    sure-whole : (stop : Stop)
-        → PrintsUntil stop (starts_at now entries) (given_by (acting_at now entries lines)) copies
-        → Begins by_then lines → IsSureOf stop by_then
-    sure-whole stop h b =
-        keeps-behind now entries copies lines by_then file count stop h
-        (record { begins = b; surely = printed; in_turn = prints; least = least }) stands
+-- where copies are taken together, what is put is all that is asked
+pub goes-together : GoesSo combined (PutsBy combined)
+goes-together = record {
+  laws = combined-laws;
+  goes = λ log watch puts.
+      (watch.found, watch.judged, puts-with_by combined log watch watch.found watch.judged puts);
+}
 
-    sure-all : (stop : Stop)
-        → PrintsUntil stop (starts_at now entries) (given_by (acting_at now entries lines)) copies
-        → Begins lines by_then → stop ≡ unwritten → IsSureOf stop lines
-    sure-all stop h b e =
-        let turn : PrintsInTurn (starts_at now entries) (given_by (acting_at now entries lines))
-        copies = subst (λ s. PrintsUntil s (starts_at now entries)
-        (given_by (acting_at now entries lines)) copies) e h in
-        let more = acting-begins (moments_at now (starts_at now entries)) lines by_then b in
-        let begun = turn-begins (starts_at now entries) (acting_at now entries lines) more.0 copies
-        printed turn (subst (λ ls. PrintsInTurn (starts_at now entries) (given_by ls) printed)
-        more.1 prints) in
-        keeps-behind now entries copies lines lines file count stop h
-        (record {
-          begins = begins-itself lines;
-          surely = copies;
-          in_turn = turn;
-          least =
-              omega (arith, least, ap length begun.1 ∙ length-append copies begun.0);
-        }) stands
+module _ {printing : Printing} {Goes : List MarkedCopy → Watch → Type 0}
+    (how : GoesSo printing Goes) where
+  -- ---- what a crash leaves
 
-    sure-of : (stop : Stop)
-        → PrintsUntil stop (starts_at now entries) (given_by (acting_at now entries lines)) copies
-        → IsBefore stop by_then lines → IsSureOf stop (take (length by_then) lines)
-    sure-of stop h (inl b) =
-        subst (IsSureOf stop)
-        (sym (ap (take (length by_then)) b.1 ∙ take-append_seam by_then b.0))
-        (sure-whole stop h b)
-    sure-of stop h (inr k) =
-        let enough : length lines ≤ length by_then =
-        omega (arith, ap length k.0.1 ∙ length-append lines k.0.0) in
-        subst (IsSureOf stop) (sym (take_all (length by_then) lines enough))
-        (sure-all stop h k.0 k.1)
+  module _ (now : ℕ) (entries copies printed : List MarkedCopy) (lines by_then : List (Option Line))
+      (file : List ℕ) (count : ℕ)
+      (prints : PrintsInTurnBy printing (starts_at now entries) (given_by (acting_at now entries
+      by_then))
+      printed) (least : length printed ≤ count) (most : count ≤ length copies)
+      (stands : StandsForEntries (entries ++ take count copies) file)
+    where
+      -- the sure lines: those that were whole, or all
+      abbrev IsSureOf : Stop → List (Option Line) → Type 0
+      IsSureOf stop sure =
+          IsLeftPrinting printing now entries (kept_some_at stop) (acting_at now entries lines)
+          (acting_at now entries sure) (take count copies) file
 
--- a call that read so, and was left so, leaves a watch
-of-call : {D R W N : Type 0} (d : WatchDevices D R W N) (now : ℕ) (entries copies : List MarkedCopy)
-    (stop : Stop) (lines sure : List (Option Line)) (end : CallEnd) (put : List MarkedCopy)
-    (file : List ℕ) (watched : HasWatched d now (starts_at now entries) entries stop lines copies)
-    → AreSure end watched.bytes lines sure
-    → IsLeftBy now entries (ending_by end stop) (acting_at now entries lines)
-    (acting_at now entries sure) put file
-    → (watch : Watch) × IsOfCall d.streams now entries end file watch
-of-call d now entries copies stop lines sure end put file watched are left =
-    let goes = goes-on entries left.watch left.puts in (
-      with_copies left.watch goes.0 goes.1,
-      record {
-        bytes = watched.bytes;
-        consumed = watched.consumed;
-        stop = stop;
-        lines = lines;
-        read = watched.read;
-        sure = sure;
-        are_sure = are;
-        started = left.started;
-        took = left.took;
-        read_on = left.read_on;
-        ended = left.ended;
-        left = left.left;
-        goes_on = goes.2;
-      },
-    )
+      sure-whole : (stop : Stop)
+          → PrintsUntilBy printing stop (starts_at now entries) (given_by (acting_at now entries
+          lines)) copies
+          → Begins by_then lines → IsSureOf stop by_then
+      sure-whole stop h b =
+          keeps-behind_by printing how.laws now entries copies lines by_then file count stop h
+          (record { begins = b; surely = printed; in_turn = prints; least = least }) stands
 
--- behind a read of the input by which no put had failed
-pub left-behind : {D R W N : Type 0} (d : WatchDevices D R W N) (now : ℕ)
-    (entries copies : List MarkedCopy) (stop : Stop) (lines : List (Option Line))
-    (at : Stamp D (CountedDevice W) (CountedDevice N)) (file : List ℕ)
-    (watched : HasWatched d now (starts_at now entries) entries stop lines copies)
-    → Contains d.stamps at → d.tells.faults at.disk ≡ d.tells.faults d.disk
-    → d.tells.left_since d.start d.disk_after (d.tells.moment at.disk) file
-    → (watch : Watch) × IsOfCall d.streams now entries (left_behind at.read) file watch
-left-behind d now entries copies stop lines at file watched there well crash =
-    let stood = All-contains (StoodAt d now (starts_at now entries) entries watched.bytes copies)
-    d.stamps at watched.before_each_read there in
-    let kept : HadKept d entries stood.printed copies at = elim stood.kept [
-      | inl kept ↦ kept
-      | inr written ↦ absurd (omega (arith, well, written.failed))
-    ] in
-    let left = kept.left file crash in
-    let before = whole-before (IsReadOut d.streams ⊎ (length watched.bytes ≡ 9223372036854775807))
-    (moments_at now (starts_at now entries)) stop watched.bytes lines stood.lines at.read stood.rest
-    watched.read stood.whole stood.on in
-    of-call d now entries copies stop lines (take (length stood.lines) lines) (left_behind at.read)
-    (take left.0 copies) file watched (stood.lines, stood.rest, stood.whole, refl)
-    (sure-of now entries copies stood.printed lines stood.lines file left.0 stood.prints left.1
-    left.2 left.3 stop watched.printed before)
+      sure-all : (stop : Stop)
+          → PrintsUntilBy printing stop (starts_at now entries) (given_by (acting_at now entries
+          lines)) copies
+          → Begins lines by_then → stop ≡ unwritten → IsSureOf stop lines
+      sure-all stop h b e =
+          let turn : PrintsInTurnBy printing (starts_at now entries) (given_by (acting_at now
+          entries lines))
+          copies = subst (λ s. PrintsUntilBy printing s (starts_at now entries)
+          (given_by (acting_at now entries lines)) copies) e h in
+          let more = acting-begins (moments_at now (starts_at now entries)) lines by_then b in
+          let begun = turn-begins_by printing how.laws (starts_at now entries) (acting_at now
+          entries lines) more.0 copies
+          printed turn (subst (λ ls. PrintsInTurnBy printing (starts_at now entries) (given_by ls)
+          printed)
+          more.1 prints) in
+          keeps-behind_by printing how.laws now entries copies lines lines file count stop h
+          (record {
+            begins = begins-itself lines;
+            surely = copies;
+            in_turn = turn;
+            least =
+                omega (arith, least, ap length begun.1 ∙ length-append copies begun.0);
+          }) stands
 
--- when all is over, where all is kept
-pub kept-over : {D R W N : Type 0} (d : WatchDevices D R W N) (now : ℕ)
-    (entries copies : List MarkedCopy) (stop : Stop) (lines : List (Option Line)) (file : List ℕ)
-    → HasWatched d now (starts_at now entries) entries stop lines copies
-    → KeepsAll d entries copies
-    → (d.tells.seen d.start d.disk_after ≡ file) ⊎ d.tells.may_leave d.start d.disk_after file
-    → (watch : Watch) × IsOfCall d.streams now entries all_kept file watch
-kept-over d now entries copies stop lines file watched kept over =
-    let stands : StandsForEntries (entries ++ copies) file = elim over [
-      | inl found ↦ subst (StandsForEntries (entries ++ copies)) found kept.found
-      | inr crash ↦ kept.left file crash
-    ] in
-    of-call d now entries copies stop lines lines all_kept copies file watched refl
-    (keeps-all now entries copies lines file stop watched.printed stands)
+      sure-of : (stop : Stop)
+          → PrintsUntilBy printing stop (starts_at now entries) (given_by (acting_at now entries
+          lines)) copies
+          → IsBefore stop by_then lines → IsSureOf stop (take (length by_then) lines)
+      sure-of stop h (inl b) =
+          subst (IsSureOf stop)
+          (sym (ap (take (length by_then)) b.1 ∙ take-append_seam by_then b.0))
+          (sure-whole stop h b)
+      sure-of stop h (inr k) =
+          let enough : length lines ≤ length by_then =
+          omega (arith, ap length k.0.1 ∙ length-append lines k.0.0) in
+          subst (IsSureOf stop) (sym (take_all (length by_then) lines enough))
+          (sure-all stop h k.0 k.1)
 
--- ---- whatever the watch answers
+  -- a call that read so, and was left so, leaves a watch
+  of-call : {D R W N : Type 0} (d : WatchDevices D R W N) (now : ℕ) (entries copies : List
+      MarkedCopy)
+      (stop : Stop) (lines sure : List (Option Line)) (end : CallEnd) (put : List MarkedCopy)
+      (file : List ℕ) (watched : HasWatchedBy d printing now (starts_at now entries) entries stop
+      lines copies)
+      → AreSure end watched.bytes lines sure
+      → IsLeftPrinting printing now entries (ending_by end stop) (acting_at now entries lines)
+      (acting_at now entries sure) put file
+      → (watch : Watch) × IsOfCallBy Goes d.streams now entries end file watch
+  of-call d now entries copies stop lines sure end put file watched are left =
+      let goes = how.goes entries left.watch left.puts in (
+        with_copies left.watch goes.0 goes.1,
+        record {
+          bytes = watched.bytes;
+          consumed = watched.consumed;
+          stop = stop;
+          lines = lines;
+          read = watched.read;
+          sure = sure;
+          are_sure = are;
+          started = left.started;
+          took = left.took;
+          read_on = left.read_on;
+          ended = left.ended;
+          left = left.left;
+          goes_on = goes.2;
+        },
+      )
 
-none-stamped : {A : Type 0} (list : List A) (one : A) → list ≡ [] → Contains list one → ⊥
-none-stamped list one e c =
-    let odd : 0 ≡ length list = sym (ap length e) in omega (arith, odd, c.1)
+  -- behind a read of the input by which no put had failed
+  pub left-behind : {D R W N : Type 0} (d : WatchDevices D R W N) (now : ℕ)
+      (entries copies : List MarkedCopy) (stop : Stop) (lines : List (Option Line))
+      (at : Stamp D (CountedDevice W) (CountedDevice N)) (file : List ℕ)
+      (watched : HasWatchedBy d printing now (starts_at now entries) entries stop lines copies)
+      → Contains d.stamps at → d.tells.faults at.disk ≡ d.tells.faults d.disk
+      → d.tells.left_since d.start d.disk_after (d.tells.moment at.disk) file
+      → (watch : Watch) × IsOfCallBy Goes d.streams now entries (left_behind at.read) file watch
+  left-behind d now entries copies stop lines at file watched there well crash =
+      let stood = All-contains (StoodAtBy d printing now (starts_at now entries) entries
+      watched.bytes copies)
+      d.stamps at watched.before_each_read there in
+      let kept : HadKept d entries stood.printed copies at = elim stood.kept [
+        | inl kept ↦ kept
+        | inr written ↦ absurd (omega (arith, well, written.failed))
+      ] in
+      let left = kept.left file crash in
+      let before = whole-before (IsReadOut d.streams ⊎ (length watched.bytes ≡ 9223372036854775807))
+      (moments_at now (starts_at now entries)) stop watched.bytes lines stood.lines at.read
+      stood.rest
+      watched.read stood.whole stood.on in
+      of-call d now entries copies stop lines (take (length stood.lines) lines) (left_behind
+      at.read)
+      (take left.0 copies) file watched (stood.lines, stood.rest, stood.whole, refl)
+      (sure-of now entries copies stood.printed lines stood.lines file left.0 stood.prints left.1
+      left.2 left.3 stop watched.printed before)
 
-module _ {D R W N : Type 0} (d : WatchDevices D R W N) (now : ℕ) (entries : List MarkedCopy)
-    (at : Stamp D (CountedDevice W) (CountedDevice N)) (file : List ℕ)
-    (there : Contains d.stamps at)
-    (well : d.tells.faults at.disk ≡ d.tells.faults d.disk)
-    (crash : d.tells.left_since d.start d.disk_after (d.tells.moment at.disk) file)
-  where
-    -- a watch that the call leaves
-    abbrev LeavesWatch : Type 0
-    LeavesWatch = (watch : Watch) × IsOfCall d.streams now entries (left_behind at.read) file watch
+  -- when all is over, where all is kept
+  pub kept-over : {D R W N : Type 0} (d : WatchDevices D R W N) (now : ℕ)
+      (entries copies : List MarkedCopy) (stop : Stop) (lines : List (Option Line)) (file : List ℕ)
+      → HasWatchedBy d printing now (starts_at now entries) entries stop lines copies
+      → KeepsAll d entries copies
+      → (d.tells.seen d.start d.disk_after ≡ file) ⊎ d.tells.may_leave d.start d.disk_after file
+      → (watch : Watch) × IsOfCallBy Goes d.streams now entries all_kept file watch
+  kept-over d now entries copies stop lines file watched kept over =
+      let stands : StandsForEntries (entries ++ copies) file = elim over [
+        | inl found ↦ subst (StandsForEntries (entries ++ copies)) found kept.found
+        | inr crash ↦ kept.left file crash
+      ] in
+      of-call d now entries copies stop lines lines all_kept copies file watched refl
+      (keeps-all_by printing how.laws now entries copies lines file stop watched.printed stands)
 
-    started-left : (outcome : Result WatchReport WatchFault)
-        → AnswersStarted d now (starts_at now entries) entries outcome → LeavesWatch
-    started-left outcome s = left-behind d now entries s.2 s.0 s.1 at file s.3 there well crash
+  -- ---- whatever the watch answers
 
-    opened-left : HasOpened d entries → LeavesWatch
-    opened-left o = absurd (none-stamped d.stamps at o.unstamped there)
+  none-stamped : {A : Type 0} (list : List A) (one : A) → list ≡ [] → Contains list one → ⊥
+  none-stamped list one e c =
+      let odd : 0 ≡ length list = sym (ap length e) in omega (arith, odd, c.1)
 
-    pub answer-left : (outcome : Result WatchReport WatchFault)
-        → AnswersWatch d now entries outcome → LeavesWatch
-    answer-left (Err Open) h = opened-left h
-    answer-left (Err Memory) h = opened-left h
-    answer-left (Err (Damaged line)) h = absurd h
-    answer-left (Err Disk) h = elim h [
-      | inl o ↦ opened-left o
-      | inr s ↦ started-left (Err Disk) s
-    ]
-    answer-left (Err Read) h = started-left (Err Read) h
-    answer-left (Err (Back line last given)) h = started-left (Err (Back line last given)) h
-    answer-left (Ok report) h = started-left (Ok report) h
+  module _ {D R W N : Type 0} (d : WatchDevices D R W N) (now : ℕ) (entries : List MarkedCopy)
+      (at : Stamp D (CountedDevice W) (CountedDevice N)) (file : List ℕ)
+      (there : Contains d.stamps at)
+      (well : d.tells.faults at.disk ≡ d.tells.faults d.disk)
+      (crash : d.tells.left_since d.start d.disk_after (d.tells.moment at.disk) file)
+    where
+      -- a watch that the call leaves
+      abbrev LeavesWatch : Type 0
+      LeavesWatch = (watch : Watch) × IsOfCallBy Goes d.streams now entries (left_behind at.read)
+          file watch
 
-module _ {D R W N : Type 0} (d : WatchDevices D R W N) (now : ℕ) (entries : List MarkedCopy)
-    (file : List ℕ)
-    (over : (d.tells.seen d.start d.disk_after ≡ file)
-    ⊎ d.tells.may_leave d.start d.disk_after file)
-  where
-    -- a watch that the call leaves, at its end
-    abbrev LeavesAtEnd : Type 0
-    LeavesAtEnd = (watch : Watch) × IsOfCall d.streams now entries all_kept file watch
+      started-left : (outcome : Result WatchReport WatchFault)
+          → AnswersStartedBy d printing now (starts_at now entries) entries outcome → LeavesWatch
+      started-left outcome s = left-behind d now entries s.2 s.0 s.1 at file s.3 there well crash
 
-    started-over : (outcome : Result WatchReport WatchFault)
-        → AnswersStarted d now (starts_at now entries) entries outcome
-        → (outcome ≡ Err Disk → ⊥) → LeavesAtEnd
-    started-over outcome s other = elim s.4 [
-      | inl k ↦ kept-over d now entries s.2 s.0 s.1 file s.3 k.0 over
-      | inr k ↦ absurd (other k.1)
-    ]
+      opened-left : HasOpened d entries → LeavesWatch
+      opened-left o = absurd (none-stamped d.stamps at o.unstamped there)
 
-    pub answer-over : (outcome : Result WatchReport WatchFault)
-        → AnswersWatch d now entries outcome → TellsAllKept outcome → LeavesAtEnd
-    answer-over (Err Open) h t = absurd t
-    answer-over (Err Memory) h t = absurd t
-    answer-over (Err (Damaged line)) h t = absurd t
-    answer-over (Err Disk) h t = absurd t
-    answer-over (Err Read) h t = started-over (Err Read) h (λ e. cc)
-    answer-over (Err (Back line last given)) h t =
-        started-over (Err (Back line last given)) h (λ e. cc)
-    answer-over (Ok report) h t = started-over (Ok report) h (λ e. cc)
+      pub answer-left : (outcome : Result WatchReport WatchFault)
+          → AnswersWatchBy d printing now entries outcome → LeavesWatch
+      answer-left (Err Open) h = opened-left h
+      answer-left (Err Memory) h = opened-left h
+      answer-left (Err (Damaged line)) h = absurd h
+      answer-left (Err Disk) h = elim h [
+        | inl o ↦ opened-left o
+        | inr s ↦ started-left (Err Disk) s
+      ]
+      answer-left (Err Read) h = started-left (Err Read) h
+      answer-left (Err (Back line last given)) h = started-left (Err (Back line last given)) h
+      answer-left (Ok report) h = started-left (Ok report) h
 
--- ---- at any moment, before the first read too
+  module _ {D R W N : Type 0} (d : WatchDevices D R W N) (now : ℕ) (entries : List MarkedCopy)
+      (file : List ℕ)
+      (over : (d.tells.seen d.start d.disk_after ≡ file)
+      ⊎ d.tells.may_leave d.start d.disk_after file)
+    where
+      -- a watch that the call leaves, at its end
+      abbrev LeavesAtEnd : Type 0
+      LeavesAtEnd = (watch : Watch) × IsOfCallBy Goes d.streams now entries all_kept file watch
 
--- a call that read nothing, and left what stands for the entries, leaves a watch
-unheard : {D R W N : Type 0} (d : WatchDevices D R W N) (now : ℕ) (entries : List MarkedCopy)
-    (file : List ℕ) → d.streams.reader_after ≡ d.streams.reader → StandsForEntries entries file
-    → (watch : Watch) × IsOfCall d.streams now entries left_at_any_moment file watch
-unheard d now entries file unread_so stands =
-    let left = keeps-some now entries [] [] file 0 unread (nothing-given (starts_at now entries))
-    (subst (λ es. StandsForEntries es file) (sym (append-nil entries)) stands) in
-    let goes = goes-on entries left.watch left.puts in (
-      with_copies left.watch goes.0 goes.1,
-      record {
-        bytes = [];
-        consumed = subst (λ r. Consumes (d.streams.remaining d.streams.reader.inner)
-            (d.streams.remaining r.inner) []) (sym unread_so)
-            (Consumes-nil (d.streams.remaining d.streams.reader.inner));
-        stop = unread;
-        lines = [];
-        read = ([], record { texts = []; whole = refl; each = tt; part = tt }, refl);
-        sure = [];
-        are_sure = refl;
-        started = left.started;
-        took = left.took;
-        read_on = left.read_on;
-        ended = left.ended;
-        left = left.left;
-        goes_on = goes.2;
-      },
-    )
+      started-over : (outcome : Result WatchReport WatchFault)
+          → AnswersStartedBy d printing now (starts_at now entries) entries outcome
+          → (outcome ≡ Err Disk → ⊥) → LeavesAtEnd
+      started-over outcome s other = elim s.4 [
+        | inl k ↦ kept-over d now entries s.2 s.0 s.1 file s.3 k.0 over
+        | inr k ↦ absurd (other k.1)
+      ]
 
-module _ {D R W N : Type 0} (d : WatchDevices D R W N) (now : ℕ) (entries : List MarkedCopy)
-    (file : List ℕ)
-    (crash : d.tells.left_since d.start d.disk_after (d.tells.moment d.disk) file)
-  where
-    -- what could be left before the call, or a watch
-    abbrev LeavesSome : Type 0
-    LeavesSome = d.tells.may_leave d.start d.disk file
-        ⊎ ((watch : Watch) × IsOfCall d.streams now entries left_at_any_moment file watch)
+      pub answer-over : (outcome : Result WatchReport WatchFault)
+          → AnswersWatchBy d printing now entries outcome → TellsAllKept outcome → LeavesAtEnd
+      answer-over (Err Open) h t = absurd t
+      answer-over (Err Memory) h t = absurd t
+      answer-over (Err (Damaged line)) h t = absurd t
+      answer-over (Err Disk) h t = absurd t
+      answer-over (Err Read) h t = started-over (Err Read) h (λ e. cc)
+      answer-over (Err (Back line last given)) h t =
+          started-over (Err (Back line last given)) h (λ e. cc)
+      answer-over (Ok report) h t = started-over (Ok report) h (λ e. cc)
 
-    started-some : (outcome : Result WatchReport WatchFault)
-        → AnswersStarted d now (starts_at now entries) entries outcome → LeavesSome
-    started-some outcome s = elim (s.3.any_moment.each file crash) [
-      | inl before ↦ inl before
-      | inr k ↦ inr (of-call d now entries s.2 s.0 s.1 [] left_at_any_moment (take k.0 s.2) file
-          s.3 refl (keeps-some now entries s.2 s.1 file k.0 s.0 s.3.printed k.2))
-    ]
+  -- ---- at any moment, before the first read too
 
-    opened-some : HasOpened d entries → LeavesSome
-    opened-some o = elim (o.any_moment.each file crash) [
-      | inl before ↦ inl before
-      | inr stands ↦ inr (unheard d now entries file o.unread stands)
-    ]
+  -- a call that read nothing, and left what stands for the entries, leaves a watch
+  unheard : {D R W N : Type 0} (d : WatchDevices D R W N) (now : ℕ) (entries : List MarkedCopy)
+      (file : List ℕ) → d.streams.reader_after ≡ d.streams.reader → StandsForEntries entries file
+      → (watch : Watch) × IsOfCallBy Goes d.streams now entries left_at_any_moment file watch
+  unheard d now entries file unread_so stands =
+      let left = keeps-some_by printing how.laws now entries [] [] file 0 unread (nothing-given_by
+      printing how.laws (starts_at now entries))
+      (subst (λ es. StandsForEntries es file) (sym (append-nil entries)) stands) in
+      let goes = how.goes entries left.watch left.puts in (
+        with_copies left.watch goes.0 goes.1,
+        record {
+          bytes = [];
+          consumed = subst (λ r. Consumes (d.streams.remaining d.streams.reader.inner)
+              (d.streams.remaining r.inner) []) (sym unread_so)
+              (Consumes-nil (d.streams.remaining d.streams.reader.inner));
+          stop = unread;
+          lines = [];
+          read = ([], record { texts = []; whole = refl; each = tt; part = tt }, refl);
+          sure = [];
+          are_sure = refl;
+          started = left.started;
+          took = left.took;
+          read_on = left.read_on;
+          ended = left.ended;
+          left = left.left;
+          goes_on = goes.2;
+        },
+      )
 
-    pub answer-some : (outcome : Result WatchReport WatchFault)
-        → AnswersWatch d now entries outcome → LeavesSome
-    answer-some (Err Open) h = opened-some h
-    answer-some (Err Memory) h = opened-some h
-    answer-some (Err (Damaged line)) h = absurd h
-    answer-some (Err Disk) h = elim h [
-      | inl o ↦ opened-some o
-      | inr s ↦ started-some (Err Disk) s
-    ]
-    answer-some (Err Read) h = started-some (Err Read) h
-    answer-some (Err (Back line last given)) h = started-some (Err (Back line last given)) h
-    answer-some (Ok report) h = started-some (Ok report) h
+  module _ {D R W N : Type 0} (d : WatchDevices D R W N) (now : ℕ) (entries : List MarkedCopy)
+      (file : List ℕ)
+      (crash : d.tells.left_since d.start d.disk_after (d.tells.moment d.disk) file)
+    where
+      -- what could be left before the call, or a watch
+      abbrev LeavesSome : Type 0
+      LeavesSome = d.tells.may_leave d.start d.disk file
+          ⊎ ((watch : Watch) × IsOfCallBy Goes d.streams now entries left_at_any_moment file watch)
+
+      started-some : (outcome : Result WatchReport WatchFault)
+          → AnswersStartedBy d printing now (starts_at now entries) entries outcome → LeavesSome
+      started-some outcome s = elim (s.3.any_moment.each file crash) [
+        | inl before ↦ inl before
+        | inr k ↦ inr (of-call d now entries s.2 s.0 s.1 [] left_at_any_moment (take k.0 s.2) file
+            s.3 refl (keeps-some_by printing how.laws now entries s.2 s.1 file k.0 s.0 s.3.printed
+            k.2))
+      ]
+
+      opened-some : HasOpened d entries → LeavesSome
+      opened-some o = elim (o.any_moment.each file crash) [
+        | inl before ↦ inl before
+        | inr stands ↦ inr (unheard d now entries file o.unread stands)
+      ]
+
+      pub answer-some : (outcome : Result WatchReport WatchFault)
+          → AnswersWatchBy d printing now entries outcome → LeavesSome
+      answer-some (Err Open) h = opened-some h
+      answer-some (Err Memory) h = opened-some h
+      answer-some (Err (Damaged line)) h = absurd h
+      answer-some (Err Disk) h = elim h [
+        | inl o ↦ opened-some o
+        | inr s ↦ started-some (Err Disk) s
+      ]
+      answer-some (Err Read) h = started-some (Err Read) h
+      answer-some (Err (Back line last given)) h = started-some (Err (Back line last given)) h
+      answer-some (Ok report) h = started-some (Ok report) h

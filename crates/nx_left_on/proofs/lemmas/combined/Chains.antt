@@ -38,7 +38,7 @@ use Rattle.nx_watch.specs.Watch.{StandsForEntries, all_saved_at, moments_at}
 use Rattle.nx_left_on.specs.Chain.{ClocksAreNear, Ending, IsChainBy, PrintOfBy, PutAll, PutsBy}
 use Rattle.nx_left_on.specs.Chain.{Watch, all_put, answered, events_in, lines_of, stopped}
 use Rattle.nx_left_on.specs.Chain.{stopped_closing}
-use Rattle.nx_left_on.specs.Together.{IsOver, StandsLast}
+use Rattle.nx_left_on.specs.Together.{IsKeptWhole, IsOver, StandsLast}
 use Rattle.nx_left_on.proofs.lemmas.Acting.{acting-act}
 use Rattle.nx_left_on.proofs.lemmas.chains.Chains.{entries-append, entries_on, kept-append, known-is}
 use Rattle.nx_left_on.proofs.lemmas.chains.Chains.{newest-before}
@@ -420,3 +420,41 @@ module _ (channel : Channel) (identity : Identity) (entry : MemoryEntry)
   chain-over log (watch ∷ watches) chain near s earlier later copy e is first =
       next-over log watch watches (chain-over (log ++ watch.put) watches) chain near s earlier later
       copy e is first
+
+-- ---- both, of one watch among others
+
+by-chain-behind : (log : List MarkedCopy) (before after : List Watch) (watch : Watch)
+    → IsChainBy combined log (before ++ watch ∷ after)
+    → IsChainBy combined (log ++ all_put before ++ watch.put) after
+by-chain-behind log [] after watch chain =
+    subst (λ entries. IsChainBy combined (entries ++ watch.put) after) (sym (append-nil log))
+    chain.1
+by-chain-behind log (one ∷ before) after watch chain =
+    subst (λ entries. IsChainBy combined (entries ++ watch.put) after)
+    (append_assoc log one.put (all_put before))
+    (by-chain-behind (log ++ one.put) before after watch chain.1)
+
+pub chain-whole : (log : List MarkedCopy) (before after : List Watch) (watch : Watch)
+    → IsChainBy combined log (before ++ watch ∷ after)
+    → (channel : Channel) (parts : List Part) (message : MessageView) (numbers : List ℕ)
+    → IsKeptWhole (log ++ all_put before) watch after channel parts message numbers
+chain-whole log before after watch chain channel parts message numbers =
+    let puts = by-chain-at log before after watch chain in
+    let front = log ++ all_put before in
+    record {
+      answered_whole = λ is heard came.
+          let last = whole-last front watch puts channel parts message numbers is heard came in (
+            whole-answered front watch puts channel parts message numbers is heard came,
+            record {
+              entry = last.0;
+              named = last.1;
+              last = last.2;
+              not_again = λ near earlier later copy e named first.
+                  chain-over channel message.identity last.0 heard.numbered last.1
+                  (front ++ watch.put) after (by-chain-behind log before after watch chain) near
+                  last.2 earlier later copy e named first;
+            },
+          );
+      surely_whole = λ heard came.
+          whole-surely front watch puts channel parts message numbers heard came;
+    }

@@ -10,14 +10,14 @@ use Rattle.nx_copies.specs.Events.{Event, Setting, Start, elements_among, first_
 use Rattle.nx_copies.specs.copies.FoundCopies.{FoundCopy, TaggedCopy, ended_so_far, found_to_end, tag}
 use Rattle.nx_copies.specs.copies.FoundCopies.{tagged_copies}
 use Rattle.nx_receiver.specs.air_file_runs.Listen.{events_on, given_by, given_of}
-use Rattle.nx_copies.specs.copies.Log.{printed_of}
+use Rattle.nx_copies.specs.copies.Log.{Printing, plain, printed_of}
 use Rattle.nx_copies.specs.copies.Printing.{entries_after, entry_made, if_printed, is_printed}
 use Rattle.nx_copies.specs.copies.Printing.{printed_copies}
 use Rattle.nx_copies.specs.copies.Shares.{MarkedCopy, Starts, copies_on, share, start_on}
 use Rattle.nx_copies.proofs.lemmas.channels.Shares.{copies_on-append, share-append, to_end-on}
 use Rattle.nx_copies.proofs.lemmas.printing.Logged.{ended_placed, printed_copies-append}
 use Rattle.nx_copies.proofs.lemmas.printing.Logged.{tagged_copies-more}
-use Rattle.nx_left_on.specs.Chain.{AreFoundOf, Ending, GoesOn, HadEnded, PrintOf, Puts}
+use Rattle.nx_left_on.specs.Chain.{AreFoundOf, Ending, GoesOn, HadEnded, PrintOf, Puts, PutsBy}
 use Rattle.nx_left_on.specs.Chain.{Watch, answered, events_in, lines_of, start_in, stopped}
 use Rattle.nx_left_on.specs.Chain.{stopped_closing, with_copies}
 use Rattle.nx_left_on.proofs.lemmas.chains.Found.{begins-more, ended-begin, ended-found, one-ended}
@@ -221,9 +221,10 @@ has-judged log watch channel p =
     }
 
 -- what is put doesn't tell which copies are found and judged
-pub puts-with : (log : List MarkedCopy) (watch : Watch) (found judged : Channel → List FoundCopy)
-    → Puts log watch → Puts log (with_copies watch found judged)
-puts-with log watch found judged p = record {
+pub puts-with_by : (printing : Printing) (log : List MarkedCopy) (watch : Watch)
+    (found judged : Channel → List FoundCopy) → PutsBy printing log watch
+    → PutsBy printing log (with_copies watch found judged)
+puts-with_by printing log watch found judged p = record {
   begins = p.begins;
   said = p.said;
   acted = p.acted;
@@ -236,6 +237,10 @@ puts-with log watch found judged p = record {
   all = p.all;
   stands = p.stands;
 }
+
+pub puts-with : (log : List MarkedCopy) (watch : Watch) (found judged : Channel → List FoundCopy)
+    → Puts log watch → Puts log (with_copies watch found judged)
+puts-with = puts-with_by plain
 
 pub goes-on : (log : List MarkedCopy) (watch : Watch) → Puts log watch
     → (found judged : Channel → List FoundCopy) × GoesOn log (with_copies watch found judged)

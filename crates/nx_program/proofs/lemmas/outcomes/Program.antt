@@ -120,7 +120,7 @@ check-status (check.Emission (emission.Unpaired position)) = inr refl
 check-status (check.Emission emission.BadEnvelope) = inr refl
 check-status (check.Emission (emission.Memory want)) = inl refl
 
-listen-status : (why : ListenFault) → (listen_status why ≡ 1) ⊎ (listen_status why ≡ 2)
+pub listen-status : (why : ListenFault) → (listen_status why ≡ 1) ⊎ (listen_status why ≡ 2)
 listen-status listen.Read = inl refl
 listen-status listen.AirTooLong = inr refl
 listen-status (listen.LineLong line) = inr refl

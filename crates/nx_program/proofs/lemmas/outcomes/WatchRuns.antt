@@ -7,26 +7,30 @@ use Rattle.nx_disk.specs.Fresh.{IsFresh}
 use Rattle.nx_disk.specs.declared.file.FileFault.{FileFault}
 use Rattle.nx_fec.specs.Transfers.{CountedDevice, Devices}
 use Rattle.nx_kept.specs.declared.disk.DiskFile.{Ghosts as TellsOfDisk}
-use Rattle.nx_left_on.specs.Call.{IsOfCall, TellsAllKept}
-use Rattle.nx_left_on.specs.Chain.{IsChain, Watch, all_put}
+use Rattle.nx_combine.specs.CombinedPrinting.{combined}
+use Rattle.nx_left_on.specs.Call.{IsOfCallBy, TellsAllKept}
+use Rattle.nx_left_on.specs.Chain.{IsChain, IsChainBy, Watch, all_put}
 use Rattle.nx_left_on.proofs.lemmas.chains.Once.{put-once}
-use Rattle.nx_left_on.proofs.lemmas.chains.Stood.{answer-left, answer-over, answer-some}
+use Rattle.nx_left_on.proofs.lemmas.chains.Stood.{GoesSo, answer-left, answer-over, answer-some}
+use Rattle.nx_left_on.proofs.lemmas.chains.Stood.{goes-alone, goes-together}
+use Rattle.nx_left_on.proofs.lemmas.combined.Chains.{chain-whole}
 use Rattle.nx_copies.specs.copies.Shares.{MarkedCopy}
 use Rattle.nx_watch.specs.Stamp.{Stamp}
-use Rattle.nx_watch.specs.Watch.{AnswersWatch, StandsForEntries}
+use Rattle.nx_watch.specs.Watch.{AnswersWatchBy, StandsForEntries}
 use Rattle.nx_watch.specs.declared.watch_report.WatchReport.{WatchReport}
 use Rattle.nx_watch.specs.declared.watch_fault.WatchFault.{WatchFault}
 use Rattle.nx_program.specs.Arguments.{Names}
 use Rattle.nx_program.specs.Report.{Answers}
 use Rattle.nx_program.specs.WatchCommand.{Beside, WatchesFile, WatchesLog, devices_of, watch_outcome}
-use Rattle.nx_program.specs.WatchCommand.{with_faults}
+use Rattle.nx_program.specs.WatchCommand.{printing_of, with_faults}
 use Rattle.nx_program.specs.declared.arguments.Call.TheVariants.{Watch as WatchCall}
 use Rattle.nx_program.specs.declared.arguments.Sendings.{Sendings}
-use Rattle.nx_program.specs.declared.arguments.Sendings.TheVariants.{Alone}
+use Rattle.nx_program.specs.declared.arguments.Sendings.TheVariants.{Alone, Together}
 use Rattle.nx_program.specs.declared.fault.Fault.{Fault}
 use Rattle.nx_program.proofs.lemmas.arguments.Arguments.{named_once}
 use Rattle.nx_program.specs.WatchRuns.{AreOfOneLog, AreWatchesOf, ComesBehind, CouldLeave, FollowOn}
-use Rattle.nx_program.specs.WatchRuns.{HasKeptAll, IsLeftOver, KeepsOnce, Leaves, OpensFresh, RunEnd}
+use Rattle.nx_program.specs.WatchRuns.{GoesOnTaking, HasKeptAll, IsLeftOver, KeepsOnce, KeepsWhole}
+use Rattle.nx_program.specs.WatchRuns.{Leaves, OpensFresh, RunEnd}
 use Rattle.nx_program.specs.WatchRuns.{StandsAlike, WasRun, WatchRun, beside_of, call_end}
 use Rattle.nx_program.specs.WatchRuns.{cut_at_any_moment, cut_behind, kept_all, left_last}
 use Rattle.nx_program.specs.WatchRuns.{streams_of}
@@ -74,9 +78,34 @@ hands-back arguments d b reported sendings name moment disk status named back an
       | inr (inr ends) ↦ absurd (none-some b.disk_after disk ends.0.unopened back)
     ]
 
+-- ---- watches that take the sendings of a message so
+
+goes-taking : (sendings : Sendings) → GoesSo (printing_of sendings) (GoesOnTaking sendings)
+goes-taking Alone = goes-alone
+goes-taking Together = goes-together
+
+abbrev IsChainTaking : Sendings → List MarkedCopy → List Watch → Type 0
+IsChainTaking Alone = IsChain
+IsChainTaking Together = IsChainBy combined
+
+chain-none : (sendings : Sendings) (log : List MarkedCopy) → IsChainTaking sendings log []
+chain-none Alone log = tt
+chain-none Together log = tt
+
+chain-more : (sendings : Sendings) (log : List MarkedCopy) (watch : Watch) (watches : List Watch)
+    → GoesOnTaking sendings log watch → IsChainTaking sendings (log ++ watch.put) watches
+    → IsChainTaking sendings log (watch ∷ watches)
+chain-more Alone log watch watches goes chain = (goes, chain)
+chain-more Together log watch watches goes chain = (goes, chain)
+
+put-stands : (sendings : Sendings) (log : List MarkedCopy) (watch : Watch)
+    → GoesOnTaking sendings log watch → StandsForEntries (log ++ watch.put) watch.file
+put-stands Alone log watch goes = goes.puts.stands
+put-stands Together log watch goes = goes.stands
+
 module _ {F D R W E : Type 0} (gives : F → List ℕ → Result D FileFault → Type 0)
     (tells : TellsOfDisk D) (remaining : R → Option (List ℕ)) (contents : W → Option (List ℕ))
-    (told : E → Option (List ℕ)) (fresh : OpensFresh gives tells) where
+    (told : E → Option (List ℕ)) (fresh : OpensFresh gives tells) (sendings : Sendings) where
   abbrev Run : Type 0
   Run = WatchRun F D R W E
 
@@ -85,8 +114,8 @@ module _ {F D R W E : Type 0} (gives : F → List ℕ → Result D FileFault →
   abbrev LeavesSo : (List ℕ → Type 0) → List MarkedCopy → (run : Run)
       → RunEnd (Stamp D (CountedDevice W) (CountedDevice E)) → List ℕ → Type 0
   LeavesSo Could log run end file =
-      ((watch : Watch) × IsOfCall (streams_of gives tells remaining contents told run) run.moment
-      log (call_end end) file watch)
+      ((watch : Watch) × IsOfCallBy (GoesOnTaking sendings)
+      (streams_of gives tells remaining contents told run) run.moment log (call_end end) file watch)
       ⊎ ((end ≡ cut_at_any_moment) × (Could file ⊎ StandsAlike run.found file))
 
   -- what the program tells as all kept, the watch answered so
@@ -100,14 +129,15 @@ module _ {F D R W E : Type 0} (gives : F → List ℕ → Result D FileFault →
   module _ (run : Run) (log : List MarkedCopy) (disk disk_after : D)
       (answer : Result WatchReport WatchFault)
       (file : WatchesFile (streams_of gives tells remaining contents told run)
-      (beside_of gives tells remaining contents told run) Alone run.moment disk disk_after answer)
+      (beside_of gives tells remaining contents told run) sendings run.moment disk disk_after
+      answer)
       (told_so : run.outcome ≡ watch_outcome run.name answer)
       (given : gives run.files run.name (Ok disk))
       (explained : tells.explains run.found disk_after)
       (stands : StandsForEntries log run.found) where
-    answered-so : AnswersWatch (devices_of (streams_of gives tells remaining contents told run)
-        (beside_of gives tells remaining contents told run) disk disk_after run.found) run.moment
-        log answer
+    answered-so : AnswersWatchBy (devices_of (streams_of gives tells remaining contents told run)
+        (beside_of gives tells remaining contents told run) disk disk_after run.found)
+        (printing_of sendings) run.moment log answer
     answered-so =
         file.watched run.found log explained
         (subst (StandsForEntries log)
@@ -119,17 +149,20 @@ module _ {F D R W E : Type 0} (gives : F → List ℕ → Result D FileFault →
         → Leaves gives tells remaining contents told run disk_after end file
         → LeavesSo Could log run end file
     file-leaves Could file kept_all begins h =
-        inl (answer-over (devices_of (streams_of gives tells remaining contents told run)
+        inl (answer-over (goes-taking sendings)
+        (devices_of (streams_of gives tells remaining contents told run)
         (beside_of gives tells remaining contents told run) disk disk_after run.found) run.moment
         log file h.1 answer answered-so
         (tells-kept run run.name answer (subst HasKeptAll told_so h.0)))
     file-leaves Could file (cut_behind at) begins h =
-        inl (answer-left (devices_of (streams_of gives tells remaining contents told run)
+        inl (answer-left (goes-taking sendings)
+        (devices_of (streams_of gives tells remaining contents told run)
         (beside_of gives tells remaining contents told run) disk disk_after run.found) run.moment
         log at file h.0
         (h.1 ∙ sym ((fresh run.files run.name disk given).1.no_faults)) h.2 answer answered-so)
     file-leaves Could file cut_at_any_moment begins h =
-        elim (answer-some (devices_of (streams_of gives tells remaining contents told run)
+        elim (answer-some (goes-taking sendings)
+        (devices_of (streams_of gives tells remaining contents told run)
         (beside_of gives tells remaining contents told run) disk disk_after run.found) run.moment
         log file (subst (λ t. tells.left_since run.found disk_after t file)
         (sym ((fresh run.files run.name disk given).1.no_moment)) h) answer answered-so) [
@@ -141,7 +174,7 @@ module _ {F D R W E : Type 0} (gives : F → List ℕ → Result D FileFault →
   log-leaves : (Could : List ℕ → Type 0) (run : Run) (log : List MarkedCopy) (disk : D)
       (file : List ℕ)
       → WatchesLog (streams_of gives tells remaining contents told run)
-      (beside_of gives tells remaining contents told run) Alone run.name run.moment run.outcome
+      (beside_of gives tells remaining contents told run) sendings run.name run.moment run.outcome
       → run.disk_after ≡ Some disk → tells.explains run.found disk
       → ComesBehind gives tells remaining contents told Could run run.ended
       → Leaves gives tells remaining contents told run disk run.ended file
@@ -156,7 +189,7 @@ module _ {F D R W E : Type 0} (gives : F → List ℕ → Result D FileFault →
       (sym same) left)
 
   run-leaves : (Could : List ℕ → Type 0) (run : Run) (log : List MarkedCopy) (file : List ℕ)
-      → WasRun gives tells remaining contents told run
+      → WasRun gives tells remaining contents told sendings run
       → ComesBehind gives tells remaining contents told Could run run.ended
       → CouldLeave gives tells remaining contents told run file → StandsForEntries log run.found
       → LeavesSo Could log run run.ended file
@@ -171,8 +204,8 @@ module _ {F D R W E : Type 0} (gives : F → List ℕ → Result D FileFault →
   -- what the runs keep behind these entries, where the last before them left this file
   record Kept (log : List MarkedCopy) (file : List ℕ) (runs : List Run) : Type 0 where
     watches : List Watch
-    of_runs : AreWatchesOf gives tells remaining contents told log runs watches
-    chain : IsChain log watches
+    of_runs : AreWatchesOf gives tells remaining contents told sendings log runs watches
+    chain : IsChainTaking sendings log watches
     stands : StandsForEntries (log ++ all_put watches) (left_last file runs)
 
   -- the entries for which a file stands
@@ -195,7 +228,8 @@ module _ {F D R W E : Type 0} (gives : F → List ℕ → Result D FileFault →
       → LeavesSo Could log run run.ended file → Logged file
   logged-by Could logged run log file stands (inl w) = (
     log ++ w.0.put,
-    subst (StandsForEntries (log ++ w.0.put)) w.1.left w.1.goes_on.puts.stands,
+    subst (StandsForEntries (log ++ w.0.put)) w.1.left
+        (put-stands sendings log w.0 w.1.goes_on),
   )
   logged-by Could logged run log file stands (inr (cut, inl could)) = logged file could
   logged-by Could logged run log file stands (inr (cut, inr alike)) = (log, alike log stands)
@@ -203,8 +237,8 @@ module _ {F D R W E : Type 0} (gives : F → List ℕ → Result D FileFault →
   -- a run that was cut off at any moment may have no watch
   left-out : (log : List MarkedCopy) (run : Run) (runs : List Run) (watches : List Watch)
       → run.ended ≡ cut_at_any_moment
-      → AreWatchesOf gives tells remaining contents told log runs watches
-      → AreWatchesOf gives tells remaining contents told log (run ∷ runs) watches
+      → AreWatchesOf gives tells remaining contents told sendings log runs watches
+      → AreWatchesOf gives tells remaining contents told sendings log (run ∷ runs) watches
   left-out log run runs [] cut are = (cut, are)
   left-out log run runs (watch ∷ watches) cut are = inr (cut, are)
 
@@ -239,7 +273,7 @@ module _ {F D R W E : Type 0} (gives : F → List ℕ → Result D FileFault →
           record { file = left; could = can; left_over = still; called = w.1 },
           kept.of_runs,
         );
-        chain = (w.1.goes_on, kept.chain);
+        chain = chain-more sendings log w.0 kept.watches w.1.goes_on kept.chain;
         stands = subst (λ entries. StandsForEntries entries (left_last run.left runs))
             (append_assoc log w.0.put (all_put kept.watches))
             (subst (StandsForEntries ((log ++ w.0.put) ++ all_put kept.watches))
@@ -273,7 +307,7 @@ module _ {F D R W E : Type 0} (gives : F → List ℕ → Result D FileFault →
 
   keep-on : (file : List ℕ) (Could : List ℕ → Type 0)
       (logged : (other : List ℕ) → Could other → Logged other) (could : Could file)
-      (runs : List Run) → FollowOn gives tells remaining contents told file Could runs
+      (runs : List Run) → FollowOn gives tells remaining contents told sendings file Could runs
       → KeptFrom file Could logged runs
   keep-on file Could logged could [] are = record {
     from = file;
@@ -282,7 +316,7 @@ module _ {F D R W E : Type 0} (gives : F → List ℕ → Result D FileFault →
     kept = record {
       watches = [];
       of_runs = tt;
-      chain = tt;
+      chain = chain-none sendings (logged file could).0;
       stands = subst (λ entries. StandsForEntries entries file)
           (sym (append-nil (logged file could).0)) (logged file could).1;
     };
@@ -298,10 +332,10 @@ module _ {F D R W E : Type 0} (gives : F → List ℕ → Result D FileFault →
       join file Could logged could run runs stands rest.from rest.could rest.left_over
       (run-leaves Could run log rest.from was are.2 rest.could stands) rest.kept
 
-  pub runs-keep-once : (log : List MarkedCopy) (file : List ℕ) (runs : List Run)
-      → StandsForEntries log file → AreOfOneLog gives tells remaining contents told file runs
-      → KeepsOnce gives tells remaining contents told log file runs
-  runs-keep-once log file runs stands are =
+  runs-keep : (log : List MarkedCopy) (file : List ℕ) (runs : List Run)
+      → StandsForEntries log file
+      → AreOfOneLog gives tells remaining contents told sendings file runs → Kept log file runs
+  runs-keep log file runs stands are =
       let kept = keep-on file (λ other. other ≡ file)
       (λ other is. (log, subst (StandsForEntries log) (sym is) stands)) refl runs are in
       let k = kept.kept in
@@ -311,8 +345,38 @@ module _ {F D R W E : Type 0} (gives : F → List ℕ → Result D FileFault →
         chain = k.chain;
         stands = subst (λ first. StandsForEntries (log ++ all_put k.watches)
             (left_last first runs)) kept.could k.stands;
+      }
+
+module _ {F D R W E : Type 0} (gives : F → List ℕ → Result D FileFault → Type 0)
+    (tells : TellsOfDisk D) (remaining : R → Option (List ℕ)) (contents : W → Option (List ℕ))
+    (told : E → Option (List ℕ)) (fresh : OpensFresh gives tells) (log : List MarkedCopy)
+    (file : List ℕ) (runs : List (WatchRun F D R W E)) (stands : StandsForEntries log file) where
+  pub runs-keep-once : AreOfOneLog gives tells remaining contents told Alone file runs
+      → KeepsOnce gives tells remaining contents told log file runs
+  runs-keep-once are =
+      let k = runs-keep gives tells remaining contents told fresh Alone log file runs stands are in
+      record {
+        watches = k.watches;
+        of_runs = k.of_runs;
+        chain = k.chain;
+        stands = k.stands;
         once = λ channel message clocks heard.
             put-once log k.watches channel message k.chain clocks heard;
+      }
+
+  pub runs-keep-whole : AreOfOneLog gives tells remaining contents told Together file runs
+      → KeepsWhole gives tells remaining contents told log file runs
+  runs-keep-whole are =
+      let k = runs-keep gives tells remaining contents told fresh Together log file runs stands are
+      in
+      record {
+        watches = k.watches;
+        of_runs = k.of_runs;
+        chain = k.chain;
+        stands = k.stands;
+        whole = λ before after watch is channel parts message numbers.
+            chain-whole log before after watch
+            (subst (IsChainBy combined log) is k.chain) channel parts message numbers;
       }
 
 -- what is handed in could be left before, and so could what a run found
