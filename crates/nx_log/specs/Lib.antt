@@ -7,6 +7,7 @@ pub mod LogReader
 pub mod LogReading
 pub mod LogRun
 pub mod Logged
+pub mod NotedReader
 pub mod Notices
 pub mod Places
 pub mod Query

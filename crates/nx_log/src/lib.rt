@@ -8,6 +8,7 @@ mod kept_runs;
 pub mod laws;
 mod log_fault;
 mod log_runs;
+mod noted_reader;
 mod queries;
 mod writing;
 
@@ -21,6 +22,7 @@ pub use kept::remembered_of;
 pub use kept_runs::kept_run;
 pub use log_fault::LogFault;
 pub use log_runs::log_run;
+pub use noted_reader::NotedReader;
 pub use queries::letters::Letters;
 pub use queries::place::place_named;
 pub use queries::query::Query;

@@ -6,6 +6,7 @@ ghost use Rattle.std.specs.Io.KnownBytes.{Consumes, IsAtEnd};
 ghost use Rattle.nx_fec.specs.Transfers.{Writes, devices};
 ghost use Rattle.nx_log.specs.LogReader.{IsAt, most_lines};
 ghost use Rattle.nx_log.specs.LogRun.{HasReadFailed, RunsOverLog, WroteOutput, most_read};
+ghost use Rattle.nx_log.specs.NotedReader.{HasToldBefore, counted_of};
 ghost use Rattle.nx_log.specs.Notices.{HaveToldAll, Notice, Notices as TheNotices, damaged_at, notices_of};
 ghost use Rattle.nx_log.specs.Reading.{IsNoBracket};
 ghost use Rattle.nx_log.specs.Salvage.{BeginsAnew, Stretch, bytes_in, entries_in, first_of, lines_in, told_of};
@@ -21,12 +22,13 @@ ghost use Rattle.nx_log.specs.declared.queries.query.Query.{Query as TheQuery};
 use crate::damage::Damaged;
 use crate::entries::reader::{BadLine, LogReader, Pushed, TornLine, line_feeds};
 use crate::log_fault::LogFault;
+use crate::noted_reader::NotedReader;
 use crate::queries::query::Query;
 use crate::writing::form::Form;
 use crate::writing::notices::{tell_damage, tell_torn};
 use crate::writing::output::Output;
 use memchr::memchr;
-use nx_fec::{CHUNK, Counting, Piece, next_piece};
+use nx_fec::{CHUNK, Counting, Piece};
 use std::alloc::Global;
 use std::io::{Read, Write};
 
@@ -43,13 +45,16 @@ pub(crate) const MAX_READ: u64 = 9_223_372_036_854_775_807;
 /// but not after a failed read.
 ///
 /// An entry that was torn is passed over, and told on `notices` by its line, whatever the query
-/// asks for, before the next read. A failed write of it is passed over.
+/// asks for, before the next read. A failed write of it is passed over. So that a clause can say
+/// when it was told, the reader notes how the notices stand as each read is asked for. Behind a
+/// read that failed they stay so.
 ///
 /// `BadLog` at the line at which the bytes stop being a log, and `Read`, come after the entries
 /// before them were written. `Write` says how many bytes were written; after it no device is
 /// called. `Memory` comes before the first read. That each entry is written before the next read is
 /// said by the answer `Read`. A run can't know which read will fail, and after each that fails all
-/// whole entries of what was read are written.
+/// whole entries of what was read are written, and all is told. No call on any of the three devices
+/// may have failed before.
 ///
 /// Where the query asks for the last entry of each message alone, these are held, and written at
 /// the end, or before `BadLog` or `Read` is answered; the time that this takes grows with the
@@ -61,20 +66,22 @@ pub(crate) const MAX_READ: u64 = 9_223_372_036_854_775_807;
 /// first such line, comes at the end, after all else was written and told.
 pub fn log_run<R: Read, W: Write, N: Write>(
     alloc: Global,
-    reader: &mut Counting<R>,
+    reader: &mut NotedReader<R, N>,
     writer: &mut Counting<W>,
     notices: &mut Counting<N>,
     query: &Query,
     form: Form,
     damaged: Damaged,
 ) -> Result<u64, LogFault>
-    requires reader { reader.old.failures ≡ 0 }
+    requires reader { (counted_of reader.old).failures ≡ 0 }
     requires writer { writer.old.failures ≡ 0 }
     requires notices { notices.old.failures ≡ 0 }
-    ensures { RunsOverLog query.now form damaged
-        (devices R.remaining W.contents reader.old reader.new writer.old writer.new)
+    ensures runs { RunsOverLog query.now form damaged
+        (devices R.remaining W.contents (counted_of reader.old) (counted_of reader.new) writer.old
+        writer.new)
         (notices_of (N.contents notices.old.inner) (N.contents notices.new.inner)
         notices.new.failures) result }
+    ensures told_before { HasToldBefore reader.new notices.new }
 {
     let mut run = LogRun::new(alloc, damaged);
     let mut buffer = vec![in alloc; 0; CHUNK]?;
@@ -120,17 +127,19 @@ impl LogRun {
         }
     }
 
-    /// Reads the input to its end or its limit, or until the run is over.
+    /// Reads the input to its end or its limit, or until the run is over. No call on the reader or
+    /// the writer failed before, and the buffer has 65,536 bytes (`room`). The log's reader was
+    /// given some bytes of a log, or none (`reading`).
     fn read_log<R: Read, W: Write, N: Write>(
         &mut self,
-        reader: &mut Counting<R>,
+        reader: &mut NotedReader<R, N>,
         writer: &mut Counting<W>,
         notices: &mut Counting<N>,
         query: &Query,
         form: Form,
         buffer: &mut [u8],
     ) -> Result<(), LogFault>
-        requires reader { reader.old.failures ≡ 0 }
+        requires reader { (counted_of reader.old).failures ≡ 0 }
         requires writer { writer.old.failures ≡ 0 }
         requires room { length buffer.old ≡ CHUNK }
         requires reading { IsReading self.old.log }
@@ -138,25 +147,28 @@ impl LogRun {
             → IsRunning query.now form damaged old self.old (W.contents writer.old.inner)
             (notices_of told (N.contents notices.old.inner) notices.old.failures) []
             → (bytes : List ℕ)
-            × Consumes (R.remaining reader.old.inner) (R.remaining reader.new.inner) bytes
+            × Consumes (R.remaining (counted_of reader.old).inner)
+            (R.remaining (counted_of reader.new).inner) bytes
             × (length bytes ≤ most_read)
             × MatchResult result
-            (λ _. (IsAtEnd (R.remaining reader.new.inner) ⊎ (length bytes ≡ most_read))
+            (λ _. (IsAtEnd (R.remaining (counted_of reader.new).inner) ⊎ (length bytes ≡ most_read))
             × IsRunning query.now form damaged old self.new (W.contents writer.new.inner)
             (notices_of told (N.contents notices.new.inner) notices.new.failures) bytes)
             (λ fault. EndsRun query.now form damaged
             (record { before = old; after = W.contents writer.new.inner })
             (notices_of told (N.contents notices.new.inner) notices.new.failures) bytes fault) }
-        ensures unread { IsErrOf result ReadFailed → reader.new.failures ≡ 1 }
-        ensures read_failed { reader.new.failures ≡ 1 → HasReadFailed query.now result }
-        ensures once { reader.new.failures ≤ 1 }
+        ensures unread { IsErrOf result ReadFailed → (counted_of reader.new).failures ≡ 1 }
+        ensures read_failed { (counted_of reader.new).failures ≡ 1
+            → HasReadFailed query.now result }
+        ensures told_before { HasToldBefore reader.new notices.new }
+        ensures once { (counted_of reader.new).failures ≤ 1 }
         ensures writes { Writes writer.new LogFault.Write result }
     {
         let mut room = MAX_READ;
         while room > 0 {
             self.output.send(writer)?;
             let most = (CHUNK as u64).min(room) as usize;
-            let count = match next_piece(reader, &mut buffer[..most]) {
+            let count = match reader.next_piece(notices, &mut buffer[..most]) {
                 Piece::Bytes(count) => count,
                 Piece::End => return Ok(()),
                 Piece::Failed => return Err(self.unread(writer, query)),
@@ -168,7 +180,7 @@ impl LogRun {
     }
 
     /// What is answered where a read failed: that, after all that was held was written, or that a
-    /// write of this failed.
+    /// write of this failed. No call on the writer failed before.
     fn unread<W: Write>(&mut self, writer: &mut Counting<W>, query: &Query) -> LogFault
         requires writer { writer.old.failures ≡ 0 }
         ensures ended { (form : TheForm) (damaged : WithDamaged) (old : Option (List ℕ))
@@ -190,7 +202,8 @@ impl LogRun {
     }
 
     /// Takes a piece, gives the entries that end in it, and tells of the torn ones, and of what is
-    /// passed over.
+    /// passed over. No call on the writer failed before, and the log's reader was given some bytes
+    /// of a log, or none (`reading`).
     fn take_piece<W: Write, N: Write>(
         &mut self,
         piece: &[u8],
@@ -225,7 +238,8 @@ impl LogRun {
     }
 
     /// Takes some first bytes of a piece: passes over those up to the next bracket, or takes what
-    /// `take_entry` does. Answers how many bytes it took.
+    /// `take_entry` does. Answers how many bytes it took. The piece isn't empty (`some`); the other
+    /// conditions are those of `take_piece`.
     fn take_front<W: Write, N: Write>(
         &mut self,
         piece: &[u8],
@@ -266,8 +280,8 @@ impl LogRun {
         self.take_entry(&piece[..count], writer, notices, query, form)
     }
 
-    /// How many first bytes of a piece are passed over: those up to the next bracket, where bytes
-    /// are being passed over.
+    /// How many first bytes of a piece, which isn't empty, are passed over: those up to the next
+    /// bracket, where bytes are being passed over.
     fn passed_in(&self, piece: &[u8]) -> usize
         requires { 0 < length piece.now }
         ensures within { result ≤ length piece.now }
@@ -281,9 +295,9 @@ impl LogRun {
         0
     }
 
-    /// How many first bytes of a piece the reader is given at once. Where bytes can be passed over,
-    /// they are those before the next bracket behind the first byte. So none stands behind the byte
-    /// with which they stop being a log.
+    /// How many first bytes of a piece, which isn't empty, the reader is given at once. Where bytes
+    /// can be passed over, they are those before the next bracket behind the first byte. So none
+    /// stands behind the byte with which they stop being a log.
     fn part_of(&self, piece: &[u8]) -> usize
         requires { 0 < length piece.now }
         ensures some { 0 < result }
@@ -299,7 +313,10 @@ impl LogRun {
 
     /// Takes the bytes of a part of a piece up to the end of the first entry that ends in it, or of
     /// a torn one, or all, and gives this entry, or tells of it. Where the bytes stop being a log
-    /// in it, the run ends, or they are passed over. Answers how many bytes it took.
+    /// in it, the run ends, or they are passed over. Answers how many bytes it took. Where bytes
+    /// can be passed over, no bracket stands behind the first byte (`one`), and where they are
+    /// being passed over, the first one is a bracket (`begins`). The other conditions are those of
+    /// `take_front`.
     fn take_entry<W: Write, N: Write>(
         &mut self,
         part: &[u8],
@@ -395,7 +412,7 @@ impl LogRun {
 
     /// Ends the input: writes what waits or is held and what stands behind it in this form, tells
     /// of a torn entry at the end, and answers how many entries were written, or which line is the
-    /// first that is not of a log.
+    /// first that is not of a log. No call on the writer failed before.
     fn end<W: Write, N: Write>(
         &mut self,
         writer: &mut Counting<W>,

@@ -30,7 +30,7 @@ use nx_disk::Noted;
 use nx_fec::{Counting, RunFault, decode_run, encode_run, show_run, write_out, write_table};
 use nx_kept::DiskFile;
 use nx_locks::locks;
-use nx_log::{Form, LogFault, Query, kept_run, log_run};
+use nx_log::{Form, LogFault, NotedReader, Query, kept_run, log_run};
 use nx_receiver::{ListenFault, Report, Want, listen, resume};
 use nx_station::{check_run, damage, send};
 use nx_watch::StampedReader;
@@ -306,8 +306,15 @@ fn log_input<R: Read, D, W: Write, E: Write>(
     ensures unopened { result.file ≡ None }
     ensures unstamped { stamps_of result.input ≡ [] }
 {
-    let mut reader = input.into_inner();
-    let outcome = print_log(alloc, query, form, reading, &mut reader, writer, faults);
+    let (outcome, reader) = print_log(
+        alloc,
+        query,
+        form,
+        reading,
+        input.into_inner(),
+        writer,
+        faults,
+    );
     Obeyed {
         outcome,
         input: StampedReader::new(reader),
@@ -316,53 +323,61 @@ fn log_input<R: Read, D, W: Write, E: Write>(
 }
 
 /// Prints the entries of a log that the query admits, and tells of torn ones and of what is passed
-/// over.
+/// over. Hands the reader back.
 fn print_log<R: Read, W: Write, E: Write>(
     alloc: Global,
     query: &Query,
     form: Form,
     reading: ReadAs,
-    reader: &mut Counting<R>,
+    reader: Counting<R>,
     writer: &mut Counting<W>,
     faults: &mut Counting<E>,
-) -> Result<(), Fault<'static>>
-    requires reader { reader.old.failures ≡ 0 }
+) -> (Result<(), Fault<'static>>, Counting<R>)
+    requires reader { reader.failures ≡ 0 }
     requires writer { writer.old.failures ≡ 0 }
     requires faults { faults.old.failures ≡ 0 }
     requires readable { IsReadable reading }
     ensures { EndsLog query.now form reading
-        (devices R.remaining W.contents reader.old reader.new writer.old writer.new)
+        (devices R.remaining W.contents reader result.1 writer.old writer.new)
         (notices_between E.contents faults.old faults.new)
-        result }
+        result.0 }
 {
-    match run_over_input(alloc, query, form, reading, reader, writer, faults) {
-        Ok(_printed) => Ok(()),
-        Err(why) => Err(Fault::Call(CallFault::Log(why))),
+    let (outcome, reader) = run_over_input(alloc, query, form, reading, reader, writer, faults);
+    match outcome {
+        Ok(_printed) => (Ok(()), reader),
+        Err(why) => (Err(Fault::Call(CallFault::Log(why))), reader),
     }
 }
 
-/// Runs over a log that is read so. Over a kept log nothing is told.
+/// Runs over a log that is read so. Over a kept log nothing is told. Hands the reader back.
 fn run_over_input<R: Read, W: Write, E: Write>(
     alloc: Global,
     query: &Query,
     form: Form,
     reading: ReadAs,
-    reader: &mut Counting<R>,
+    mut reader: Counting<R>,
     writer: &mut Counting<W>,
     faults: &mut Counting<E>,
-) -> Result<u64, LogFault>
-    requires reader { reader.old.failures ≡ 0 }
+) -> (Result<u64, LogFault>, Counting<R>)
+    requires reader { reader.failures ≡ 0 }
     requires writer { writer.old.failures ≡ 0 }
     requires faults { faults.old.failures ≡ 0 }
     requires readable { IsReadable reading }
     ensures { RunsOverInput query.now form reading
-        (devices R.remaining W.contents reader.old reader.new writer.old writer.new)
+        (devices R.remaining W.contents reader result.1 writer.old writer.new)
         (notices_between E.contents faults.old faults.new)
-        result }
+        result.0 }
 {
     match reading {
-        ReadAs::Log(damaged) => log_run(alloc, reader, writer, faults, query, form, damaged),
-        ReadAs::Kept(from) => kept_run(alloc, reader, writer, query, form, from),
+        ReadAs::Log(damaged) => {
+            let mut noted = NotedReader::new(reader, faults);
+            let outcome = log_run(alloc, &mut noted, writer, faults, query, form, damaged);
+            (outcome, noted.into_inner())
+        }
+        ReadAs::Kept(from) => {
+            let outcome = kept_run(alloc, &mut reader, writer, query, form, from);
+            (outcome, reader)
+        }
     }
 }
 

@@ -4,8 +4,8 @@ use super::{FIRST, LOG_OF_EA01, expect_text, shown};
 use nx_envelope::Letter;
 use nx_fec::{Channel, Counting};
 use nx_log::{
-    Damaged, Form, Letters, LogFault, Query, entry_at, json_line, kept_run, log_run, remembered_of,
-    since_of, until_of,
+    Damaged, Form, Letters, LogFault, NotedReader, Query, entry_at, json_line, kept_run, log_run,
+    remembered_of, since_of, until_of,
 };
 use std::alloc::Global;
 use std::process::Abort;
@@ -166,9 +166,10 @@ fn run_over(
 ) -> (Result<u64, LogFault>, Vec<u8>, Vec<u8>) {
     let mut writer = Counting::new(Vec::new(alloc));
     let mut notices = Counting::new(Vec::new(alloc));
+    let mut reader = NotedReader::new(Counting::new(bytes), &notices);
     let outcome = log_run(
         alloc,
-        &mut Counting::new(bytes),
+        &mut reader,
         &mut writer,
         &mut notices,
         &Query::all(),

@@ -4,6 +4,7 @@ use Rattle.std.proofs.lemmas.Result.{err_from_is_err_and}
 use Rattle.nx_fec.specs.Transfers.{devices}
 use Rattle.nx_fec.proofs.lemmas.lines.ReadingLaws.{Err-same}
 use Rattle.nx_fec.proofs.lemmas.devices.TransferLaws.{Ok-not_err, Writes-fault, Writes-sound}
+use Rattle.nx_log.specs.NotedReader.{counted_of}
 use Rattle.nx_log.specs.Notices.{notices_of}
 use Rattle.nx_log.proofs.lemmas.runs.LogRuns.{ends-answer, finished-answer, memory-not-read, memory-not-write, none-told, ran-out-first}
 use Rattle.nx_log.proofs.log_runs.log_run.Goals as goal
@@ -13,9 +14,10 @@ end-requires g c = record {
   writer = Writes-sound _ _ _ (λ written. Ok-not_err _ _) c.in_ok-read_log.ensures.writes;
 }
 
-pub returns-in_err-buffer : goal.returns-in_err-buffer
-returns-in_err-buffer g c =
-    let d = devices g.R.Read.remaining g.W.Write.contents c.args.reader.now c.args.reader.now
+pub returns-in_err-buffer-clause-runs : goal.returns-in_err-buffer-clause-runs
+returns-in_err-buffer-clause-runs g c =
+    let d = devices g.R.Read.remaining g.W.Write.contents (counted_of c.args.reader.now)
+    (counted_of c.args.reader.now)
     c.args.writer.now c.args.writer.now in
     let old = g.W.Write.contents c.args.writer.now.inner in
     let told = g.N.Write.contents c.args.notices.now.inner in
@@ -25,7 +27,7 @@ returns-in_err-buffer g c =
     let error = c.in_err-buffer.field-0.0 in
     rw p.1 (rw p.2 (record {
       bytes = [];
-      consumed = Consumes-nil (g.R.Read.remaining c.args.reader.now.inner);
+      consumed = Consumes-nil (g.R.Read.remaining (counted_of c.args.reader.now).inner);
       within = omega arith;
       answer = ran-out-first c.args.query.now c.args.form d n c.new-run.result error c.args.damaged
           refl refl (none-told told failures c.requires.notices)
@@ -41,9 +43,10 @@ returns-in_err-buffer g c =
       write_once = omega (arith, c.requires.writer);
     }))
 
-pub returns-in_err-read_log : goal.returns-in_err-read_log
-returns-in_err-read_log g c =
-    let d = devices g.R.Read.remaining g.W.Write.contents c.args.reader.now c.read_log.new.reader
+pub returns-in_err-read_log-clause-runs : goal.returns-in_err-read_log-clause-runs
+returns-in_err-read_log-clause-runs g c =
+    let d = devices g.R.Read.remaining g.W.Write.contents (counted_of c.args.reader.now)
+    (counted_of c.read_log.new.reader)
     c.args.writer.now c.read_log.new.writer in
     let p = err_from_is_err_and c.from_residual-in_err-read_log.result
     c.from_residual-in_err-read_log.ensures.1 in
@@ -71,9 +74,10 @@ returns-in_err-read_log g c =
       write_once = writes.once;
     }))
 
-pub returns : goal.returns
-returns g c =
-    let d = devices g.R.Read.remaining g.W.Write.contents c.args.reader.now c.read_log.new.reader
+pub returns-clause-runs : goal.returns-clause-runs
+returns-clause-runs g c =
+    let d = devices g.R.Read.remaining g.W.Write.contents (counted_of c.args.reader.now)
+    (counted_of c.read_log.new.reader)
     c.args.writer.now c.end.new.writer in
     let old = g.W.Write.contents c.args.writer.now.inner in
     let told = g.N.Write.contents c.args.notices.now.inner in
@@ -98,3 +102,9 @@ returns g c =
       unwritten = c.end.ensures.writes.failed;
       write_once = c.end.ensures.writes.once;
     }
+
+pub returns-clause-told_before : goal.returns-clause-told_before
+returns-clause-told_before g c = λ one. elim (c.in_ok-read_log.ensures.read_failed one) [
+  | inl e ↦ absurd (Ok-not_err _ _ e)
+  | inr w ↦ absurd (Ok-not_err _ _ w.1.1)
+]

@@ -6,6 +6,7 @@ use Rattle.std.proofs.lemmas.Result.{err_from_is_err_and}
 use Rattle.std.specs.Io.KnownBytes.{Consumes}
 use Rattle.nx_fec.proofs.lemmas.devices.TransferLaws.{Ok-not_err, Writes-sound}
 use Rattle.std.specs.Prelude.{map}
+use Rattle.nx_log.specs.NotedReader.{counted_of}
 use Rattle.nx_log.specs.Places.{unplaced}
 use Rattle.nx_log.specs.Salvage.{entries_in}
 use Rattle.nx_log.proofs.lemmas.runs.LogRuns.{fault-of, part-all}
@@ -48,10 +49,10 @@ returns-in-End-clause-read g c = λ damaged old told h.
     let sent = c.in_ok-send.ensures.given c.args.query.now c.args.form old
     (map unplaced (entries_in run.stretches ++ run.last)) run.given in (
       r.0,
-      Consumes-kept _ _ _ r.0 r.1 c.in-End.ensures.0,
+      Consumes-kept _ _ _ r.0 r.1 c.in-End.ensures.piece.0,
       omega (arith, r.2),
       (
-        inl c.in-End.ensures.1,
+        inl c.in-End.ensures.piece.1,
         record {
           stretches = run.stretches;
           rest = run.rest;
@@ -77,7 +78,7 @@ returns-in-Failed-clause-read g c = λ damaged old told h.
     let sent = c.in_ok-send.ensures.given c.args.query.now c.args.form old
     (map unplaced (entries_in run.stretches ++ run.last)) run.given in (
       r.0,
-      Consumes-kept _ _ _ r.0 r.1 c.in-Failed.ensures.0,
+      Consumes-kept _ _ _ r.0 r.1 c.in-Failed.ensures.piece.0,
       omega (arith, r.2),
       c.unread.ensures.ended c.args.form damaged old _ r.0 (record {
         stretches = run.stretches;
@@ -102,6 +103,12 @@ returns-in-Failed-clause-read_failed g c = λ one. elim c.unread.ensures.unread 
   | inr w ↦ inr (w.0, (w.1.0, ap Err w.1.1))
 ]
 
+pub returns-in-Failed-clause-told_before : goal.returns-in-Failed-clause-told_before
+returns-in-Failed-clause-told_before g c = λ one. (
+  ap (λ r. r.failures) c.in-Failed.ensures.asked ∙ c.loop-room.invariant.reader,
+  c.in-Failed.ensures.told,
+)
+
 pub returns-in-Failed-clause-writes : goal.returns-in-Failed-clause-writes
 returns-in-Failed-clause-writes g c = record {
   failed = (
@@ -125,11 +132,12 @@ returns-in_err-take_piece-clause-read g c = λ damaged old told h.
     ∙ length-take-le most c.loop-room.buffer
     (omega (arith, c.min-most.ensures, c.loop-room.invariant.chunk)) in
     let piece = take count (b ++ behind) in
-    let front : piece ≡ take count b = take-append-le count b behind c.in-Bytes.ensures.1 in
+    let front : piece ≡ take count b = take-append-le count b behind c.in-Bytes.ensures.piece.1 in
     let size : length piece ≡ count =
-    ap length front ∙ length-take-le count b c.in-Bytes.ensures.1 in
-    let read = subst (Consumes (g.R.Read.remaining c.loop-room.reader.inner)
-    (g.R.Read.remaining c.next_piece.new.reader.inner)) (sym front) c.in-Bytes.ensures.2 in
+    ap length front ∙ length-take-le count b c.in-Bytes.ensures.piece.1 in
+    let read = subst (Consumes (g.R.Read.remaining (counted_of c.loop-room.reader).inner)
+    (g.R.Read.remaining (counted_of c.next_piece.new.self).inner)) (sym front)
+    c.in-Bytes.ensures.piece.2 in
     let p = err_from_is_err_and c.from_residual-in_err-take_piece.result
     c.from_residual-in_err-take_piece.ensures.1 in (
       r.0 ++ piece,
@@ -139,7 +147,7 @@ returns-in_err-take_piece-clause-read g c = λ damaged old told h.
         r.2,
         length-append r.0 piece,
         size,
-        c.in-Bytes.ensures.1,
+        c.in-Bytes.ensures.piece.1,
         fits,
         c.min-most.ensures,
       ),
@@ -149,7 +157,7 @@ returns-in_err-take_piece-clause-read g c = λ damaged old told h.
             r.2,
             length-append r.0 piece,
             size,
-            c.in-Bytes.ensures.1,
+            c.in-Bytes.ensures.piece.1,
             fits,
             c.min-most.ensures,
           ))
@@ -180,16 +188,17 @@ loop-room-preserved g c =
     let fits : length b ≡ most = c.next_piece.auto.buffer
     ∙ length-take-le most c.loop-room.buffer (omega (arith, c.min-most.ensures, inv.chunk)) in
     let piece = take count (b ++ behind) in
-    let front : piece ≡ take count b = take-append-le count b behind c.in-Bytes.ensures.1 in
+    let front : piece ≡ take count b = take-append-le count b behind c.in-Bytes.ensures.piece.1 in
     let size : length piece ≡ count =
-    ap length front ∙ length-take-le count b c.in-Bytes.ensures.1 in
-    let read' = subst (Consumes (g.R.Read.remaining c.loop-room.reader.inner)
-    (g.R.Read.remaining c.next_piece.new.reader.inner)) (sym front) c.in-Bytes.ensures.2 in
+    ap length front ∙ length-take-le count b c.in-Bytes.ensures.piece.1 in
+    let read' = subst (Consumes (g.R.Read.remaining (counted_of c.loop-room.reader).inner)
+    (g.R.Read.remaining (counted_of c.next_piece.new.self).inner)) (sym front)
+    c.in-Bytes.ensures.piece.2 in
     let low : count ≤ c.loop-room.room =
-    omega (arith, c.in-Bytes.ensures.1, fits, c.min-most.ensures) in
+    omega (arith, c.in-Bytes.ensures.piece.1, fits, c.min-most.ensures) in
     record {
       writer = Writes-sound _ _ _ (λ written. Ok-not_err _ _) c.in_ok-take_piece.ensures.writes;
-      reader = c.in-Bytes.ensures.3;
+      reader = c.in-Bytes.ensures.piece.3;
       chunk = omega (
         arith,
         length-append b behind,
